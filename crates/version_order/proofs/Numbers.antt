@@ -1,0 +1,89 @@
+-- What `parse` gives of a text is what the text of a number spells.
+use Rattle.std.proofs.Common.{◌≡◌, ◌≢◌, ℕ, ◌+◌, ◌^◌, ◌<◌, ◌⊎◌, List, [], ◌∷◌, length, get_or, Option, Some, None, Bor, MatchResult, Result, Ok, Err, refl, sym, ap, ◌∙◌, inl, inr, arith}
+use Rattle.std.specs.Prelude.{decimal, IsUtf8, IfSome, IfNone}
+use Rattle.std.specs.Result.{result_ok}
+use Rattle.std.specs.declared.str.Utf8Error.{Utf8Error}
+use Rattle.std.specs.Str.{IsValidUpTo, valid_up_to}
+use Rattle.std.specs.Str.Parse.{AllDigits, ParsesUnsigned, digits_value}
+use Rattle.std.proofs.lemmas.Bool.{cases_lt}
+use Rattle.std.proofs.lemmas.Fmt.{decimal_digit, decimal_is_IsNumeral, first_decimal, decimal-digits_value, IsAscii-decimal}
+use Rattle.std.proofs.lemmas.Str.{IsUtf8-from_ascii}
+use Rattle.std.proofs.lemmas.Str.Parse.{IsNumeralModel, numerals_by_value, tells_digits, parse_plain}
+use Rattle.std.proofs.lemmas.Option.{none-some, same_Some}
+use Rattle.version_order.specs.Ascii.{number_of}
+use Rattle.version_order.specs.Laws.{number_of-decimal, number_of-spelled}
+
+-- the text is the text of no number below the limit
+abbrev pub IsOther : List ℕ → Type 0
+IsOther text = (n : ℕ) → n < 2 ^ 32 → text ≢ decimal n
+
+-- such a text is not read
+pub number_of-other : (text : List ℕ) → IsOther text → None ≡ number_of text
+number_of-other text other =
+    elim (number_of text) as (λ o. ((n : ℕ) → o ≡ Some n → ⊥) → None ≡ o) [
+      | None ↦ λ _. refl
+      | Some n ↦ λ h. absurd (h n refl)
+    ] (λ n read. let spelled = number_of-spelled text n read in other n spelled.1 spelled.0)
+
+-- what was read and what was not, in terms of what is printed
+pub number_of_tells : (text : List ℕ) (result : Option ℕ) → result ≡ number_of text → IfSome result (λ n. text ≡ decimal n) × IfNone result (IsOther text)
+number_of_tells text None read = (tt, λ n fits e. absurd cc (read ∙ ap number_of e ∙ number_of-decimal n fits))
+number_of_tells text (Some n) read = ((number_of-spelled text n (sym read)).0, tt)
+
+-- a plus sign, or a zero before anything else
+abbrev pub IsPadded : List ℕ → Type 0
+IsPadded text = (get_or text 0 0 ≡ 43) ⊎ ((get_or text 0 0 ≡ 48) × (1 < length text))
+
+-- nothing that is printed begins so
+decimal_begins : (n : ℕ) → n < 2 ^ 32 → IsPadded (decimal n) → ⊥
+decimal_begins n fits padded =
+    elim (cases_lt 0 n) [
+      | inl some ↦
+          let first = first_decimal n some (omega arith) in
+          elim padded [ inl plus ↦ omega arith | inr zero ↦ omega (arith, zero.0) ]
+      | inr none ↦
+          let is : decimal n ≡ (48 + n) ∷ [] = decimal_digit n (omega arith) in
+          let first = ap (λ (t : List ℕ). get_or t 0 0) is in
+          let len = ap (λ (t : List ℕ). length t) is in
+          elim padded [ inl plus ↦ omega arith | inr zero ↦ omega (arith, zero.1) ]
+    ]
+
+pub padded_is_other : (text : List ℕ) → IsPadded text → IsOther text
+padded_is_other text padded n fits e = decimal_begins n fits (rw e at padded)
+
+pub no_text_is_other : (text : List ℕ) → (IsUtf8 text → ⊥) → IsOther text
+no_text_is_other text no_text n fits e = no_text (rw e (IsUtf8-from_ascii (decimal n) (IsAscii-decimal n (omega arith))))
+
+-- what `from_utf8` ensures
+abbrev pub Decodes : List ℕ → Result (Bor (List ℕ)) Utf8Error → Type 0
+Decodes text r = MatchResult r (λ s. (s.now ≡ text) × IsUtf8 text) (λ e. ¬ (IsUtf8 text) × IsValidUpTo text (valid_up_to e))
+
+-- what it tells of a text that it refuses, and of one that it takes
+pub no_text_at_none : (text : List ℕ) (r : Result (Bor (List ℕ)) Utf8Error) → Decodes text r → None ≡ result_ok r → ¬ (IsUtf8 text)
+no_text_at_none text (Ok x) decodes none = absurd (none-some x none)
+no_text_at_none text (Err e) decodes none = decodes.0
+
+pub same_text_at_some : (text : List ℕ) (r : Result (Bor (List ℕ)) Utf8Error) (x : Bor (List ℕ)) → Decodes text r → Some x ≡ result_ok r → x.now ≡ text
+same_text_at_some text (Ok y) x decodes some = ap (λ (s : Bor (List ℕ)). s.now) (same_Some x y some) ∙ decodes.0
+same_text_at_some text (Err e) x decodes some = absurd (none-some x (sym some))
+
+own : IsNumeralModel (AllDigits 10) (digits_value 10)
+own = numerals_by_value (AllDigits 10) tells_digits
+
+-- a text that does not begin so is read by `parse`
+pub number_of_parsed : {E : Type 0} (text : List ℕ) (r : Result ℕ E) → (IsPadded text → ⊥) → ParsesUnsigned 32 10 text r → result_ok r ≡ number_of text
+number_of_parsed {E} text (Ok n) plain parsed =
+    let p = parse_plain own {E = E} 32 text (Ok n) parsed (λ plus. plain (inl plus)) in
+    let value = digits_value 10 text in
+    let one : get_or text 0 0 ≡ 48 → length text ≡ 1 = λ zero. elim (cases_lt 1 (length text)) [
+      | inl long ↦ absurd (plain (inr (zero, long)))
+      | inr short ↦ omega (arith, p.0.1)
+    ] in
+    let printed : decimal value ≡ text = decimal-digits_value own text p.0.0 p.0.1 one (omega (arith, p.0.2)) in
+    ap (λ (k : ℕ). Some k) p.1 ∙ sym (number_of-decimal value p.0.2) ∙ ap number_of printed
+number_of_parsed {E} text (Err e) plain parsed =
+    let p = parse_plain own {E = E} 32 text (Err e) parsed (λ plus. plain (inl plus)) in
+    number_of-other text (λ n fits same.
+    let numeral = decimal_is_IsNumeral n (omega arith) in
+    let value : digits_value 10 text ≡ n = ap (digits_value 10) same ∙ numeral.1 in
+    p (rw (← same) at numeral.0.1, rw (← same) at numeral.0.0, omega arith))

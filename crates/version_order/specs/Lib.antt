@@ -1,0 +1,4 @@
+pub mod Order
+pub mod Ascii
+pub mod VersionText
+pub mod Laws
