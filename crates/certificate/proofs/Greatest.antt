@@ -1,0 +1,120 @@
+-- The combination of a right report contains every valid one: no request that a valid combination takes is refused.
+use Rattle.std.proofs.Common.{◌≡◌, ℕ, zero, suc, ◌<◌, Bool, true, false, List, take, Some, None, count_by, inl, inr, refl, sym, ap, ◌∙◌, eqb, arith}
+use Rattle.std.specs.Prelude.{◌==◌, ⊤, IsTrue, Contains, slice_get}
+use Rattle.std.specs.List.{list_all, list_any}
+use Rattle.std.specs.Option.{option_map_or}
+use Rattle.std.proofs.lemmas.Bool.{both_ways, not-true, false_from_ne_true, cases_Bool, eqb-true}
+use Rattle.std.proofs.lemmas.Option.{MatchOption-at_some, none-some, slice_get-get_or}
+use Rattle.version_order.specs.declared.dependency.Dependency.{Dependency}
+use Rattle.version_order.specs.Order.{IsOlder}
+use Rattle.certificate.specs.declared.table.Entry.{Entry}
+use Rattle.certificate.specs.declared.table.Request.{Request}
+use Rattle.certificate.specs.declared.table.Request.TheVariants as request
+use Rattle.certificate.specs.declared.table.Image.{Image}
+use Rattle.certificate.specs.declared.table.Table.{Table}
+use Rattle.certificate.specs.declared.report.Reason.{Reason}
+use Rattle.certificate.specs.declared.report.Reason.TheVariants.{Damaged, Older, Counter, NoSuchImage, Needs}
+use Rattle.certificate.specs.declared.report.Refusal.{Refusal}
+use Rattle.certificate.specs.declared.report.Report.{Report}
+use Rattle.certificate.specs.Combination.{image_at, intact_entry, entry_in, is_met, IsValid, IsGreatest}
+use Rattle.certificate.specs.Reasons.{is_refused, best_version, is_out_of_reach, RequestMeets, ReasonHolds, IsFounded}
+use Rattle.certificate.specs.Rightness.{IsRight, taken_in, is_requested, has_request, once_if}
+use Rattle.certificate.proofs.Lists.{Passes-from_list_any, Passes-from_count_by, IfSome-from_list_all, slice_get-take}
+use Rattle.certificate.proofs.Options.{IsSomeAnd-at, option_map_or-true, option_map_or-at}
+use Rattle.certificate.proofs.VersionOrder.{IsAtLeast_trans}
+use Rattle.certificate.proofs.BestVersion.{best-at_least}
+use Rattle.certificate.proofs.Members.{IsMember, IsMember-from_valid}
+
+-- a dependency that a list meets, at its place
+passes_where_contained : {X : Type 0} (p : X → Bool) (xs : List X) (x : X) → list_all p xs ≡ true → Contains xs x → p x ≡ true
+passes_where_contained p xs x all (k, within, is) =
+    MatchOption-at_some ⊤ _ x (slice_get-get_or xs k x within ∙ ap Some is) (IfSome-from_list_all p xs k all)
+
+-- an intact request is a request
+is_requested-intact : (asked : Request) (entry : Entry) → intact_entry asked ≡ Some entry → is_requested asked ≡ true
+is_requested-intact request.None entry is = absurd (none-some entry is)
+is_requested-intact request.Damaged entry is = absurd (none-some entry is)
+is_requested-intact (request.Entry intact) entry is = refl
+
+module _ (table : Table) (other : ℕ → Bool) (valid : IsValid table other) where
+  -- what a member needs is within reach, where no member is refused
+  within_reach : (before : List Refusal) (unrefused : (j : ℕ) → other j ≡ true → is_refused before j ≡ false) (i : ℕ) (member : other i ≡ true) (dependency : Dependency) → is_met table other dependency ≡ true → is_out_of_reach table before i dependency ≡ true → ⊥
+  within_reach before unrefused i member dependency met out_of_reach =
+      let j = dependency.image in
+      let (image, has_image, reaches) = option_map_or-true _ (image_at table j) met in
+      let too_old = option_map_or-at _ (image_at table j) image has_image out_of_reach in
+      let best = best-at_least (intact_entry image.request) image.running (eqb j i) (is_refused before j) (other j) (λ own. ap other (eqb-true j i own) ∙ member) (unrefused j) in
+      both_ways _ (not-true _ (IsAtLeast_trans (best_version before i j image) (entry_in image (other j)).version dependency.minimum best reaches)) too_old
+
+  -- what a reason says of a member
+  requested_at : (i : ℕ) (image : Image) (entry : Entry) → IsMember table other i image entry → (P : Image → Entry → Type 0) → RequestMeets table i P → P image entry
+  requested_at i image entry is P meets =
+      IsSomeAnd-at (intact_entry image.request) (P image) entry is.has_entry (IsSomeAnd-at (image_at table i) _ image is.has_image meets)
+
+  -- no reason holds of a member, where no member is refused before
+  no_reason : (before : List Refusal) (unrefused : (j : ℕ) → other j ≡ true → is_refused before j ≡ false) (i : ℕ) (member : other i ≡ true) (image : Image) (entry : Entry) → IsMember table other i image entry → (reason : Reason) → ReasonHolds table before i reason → ⊥
+  no_reason before unrefused i member image entry is Damaged holds =
+      let damaged = IsSomeAnd-at (image_at table i) _ image is.has_image holds in
+      none-some entry (sym (ap intact_entry damaged) ∙ is.has_entry)
+  no_reason before unrefused i member image entry is Older holds =
+      let older = requested_at i image entry is (λ (im : Image) (e : Entry). IsOlder e.version im.running.version) holds in
+      both_ways _ (not-true _ is.at_least_running) older
+  no_reason before unrefused i member image entry is Counter holds =
+      let below = requested_at i image entry is (λ (im : Image) (e : Entry). e.counter < im.floor) holds in
+      let accepted = is.counter_accepted in
+      omega arith
+  no_reason before unrefused i member image entry is (NoSuchImage j) holds =
+      let (names, missing) = requested_at i image entry is (λ (im : Image) (e : Entry). IsTrue (list_any (λ dependency. dependency.image == j) e.dependencies.items) × (image_at table j ≡ None)) holds in
+      let dependency = Passes-from_list_any _ entry.dependencies.items names in
+      let met = MatchOption-at_some ⊤ _ dependency.element dependency.at (IfSome-from_list_all _ entry.dependencies.items dependency.place is.met) in
+      let (present, has_image, _) = option_map_or-true _ (image_at table dependency.element.image) met in
+      none-some present (sym missing ∙ ap (image_at table) (sym (eqb-true _ j dependency.passes)) ∙ has_image)
+  no_reason before unrefused i member image entry is (Needs j minimum) holds =
+      let dependency : Dependency = record { image = j; minimum = minimum } in
+      let (contained, out_of_reach) = requested_at i image entry is (λ (im : Image) (e : Entry). Contains e.dependencies.items dependency × IsTrue (is_out_of_reach table before i dependency)) holds in
+      within_reach before unrefused i member dependency (passes_where_contained _ entry.dependencies.items dependency is.met contained) out_of_reach
+
+  -- no member is refused at a place, where none is refused before
+  no_member_at : (refusals : List Refusal) → IsFounded table refusals → (k : ℕ) (earlier : (i : ℕ) (refusal : Refusal) → i < k → slice_get refusals i ≡ Some refusal → other refusal.image ≡ true → ⊥) (refusal : Refusal) → slice_get refusals k ≡ Some refusal → other refusal.image ≡ true → ⊥
+  no_member_at refusals founded k earlier refusal at member =
+      let unrefused : (j : ℕ) → other j ≡ true → is_refused (take k refusals) j ≡ false =
+      λ j taken. false_from_ne_true _
+      (λ refused.
+      let before = Passes-from_list_any _ (take k refusals) refused in
+      let (below, stands) = slice_get-take k before.place refusals before.element before.at in
+      earlier before.place before.element below stands (ap other (eqb-true _ j before.passes) ∙ taken))
+      in
+      let (image, entry, is) = IsMember-from_valid table other valid refusal.image member in
+      no_reason (take k refusals) unrefused refusal.image member image entry is refusal.reason (MatchOption-at_some ⊤ _ refusal at (founded k))
+
+  -- no member is refused at the first n places
+  no_member_below : (refusals : List Refusal) → IsFounded table refusals → (n k : ℕ) (refusal : Refusal) → k < n → slice_get refusals k ≡ Some refusal → other refusal.image ≡ true → ⊥
+  no_member_below refusals founded zero k refusal below at member = absurd (omega arith)
+  no_member_below refusals founded (suc n) k refusal below at member =
+      no_member_at refusals founded k (λ i earlier less. no_member_below refusals founded n i earlier (omega arith)) refusal at member
+
+  -- each member has a request
+  has_request-member : (j : ℕ) → other j ≡ true → has_request table j ≡ true
+  has_request-member j member =
+      let (image, entry, is) = IsMember-from_valid table other valid j member in
+      ap (λ found. option_map_or (λ im. is_requested im.request) found false) is.has_image ∙ is_requested-intact image.request entry is.has_entry
+
+  -- each member is taken
+  taken_in-member : (report : Report) → IsRight table report → (j : ℕ) → other j ≡ true → taken_in report j ≡ true
+  taken_in-member report right j member =
+      elim (cases_Bool (taken_in report j)) [
+        | inl taken ↦ taken
+        | inr not_taken ↦
+            let refusals = report.refusals.items in
+            let counted : 0 < count_by (λ refusal. refusal.image == j) refusals =
+            omega (arith, right.requests j, ap once_if not_taken, ap once_if (has_request-member j member))
+            in
+            let refused = Passes-from_count_by _ refusals counted in
+            absurd
+            (no_member_below refusals right.founded (suc refused.place) refused.place refused.element (omega arith) refused.at
+            (ap other (eqb-true _ j refused.passes) ∙ member))
+      ]
+
+-- the combination of a right report is the greatest
+pub right_is_greatest : (table : Table) (report : Report) → IsRight table report → IsGreatest table (taken_in report)
+right_is_greatest table report right = record { valid = right.valid; contains = λ other valid. taken_in-member table other valid report right }

@@ -1,0 +1,41 @@
+-- The members of a valid combination.
+use Rattle.std.proofs.Common.{◌≡◌, ℕ, ◌≤◌, Bool, true, Some, ap, ◌∙◌, subst}
+use Rattle.std.specs.Prelude.{⊤, unwrap_or}
+use Rattle.std.specs.List.{list_all}
+use Rattle.std.proofs.lemmas.Bool.{cond-true}
+use Rattle.std.proofs.lemmas.Option.{MatchOption-at_some}
+use Rattle.version_order.specs.Order.{IsAtLeast}
+use Rattle.certificate.specs.declared.table.Entry.{Entry}
+use Rattle.certificate.specs.declared.table.Image.{Image}
+use Rattle.certificate.specs.declared.table.Table.{Table}
+use Rattle.certificate.specs.Combination.{image_at, intact_entry, entry_in, is_met, IsValid}
+use Rattle.certificate.proofs.Options.{opened}
+
+-- image j with its requested entry, as a member of a valid combination has them
+pub record IsMember (table : Table) (taken : ℕ → Bool) (j : ℕ) (image : Image) (entry : Entry) : Type 0 where
+  pub has_image : image_at table j ≡ Some image
+  pub has_entry : intact_entry image.request ≡ Some entry
+  pub at_least_running : IsAtLeast entry.version image.running.version
+  pub counter_accepted : image.floor ≤ entry.counter
+  pub met : list_all (is_met table taken) entry.dependencies.items ≡ true
+
+-- what a member contributes is its requested entry
+entry_in-member : (image : Image) (entry : Entry) (is_member : Bool) → is_member ≡ true → intact_entry image.request ≡ Some entry → entry_in image is_member ≡ entry
+entry_in-member image entry is_member member has_entry =
+    cond-true is_member _ _ member ∙ ap (λ requested. unwrap_or requested image.running) has_entry
+
+-- each member of a valid combination has an image and a requested entry
+pub IsMember-from_valid : (table : Table) (taken : ℕ → Bool) → IsValid table taken → (j : ℕ) → taken j ≡ true → (image : Image) × (entry : Entry) × IsMember table taken j image entry
+IsMember-from_valid table taken valid j member =
+    let (image, has_image, intact) = opened (image_at table j) _ (valid.members j member) in
+    let (entry, has_entry, accepted) = opened (intact_entry image.request) _ intact in (
+      image,
+      entry,
+      record {
+        has_image = has_image;
+        has_entry = has_entry;
+        at_least_running = accepted.0;
+        counter_accepted = accepted.1;
+        met = subst (λ (contributed : Entry). list_all (is_met table taken) contributed.dependencies.items ≡ true) (entry_in-member image entry (taken j) member has_entry) (MatchOption-at_some ⊤ _ image has_image (valid.met j));
+      },
+    )

@@ -1,0 +1,97 @@
+-- Reading a report is exact: what is read is spelled so, what is spelled so is read, and the fault is the
+-- first.
+use Rattle.std.proofs.Common.{◌≡◌, ℕ, ◌≤◌, false, List, [], ◌∷◌, ◌++◌, length, Option, Some, Ok, Err, refl, ap, ◌∙◌, inl, arith, lit<}
+use Rattle.std.specs.List.{AllZip}
+use Rattle.std.proofs.lemmas.List.{append-nil}
+use Rattle.version_order.specs.VersionText.{version_text}
+use Rattle.certificate.specs.declared.report.Report.{Report}
+use Rattle.certificate.specs.declared.report_line.ReportLine.{ReportLine}
+use Rattle.certificate.specs.declared.report_line.ReportLine.TheVariants as line
+use Rattle.certificate.specs.LineReading.{report_line_of}
+use Rattle.certificate.specs.Lines.{lines_of, text_of_lines, Begins, IsFirstBadLine}
+use Rattle.certificate.specs.Reading.{read_lines, with_text}
+use Rattle.certificate.specs.ReportText.{report_lines, report_line_text, IsReportLineText, IsReportText, IsSomeReport}
+use Rattle.certificate.specs.ReportReading.{empty_report, with_report_line}
+use Rattle.certificate.proofs.LineLaws.{report_line_of-text, report_line_of-spelled, LacksByte-report_line}
+use Rattle.certificate.proofs.LinesLaws.{AreLines, lines_of-text_of_lines}
+use Rattle.certificate.proofs.ReadingLaws.{run, Spells, run-with_text, said_by_run, read_lines-ok, read_lines-run, IsFirstBadLine-stops}
+use Rattle.certificate.proofs.ReportLaws.{report_lines-grow, IsShort, IsShort-run, run-report_lines, has_image_after}
+
+abbrev pub place_text : Report → List ℕ → Option Report
+place_text = with_text report_line_of with_report_line
+
+-- Lines of text tell lines of a report.
+spells : Spells report_line_of with_report_line IsReportLineText report_lines
+spells = record { again = report_line_of-text; spelled = report_line_of-spelled; grows = report_lines-grow }
+
+-- Lines that say the lines of a report give it.
+run-text : (bytes : List ℕ) (report : Report) → IsReportText bytes report → run place_text empty_report (lines_of bytes) ≡ Some report
+run-text bytes report is = run-with_text report_line_of with_report_line IsReportLineText report_lines spells empty_report (lines_of bytes) (report_lines report) is.lines ∙ run-report_lines report is.some (record { images = is.most; refusals = is.few })
+
+-- What was read is spelled by the lines.
+said_lines : (texts : List (List ℕ)) (report : Report) → run place_text empty_report texts ≡ Some report → AllZip IsReportLineText texts (report_lines report) × IsShort report
+said_lines texts report read =
+    let said = said_by_run report_line_of with_report_line IsReportLineText report_lines spells empty_report report texts read in
+    (rw said.1 said.2, IsShort-run report_line_of empty_report report texts read (record { images = omega arith; refusals = omega arith }))
+
+-- What is read, and has an image, is spelled so.
+pub IsReportText-read : (bytes : List ℕ) (report : Report) → read_lines place_text empty_report 1 (lines_of bytes) ≡ Ok report → 1 ≤ length report.images.items → IsReportText bytes report
+IsReportText-read bytes report read some =
+    let said = said_lines (lines_of bytes) report (read_lines-ok place_text empty_report report 1 (lines_of bytes) read) in
+    record { some = some; most = said.1.images; few = said.1.refusals; lines = said.0 }
+
+-- What is spelled so is read.
+pub read_lines-report : (bytes : List ℕ) (report : Report) → IsReportText bytes report → read_lines place_text empty_report 1 (lines_of bytes) ≡ Ok report
+read_lines-report bytes report spelled = read_lines-run place_text empty_report report 1 (lines_of bytes) (run-text bytes report spelled)
+
+-- The smallest report.
+abbrev first_line : ReportLine
+first_line = line.Run 0 (record { major = 0; minor = 0; revision = 0; build = 0 })
+
+abbrev first_report : Report
+first_report = record { images = record { items = record { is_taken = false; version = record { major = 0; minor = 0; revision = 0; build = 0 } } ∷ [] }; refusals = record { items = [] } }
+
+says_first : IsReportLineText (report_line_text first_line) first_line
+says_first = (lit< tt, version_text (record { major = 0; minor = 0; revision = 0; build = 0 }), (record { major = lit< tt; minor = lit< tt; revision = lit< tt; build = lit< tt }, inl refl), refl)
+
+some_report : IsSomeReport (text_of_lines (report_line_text first_line ∷ []) ++ [])
+some_report = (
+  first_report,
+  record {
+    some = omega arith;
+    most = omega arith;
+    few = omega arith;
+    lines = rw (lines_of-text_of_lines (report_line_text first_line ∷ []) [] (LacksByte-report_line (report_line_text first_line) first_line says_first, tt)) (says_first, tt);
+  },
+)
+
+-- Lines that were read begin a report.
+goes_on : (texts : List (List ℕ)) (report : Report) → AreLines texts → run place_text empty_report texts ≡ Some report → Begins IsSomeReport texts
+goes_on [] report lack read = (text_of_lines (report_line_text first_line ∷ []) ++ [], some_report)
+goes_on (text ∷ texts) report lack read =
+    let said = said_lines (text ∷ texts) report read in
+    let joined = lines_of-text_of_lines (text ∷ texts) [] lack in (
+      [],
+      (
+        report,
+        record {
+          some = has_image_after report_line_of empty_report report (text ∷ texts) read (inl (omega arith));
+          most = said.1.images;
+          few = said.1.refusals;
+          lines = rw (joined, append-nil (text ∷ texts)) said.0;
+        },
+      ),
+    )
+
+-- The line at which reading stops is the first that no report goes on from.
+pub IsFirstBadLine-report : (bytes : List ℕ) (n : ℕ) → read_lines place_text empty_report 1 (lines_of bytes) ≡ Err n → IsFirstBadLine IsSomeReport bytes n
+IsFirstBadLine-report bytes n failed = IsFirstBadLine-stops IsSomeReport place_text empty_report (λ text is. (is.0, run-text text is.0 is.1)) goes_on bytes n failed
+
+-- Where no image was read there are no lines.
+pub lines_of-no_report : (bytes : List ℕ) (report : Report) → read_lines place_text empty_report 1 (lines_of bytes) ≡ Ok report → report.images.items ≡ [] → lines_of bytes ≡ []
+lines_of-no_report bytes report read none = no_lines (lines_of bytes) (read_lines-ok place_text empty_report report 1 (lines_of bytes) read) where
+  no_lines : (texts : List (List ℕ)) → run place_text empty_report texts ≡ Some report → texts ≡ []
+  no_lines [] done = refl
+  no_lines (text ∷ texts) done =
+      let some = has_image_after report_line_of empty_report report (text ∷ texts) done (inl (omega arith)) in
+      absurd (omega (arith, some, ap length none))

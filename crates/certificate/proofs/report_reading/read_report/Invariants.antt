@@ -1,0 +1,15 @@
+use Rattle.std.proofs.Common.{◌≡◌, ◌+◌, ◌≤◌, length}
+use Rattle.certificate.specs.Lines.{lines_of}
+use Rattle.certificate.specs.Reading.{read_lines}
+use Rattle.certificate.specs.ReportReading.{empty_report}
+use Rattle.certificate.proofs.ReportTextLaws.{place_text}
+use Rattle.certificate.proofs.report_reading.read_report.Given as goal
+
+abbrev pub invariant-loop-rest : goal.invariant-loop-rest
+invariant-loop-rest l = record {
+  counted : l.number + length l.rest ≤ length l.text;
+  read : read_lines place_text l.report (l.number + 1) (lines_of l.rest) ≡ read_lines place_text empty_report 1 (lines_of l.text);
+}
+
+abbrev pub decreases-loop-rest : goal.decreases-loop-rest
+decreases-loop-rest l = length l.rest

@@ -1,0 +1,12 @@
+pub mod Combination
+pub mod LineReading
+pub mod Lines
+pub mod Printing
+pub mod Reading
+pub mod Reasons
+pub mod ReportReading
+pub mod ReportText
+pub mod Rightness
+pub mod StandardOrder
+pub mod TableReading
+pub mod TableText

@@ -1,0 +1,116 @@
+-- Reading a line from left to right, step by step: words are cut at spaces (32), the first word tells which
+-- line it is, and the last field takes the whole rest of the line.
+use Rattle.std.specs.Prelude.{ℕ, ◌^◌, List, Option, Some, None, codes, option_and_then, if◌then◌else◌}
+use Rattle.std.specs.Str.{bytes_eq}
+use Rattle.version_order.specs.declared.version.Version.{Version}
+use Rattle.version_order.specs.Ascii.{number_of, number_below, cut}
+use Rattle.version_order.specs.VersionText.{version_of}
+use Rattle.certificate.specs.declared.report.Reason.{Reason}
+use Rattle.certificate.specs.declared.report.Reason.TheVariants.{Damaged, Older, Counter, NoSuchImage, Needs}
+use Rattle.certificate.specs.declared.report_line.ReportLine.{ReportLine}
+use Rattle.certificate.specs.declared.report_line.ReportLine.TheVariants as report_line
+use Rattle.certificate.specs.declared.table_line.TableLine.{TableLine}
+use Rattle.certificate.specs.declared.table_line.TableLine.TheVariants as table_line
+
+infixl 10 ◌>>=◌
+abbrev pub ◌>>=◌ : {A B : Type 0} → Option A → (A → Option B) → Option B
+o >>= f = option_and_then f o
+
+-- The number of an image and a version.
+unfoldable pub image_and_version_of : List ℕ → Option (ℕ × Version)
+image_and_version_of fields = do
+  let words = cut 32 fields
+  image ← number_below (2 ^ 8) words.0
+  rest ← words.1
+  version ← version_of rest
+  Some (image, version)
+
+-- What follows `image`: a number, a version, a counter and a floor.
+unfoldable pub image_line_of : List ℕ → Option TableLine
+image_line_of fields = do
+  let words = cut 32 fields
+  number ← number_below (2 ^ 8) words.0
+  rest ← words.1
+  let words = cut 32 rest
+  version ← version_of words.0
+  rest ← words.1
+  let words = cut 32 rest
+  counter ← number_of words.0
+  rest ← words.1
+  floor ← number_of rest
+  Some (table_line.Image number version counter floor)
+
+-- What follows `needs`: the number of an image, and the lowest version that will do.
+unfoldable pub needs_line_of : List ℕ → Option TableLine
+needs_line_of fields = do
+  needed ← image_and_version_of fields
+  Some (table_line.Needs (record { image = needed.0; minimum = needed.1 }))
+
+-- What follows `request`: a version and a counter.
+unfoldable pub request_line_of : List ℕ → Option TableLine
+request_line_of fields = do
+  let words = cut 32 fields
+  version ← version_of words.0
+  rest ← words.1
+  counter ← number_of rest
+  Some (table_line.Request version counter)
+
+-- The line of a table that begins with this word, with these fields after it.
+abbrev pub table_line_at : List ℕ → List ℕ → Option TableLine
+table_line_at word fields = if bytes_eq word (codes "image") then image_line_of fields
+    else (if bytes_eq word (codes "needs") then needs_line_of fields
+    else (if bytes_eq word (codes "request") then request_line_of fields else None))
+
+-- The line of a table that a text says.
+unfoldable pub table_line_of : List ℕ → Option TableLine
+table_line_of text = if bytes_eq text (codes "damaged") then Some table_line.Damaged else (do
+  let words = cut 32 text
+  fields ← words.1
+  table_line_at words.0 fields)
+
+-- What follows `run`, and `take`: the number of an image, and its version.
+unfoldable pub run_line_of : List ℕ → Option ReportLine
+run_line_of fields = do
+  runs ← image_and_version_of fields
+  Some (report_line.Run runs.0 runs.1)
+
+unfoldable pub take_line_of : List ℕ → Option ReportLine
+take_line_of fields = do
+  taken ← image_and_version_of fields
+  Some (report_line.Take taken.0 taken.1)
+
+-- The reason that begins with this word, with these fields after it.
+abbrev pub reason_at : List ℕ → List ℕ → Option Reason
+reason_at word fields = if bytes_eq word (codes "no-such-image") then option_and_then (λ image. Some (NoSuchImage image)) (number_below (2 ^ 8) fields)
+    else (if bytes_eq word (codes "needs") then option_and_then (λ needed. Some (Needs needed.0 needed.1)) (image_and_version_of fields) else None)
+
+-- The reason that a text says.
+unfoldable pub reason_of : List ℕ → Option Reason
+reason_of text = if bytes_eq text (codes "damaged") then Some Damaged
+    else (if bytes_eq text (codes "older") then Some Older
+    else (if bytes_eq text (codes "counter") then Some Counter else (do
+      let words = cut 32 text
+      fields ← words.1
+      reason_at words.0 fields)))
+
+-- What follows `refuse`: the number of an image, and the reason.
+unfoldable pub refuse_line_of : List ℕ → Option ReportLine
+refuse_line_of fields = do
+  let words = cut 32 fields
+  image ← number_below (2 ^ 8) words.0
+  rest ← words.1
+  reason ← reason_of rest
+  Some (report_line.Refuse (record { image = image; reason = reason }))
+
+-- The line of a report that begins with this word, with these fields after it.
+abbrev pub report_line_at : List ℕ → List ℕ → Option ReportLine
+report_line_at word fields = if bytes_eq word (codes "run") then run_line_of fields
+    else (if bytes_eq word (codes "take") then take_line_of fields
+    else (if bytes_eq word (codes "refuse") then refuse_line_of fields else None))
+
+-- The line of a report that a text says.
+unfoldable pub report_line_of : List ℕ → Option ReportLine
+report_line_of text = do
+  let words = cut 32 text
+  fields ← words.1
+  report_line_at words.0 fields

@@ -1,0 +1,27 @@
+-- Reading a report line by line: what one more line makes of the lines so far. The reader follows these steps;
+-- what they mean is in `ReportText`.
+use Rattle.std.specs.Prelude.{ℕ, ◌==◌, ◌&&◌, true, false, [], ◌∷◌, ◌++◌, length, Option, Some, None, nat_lt, if◌then◌else◌}
+use Rattle.certificate.specs.declared.report.Refusal.{Refusal}
+use Rattle.certificate.specs.declared.report.ReportedImage.{ReportedImage}
+use Rattle.certificate.specs.declared.report.Report.{Report}
+use Rattle.certificate.specs.declared.report_line.ReportLine.{ReportLine}
+use Rattle.certificate.specs.declared.report_line.ReportLine.TheVariants as line
+
+-- No line yet.
+abbrev pub empty_report : Report
+empty_report = record { images = record { items = [] }; refusals = record { items = [] } }
+
+-- A report with one more image, of at most eight, whose number is the count of those before it, and no refusal
+-- yet.
+abbrev pub with_reported_image : Report → ℕ → ReportedImage → Option Report
+with_reported_image report number image = if (length report.refusals.items == 0) && ((number == length report.images.items) && nat_lt (length report.images.items) 8) then Some (record report { images = record { items = report.images.items ++ image ∷ [] } }) else None
+
+-- A report of some images with one more refusal, of at most eight.
+abbrev pub with_refusal : Report → Refusal → Option Report
+with_refusal report refusal = if nat_lt 0 (length report.images.items) && nat_lt (length report.refusals.items) 8 then Some (record report { refusals = record { items = report.refusals.items ++ refusal ∷ [] } }) else None
+
+-- A report with what one more line says.
+unfoldable pub with_report_line : Report → ReportLine → Option Report
+with_report_line report (line.Run number version) = with_reported_image report number (record { is_taken = false; version = version })
+with_report_line report (line.Take number version) = with_reported_image report number (record { is_taken = true; version = version })
+with_report_line report (line.Refuse refusal) = with_refusal report refusal

@@ -1,0 +1,90 @@
+-- The text of a report.
+use Rattle.std.specs.Prelude.{◌≡◌, ℕ, ◌+◌, ◌^◌, ◌<◌, ◌≤◌, List, [], ◌∷◌, ◌++◌, length, map, codes, decimal, if◌then◌else◌}
+use Rattle.std.specs.List.{AllByRecursion, AllZip, flat_map}
+use Rattle.version_order.specs.VersionText.{FitsFields, version_text, IsVersionText}
+use Rattle.certificate.specs.declared.report.Reason.{Reason}
+use Rattle.certificate.specs.declared.report.Reason.TheVariants.{Damaged, Older, Counter, NoSuchImage, Needs}
+use Rattle.certificate.specs.declared.report.ReportedImage.{ReportedImage}
+use Rattle.certificate.specs.declared.report.Report.{Report}
+use Rattle.certificate.specs.declared.report_line.ReportLine.{ReportLine}
+use Rattle.certificate.specs.declared.report_line.ReportLine.TheVariants as line
+use Rattle.certificate.specs.Lines.{lines_of}
+use Rattle.certificate.specs.TableText.{◌␣◌}
+
+-- A reason as it is printed.
+abbrev pub reason_text : Reason → List ℕ
+reason_text Damaged = codes "damaged"
+reason_text Older = codes "older"
+reason_text Counter = codes "counter"
+reason_text (NoSuchImage j) = codes "no-such-image" ␣ decimal j
+reason_text (Needs j minimum) = codes "needs" ␣ decimal j ␣ version_text minimum
+
+-- A line as it is printed.
+abbrev pub report_line_text : ReportLine → List ℕ
+report_line_text (line.Run number version) = codes "run" ␣ decimal number ␣ version_text version
+report_line_text (line.Take number version) = codes "take" ␣ decimal number ␣ version_text version
+report_line_text (line.Refuse refusal) = codes "refuse" ␣ decimal refusal.image ␣ reason_text refusal.reason
+
+-- A text says a reason: numbers that fit their fields, and for a version any of its texts.
+abbrev pub IsReasonText : List ℕ → Reason → Type 0
+IsReasonText text Damaged = text ≡ codes "damaged"
+IsReasonText text Older = text ≡ codes "older"
+IsReasonText text Counter = text ≡ codes "counter"
+IsReasonText text (NoSuchImage j) = (j < 2 ^ 8) × (text ≡ codes "no-such-image" ␣ decimal j)
+IsReasonText text (Needs j minimum) = (j < 2 ^ 8) × (spelled : List ℕ) × IsVersionText spelled minimum × (text ≡ codes "needs" ␣ decimal j ␣ spelled)
+
+-- A text without its line feed says a line.
+abbrev pub IsReportLineText : List ℕ → ReportLine → Type 0
+IsReportLineText text (line.Run number version) = (number < 2 ^ 8) × (spelled : List ℕ) × IsVersionText spelled version × (text ≡ codes "run" ␣ decimal number ␣ spelled)
+IsReportLineText text (line.Take number version) = (number < 2 ^ 8) × (spelled : List ℕ) × IsVersionText spelled version × (text ≡ codes "take" ␣ decimal number ␣ spelled)
+IsReportLineText text (line.Refuse refusal) = (refusal.image < 2 ^ 8) × (reason : List ℕ) × IsReasonText reason refusal.reason × (text ≡ codes "refuse" ␣ decimal refusal.image ␣ reason)
+
+-- The line of image number n.
+abbrev pub reported_line : ℕ → ReportedImage → ReportLine
+reported_line n image = if image.is_taken then line.Take n image.version else line.Run n image.version
+
+-- The lines of the images from number n on.
+abbrev pub reported_lines : ℕ → List ReportedImage → List ReportLine
+reported_lines n [] = []
+reported_lines n (image ∷ images) = reported_line n image ∷ reported_lines (n + 1) images
+
+-- The lines of a report: its images in order, then its refusals in order.
+abbrev pub report_lines : Report → List ReportLine
+report_lines report = reported_lines 0 report.images.items ++ map (λ refusal. line.Refuse refusal) report.refusals.items
+
+-- The text of a report: one to eight images and at most eight refusals, and the lines say the report's lines,
+-- one after the other.
+pub record IsReportText (bytes : List ℕ) (report : Report) : Type 0 where
+  pub some : 1 ≤ length report.images.items
+  pub most : length report.images.items ≤ 8
+  pub few : length report.refusals.items ≤ 8
+  pub lines : AllZip IsReportLineText (lines_of bytes) (report_lines report)
+
+-- A report as it is printed.
+abbrev pub report_text : Report → List ℕ
+report_text report = flat_map (λ said. report_line_text said ++ 10 ∷ []) (report_lines report)
+
+-- Bytes that are the text of some report.
+abbrev pub IsSomeReport : List ℕ → Type 0
+IsSomeReport bytes = (report : Report) × IsReportText bytes report
+
+-- The numbers that a reason and a line say fit their fields.
+abbrev pub FitsReason : Reason → Type 0
+FitsReason Damaged = Unit {0}
+FitsReason Older = Unit {0}
+FitsReason Counter = Unit {0}
+FitsReason (NoSuchImage j) = j < 2 ^ 8
+FitsReason (Needs j minimum) = (j < 2 ^ 8) × FitsFields minimum
+
+abbrev pub FitsReportLine : ReportLine → Type 0
+FitsReportLine (line.Run number version) = (number < 2 ^ 8) × FitsFields version
+FitsReportLine (line.Take number version) = (number < 2 ^ 8) × FitsFields version
+FitsReportLine (line.Refuse refusal) = (refusal.image < 2 ^ 8) × FitsReason refusal.reason
+
+-- A report that has a text: one to eight images, at most eight refusals, and numbers that fit their fields, as
+-- those of a report in memory do.
+pub record FitsReport (report : Report) : Type 0 where
+  pub some : 1 ≤ length report.images.items
+  pub most : length report.images.items ≤ 8
+  pub few : length report.refusals.items ≤ 8
+  pub fields : AllByRecursion FitsReportLine (report_lines report)

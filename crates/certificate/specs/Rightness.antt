@@ -1,0 +1,37 @@
+-- What makes a report right for a table.
+use Rattle.std.specs.Prelude.{◌≡◌, ℕ, ◌+◌, ◌==◌, Bool, true, false, length, count_by, IfSome, slice_get, if◌then◌else◌}
+use Rattle.std.specs.Option.{option_map_or}
+use Rattle.certificate.specs.declared.table.Request.{Request}
+use Rattle.certificate.specs.declared.table.Request.TheVariants as request
+use Rattle.certificate.specs.declared.table.Table.{Table}
+use Rattle.certificate.specs.declared.report.Report.{Report}
+use Rattle.certificate.specs.Combination.{image_at, entry_in, IsValid}
+use Rattle.certificate.specs.Reasons.{IsFounded}
+
+-- The combination that a report takes.
+abbrev pub taken_in : Report → ℕ → Bool
+taken_in report j = option_map_or (λ image. image.is_taken) (slice_get report.images.items j) false
+
+-- Whether something is requested, intact or damaged.
+abbrev pub is_requested : Request → Bool
+is_requested request.None = false
+is_requested request.Damaged = true
+is_requested (request.Entry entry) = true
+
+-- Whether a table has an image j for which something is requested.
+abbrev pub has_request : Table → ℕ → Bool
+has_request table j = option_map_or (λ image. is_requested image.request) (image_at table j) false
+
+-- 1 for yes, 0 for no.
+abbrev pub once_if : Bool → ℕ
+once_if test = if test then 1 else 0
+
+-- A report is right for a table where it has the table's images, each with the version that it names for being
+-- taken or running on; taken and refused requests are all requests, each once; what it takes is a valid
+-- combination; and its refusals are founded.
+pub record IsRight (table : Table) (report : Report) : Type 0 where
+  pub images : length report.images.items ≡ length table.images.items
+  pub versions : (j : ℕ) → IfSome (image_at table j) (λ image. IfSome (slice_get report.images.items j) (λ reported. reported.version ≡ (entry_in image reported.is_taken).version))
+  pub requests : (j : ℕ) → count_by (λ refusal. refusal.image == j) report.refusals.items + once_if (taken_in report j) ≡ once_if (has_request table j)
+  pub valid : IsValid table (taken_in report)
+  pub founded : IsFounded table report.refusals.items

@@ -1,0 +1,30 @@
+//! The decision's data, and what makes a decision right: tables of running and requested images, reports of a
+//! choice among them, and the reasons for which a request is refused.
+//!
+//! Promises: a text is read exactly where it spells a table, and a refusal names the first line that no table
+//! goes on from; what is printed is read back; `is_valid` tells whether the running images fit each other; the
+//! set of a right report is the greatest valid set. Takes no memory. `chooser`, `boot_core` and `boot_cli`
+//! call it.
+#![tactic(auto)]
+
+mod laws;
+mod lines;
+mod printing;
+mod report;
+mod report_line;
+mod report_reading;
+mod table;
+mod table_line;
+mod table_placing;
+mod table_reading;
+mod validity;
+
+pub use laws::{
+    greatest_sets_are_equal, reports_are_read_back, right_reports_are_greatest,
+    tables_are_read_back,
+};
+pub use report::{Reason, Refusal, Report, ReportedImage};
+pub use report_reading::BadReport;
+pub use table::{Entry, Image, Request, Table};
+pub use table_reading::BadTable;
+pub use validity::is_valid;

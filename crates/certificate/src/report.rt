@@ -1,0 +1,48 @@
+//! Reports: which requests are taken, and why each of the others is refused.
+
+use arrayvec::ArrayVec;
+use version_order::Version;
+
+/// Why a request is refused. The numbers of the reasons are 1 to 5, in this order.
+#[derive(Clone, Copy, Debug, Default, PartialEq, Eq)]
+pub enum Reason {
+    /// Its bytes are no intact image.
+    #[default]
+    Damaged,
+    /// Its version is below the running one.
+    Older,
+    /// Its security counter is below the floor.
+    Counter,
+    /// It depends on this image number, which the device doesn't have.
+    NoSuchImage(u8),
+    /// It depends on this image with at least this version, and no version of the image that is still possible
+    /// reaches it.
+    Needs(u8, Version),
+}
+
+/// A request that is refused, and why.
+#[derive(Clone, Copy, Debug, Default, PartialEq, Eq)]
+pub struct Refusal {
+    /// The number of the image whose request is refused.
+    pub image: u8,
+    /// Why it is refused, given the refusals before it.
+    pub reason: Reason,
+}
+
+/// What becomes of one image.
+#[derive(Clone, Copy, Debug, Default, PartialEq, Eq)]
+pub struct ReportedImage {
+    /// Whether its request is taken; if not, it runs on.
+    pub is_taken: bool,
+    /// The version that runs then: the requested one where it is taken, else the running one.
+    pub version: Version,
+}
+
+/// The answer to a table: for each image whether its request is taken, and for each other request why not.
+#[derive(Clone, Debug, Default, Drop, PartialEq, Eq)]
+pub struct Report {
+    /// The images, in the order of their numbers from 0; at most 8.
+    pub images: ArrayVec<ReportedImage, 8>,
+    /// The refused requests, each with a reason that holds given those before it; at most 8.
+    pub refusals: ArrayVec<Refusal, 8>,
+}

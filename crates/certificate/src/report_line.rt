@@ -1,0 +1,123 @@
+//! One line of a report's text.
+
+ghost use Rattle.std.specs.Prelude.{◌≡◌};
+ghost use Rattle.certificate.specs.LineReading.{reason_at, reason_of, refuse_line_of, report_line_of, run_line_of, take_line_of};
+
+use crate::report::{Reason, Refusal};
+use crate::table_line::{DAMAGED, NEEDS, image_and_version};
+use version_order::Version;
+use version_order::ascii::{cut, number_u8};
+
+/// What one line of a report says.
+#[derive(Clone, Copy, Debug, PartialEq, Eq)]
+pub enum ReportLine {
+    /// `run I VERSION`: image I runs on.
+    Run {
+        /// The number of the image.
+        number: u8,
+        /// The version that runs on.
+        version: Version,
+    },
+    /// `take I VERSION`: the request of image I is taken.
+    Take {
+        /// The number of the image.
+        number: u8,
+        /// The version that is taken.
+        version: Version,
+    },
+    /// `refuse I REASON`: the request of image I is refused.
+    Refuse(Refusal),
+}
+
+// The words that lines and reasons begin with.
+const RUN: &[u8] = b"run";
+
+const TAKE: &[u8] = b"take";
+
+const REFUSE: &[u8] = b"refuse";
+
+const OLDER: &[u8] = b"older";
+
+const COUNTER: &[u8] = b"counter";
+
+const NO_SUCH_IMAGE: &[u8] = b"no-such-image";
+
+impl ReportLine {
+    /// The line that a text says, `None` where it says none. The text has no line feed at its end.
+    #[tactic(auto, unfolding(crate::specs::LineReading::report_line_of))]
+    pub(crate) fn read(line: &[u8]) -> Option<ReportLine>
+        ensures { result ≡ report_line_of line.now }
+    {
+        let (word, fields) = cut(line, b' ');
+        let fields = fields?;
+        if word == RUN {
+            run_line(fields)
+        } else if word == TAKE {
+            take_line(fields)
+        } else if word == REFUSE {
+            refuse_line(fields)
+        } else {
+            None
+        }
+    }
+}
+
+// What follows `run`.
+#[tactic(auto, unfolding(crate::specs::LineReading::run_line_of))]
+fn run_line(fields: &[u8]) -> Option<ReportLine>
+    ensures { result ≡ run_line_of fields.now }
+{
+    let (number, version) = image_and_version(fields)?;
+    Some(ReportLine::Run { number, version })
+}
+
+// What follows `take`.
+#[tactic(auto, unfolding(crate::specs::LineReading::take_line_of))]
+fn take_line(fields: &[u8]) -> Option<ReportLine>
+    ensures { result ≡ take_line_of fields.now }
+{
+    let (number, version) = image_and_version(fields)?;
+    Some(ReportLine::Take { number, version })
+}
+
+// What follows `refuse`.
+#[tactic(auto, unfolding(crate::specs::LineReading::refuse_line_of))]
+fn refuse_line(fields: &[u8]) -> Option<ReportLine>
+    ensures { result ≡ refuse_line_of fields.now }
+{
+    let (image, rest) = cut(fields, b' ');
+    let image = number_u8(image)?;
+    let reason = reason(rest?)?;
+    Some(ReportLine::Refuse(Refusal { image, reason }))
+}
+
+// The reason that a text says.
+#[tactic(auto, unfolding(crate::specs::LineReading::reason_of))]
+fn reason(text: &[u8]) -> Option<Reason>
+    ensures { result ≡ reason_of text.now }
+{
+    if text == DAMAGED {
+        Some(Reason::Damaged)
+    } else if text == OLDER {
+        Some(Reason::Older)
+    } else if text == COUNTER {
+        Some(Reason::Counter)
+    } else {
+        let (word, fields) = cut(text, b' ');
+        reason_with_fields(word, fields?)
+    }
+}
+
+// The reason that begins with a word, with fields after it.
+fn reason_with_fields(word: &[u8], fields: &[u8]) -> Option<Reason>
+    ensures { result ≡ reason_at word.now fields.now }
+{
+    if word == NO_SUCH_IMAGE {
+        Some(Reason::NoSuchImage(number_u8(fields)?))
+    } else if word == NEEDS {
+        let (image, minimum) = image_and_version(fields)?;
+        Some(Reason::Needs(image, minimum))
+    } else {
+        None
+    }
+}

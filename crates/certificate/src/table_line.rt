@@ -1,0 +1,119 @@
+//! One line of a table's text.
+
+ghost use Rattle.std.specs.Prelude.{◌≡◌};
+ghost use Rattle.certificate.specs.LineReading.{image_and_version_of, image_line_of, needs_line_of, request_line_of, table_line_of};
+
+use version_order::ascii::{cut, number, number_u8};
+use version_order::{Dependency, Version};
+
+/// What one line of a table says.
+#[derive(Clone, Copy, Debug, PartialEq, Eq)]
+pub enum TableLine {
+    /// `image I VERSION COUNTER FLOOR` begins image I: what runs, and the floor.
+    Image {
+        /// The number of the image.
+        number: u8,
+        /// The running version.
+        version: Version,
+        /// The security counter of the running image.
+        counter: u32,
+        /// The lowest security counter that is accepted.
+        floor: u32,
+    },
+    /// `needs J VERSION`, a dependency of the running image or, after `request`, of the requested one.
+    Needs(Dependency),
+    /// `request VERSION COUNTER`, an intact request.
+    Request {
+        /// The requested version.
+        version: Version,
+        /// The security counter of the requested image.
+        counter: u32,
+    },
+    /// `damaged`, a request whose bytes are no intact image.
+    Damaged,
+}
+
+// The words that lines begin with.
+const IMAGE: &[u8] = b"image";
+
+/// The first word of a dependency, and of the reason that one isn't met.
+pub(crate) const NEEDS: &[u8] = b"needs";
+
+const REQUEST: &[u8] = b"request";
+
+/// The only word of a request whose bytes are no intact image, and of the reason to refuse it.
+pub(crate) const DAMAGED: &[u8] = b"damaged";
+
+impl TableLine {
+    /// The line that a text says, `None` where it says none. The text has no line feed at its end.
+    #[tactic(auto, unfolding(crate::specs::LineReading::table_line_of))]
+    pub(crate) fn read(line: &[u8]) -> Option<TableLine>
+        ensures { result ≡ table_line_of line.now }
+    {
+        if line == DAMAGED {
+            return Some(TableLine::Damaged);
+        }
+        let (word, fields) = cut(line, b' ');
+        let fields = fields?;
+        if word == IMAGE {
+            image_line(fields)
+        } else if word == NEEDS {
+            needs_line(fields)
+        } else if word == REQUEST {
+            request_line(fields)
+        } else {
+            None
+        }
+    }
+}
+
+// What follows `image`.
+#[tactic(auto, unfolding(crate::specs::LineReading::image_line_of))]
+fn image_line(fields: &[u8]) -> Option<TableLine>
+    ensures { result ≡ image_line_of fields.now }
+{
+    let (image, rest) = cut(fields, b' ');
+    let image = number_u8(image)?;
+    let (version, rest) = cut(rest?, b' ');
+    let version = Version::from_ascii(version).ok()?;
+    let (counter, rest) = cut(rest?, b' ');
+    let counter = number(counter)?;
+    let floor = number(rest?)?;
+    Some(TableLine::Image {
+        number: image,
+        version,
+        counter,
+        floor,
+    })
+}
+
+// What follows `needs`.
+#[tactic(auto, unfolding(crate::specs::LineReading::needs_line_of))]
+fn needs_line(fields: &[u8]) -> Option<TableLine>
+    ensures { result ≡ needs_line_of fields.now }
+{
+    let (image, minimum) = image_and_version(fields)?;
+    Some(TableLine::Needs(Dependency { image, minimum }))
+}
+
+// What follows `request`.
+#[tactic(auto, unfolding(crate::specs::LineReading::request_line_of))]
+fn request_line(fields: &[u8]) -> Option<TableLine>
+    ensures { result ≡ request_line_of fields.now }
+{
+    let (version, rest) = cut(fields, b' ');
+    let version = Version::from_ascii(version).ok()?;
+    let counter = number(rest?)?;
+    Some(TableLine::Request { version, counter })
+}
+
+/// The number of an image and a version, `None` where the fields are no such two.
+#[tactic(auto, unfolding(crate::specs::LineReading::image_and_version_of))]
+pub(crate) fn image_and_version(fields: &[u8]) -> Option<(u8, Version)>
+    ensures { result ≡ image_and_version_of fields.now }
+{
+    let (image, rest) = cut(fields, b' ');
+    let image = number_u8(image)?;
+    let version = Version::from_ascii(rest?).ok()?;
+    Some((image, version))
+}

@@ -1,0 +1,95 @@
+//! Placing one more line of a table: what it says of the image that it belongs to.
+
+ghost use Rattle.std.specs.Prelude.{◌≡◌, Some, None, MatchBool};
+ghost use Rattle.certificate.specs.TableReading.{new_entry, with_needs, with_request, with_line, with_line_in_last, with_image, with_table_line};
+
+use crate::table::{Entry, Image, Request};
+use crate::table_line::TableLine;
+use arrayvec::ArrayVec;
+use version_order::{Dependency, Version};
+
+/// Adds what a line says to the images that the lines before it told. `false` where no table has such a line
+/// there; the images are of no use then.
+#[tactic(auto, unfolding(crate::specs::TableReading::with_table_line))]
+pub(crate) fn place_line(images: &mut ArrayVec<Image, 8>, line: TableLine) -> bool
+    ensures { MatchBool result (with_table_line images.old.items line ≡ Some images.new.items) (with_table_line images.old.items line ≡ None) }
+{
+    match line {
+        TableLine::Image {
+            number,
+            version,
+            counter,
+            floor,
+        } => {
+            let running = new_entry(version, counter);
+            let request = Request::None;
+            place_image(
+                images,
+                number,
+                Image {
+                    running,
+                    request,
+                    floor,
+                },
+            )
+        }
+        later => place_in_last(images, later),
+    }
+}
+
+fn new_entry(version: Version, counter: u32) -> Entry
+    ensures { result ≡ new_entry version counter }
+{
+    Entry {
+        version,
+        counter,
+        dependencies: ArrayVec::new(),
+    }
+}
+
+fn place_image(images: &mut ArrayVec<Image, 8>, number: u8, image: Image) -> bool
+    ensures { MatchBool result (with_image images.old.items number image ≡ Some images.new.items) (with_image images.old.items number image ≡ None) }
+{
+    usize::from(number) == images.len() && images.try_push(image).is_ok()
+}
+
+#[tactic(auto, unfolding(crate::specs::TableReading::with_line_in_last))]
+fn place_in_last(images: &mut ArrayVec<Image, 8>, line: TableLine) -> bool
+    ensures { MatchBool result (with_line_in_last images.old.items line ≡ Some images.new.items) (with_line_in_last images.old.items line ≡ None) }
+{
+    let count = images.len();
+    count > 0 && place_in_image(&mut images[count - 1], line)
+}
+
+fn place_in_image(image: &mut Image, line: TableLine) -> bool
+    ensures { MatchBool result (with_line image.old line ≡ Some image.new) (with_line image.old line ≡ None) }
+{
+    match line {
+        TableLine::Image { .. } => false,
+        TableLine::Needs(dependency) => place_needs(image, dependency),
+        TableLine::Request { version, counter } => {
+            place_request(image, Request::Entry(new_entry(version, counter)))
+        }
+        TableLine::Damaged => place_request(image, Request::Damaged),
+    }
+}
+
+fn place_needs(image: &mut Image, dependency: Dependency) -> bool
+    ensures { MatchBool result (with_needs image.old dependency image.old.request ≡ Some image.new) (with_needs image.old dependency image.old.request ≡ None) }
+{
+    match &mut image.request {
+        Request::None => image.running.dependencies.try_push(dependency).is_ok(),
+        Request::Damaged => false,
+        Request::Entry(entry) => entry.dependencies.try_push(dependency).is_ok(),
+    }
+}
+
+fn place_request(image: &mut Image, request: Request) -> bool
+    ensures { MatchBool result (with_request image.old request image.old.request ≡ Some image.new) (with_request image.old request image.old.request ≡ None) }
+{
+    if matches!(image.request, Request::None) {
+        image.request = request;
+        return true;
+    }
+    false
+}
