@@ -1,0 +1,138 @@
+//! The command line: what the words ask for, what is printed, and the exit status.
+mod command;
+
+use crate::choosing::{ChooseEnd, choose_over};
+use crate::host::{Host, StandardInput};
+use clap::error::ErrorKind as UsageKind;
+use command::{Task, task_of, words_fault};
+use std::alloc::{Allocator, Global};
+use std::convert::AsStr;
+use std::io;
+use std::io::{ErrorKind, Write};
+use thiserror::Error;
+
+/// What was asked for is done.
+const DONE: u8 = 0;
+
+/// The program refused, or could not write what it had to say.
+const REFUSED: u8 = 1;
+
+/// The words are none that the program knows.
+const USAGE: u8 = 2;
+
+/// How an error line names standard input.
+const STANDARD_INPUT: &str = "-";
+
+/// Why the program refuses: what follows `error: `.
+#[derive(Clone, Copy, Debug, Error)]
+enum Refusal<'a> {
+    #[error("table line {0}")]
+    TableLine(usize),
+    #[error("running set not valid")]
+    NotValid,
+    #[error("cannot read {0}")]
+    CannotRead(&'a str),
+    #[error("memory")]
+    NoMemory,
+}
+
+/// Does what `words` ask for, and returns the exit status: 0 done, 1 refused, 2 usage.
+///
+/// The first word is the program's own name. The words are parsed in memory of `alloc`, and all else stands in
+/// memory of `heap`. Input comes from `host`. Answers go to `out`, error lines and the words on a wrong usage
+/// to `err`, and both are flushed. After a write that failed nothing more is written, and the status is 1.
+pub fn cli<S: AsStr, A: Allocator, H: Host, O: Write, E: Write>(
+    alloc: Global,
+    heap: &A,
+    words: &[S],
+    host: &mut H,
+    out: &mut O,
+    err: &mut E,
+) -> u8 {
+    match task_of(alloc, words) {
+        Ok(Task::ChooseInput) => {
+            let end = choose_over(heap, &mut StandardInput(host), out);
+            status_of(end, STANDARD_INPUT, out, err)
+        }
+        Ok(Task::ChooseFile(name)) => {
+            let end = choose_file(heap, name, host, out);
+            status_of(end, name, out, err)
+        }
+        Err(error) => answer(&error, out, err),
+    }
+}
+
+/// Tells that the words could not be had, and returns the exit status: 1 for want of memory, and 2 where they
+/// are no text. The text to print stands in memory of `alloc`.
+pub fn refuse_words<E: Write>(alloc: Global, error: &io::Error, err: &mut E) -> u8 {
+    match error.kind() {
+        ErrorKind::OutOfMemory => refuse(Refusal::NoMemory, err),
+        _ => tell_fault(&words_fault(alloc), err),
+    }
+}
+
+/// A choice over the table in the file of this name.
+fn choose_file<A: Allocator, H: Host, O: Write>(
+    heap: &A,
+    name: &str,
+    host: &mut H,
+    out: &mut O,
+) -> ChooseEnd {
+    match host.read_file(heap, name) {
+        Ok(bytes) => choose_over(heap, &mut bytes.as_slice(), out),
+        Err(error) if error.kind() == ErrorKind::OutOfMemory => ChooseEnd::NoMemory,
+        Err(_) => ChooseEnd::ReadFailed,
+    }
+}
+
+/// Tells how a choice over the input of this name ended.
+fn status_of<O: Write, E: Write>(end: ChooseEnd, name: &str, out: &mut O, err: &mut E) -> u8 {
+    match end {
+        ChooseEnd::Done => status_after(out.flush(), DONE),
+        ChooseEnd::BadLine(line) => refuse(Refusal::TableLine(line), err),
+        ChooseEnd::NotValid => refuse(Refusal::NotValid, err),
+        ChooseEnd::NoMemory => refuse(Refusal::NoMemory, err),
+        ChooseEnd::ReadFailed => refuse(Refusal::CannotRead(name), err),
+        ChooseEnd::WriteFailed => REFUSED,
+    }
+}
+
+/// Writes an error line.
+fn refuse<E: Write>(refusal: Refusal<'_>, err: &mut E) -> u8 {
+    status_after(write_line(refusal, err), REFUSED)
+}
+
+fn write_line<E: Write>(refusal: Refusal<'_>, err: &mut E) -> io::Result<()> {
+    writeln!(err, "error: {refusal}")?;
+    err.flush()
+}
+
+/// Writes what the parse of the words answers in place of a task: help, the version or the fault in them.
+fn answer<O: Write, E: Write>(error: &clap::Error, out: &mut O, err: &mut E) -> u8 {
+    if error.use_stderr() {
+        tell_fault(error, err)
+    } else {
+        status_after(write_text(error, out), DONE)
+    }
+}
+
+/// Writes the fault in the words.
+fn tell_fault<E: Write>(error: &clap::Error, err: &mut E) -> u8 {
+    match error.kind() {
+        UsageKind::OutOfMemory => refuse(Refusal::NoMemory, err),
+        _ => status_after(write_text(error, err), USAGE),
+    }
+}
+
+fn write_text<W: Write>(error: &clap::Error, to: &mut W) -> io::Result<()> {
+    write!(to, "{error}")?;
+    to.flush()
+}
+
+/// The exit status where `written` is what came of the last writes: `status`, unless one failed.
+fn status_after(written: io::Result<()>, status: u8) -> u8 {
+    match written {
+        Ok(()) => status,
+        Err(_) => REFUSED,
+    }
+}

@@ -1,0 +1,61 @@
+//! Whole streams: a reader read to its end, and bytes written to the last.
+ghost use Rattle.std.specs.Prelude.{ℕ, List, take, IfOk, OnOk, OnErr};
+ghost use Rattle.std.specs.Io.KnownBytes.{Appends, Consumes, IsAtEnd};
+
+use std::alloc::Allocator;
+use std::io;
+use std::io::{ErrorKind, Read, Write};
+use thiserror::Error;
+
+/// Why a reader was not read to its end.
+#[derive(Clone, Copy, Debug, PartialEq, Eq, Error)]
+pub enum ReadError {
+    /// There is no memory for what it gives.
+    #[error("memory")]
+    NoMemory,
+    /// A read failed for another reason.
+    #[error("read failed")]
+    Failed,
+}
+
+/// Reads `input` to its end, and returns all that it gave.
+///
+/// A read that a signal interrupts is tried again. After an error what was read so far is lost.
+pub fn read_all<A: Allocator, R: Read>(alloc: A, input: &mut R) -> Result<Vec<u8, A>, ReadError>
+    ensures bytes { IfOk result (λ bytes.
+        Consumes (R.remaining input.old) (R.remaining input.new) bytes.items) }
+    ensures end { OnOk result (IsAtEnd (R.remaining input.new)) }
+    ensures lost { OnErr result ((lost : List ℕ)
+        × Consumes (R.remaining input.old) (R.remaining input.new) lost) }
+{
+    let mut bytes = Vec::new(alloc);
+    match input.read_to_end(&mut bytes) {
+        Ok(_) => Ok(bytes),
+        Err(error) if error.kind() == ErrorKind::OutOfMemory => Err(ReadError::NoMemory),
+        Err(_) => Err(ReadError::Failed),
+    }
+}
+
+/// Writes all of `bytes` to `out`.
+///
+/// A write that a signal interrupts is tried again. One that takes no byte is an error, as is any other that
+/// fails: then `out` has taken a beginning of `bytes`.
+pub fn write_all<W: Write>(out: &mut W, bytes: &[u8]) -> io::Result<()>
+    ensures ok { OnOk result (Appends (W.contents out.old) (W.contents out.new) bytes.now) }
+    ensures err { OnErr result ((count : ℕ)
+        × Appends (W.contents out.old) (W.contents out.new) (take count bytes.now)) }
+{
+    let mut written = 0;
+    for _ in 0..u64::MAX {
+        if written == bytes.len() {
+            return Ok(());
+        }
+        match out.write(&bytes[written..]) {
+            Ok(0) => return Err(io::Error::from(ErrorKind::WriteZero)),
+            Ok(count) => written += count,
+            Err(error) if error.kind() == ErrorKind::Interrupted => {}
+            Err(error) => return Err(error),
+        }
+    }
+    Err(io::Error::from(ErrorKind::TimedOut))
+}

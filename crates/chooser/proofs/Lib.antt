@@ -1,0 +1,11 @@
+pub mod Options
+pub mod Lists
+pub mod Numbered
+pub mod VersionOrder
+pub mod Requests
+pub mod Counts
+pub mod OwnRefusals
+pub mod Order
+pub mod Founded
+pub mod Taken
+pub mod Right

@@ -1,0 +1,213 @@
+-- What isn't refused in the end is a valid combination.
+use Rattle.std.proofs.Common.{◌≡◌, ℕ, ◌≤◌, Bool, true, false, cond, eqb, not, ◌&&◌, List, Option, Some, None, inl, inr, refl, sym, ap, subst, ◌∙◌}
+use Rattle.std.specs.Prelude.{⊤, IfSome, find, is_none, is_some, nat_lt, unwrap_or}
+use Rattle.std.specs.List.{list_all}
+use Rattle.std.specs.Option.{option_map_or}
+use Rattle.std.proofs.lemmas.Bool.{false≢true, and_parts, and_right, cases_Bool, cond-true, cond-false, cond_both, eqb-true, ltb-false, not-true, not_from_false, not_from_true}
+use Rattle.std.proofs.lemmas.Option.{MatchOption-at_some, none-some, same_Some}
+use Rattle.version_order.specs.declared.version.Version.{Version}
+use Rattle.version_order.specs.declared.dependency.Dependency.{Dependency}
+use Rattle.version_order.specs.Order.{is_older, IsAtLeast}
+use Rattle.certificate.specs.declared.table.Entry.{Entry}
+use Rattle.certificate.specs.declared.table.Request.{Request}
+use Rattle.certificate.specs.declared.table.Request.TheVariants as request
+use Rattle.certificate.specs.declared.table.Image.{Image}
+use Rattle.certificate.specs.declared.table.Table.{Table}
+use Rattle.certificate.specs.declared.report.Reason.TheVariants.{Damaged, Older, Counter}
+use Rattle.certificate.specs.declared.report.Refusal.{Refusal}
+use Rattle.certificate.specs.Combination.{image_at, intact_entry, entry_in, is_met, IsValid, running_set}
+use Rattle.certificate.specs.Reasons.{is_refused, best_version, is_out_of_reach}
+use Rattle.certificate.specs.Rightness.{has_request, is_requested}
+use Rattle.certificate.specs.StandardOrder.{own_reason, own_reason_of_entry, needs_reason}
+use Rattle.chooser.specs.Reported.{is_taken_unless_refused}
+use Rattle.chooser.proofs.Options.{IfSome-from, IsSomeAnd-from, some_value, option_map-None, option_and_then-None, option_map_or-true}
+use Rattle.chooser.proofs.Lists.{list_all-from_finds, list_all-weaker}
+use Rattle.chooser.proofs.VersionOrder.{IsAtLeast_refl, IsAtLeast_trans}
+
+-- the version of the requested entry, or else the running one
+abbrev pub version_of_request : Option Entry → Entry → Version
+version_of_request requested running = option_map_or (λ entry. entry.version) requested running.version
+
+-- the newer of the running version and that of the requested entry
+abbrev pub newer_version : Option Entry → Entry → Version
+newer_version requested running = option_map_or (λ entry. cond (is_older running.version entry.version) entry.version running.version) requested running.version
+
+-- the requested entry has the requested version
+version_of_request-reached : (requested : Option Entry) (running : Entry) → IsAtLeast (unwrap_or requested running).version (version_of_request requested running)
+version_of_request-reached None running = IsAtLeast_refl running.version
+version_of_request-reached (Some entry) running = IsAtLeast_refl entry.version
+
+-- a requested entry that isn't older has the newer version
+newer_version-reached : (requested : Option Entry) (running : Entry) → IfSome requested (λ entry. IsAtLeast entry.version running.version) → IsAtLeast (unwrap_or requested running).version (newer_version requested running)
+newer_version-reached None running newer = IsAtLeast_refl running.version
+newer_version-reached (Some entry) running newer =
+    cond_both (is_older running.version entry.version) entry.version running.version (λ v. IsAtLeast entry.version v) (λ _. IsAtLeast_refl entry.version) (λ _. newer)
+
+-- the best version is reached where all that isn't refused is taken
+best-reached : (requested : Option Entry) (running : Entry) (is_own is_refused is_member : Bool) → (is_own ≡ true → is_member ≡ true) → is_member ≡ (is_some requested && not is_refused) → IfSome requested (λ entry. is_refused ≡ false → IsAtLeast entry.version running.version) → IsAtLeast (cond is_member (unwrap_or requested running) running).version (cond is_own (version_of_request requested running) (cond is_refused running.version (newer_version requested running)))
+best-reached requested running true is_refused true own member newer = version_of_request-reached requested running
+best-reached requested running true is_refused false own member newer = absurd (false≢true (own refl))
+best-reached requested running false true true own member newer =
+    absurd (false≢true (and_parts (is_some requested) false (sym member)).1)
+best-reached requested running false true false own member newer = IsAtLeast_refl running.version
+best-reached None running false false is_member own member newer =
+    cond_both is_member running running (λ (entry : Entry). IsAtLeast entry.version running.version) (λ _. IsAtLeast_refl running.version) (λ _. IsAtLeast_refl running.version)
+best-reached (Some entry) running false false true own member newer = newer_version-reached (Some entry) running (newer refl)
+best-reached (Some entry) running false false false own member newer = absurd (false≢true member)
+
+-- what a requested entry is like that isn't refused by itself
+record IsAccepted (table : Table) (image : Image) (entry : Entry) : Type 0 where
+  pub at_least_running : IsAtLeast entry.version image.running.version
+  pub counter_accepted : image.floor ≤ entry.counter
+  pub none_missing : find (λ dependency. is_none (image_at table dependency.image)) entry.dependencies.items ≡ None
+
+-- a test that chose nothing failed
+fails_for_none : {X : Type 0} (test : Bool) (x : X) (other : Option X) → cond test (Some x) other ≡ None → (test ≡ false) × (other ≡ None)
+fails_for_none true x other none = absurd (none-some x (sym none))
+fails_for_none false x other none = (refl, none)
+
+-- an intact request with no reason of its own
+IsAccepted-from_none : (table : Table) (image : Image) (asked : Request) (entry : Entry) → intact_entry asked ≡ Some entry → own_reason table image asked ≡ None → IsAccepted table image entry
+IsAccepted-from_none table image request.None entry has_entry none = absurd (none-some entry has_entry)
+IsAccepted-from_none table image request.Damaged entry has_entry none = absurd (none-some Damaged (sym none))
+IsAccepted-from_none table image (request.Entry intact) entry has_entry none =
+    let none' : own_reason_of_entry table image entry ≡ None = subst (λ (e : Entry). own_reason_of_entry table image e ≡ None) (same_Some intact entry has_entry) none in
+    let not_older = fails_for_none (is_older entry.version image.running.version) Older _ none' in
+    let not_low = fails_for_none (nat_lt entry.counter image.floor) Counter _ not_older.1 in
+    record {
+      at_least_running = not_from_false _ not_older.0;
+      counter_accepted = ltb-false entry.counter image.floor not_low.0;
+      none_missing = option_map-None _ (find (λ dependency. is_none (image_at table dependency.image)) entry.dependencies.items) not_low.1;
+    }
+
+-- all requests that are left have no reason
+pub record IsSettled (table : Table) (refusals : List Refusal) : Type 0 where
+  pub own : (j : ℕ) (image : Image) → image_at table j ≡ Some image → is_refused refusals j ≡ false → own_reason table image image.request ≡ None
+  pub needs : (j : ℕ) → is_refused refusals j ≡ false → needs_reason table refusals j ≡ None
+
+-- an image whose intact request isn't refused
+record IsTaken (table : Table) (refusals : List Refusal) (j : ℕ) (image : Image) (entry : Entry) : Type 0 where
+  pub has_image : image_at table j ≡ Some image
+  pub has_entry : intact_entry image.request ≡ Some entry
+  pub unrefused : is_refused refusals j ≡ false
+
+-- a value that is there
+is_some_value : {X : Type 0} (o : Option X) → is_some o ≡ true → (x : X) × (o ≡ Some x)
+is_some_value None some = absurd (false≢true some)
+is_some_value (Some x) some = (x, refl)
+
+-- what a member contributes is its requested entry
+entry_in-taken : (image : Image) (entry : Entry) (is_member : Bool) → is_member ≡ true → intact_entry image.request ≡ Some entry → entry_in image is_member ≡ entry
+entry_in-taken image entry is_member member has_entry =
+    cond-true is_member _ _ member ∙ ap (λ requested. unwrap_or requested image.running) has_entry
+
+-- nothing is taken that is refused
+none_if_refused : (refusals : List Refusal) (j : ℕ) → is_refused refusals j ≡ true → (found : Option Image) → option_map_or (is_taken_unless_refused refusals j) found false ≡ false
+none_if_refused refusals j refused None = refl
+none_if_refused refusals j refused (Some image) = and_right _ (not (is_refused refusals j)) (not_from_true _ refused)
+
+-- a request with no reason is intact
+intact_if_no_reason : (table : Table) (image : Image) (unrefused : Bool) → unrefused ≡ true → (asked : Request) → own_reason table image asked ≡ None → (is_some (intact_entry asked) && unrefused) ≡ is_requested asked
+intact_if_no_reason table image unrefused is request.None none = refl
+intact_if_no_reason table image unrefused is request.Damaged none = absurd (none-some Damaged (sym none))
+intact_if_no_reason table image unrefused is (request.Entry entry) none = is
+
+-- all requests are taken that aren't refused
+all_if_unrefused : (table : Table) (refusals : List Refusal) (j : ℕ) → ((image : Image) → image_at table j ≡ Some image → own_reason table image image.request ≡ None) → is_refused refusals j ≡ false → (found : Option Image) → image_at table j ≡ found → option_map_or (is_taken_unless_refused refusals j) found false ≡ option_map_or (λ image. is_requested image.request) found false
+all_if_unrefused table refusals j own unrefused None is = refl
+all_if_unrefused table refusals j own unrefused (Some image) is =
+    intact_if_no_reason table image (not (is_refused refusals j)) (not_from_false _ unrefused) image.request (own image is)
+
+module _ (table : Table) (refusals : List Refusal) (taken : ℕ → Bool) (takes : (j : ℕ) → taken j ≡ option_map_or (is_taken_unless_refused refusals j) (image_at table j) false) (settled : IsSettled table refusals) where
+  -- what is taken at an image
+  taken-at : (j : ℕ) (image : Image) → image_at table j ≡ Some image → taken j ≡ is_taken_unless_refused refusals j image
+  taken-at j image has_image = takes j ∙ ap (λ found. option_map_or (is_taken_unless_refused refusals j) found false) has_image
+
+  -- what is taken has an intact request that isn't refused
+  IsTaken-at : (j : ℕ) (image : Image) → image_at table j ≡ Some image → taken j ≡ true → (entry : Entry) × IsTaken table refusals j image entry
+  IsTaken-at j image has_image is =
+      let parts = and_parts (is_some (intact_entry image.request)) (not (is_refused refusals j)) (sym (taken-at j image has_image) ∙ is) in
+      let (entry, has_entry) = is_some_value (intact_entry image.request) parts.0 in
+      (entry, record { has_image = has_image; has_entry = has_entry; unrefused = not-true _ parts.1 })
+
+  -- what is taken has an image
+  IsTaken-from_taken : (j : ℕ) → taken j ≡ true → (image : Image) × (entry : Entry) × IsTaken table refusals j image entry
+  IsTaken-from_taken j is =
+      let (image, has_image, _) = option_map_or-true (is_taken_unless_refused refusals j) (image_at table j) (sym (takes j) ∙ is) in
+      let (entry, is_taken) = IsTaken-at j image has_image is in
+      (image, entry, is_taken)
+
+  -- and isn't refused by itself
+  accepted : (j : ℕ) (image : Image) (entry : Entry) → image_at table j ≡ Some image → intact_entry image.request ≡ Some entry → is_refused refusals j ≡ false → IsAccepted table image entry
+  accepted j image entry has_image has_entry unrefused =
+      IsAccepted-from_none table image image.request entry has_entry (settled.own j image has_image unrefused)
+
+  -- a dependency on an image that exists is met where it isn't out of reach
+  is_met-within_reach : (own : ℕ) → taken own ≡ true → (dependency : Dependency) → is_none (image_at table dependency.image) ≡ false → is_out_of_reach table refusals own dependency ≡ false → is_met table taken dependency ≡ true
+  is_met-within_reach own is dependency exists within =
+      let j = dependency.image in
+      let (image, has_image) = some_value (image_at table j) exists in
+      let best = best_version refusals own j image in
+      let reached = best-reached (intact_entry image.request) image.running (eqb j own) (is_refused refusals j) (taken j) (λ same. ap taken (eqb-true j own same) ∙ is) (taken-at j image has_image) (IfSome-from (intact_entry image.request) _ (λ entry has_entry unrefused. (accepted j image entry has_image has_entry unrefused).at_least_running)) in
+      let enough : IsAtLeast best dependency.minimum = not_from_false _ (sym (ap (λ found. option_map_or (λ im. is_older (best_version refusals own j im) dependency.minimum) found false) has_image) ∙ within) in
+      ap (λ found. option_map_or (λ im. not (is_older (entry_in im (taken j)).version dependency.minimum)) found false) has_image ∙ IsAtLeast_trans (entry_in image (taken j)).version best dependency.minimum reached enough
+
+  -- no dependency of an unrefused request is out of reach
+  none_out_of_reach : (j : ℕ) (image : Image) (entry : Entry) → IsTaken table refusals j image entry → find (is_out_of_reach table refusals j) entry.dependencies.items ≡ None
+  none_out_of_reach j image entry is =
+      let none = option_and_then-None _ (intact_entry image.request) entry is.has_entry (option_and_then-None _ (image_at table j) image is.has_image (settled.needs j is.unrefused)) in
+      option_map-None _ (find (is_out_of_reach table refusals j) entry.dependencies.items) none
+
+  -- the dependencies of what is taken are met
+  met-taken : (j : ℕ) (image : Image) (entry : Entry) → taken j ≡ true → IsTaken table refusals j image entry → list_all (is_met table taken) entry.dependencies.items ≡ true
+  met-taken j image entry is_taken is =
+      list_all-from_finds (λ (d : Dependency). is_none (image_at table d.image)) (is_out_of_reach table refusals j) (is_met table taken) (is_met-within_reach j is_taken) entry.dependencies.items (accepted j image entry is.has_image is.has_entry is.unrefused).none_missing
+      (none_out_of_reach j image entry is)
+
+  -- what runs then is at least what ran
+  entry_in-at_least_running : (j : ℕ) (image : Image) → image_at table j ≡ Some image → IsAtLeast (entry_in image (taken j)).version image.running.version
+  entry_in-at_least_running j image has_image =
+      let P : Entry → Type 0 = λ entry. IsAtLeast entry.version image.running.version in
+      elim (cases_Bool (taken j)) [
+        | inl is ↦
+            let (entry, is_taken) = IsTaken-at j image has_image is in
+            subst P (sym (entry_in-taken image entry (taken j) is is_taken.has_entry)) (accepted j image entry has_image is_taken.has_entry is_taken.unrefused).at_least_running
+        | inr runs_on ↦ subst P (sym (cond-false (taken j) _ image.running runs_on)) (IsAtLeast_refl image.running.version)
+      ]
+
+  -- a dependency that the running images meet stays met
+  is_met-running : (dependency : Dependency) → is_met table running_set dependency ≡ true → is_met table taken dependency ≡ true
+  is_met-running dependency met =
+      let j = dependency.image in
+      let (image, has_image, enough) = option_map_or-true _ (image_at table j) met in
+      ap (λ found. option_map_or (λ im. not (is_older (entry_in im (taken j)).version dependency.minimum)) found false) has_image ∙ IsAtLeast_trans (entry_in image (taken j)).version image.running.version dependency.minimum (entry_in-at_least_running j image has_image) enough
+
+  -- the combination is valid
+  pub IsValid-taken : IsValid table running_set → IsValid table taken
+  IsValid-taken running = record {
+    members = λ j is.
+        let (image, entry, is_taken) = IsTaken-from_taken j is in
+        let is_accepted = accepted j image entry is_taken.has_image is_taken.has_entry is_taken.unrefused in
+        IsSomeAnd-from (image_at table j) _ image is_taken.has_image
+        (IsSomeAnd-from (intact_entry image.request) _ entry is_taken.has_entry (is_accepted.at_least_running, is_accepted.counter_accepted));
+    met = λ j.
+        IfSome-from (image_at table j) _
+        (λ image has_image.
+        let P : Entry → Type 0 = λ entry. list_all (is_met table taken) entry.dependencies.items ≡ true in
+        elim (cases_Bool (taken j)) [
+          | inl is ↦
+              let (entry, is_taken) = IsTaken-at j image has_image is in
+              subst P (sym (entry_in-taken image entry (taken j) is is_taken.has_entry)) (met-taken j image entry is is_taken)
+          | inr runs_on ↦
+              subst P (sym (cond-false (taken j) _ image.running runs_on))
+              (list_all-weaker (is_met table running_set) (is_met table taken) is_met-running image.running.dependencies.items (MatchOption-at_some ⊤ _ image has_image (running.met j)))
+        ]);
+  }
+
+  -- a request that is refused isn't taken
+  pub taken-refused : (j : ℕ) → is_refused refusals j ≡ true → taken j ≡ false
+  taken-refused j refused = takes j ∙ none_if_refused refusals j refused (image_at table j)
+
+  -- a request that isn't refused is taken
+  pub taken-unrefused : (j : ℕ) → is_refused refusals j ≡ false → taken j ≡ has_request table j
+  taken-unrefused j unrefused = takes j ∙ all_if_unrefused table refusals j (λ image has_image. settled.own j image has_image unrefused) unrefused (image_at table j) refl

@@ -1,0 +1,112 @@
+//! Requests that need what can't come, given those that are refused so far.
+
+ghost use Rattle.std.specs.Option.{option_copied};
+ghost use Rattle.std.specs.Prelude.{◌≡◌, ℕ, false, IfNone, IfSome, None, find};
+ghost use Rattle.certificate.specs.Combination.{intact_entry};
+ghost use Rattle.certificate.specs.Reasons.{best_version, is_out_of_reach, is_refused, newest_version, requested_version};
+ghost use Rattle.certificate.specs.StandardOrder.{IsNextNeed, needs_reason};
+
+use certificate::{Entry, Image, Reason, Refusal, Request, Table};
+use version_order::{Dependency, Version};
+
+/// After these refusals comes this one: the lowest request not yet refused of which a dependency is out of
+/// reach. `None` where there is no such request.
+pub(crate) fn next_need(table: &Table, before: &[Refusal]) -> Option<Refusal>
+    ensures next { IfSome result (IsNextNeed table.now before.now) }
+    ensures none_left { IfNone result ((i : ℕ) → is_refused before.now i ≡ false → needs_reason table.now before.now i ≡ None) }
+{
+    for number in 0..table.images.len() as u8 {
+        if !is_refused(before, number)
+            && let Some(reason) = needs_reason(table, before, number)
+        {
+            return Some(Refusal {
+                image: number,
+                reason,
+            });
+        }
+    }
+    None
+}
+
+/// Whether the list refuses the request of an image.
+pub(crate) fn is_refused(refusals: &[Refusal], number: u8) -> bool
+    ensures { result ≡ is_refused refusals.now number }
+{
+    refusals.iter().any(|refusal| refusal.image == number)
+}
+
+/// The first dependency of the intact request of an image that is out of reach after these refusals, as a
+/// reason.
+fn needs_reason(table: &Table, before: &[Refusal], number: u8) -> Option<Reason>
+    ensures { result ≡ needs_reason table.now before.now number }
+{
+    let image = table.images.get(usize::from(number))?;
+    let entry = requested_entry(image)?;
+    let dependency = first_out_of_reach(table, before, number, &entry.dependencies)?;
+    Some(Reason::Needs(dependency.image, dependency.minimum))
+}
+
+fn first_out_of_reach<'a>(
+    table: &Table,
+    before: &[Refusal],
+    own: u8,
+    dependencies: &'a [Dependency],
+) -> Option<&'a Dependency>
+    ensures { option_copied result ≡ find (is_out_of_reach table.now before.now own) dependencies.now }
+{
+    dependencies.iter().find(|dependency| is_out_of_reach(table, before, own, dependency))
+}
+
+/// Whether a dependency of the request of image `own` names an image that exists and whose best version is
+/// below the minimum.
+fn is_out_of_reach(table: &Table, before: &[Refusal], own: u8, dependency: &Dependency) -> bool
+    ensures { result ≡ is_out_of_reach table.now before.now own dependency.now }
+{
+    match table.images.get(usize::from(dependency.image)) {
+        Some(image) => best_version(before, own, dependency.image, image) < dependency.minimum,
+        None => false,
+    }
+}
+
+/// The best version that the request of image `own` can hope for at the image of a number.
+fn best_version(before: &[Refusal], own: u8, number: u8, image: &Image) -> Version
+    ensures { result ≡ best_version before.now own number image.now }
+{
+    if number == own {
+        requested_version(image)
+    } else if is_refused(before, number) {
+        image.running.version
+    } else {
+        newest_version(image)
+    }
+}
+
+/// The version of an intact request, or else the running one.
+fn requested_version(image: &Image) -> Version
+    ensures { result ≡ requested_version image.now }
+{
+    match &image.request {
+        Request::Entry(entry) => entry.version,
+        Request::None | Request::Damaged => image.running.version,
+    }
+}
+
+/// The newer of the running version and the version of an intact request.
+fn newest_version(image: &Image) -> Version
+    ensures { result ≡ newest_version image.now }
+{
+    match &image.request {
+        Request::Entry(entry) => entry.version.max(image.running.version),
+        Request::None | Request::Damaged => image.running.version,
+    }
+}
+
+/// The intact image that is requested in the place of an image, if there is one.
+fn requested_entry(image: &Image) -> Option<&Entry>
+    ensures { option_copied result ≡ intact_entry image.now.request }
+{
+    match &image.request {
+        Request::Entry(entry) => Some(entry),
+        Request::None | Request::Damaged => None,
+    }
+}

@@ -1,0 +1,79 @@
+//! Requests that are refused by themselves, whatever becomes of the others.
+
+ghost use Rattle.std.specs.Option.{option_copied};
+ghost use Rattle.std.specs.Prelude.{◌≡◌, find, is_none};
+ghost use Rattle.certificate.specs.Combination.{image_at};
+ghost use Rattle.certificate.specs.StandardOrder.{missing_image, own_reason, own_reason_of_entry, own_refusal, own_refusals};
+
+use arrayvec::ArrayVec;
+use certificate::{Entry, Image, Reason, Refusal, Request, Table};
+use version_order::Dependency;
+
+/// The requests that are refused by themselves, by ascending number, each with the lowest reason.
+pub(crate) fn own_refusals(table: &Table) -> ArrayVec<Refusal, 8>
+    ensures { result.items ≡ own_refusals table.now }
+{
+    let mut refusals = ArrayVec::new();
+    for (number, image) in table.images.iter().enumerate() {
+        if let Some(refusal) = own_refusal(table, number as u8, image) {
+            refusals.push(refusal);
+        }
+    }
+    refusals
+}
+
+/// The refusal of an image's request by itself, if there is one.
+fn own_refusal(table: &Table, number: u8, image: &Image) -> Option<Refusal>
+    ensures { result ≡ own_refusal table.now (number, image.now) }
+{
+    let reason = own_reason(table, image)?;
+    Some(Refusal {
+        image: number,
+        reason,
+    })
+}
+
+/// Why a request is refused by itself, if it is.
+fn own_reason(table: &Table, image: &Image) -> Option<Reason>
+    ensures { result ≡ own_reason table.now image.now image.now.request }
+{
+    match &image.request {
+        Request::None => None,
+        Request::Damaged => Some(Reason::Damaged),
+        Request::Entry(entry) => own_reason_of_entry(table, image, entry),
+    }
+}
+
+fn own_reason_of_entry(table: &Table, image: &Image, entry: &Entry) -> Option<Reason>
+    ensures { result ≡ own_reason_of_entry table.now image.now entry.now }
+{
+    if entry.version < image.running.version {
+        Some(Reason::Older)
+    } else if entry.counter < image.floor {
+        Some(Reason::Counter)
+    } else {
+        missing_image(table, entry)
+    }
+}
+
+/// The first dependency on an image that the table doesn't have, as a reason.
+fn missing_image(table: &Table, entry: &Entry) -> Option<Reason>
+    ensures { result ≡ missing_image table.now entry.now }
+{
+    let dependency = first_missing(table, &entry.dependencies)?;
+    Some(Reason::NoSuchImage(dependency.image))
+}
+
+fn first_missing<'a>(table: &Table, dependencies: &'a [Dependency]) -> Option<&'a Dependency>
+    ensures { option_copied result ≡ find (λ dependency. is_none (image_at table.now dependency.image)) dependencies.now }
+{
+    dependencies
+        .iter()
+        .find(|dependency| is_missing(table, dependency))
+}
+
+fn is_missing(table: &Table, dependency: &Dependency) -> bool
+    ensures { result ≡ is_none (image_at table.now dependency.now.image) }
+{
+    table.images.get(usize::from(dependency.image)).is_none()
+}

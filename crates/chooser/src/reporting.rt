@@ -1,0 +1,36 @@
+//! The report of a list of refusals: what isn't refused is taken.
+
+ghost use Rattle.std.specs.Prelude.{◌≡◌};
+ghost use Rattle.chooser.specs.Reported.{reported_image, reported_images};
+
+use crate::needs::is_refused;
+use arrayvec::ArrayVec;
+use certificate::{Image, Refusal, Report, ReportedImage, Request, Table};
+
+/// The report that takes each intact request that these refusals don't name.
+pub(crate) fn report_of(table: &Table, refusals: ArrayVec<Refusal, 8>) -> Report
+    ensures images { result.images.items ≡ reported_images table.now refusals.items }
+    ensures refusals { result.refusals ≡ refusals }
+{
+    let mut images = ArrayVec::new();
+    for (number, image) in table.images.iter().enumerate() {
+        images.push(reported_image(&refusals, number as u8, image));
+    }
+    Report { images, refusals }
+}
+
+/// What becomes of an image where these requests are refused.
+fn reported_image(refusals: &[Refusal], number: u8, image: &Image) -> ReportedImage
+    ensures { result ≡ reported_image refusals.now (number, image.now) }
+{
+    match &image.request {
+        Request::Entry(entry) if !is_refused(refusals, number) => ReportedImage {
+            is_taken: true,
+            version: entry.version,
+        },
+        _ => ReportedImage {
+            is_taken: false,
+            version: image.running.version,
+        },
+    }
+}
