@@ -15,4 +15,3 @@ pub mod TableLaws
 pub mod TableLimits
 pub mod TableRuns
 pub mod TableTextLaws
-pub mod VersionOrder

@@ -66,11 +66,11 @@ unfolding IsDistinct
 distinct_images [] once = tt
 distinct_images (refusal ∷ refusals) once =
     let added : (j : ℕ) → times_refused (refusal ∷ refusals) j ≡ once_if (refusal.image == j) + times_refused refusals j =
-    λ j. sum_by-cons (λ (r : Refusal). once_if (r.image == j)) refusal refusals
+    λ j. sum_by-cons (λ (any_refusal : Refusal). once_if (any_refusal.image == j)) refusal refusals
     in
     let here : once_if (refusal.image == refusal.image) ≡ 1 = ap once_if (eq-eqb refusal.image refusal.image refl) in
     let unrefused : is_refused refusals refusal.image ≡ false =
-    false_from_ne_true _ (λ again. absurd (omega (arith, once refusal.image, added refusal.image, here, count_by-some (λ (r : Refusal). r.image == refusal.image) refusals again)))
+    false_from_ne_true _ (λ again. absurd (omega (arith, once refusal.image, added refusal.image, here, count_by-some (λ (any_refusal : Refusal). any_refusal.image == refusal.image) refusals again)))
     in
     (apart_from_unrefused refusals refusal.image unrefused, distinct_images refusals (λ j. omega (arith, once j, added j)))
 
@@ -97,21 +97,21 @@ length-once table refusals is =
     let distinct = distinct_images refusals (λ j. omega (arith, is.once j, once_if-le (has_request table j))) in
     let below : (j : ℕ) → list_any (eqb j) (images_of refusals) ≡ true → j < length table.images.items =
     λ j among.
-    let counted = count_by-some (λ (r : Refusal). r.image == j) refusals (is_refused-images_of refusals j among) in
+    let counted = count_by-some (λ (any_refusal : Refusal). any_refusal.image == j) refusals (is_refused-images_of refusals j among) in
     below-has_request table j (once_if-some _ (omega (arith, is.once j, counted)))
     in
-    omega (arith, length-map refusals (λ (r : Refusal). r.image), length-le_from_distinct_below (images_of refusals) _ distinct below)
+    omega (arith, length-map refusals (λ (any_refusal : Refusal). any_refusal.image), length-le_from_distinct_below (images_of refusals) _ distinct below)
 
 -- a request that isn't refused yet can be refused
 pub IsOnce-push : (table : Table) (refusals : List Refusal) (refusal : Refusal) → IsOnce table refusals → is_refused refusals refusal.image ≡ false → has_request table refusal.image ≡ true → IsOnce table (refusals ++ refusal ∷ [])
 IsOnce-push table refusals refusal is unrefused asked = record {
   once = λ j.
-      let added = sum_by_push (λ (r : Refusal). once_if (r.image == j)) refusals refusal in
+      let added = sum_by_push (λ (any_refusal : Refusal). once_if (any_refusal.image == j)) refusals refusal in
       elim (cases_Bool (refusal.image == j)) [
         | inl here ↦
             let same = eqb-true refusal.image j here in
             omega
-            (arith, added, ap once_if here, count_by-none (λ (r : Refusal). r.image == j) refusals (ap (is_refused refusals) (sym same) ∙ unrefused), ap once_if (ap (has_request table) (sym same) ∙ asked))
+            (arith, added, ap once_if here, count_by-none (λ (any_refusal : Refusal). any_refusal.image == j) refusals (ap (is_refused refusals) (sym same) ∙ unrefused), ap once_if (ap (has_request table) (sym same) ∙ asked))
         | inr elsewhere ↦ omega (arith, added, ap once_if elsewhere, is.once j)
       ];
 }

@@ -34,13 +34,13 @@ module _ (table : Table) (before : List Refusal) (i : ℕ) (image : Image) (has_
   -- a missing image is missing
   missing-holds : (entry : Entry) → intact_entry image.request ≡ Some entry → (reason : Reason) → missing_image table entry ≡ Some reason → ReasonHolds table before i reason
   missing-holds entry has_entry reason is =
-      let is_missing = λ (d : Dependency). is_none (image_at table d.image) in
+      let is_missing = λ (any_dependency : Dependency). is_none (image_at table any_dependency.image) in
       let (dependency, found, names) = option_map-Some _ (find is_missing entry.dependencies.items) reason is in
       let (stands, missing) = find-Some is_missing entry.dependencies.items dependency found in
       holds_as table before i (NoSuchImage dependency.image) reason names
       (meets
-      (λ (im : Image) (e : Entry). IsTrue (list_any (λ d. d.image == dependency.image) e.dependencies.items) × (image_at table dependency.image ≡ None)) entry has_entry
-      (list_any-from_stands (λ (d : Dependency). d.image == dependency.image) entry.dependencies.items stands.place dependency stands.at (eq-eqb dependency.image dependency.image refl), no_value (image_at table dependency.image) missing))
+      (λ (any_image : Image) (any_entry : Entry). IsTrue (list_any (λ any_dependency. any_dependency.image == dependency.image) any_entry.dependencies.items) × (image_at table dependency.image ≡ None)) entry has_entry
+      (list_any-from_stands (λ (any_dependency : Dependency). any_dependency.image == dependency.image) entry.dependencies.items stands.place dependency stands.at (eq-eqb dependency.image dependency.image refl), no_value (image_at table dependency.image) missing))
 
   -- the reason of an intact request
   entry-holds : (entry : Entry) → intact_entry image.request ≡ Some entry → (reason : Reason) → own_reason_of_entry table image entry ≡ Some reason → ReasonHolds table before i reason
@@ -50,13 +50,13 @@ module _ (table : Table) (before : List Refusal) (i : ℕ) (image : Image) (has_
       elim (cases_Bool older) [
         | inl below ↦
             holds_as table before i Older reason (same_Some Older reason (sym (cond-true older _ _ below) ∙ is))
-            (meets (λ (im : Image) (e : Entry). IsOlder e.version im.running.version) entry has_entry below)
+            (meets (λ (any_image : Image) (any_entry : Entry). IsOlder any_entry.version any_image.running.version) entry has_entry below)
         | inr new_enough ↦
             let rest : cond low (Some Counter) (missing_image table entry) ≡ Some reason = sym (cond-false older _ _ new_enough) ∙ is in
             elim (cases_Bool low) [
               | inl below ↦
                   holds_as table before i Counter reason (same_Some Counter reason (sym (cond-true low _ _ below) ∙ rest))
-                  (meets (λ (im : Image) (e : Entry). e.counter < im.floor) entry has_entry (ltb-true entry.counter image.floor below))
+                  (meets (λ (any_image : Image) (any_entry : Entry). any_entry.counter < any_image.floor) entry has_entry (ltb-true entry.counter image.floor below))
               | inr high_enough ↦ missing-holds entry has_entry reason (sym (cond-false low _ _ high_enough) ∙ rest)
             ]
       ]
@@ -65,7 +65,7 @@ module _ (table : Table) (before : List Refusal) (i : ℕ) (image : Image) (has_
   own-holds : (asked : Request) → image.request ≡ asked → (reason : Reason) → own_reason table image asked ≡ Some reason → ReasonHolds table before i reason
   own-holds request.None asks reason is = absurd (none-some reason is)
   own-holds request.Damaged asks reason is =
-      holds_as table before i Damaged reason (same_Some Damaged reason is) (IsSomeAnd-from (image_at table i) (λ (im : Image). im.request ≡ request.Damaged) image has_image asks)
+      holds_as table before i Damaged reason (same_Some Damaged reason is) (IsSomeAnd-from (image_at table i) (λ (any_image : Image). any_image.request ≡ request.Damaged) image has_image asks)
   own-holds (request.Entry entry) asks reason is = entry-holds entry (ap intact_entry asks) reason is
 
 -- a refusal by itself holds after whatever refusals
@@ -73,7 +73,7 @@ own_refusal-holds : (table : Table) (refusal : Refusal) → StandsIn (own_refusa
 own_refusal-holds table refusal stands before =
     let (numbered, stands_numbered, gives) = filter_map-source (own_refusal table) (enumerate_from 0 table.images.items) refusal stands in
     let (reason, is, same) = option_map-Some _ (own_reason table numbered.1 numbered.1.request) refusal gives in
-    subst (λ (r : Refusal). ReasonHolds table before r.image r.reason) same (own-holds table before numbered.0 numbered.1 (numbered-stands table.images.items numbered stands_numbered) numbered.1.request refl reason is)
+    subst (λ (any_refusal : Refusal). ReasonHolds table before any_refusal.image any_refusal.reason) same (own-holds table before numbered.0 numbered.1 (numbered-stands table.images.items numbered stands_numbered) numbered.1.request refl reason is)
 
 -- a need holds
 need-holds : (table : Table) (before : List Refusal) (i : ℕ) (reason : Reason) → needs_reason table before i ≡ Some reason → ReasonHolds table before i reason
@@ -83,7 +83,7 @@ need-holds table before i reason is =
     let (stands, out_of_reach) = find-Some (is_out_of_reach table before i) need.entry.dependencies.items dependency need.found in
     holds_as table before i (Needs dependency.image dependency.minimum) reason need.names
     (meets table before i need.image need.has_image
-    (λ (im : Image) (e : Entry). Contains e.dependencies.items dependency × IsTrue (is_out_of_reach table before i dependency)) need.entry need.has_entry
+    (λ (any_image : Image) (any_entry : Entry). Contains any_entry.dependencies.items dependency × IsTrue (is_out_of_reach table before i dependency)) need.entry need.has_entry
     (Contains-from_stands need.entry.dependencies.items dependency stands, out_of_reach))
 
 -- a list in the standard order is founded

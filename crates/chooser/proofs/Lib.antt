@@ -1,7 +1,6 @@
 pub mod Options
 pub mod Lists
 pub mod Numbered
-pub mod VersionOrder
 pub mod Requests
 pub mod Counts
 pub mod OwnRefusals

@@ -80,5 +80,5 @@ length-refusal_list table refusals before refusal listed same need =
 pub own_reason-unrefused : (table : Table) (refusals : List Refusal) → IsInStandardOrder table refusals → (j : ℕ) (image : Image) → image_at table j ≡ Some image → is_refused refusals j ≡ false → own_reason table image image.request ≡ None
 own_reason-unrefused table refusals (later, is, each) j image has_image unrefused =
     let own = own_refusals table in
-    let parts = or_parts (is_refused own j) (is_refused later j) (sym (list_any-append (λ (r : Refusal). eqb r.image j) own later) ∙ ap (λ (listed : List Refusal). is_refused listed j) (sym is) ∙ unrefused) in
+    let parts = or_parts (is_refused own j) (is_refused later j) (sym (list_any-append (λ (any_refusal : Refusal). eqb any_refusal.image j) own later) ∙ ap (λ (listed : List Refusal). is_refused listed j) (sym is) ∙ unrefused) in
     own_reason-unlisted table j image has_image parts.0

@@ -46,7 +46,7 @@ times_in found j = option_map_or (λ refusal. once_if (refusal.image == j)) foun
 -- a list with one more refusal, if there is one
 times_refused-cons_option : (found : Option Refusal) (refusals : List Refusal) (j : ℕ) → times_refused (cons_option found refusals) j ≡ times_in found j + times_refused refusals j
 times_refused-cons_option None refusals j = omega arith
-times_refused-cons_option (Some refusal) refusals j = sum_by-cons (λ (r : Refusal). once_if (r.image == j)) refusal refusals
+times_refused-cons_option (Some refusal) refusals j = sum_by-cons (λ (any_refusal : Refusal). once_if (any_refusal.image == j)) refusal refusals
 
 -- the refusal of another image
 times_in-other : (found : Option Reason) (n j : ℕ) → (n == j) ≡ false → times_in (as_refusal n found) j ≡ 0

@@ -56,8 +56,8 @@ module _ (table : Table) (report : Report) (complete : IsComplete table report.r
   -- the version that the report names
   version-reported : (j : ℕ) (image : Image) → image_at table j ≡ Some image → (reported : ReportedImage) → slice_get report.images.items j ≡ Some reported → reported.version ≡ (entry_in image reported.is_taken).version
   version-reported j image has_image reported at =
-      let is : reported_image report.refusals.items (j, image) ≡ reported = same_Some _ reported (sym (reported-at j ∙ ap (option_map (λ im. reported_image report.refusals.items (j, im))) has_image) ∙ at) in
-      subst (λ (r : ReportedImage). r.version ≡ (entry_in image r.is_taken).version) is refl
+      let is : reported_image report.refusals.items (j, image) ≡ reported = same_Some _ reported (sym (reported-at j ∙ ap (option_map (λ any_image. reported_image report.refusals.items (j, any_image))) has_image) ∙ at) in
+      subst (λ (any_reported : ReportedImage). any_reported.version ≡ (entry_in image any_reported.is_taken).version) is refl
 
   -- taken and refused requests are all requests, each once
   requests-once : (j : ℕ) → times_refused report.refusals.items j + once_if (taken_in report j) ≡ once_if (has_request table j)
@@ -66,10 +66,10 @@ module _ (table : Table) (report : Report) (complete : IsComplete table report.r
       elim (cases_Bool (is_refused refusals j)) [
         | inl refused ↦
             omega
-            (arith, complete.once.once j, once_if-le (has_request table j), count_by-some (λ (r : Refusal). r.image == j) refusals refused, ap once_if (taken-refused table refusals (taken_in report) takes settled j refused))
+            (arith, complete.once.once j, once_if-le (has_request table j), count_by-some (λ (any_refusal : Refusal). any_refusal.image == j) refusals refused, ap once_if (taken-refused table refusals (taken_in report) takes settled j refused))
         | inr unrefused ↦
             omega
-            (arith, count_by-none (λ (r : Refusal). r.image == j) refusals unrefused, ap once_if (taken-unrefused table refusals (taken_in report) takes settled j unrefused))
+            (arith, count_by-none (λ (any_refusal : Refusal). any_refusal.image == j) refusals unrefused, ap once_if (taken-unrefused table refusals (taken_in report) takes settled j unrefused))
       ]
 
   -- the report is right

@@ -22,7 +22,7 @@ use Rattle.certificate.specs.StandardOrder.{own_reason, own_reason_of_entry, nee
 use Rattle.chooser.specs.Reported.{is_taken_unless_refused}
 use Rattle.chooser.proofs.Options.{IfSome-from, IsSomeAnd-from, some_value, option_map-None, option_and_then-None, option_map_or-true}
 use Rattle.chooser.proofs.Lists.{list_all-from_finds, list_all-weaker}
-use Rattle.chooser.proofs.VersionOrder.{IsAtLeast_refl, IsAtLeast_trans}
+use Rattle.version_order.specs.OrderLaws.{IsAtLeast_refl, IsAtLeast_trans}
 
 -- the version of the requested entry, or else the running one
 abbrev pub version_of_request : Option Entry → Entry → Version
@@ -71,7 +71,7 @@ IsAccepted-from_none : (table : Table) (image : Image) (asked : Request) (entry 
 IsAccepted-from_none table image request.None entry has_entry none = absurd (none-some entry has_entry)
 IsAccepted-from_none table image request.Damaged entry has_entry none = absurd (none-some Damaged (sym none))
 IsAccepted-from_none table image (request.Entry intact) entry has_entry none =
-    let none' : own_reason_of_entry table image entry ≡ None = subst (λ (e : Entry). own_reason_of_entry table image e ≡ None) (same_Some intact entry has_entry) none in
+    let none' : own_reason_of_entry table image entry ≡ None = subst (λ (any_entry : Entry). own_reason_of_entry table image any_entry ≡ None) (same_Some intact entry has_entry) none in
     let not_older = fails_for_none (is_older entry.version image.running.version) Older _ none' in
     let not_low = fails_for_none (nat_lt entry.counter image.floor) Counter _ not_older.1 in
     record {
@@ -149,8 +149,8 @@ module _ (table : Table) (refusals : List Refusal) (taken : ℕ → Bool) (takes
       let (image, has_image) = some_value (image_at table j) exists in
       let best = best_version refusals own j image in
       let reached = best-reached (intact_entry image.request) image.running (eqb j own) (is_refused refusals j) (taken j) (λ same. ap taken (eqb-true j own same) ∙ is) (taken-at j image has_image) (IfSome-from (intact_entry image.request) _ (λ entry has_entry unrefused. (accepted j image entry has_image has_entry unrefused).at_least_running)) in
-      let enough : IsAtLeast best dependency.minimum = not_from_false _ (sym (ap (λ found. option_map_or (λ im. is_older (best_version refusals own j im) dependency.minimum) found false) has_image) ∙ within) in
-      ap (λ found. option_map_or (λ im. not (is_older (entry_in im (taken j)).version dependency.minimum)) found false) has_image ∙ IsAtLeast_trans (entry_in image (taken j)).version best dependency.minimum reached enough
+      let enough : IsAtLeast best dependency.minimum = not_from_false _ (sym (ap (λ found. option_map_or (λ any_image. is_older (best_version refusals own j any_image) dependency.minimum) found false) has_image) ∙ within) in
+      ap (λ found. option_map_or (λ any_image. not (is_older (entry_in any_image (taken j)).version dependency.minimum)) found false) has_image ∙ IsAtLeast_trans (entry_in image (taken j)).version best dependency.minimum reached enough
 
   -- no dependency of an unrefused request is out of reach
   none_out_of_reach : (j : ℕ) (image : Image) (entry : Entry) → IsTaken table refusals j image entry → find (is_out_of_reach table refusals j) entry.dependencies.items ≡ None
@@ -161,7 +161,7 @@ module _ (table : Table) (refusals : List Refusal) (taken : ℕ → Bool) (takes
   -- the dependencies of what is taken are met
   met-taken : (j : ℕ) (image : Image) (entry : Entry) → taken j ≡ true → IsTaken table refusals j image entry → list_all (is_met table taken) entry.dependencies.items ≡ true
   met-taken j image entry is_taken is =
-      list_all-from_finds (λ (d : Dependency). is_none (image_at table d.image)) (is_out_of_reach table refusals j) (is_met table taken) (is_met-within_reach j is_taken) entry.dependencies.items (accepted j image entry is.has_image is.has_entry is.unrefused).none_missing
+      list_all-from_finds (λ (any_dependency : Dependency). is_none (image_at table any_dependency.image)) (is_out_of_reach table refusals j) (is_met table taken) (is_met-within_reach j is_taken) entry.dependencies.items (accepted j image entry is.has_image is.has_entry is.unrefused).none_missing
       (none_out_of_reach j image entry is)
 
   -- what runs then is at least what ran
@@ -180,7 +180,7 @@ module _ (table : Table) (refusals : List Refusal) (taken : ℕ → Bool) (takes
   is_met-running dependency met =
       let j = dependency.image in
       let (image, has_image, enough) = option_map_or-true _ (image_at table j) met in
-      ap (λ found. option_map_or (λ im. not (is_older (entry_in im (taken j)).version dependency.minimum)) found false) has_image ∙ IsAtLeast_trans (entry_in image (taken j)).version image.running.version dependency.minimum (entry_in-at_least_running j image has_image) enough
+      ap (λ found. option_map_or (λ any_image. not (is_older (entry_in any_image (taken j)).version dependency.minimum)) found false) has_image ∙ IsAtLeast_trans (entry_in image (taken j)).version image.running.version dependency.minimum (entry_in-at_least_running j image has_image) enough
 
   -- the combination is valid
   pub IsValid-taken : IsValid table running_set → IsValid table taken

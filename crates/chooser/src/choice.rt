@@ -13,7 +13,7 @@ use arrayvec::ArrayVec;
 use certificate::{Refusal, Report, Table, right_reports_are_greatest};
 
 /// Chooses among the requests of a table: takes those of the greatest valid combination, and refuses each
-/// other one with the first reason that holds of it, in the standard order.
+/// other one with the lowest reason that holds of it, in the standard order.
 ///
 /// The running images have to fit each other, which `certificate::is_valid` tells. It takes no memory and
 /// always answers; a table of no images has an empty report.
@@ -31,8 +31,11 @@ pub fn choose(table: &Table) -> Report
 /// again, the lowest request that needs what can't come any more is refused, until no request is left that does.
 fn all_refusals(table: &Table) -> ArrayVec<Refusal, 8>
     ensures standard { IsInStandardOrder table.now result.items }
-    ensures once { (j : ℕ) → count_by (λ refusal. refusal.image == j) result.items ≤ once_if (has_request table.now j) }
-    ensures none_left { (j : ℕ) → is_refused result.items j ≡ false → needs_reason table.now result.items j ≡ None }
+    ensures once { (j : ℕ)
+        → count_by (λ refusal. refusal.image == j) result.items
+        ≤ once_if (has_request table.now j) }
+    ensures none_left { (j : ℕ)
+        → is_refused result.items j ≡ false → needs_reason table.now result.items j ≡ None }
 {
     let mut refusals = own_refusals(table);
     while let Some(refusal) = next_need(table, &refusals) {

@@ -13,7 +13,8 @@ use version_order::{Dependency, Version};
 /// reach. `None` where there is no such request.
 pub(crate) fn next_need(table: &Table, before: &[Refusal]) -> Option<Refusal>
     ensures next { IfSome result (IsNextNeed table.now before.now) }
-    ensures none_left { IfNone result ((i : ℕ) → is_refused before.now i ≡ false → needs_reason table.now before.now i ≡ None) }
+    ensures none_left { IfNone result
+        ((i : ℕ) → is_refused before.now i ≡ false → needs_reason table.now before.now i ≡ None) }
 {
     for number in 0..table.images.len() as u8 {
         if !is_refused(before, number)
@@ -52,7 +53,8 @@ fn first_out_of_reach<'a>(
     own: u8,
     dependencies: &'a [Dependency],
 ) -> Option<&'a Dependency>
-    ensures { option_copied result ≡ find (is_out_of_reach table.now before.now own) dependencies.now }
+    ensures { option_copied result
+        ≡ find (is_out_of_reach table.now before.now own) dependencies.now }
 {
     dependencies.iter().find(|dependency| is_out_of_reach(table, before, own, dependency))
 }

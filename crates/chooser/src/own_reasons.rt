@@ -65,7 +65,8 @@ fn missing_image(table: &Table, entry: &Entry) -> Option<Reason>
 }
 
 fn first_missing<'a>(table: &Table, dependencies: &'a [Dependency]) -> Option<&'a Dependency>
-    ensures { option_copied result ≡ find (λ dependency. is_none (image_at table.now dependency.image)) dependencies.now }
+    ensures { option_copied result
+        ≡ find (λ dependency. is_none (image_at table.now dependency.image)) dependencies.now }
 {
     dependencies
         .iter()

@@ -18,17 +18,22 @@ abbrev pub IsOther : List ℕ → Type 0
 IsOther text = (n : ℕ) → n < 2 ^ 32 → text ≢ decimal n
 
 -- such a text is not read
-pub number_of-other : (text : List ℕ) → IsOther text → None ≡ number_of text
+number_of-other : (text : List ℕ) → IsOther text → None ≡ number_of text
 number_of-other text other =
     elim (number_of text) as (λ o. ((n : ℕ) → o ≡ Some n → ⊥) → None ≡ o) [
       | None ↦ λ _. refl
       | Some n ↦ λ h. absurd (h n refl)
     ] (λ n read. let spelled = number_of-spelled text n read in other n spelled.1 spelled.0)
 
--- what was read and what was not, in terms of what is printed
-pub number_of_tells : (text : List ℕ) (result : Option ℕ) → result ≡ number_of text → IfSome result (λ n. text ≡ decimal n) × IfNone result (IsOther text)
-number_of_tells text None read = (tt, λ n fits e. absurd cc (read ∙ ap number_of e ∙ number_of-decimal n fits))
-number_of_tells text (Some n) read = ((number_of-spelled text n (sym read)).0, tt)
+-- what was read is what is printed
+pub IfSome_number : (text : List ℕ) (result : Option ℕ) → result ≡ number_of text → IfSome result (λ n. text ≡ decimal n)
+IfSome_number text None read = tt
+IfSome_number text (Some n) read = (number_of-spelled text n (sym read)).0
+
+-- what was not read is never printed
+pub IfNone_number : (text : List ℕ) (result : Option ℕ) → result ≡ number_of text → IfNone result (IsOther text)
+IfNone_number text None read = λ n fits e. none-some n (read ∙ ap number_of e ∙ number_of-decimal n fits)
+IfNone_number text (Some n) read = tt
 
 -- a plus sign, or a zero before anything else
 abbrev pub IsPadded : List ℕ → Type 0
@@ -51,7 +56,7 @@ decimal_begins n fits padded =
 pub padded_is_other : (text : List ℕ) → IsPadded text → IsOther text
 padded_is_other text padded n fits e = decimal_begins n fits (rw e at padded)
 
-pub no_text_is_other : (text : List ℕ) → (IsUtf8 text → ⊥) → IsOther text
+no_text_is_other : (text : List ℕ) → (IsUtf8 text → ⊥) → IsOther text
 no_text_is_other text no_text n fits e = no_text (rw e (IsUtf8-from_ascii (decimal n) (IsAscii-decimal n (omega arith))))
 
 -- what `from_utf8` ensures
@@ -59,7 +64,7 @@ abbrev pub Decodes : List ℕ → Result (Bor (List ℕ)) Utf8Error → Type 0
 Decodes text r = MatchResult r (λ s. (s.now ≡ text) × IsUtf8 text) (λ e. ¬ (IsUtf8 text) × IsValidUpTo text (valid_up_to e))
 
 -- what it tells of a text that it refuses, and of one that it takes
-pub no_text_at_none : (text : List ℕ) (r : Result (Bor (List ℕ)) Utf8Error) → Decodes text r → None ≡ result_ok r → ¬ (IsUtf8 text)
+no_text_at_none : (text : List ℕ) (r : Result (Bor (List ℕ)) Utf8Error) → Decodes text r → None ≡ result_ok r → ¬ (IsUtf8 text)
 no_text_at_none text (Ok x) decodes none = absurd (none-some x none)
 no_text_at_none text (Err e) decodes none = decodes.0
 
@@ -87,3 +92,12 @@ number_of_parsed {E} text (Err e) plain parsed =
     let numeral = decimal_is_IsNumeral n (omega arith) in
     let value : digits_value 10 text ≡ n = ap (digits_value 10) same ∙ numeral.1 in
     p (rw (← same) at numeral.0.1, rw (← same) at numeral.0.0, omega arith))
+
+-- why `number` answers none before it parses
+pub number_of_padded : (text : List ℕ) → IsPadded text → number_of text ≡ None
+number_of_padded text padded = sym (number_of-other text (padded_is_other text padded))
+
+pub number_of_no_text : (text : List ℕ) (r : Result (Bor (List ℕ)) Utf8Error) → Decodes text r → None ≡ result_ok r → number_of text ≡ None
+number_of_no_text text r decodes none = sym (number_of-other text (no_text_is_other text (no_text_at_none text r decodes none)))
+
+pub ruleset numbers = (number_of_padded, IfSome_number, IfNone_number, number_of_parsed, same_text_at_some)

@@ -37,6 +37,7 @@ fn begins_padded(text: &[u8]) -> bool
 ///
 /// A number is written in decimal digits alone: without a sign, without spaces, and without leading zeros,
 /// but for 0 itself. `None` at any other text, the empty one included, and at a number that is too large.
+#[tactic(auto, using(crate::proofs::Numbers::numbers))]
 pub fn number(text: &[u8]) -> Option<u32>
     ensures value { result ≡ number_of text.now }
     ensures spelled { IfSome result (λ n. text.now ≡ decimal n) }

@@ -1,8 +1,8 @@
 //! The text of a version.
 
-ghost use Rattle.std.specs.Prelude.{◌≡◌, ℕ, Option, Ok, Some, IfOk, OnErr};
+ghost use Rattle.std.specs.Prelude.{◌≡◌, IfOk, OnErr, Some};
 ghost use Rattle.std.specs.Result.{result_ok};
-ghost use Rattle.version_order.specs.VersionText.{FitsFields, IsVersionText, version_of, version_text};
+ghost use Rattle.version_order.specs.VersionText.{IsVersionText, version_of, version_text};
 ghost use Rattle.version_order.specs.declared.version.Version.{Version};
 
 use crate::ascii::{cut, number, number_u8, number_u16};
