@@ -1,4 +1,5 @@
 pub mod BestVersion
+pub mod CheckingRequests
 pub mod Greatest
 pub mod LineLaws
 pub mod LinesLaws

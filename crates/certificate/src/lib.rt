@@ -2,11 +2,12 @@
 //! choice among them, and the reasons for which a request is refused.
 //!
 //! Promises: a text is read exactly where it spells a table, and a refusal names the first line that no table
-//! goes on from; what is printed is read back; `is_valid` tells whether the running images fit each other; the
-//! set of a right report is the greatest valid set. Takes no memory. `chooser`, `boot_core` and `boot_cli`
-//! call it.
+//! goes on from; what is printed is read back; `is_valid` tells whether the running images fit each other;
+//! `check` says yes to a right report and to no other; the set of a right report is the greatest valid set.
+//! Takes no memory. `chooser`, `boot_core` and `boot_cli` call it.
 #![tactic(auto)]
 
+mod checking;
 mod laws;
 mod lines;
 mod printing;
@@ -19,6 +20,7 @@ mod table_placing;
 mod table_reading;
 mod validity;
 
+pub use checking::check;
 pub use laws::{
     greatest_sets_are_equal, reports_are_read_back, right_reports_are_greatest,
     tables_are_read_back,

@@ -1,0 +1,58 @@
+-- The requests of all images are decided once where those of the first images are, and no other is refused.
+use Rattle.std.proofs.Common.{◌≡◌, ℕ, ◌+◌, ◌<◌, ◌≤◌, false, length, count_by, get_or, inl, inr, refl, ap, arith, eq-eqb}
+use Rattle.std.specs.Prelude.{◌==◌, All}
+use Rattle.std.specs.Option.{option_map_or}
+use Rattle.std.proofs.lemmas.Bool.{cases_lt, eqb-true}
+use Rattle.std.proofs.lemmas.List.Sums.{get_or-le-sum_by}
+use Rattle.std.proofs.lemmas.Option.{slice_get_past, slice_get_within, get_or_from_slice_get}
+use Rattle.certificate.specs.declared.table.Table.{Table}
+use Rattle.certificate.specs.declared.report.Refusal.{Refusal}
+use Rattle.certificate.specs.declared.report.Report.{Report}
+use Rattle.certificate.specs.Rightness.{taken_in, is_requested, has_request, once_if}
+use Rattle.certificate.proofs.Lists.{Passes-from_count_by}
+
+-- the request of image j is taken or refused once, or there is none and it is neither
+abbrev pub IsDecidedOnce : Table → Report → ℕ → Type 0
+IsDecidedOnce table report j = count_by (λ refusal. refusal.image == j) report.refusals.items + once_if (taken_in report j) ≡ once_if (has_request table j)
+
+module _ (table : Table) (report : Report) (count : ℕ) (in_table : length table.images.items ≤ count) (in_report : length report.images.items ≤ count) where
+  -- nothing is taken past the last image
+  taken_in-past : (j : ℕ) → count ≤ j → taken_in report j ≡ false
+  taken_in-past j past =
+      ap (λ found. option_map_or (λ image. image.is_taken) found false) (slice_get_past report.images.items j (omega arith))
+
+  -- nothing is requested past the last image
+  has_request-past : (j : ℕ) → count ≤ j → has_request table j ≡ false
+  has_request-past j past =
+      ap (λ found. option_map_or (λ image. is_requested image.request) found false) (slice_get_past table.images.items j (omega arith))
+
+  -- with no refusal past the last image, nothing there is to be decided
+  decided_past : All (λ refusal. refusal.image < count) report.refusals.items → (j : ℕ) → count ≤ j → IsDecidedOnce table report j
+  decided_past below j past =
+      let refusals = report.refusals.items in
+      elim (cases_lt 0 (count_by (λ refusal. refusal.image == j) refusals)) [
+        | inl some ↦
+            let refused = Passes-from_count_by _ refusals some in
+            let named : refused.element.image ≡ j = eqb-true _ j refused.passes in
+            let within = slice_get_within refusals refused.place refused.element refused.at in
+            let is = get_or_from_slice_get refusals refused.place refused.element refused.element refused.at in
+            let small : refused.element.image < count = rw is at (below refused.place refused.element within) in
+            absurd (omega arith)
+        | inr none ↦ omega (arith, ap once_if (taken_in-past j past), ap once_if (has_request-past j past))
+      ]
+
+  -- where each request is decided once, no refusal names an image past the last one
+  pub refusals_below : ((j : ℕ) → IsDecidedOnce table report j) → All (λ refusal. refusal.image < count) report.refusals.items
+  refusals_below decided k d within =
+      let refusals = report.refusals.items in
+      let j = (get_or refusals k d).image in
+      elim (cases_lt j count) [
+        | inl before ↦ before
+        | inr past ↦
+            let counted = get_or-le-sum_by (λ (refusal : Refusal). once_if (refusal.image == j)) refusals k d within in
+            absurd (omega (arith, counted, ap once_if (eq-eqb j j refl), decided j, ap once_if (has_request-past j past)))
+      ]
+
+  -- what holds of the first images, with no refusal past them, holds of all
+  pub all_decided : All (λ refusal. refusal.image < count) report.refusals.items → ((j : ℕ) → j < count → IsDecidedOnce table report j) → (j : ℕ) → IsDecidedOnce table report j
+  all_decided below decided j = elim (cases_lt j count) [ inl before ↦ decided j before | inr past ↦ decided_past below j past ]

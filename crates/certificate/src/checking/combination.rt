@@ -1,0 +1,80 @@
+//! The combination that a report takes.
+
+ghost use Rattle.std.specs.Prelude.{◌≡◌, ◌≤◌, ◌↔◌, ℕ, IfSome, IsSomeAnd, IsTrue};
+ghost use Rattle.std.specs.List.{list_all};
+ghost use Rattle.version_order.specs.Order.{IsAtLeast};
+ghost use Rattle.certificate.specs.Combination.{entry_in, image_at, intact_entry, is_met, IsValid};
+ghost use Rattle.certificate.specs.Rightness.{taken_in};
+
+use crate::checking::images::{entry_in, is_taken};
+use crate::report::Report;
+use crate::table::{Image, Request, Table};
+use version_order::Dependency;
+
+/// Whether what a report takes is a valid combination.
+pub(super) fn takes_a_valid_combination(table: &Table, report: &Report) -> bool
+    ensures { IsTrue result ↔ IsValid table.now (taken_in report.now) }
+{
+    has_acceptable_members(table, report) && meets_all_dependencies(table, report)
+}
+
+/// Whether each request that a report takes is acceptable.
+fn has_acceptable_members(table: &Table, report: &Report) -> bool
+    ensures { IsTrue result
+        ↔ ((j : ℕ) → IsTrue (taken_in report.now j) → IsSomeAnd (image_at table.now j) (λ image. IsSomeAnd (intact_entry image.request) (λ entry. IsAtLeast entry.version image.running.version × (image.floor ≤ entry.counter)))) }
+{
+    report.images.iter().enumerate().all(|(number, image)| {
+        !image.is_taken || is_acceptable(table, number)
+    })
+}
+
+/// Whether a table has an image `number` with an intact request that isn't older than the running image, with a
+/// security counter not below the floor.
+fn is_acceptable(table: &Table, number: usize) -> bool
+    ensures { IsTrue result
+        ↔ IsSomeAnd (image_at table.now number) (λ image. IsSomeAnd (intact_entry image.request) (λ entry. IsAtLeast entry.version image.running.version × (image.floor ≤ entry.counter))) }
+{
+    let Some(image) = table.images.get(number) else {
+        return false;
+    };
+    match &image.request {
+        Request::Entry(entry) => {
+            entry.version >= image.running.version && entry.counter >= image.floor
+        }
+        _ => false,
+    }
+}
+
+/// Whether all dependencies of all images, those taken and those that run on, are met by what a report takes.
+fn meets_all_dependencies(table: &Table, report: &Report) -> bool
+    ensures { IsTrue result
+        ↔ ((j : ℕ) → IfSome (image_at table.now j) (λ image. IsTrue (list_all (is_met table.now (taken_in report.now)) (entry_in image (taken_in report.now j)).dependencies.items))) }
+{
+    table
+        .images
+        .iter()
+        .enumerate()
+        .all(|(number, image)| can_run_on(table, report, number, image))
+}
+
+/// Whether all dependencies of image `number`, taken or running on, are met by what a report takes.
+fn can_run_on(table: &Table, report: &Report, number: usize, image: &Image) -> bool
+    ensures { result
+        ≡ list_all (is_met table.now (taken_in report.now)) (entry_in image.now (taken_in report.now number)).dependencies.items }
+{
+    entry_in(image, is_taken(report, number))
+        .dependencies
+        .iter()
+        .all(|dependency| is_met(table, report, dependency))
+}
+
+/// Whether what a report takes meets a dependency.
+fn is_met(table: &Table, report: &Report, dependency: &Dependency) -> bool
+    ensures { result ≡ is_met table.now (taken_in report.now) dependency.now }
+{
+    let number = usize::from(dependency.image);
+    match table.images.get(number) {
+        Some(image) => entry_in(image, is_taken(report, number)).version >= dependency.minimum,
+        None => false,
+    }
+}

@@ -1,0 +1,60 @@
+//! The images of a report: as many as the table has, each with its version.
+
+ghost use Rattle.std.specs.Prelude.{◌≡◌, ◌↔◌, ℕ, length, IfSome, IsTrue, slice_get};
+ghost use Rattle.certificate.specs.Combination.{entry_in, image_at};
+ghost use Rattle.certificate.specs.Rightness.{taken_in};
+
+use crate::report::Report;
+use crate::table::{Entry, Image, Request, Table};
+
+/// Whether a report has as many images as the table.
+pub(super) fn has_as_many_images(table: &Table, report: &Report) -> bool
+    ensures { IsTrue result ↔ (length report.now.images.items ≡ length table.now.images.items) }
+{
+    report.images.len() == table.images.len()
+}
+
+/// Whether each image that a table and a report both have is reported with the version that it names for being
+/// taken or running on.
+pub(super) fn has_the_versions(table: &Table, report: &Report) -> bool
+    ensures { IsTrue result
+        ↔ ((j : ℕ) → IfSome (image_at table.now j) (λ image. IfSome (slice_get report.now.images.items j) (λ reported. reported.version ≡ (entry_in image reported.is_taken).version))) }
+{
+    table
+        .images
+        .iter()
+        .enumerate()
+        .all(|(number, image)| has_its_version(report, number, image))
+}
+
+/// Whether a report that has an image `number` has it with the version that it names for being taken or running
+/// on.
+fn has_its_version(report: &Report, number: usize, image: &Image) -> bool
+    ensures { IsTrue result
+        ↔ IfSome (slice_get report.now.images.items number) (λ reported. reported.version ≡ (entry_in image.now reported.is_taken).version) }
+{
+    match report.images.get(number) {
+        Some(reported) => reported.version == entry_in(image, reported.is_taken).version,
+        None => true,
+    }
+}
+
+/// What an image contributes to a combination: the requested entry if it is a member, else the running one.
+pub(super) fn entry_in(image: &Image, is_member: bool) -> &Entry
+    ensures { result.now ≡ entry_in image.now is_member }
+{
+    match &image.request {
+        Request::Entry(entry) if is_member => entry,
+        _ => &image.running,
+    }
+}
+
+/// Whether a report takes the request of image `number`.
+pub(super) fn is_taken(report: &Report, number: usize) -> bool
+    ensures { result ≡ taken_in report.now number }
+{
+    match report.images.get(number) {
+        Some(image) => image.is_taken,
+        None => false,
+    }
+}

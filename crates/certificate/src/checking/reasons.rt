@@ -1,0 +1,122 @@
+//! The refusals of a report, each with a reason that holds at its place.
+
+ghost use Rattle.std.specs.Prelude.{◌≡◌, ◌==◌, ◌↔◌, None, Contains, IsTrue};
+ghost use Rattle.std.specs.List.{list_any};
+ghost use Rattle.certificate.specs.Combination.{image_at};
+ghost use Rattle.certificate.specs.Reasons.{best_version, is_out_of_reach, is_refused, newest_version, requested_version, IsFounded, ReasonHolds};
+
+use crate::report::{Reason, Refusal};
+use crate::table::{Entry, Image, Request, Table};
+use version_order::{Dependency, Version};
+
+/// Whether each refusal of a list has a reason that holds at its place, after those before it.
+pub(super) fn is_founded(table: &Table, refusals: &[Refusal]) -> bool
+    ensures { IsTrue result ↔ IsFounded table.now refusals.now }
+{
+    for (place, refusal) in refusals.iter().enumerate() {
+        if !reason_holds(table, &refusals[..place], refusal.image, refusal.reason) {
+            return false;
+        }
+    }
+    true
+}
+
+/// Whether a reason for refusing the request of image `own` holds after these refusals.
+fn reason_holds(table: &Table, before: &[Refusal], own: u8, reason: Reason) -> bool
+    ensures { IsTrue result ↔ ReasonHolds table.now before.now own reason }
+{
+    let Some(image) = table.images.get(usize::from(own)) else {
+        return false;
+    };
+    match &image.request {
+        Request::None => false,
+        Request::Damaged => matches!(reason, Reason::Damaged),
+        Request::Entry(entry) => match reason {
+            Reason::Damaged => false,
+            Reason::Older => entry.version < image.running.version,
+            Reason::Counter => entry.counter < image.floor,
+            Reason::NoSuchImage(number) => depends_on(entry, number) && is_missing(table, number),
+            Reason::Needs(number, minimum) => {
+                let dependency = Dependency {
+                    image: number,
+                    minimum,
+                };
+                has_dependency(entry, &dependency)
+                    && is_out_of_reach(table, before, own, &dependency)
+            }
+        },
+    }
+}
+
+/// Whether an entry depends on image `number`, in any version.
+fn depends_on(entry: &Entry, number: u8) -> bool
+    ensures { result ≡ list_any (λ dependency. dependency.image == number) entry.now.dependencies.items }
+{
+    entry
+        .dependencies
+        .iter()
+        .any(|dependency| dependency.image == number)
+}
+
+fn has_dependency(entry: &Entry, dependency: &Dependency) -> bool
+    ensures { IsTrue result ↔ Contains entry.now.dependencies.items dependency.now }
+{
+    entry.dependencies.contains(dependency)
+}
+
+/// Whether a table doesn't have an image `number`.
+fn is_missing(table: &Table, number: u8) -> bool
+    ensures { IsTrue result ↔ (image_at table.now number ≡ None) }
+{
+    table.images.get(usize::from(number)).is_none()
+}
+
+/// Whether, after these refusals, a dependency of the request of image `own` names an image that exists and
+/// whose best version is below the minimum.
+fn is_out_of_reach(table: &Table, before: &[Refusal], own: u8, dependency: &Dependency) -> bool
+    ensures { result ≡ is_out_of_reach table.now before.now own dependency.now }
+{
+    match table.images.get(usize::from(dependency.image)) {
+        Some(image) => best_version(before, own, dependency.image, image) < dependency.minimum,
+        None => false,
+    }
+}
+
+/// The best version that the request of image `own` can hope for at image `number`, after these refusals.
+fn best_version(before: &[Refusal], own: u8, number: u8, image: &Image) -> Version
+    ensures { result ≡ best_version before.now own number image.now }
+{
+    if number == own {
+        requested_version(image)
+    } else if is_refused(before, number) {
+        image.running.version
+    } else {
+        newest_version(image)
+    }
+}
+
+fn is_refused(refusals: &[Refusal], number: u8) -> bool
+    ensures { result ≡ is_refused refusals.now number }
+{
+    refusals.iter().any(|refusal| refusal.image == number)
+}
+
+/// The version of an intact request, or else the running one.
+fn requested_version(image: &Image) -> Version
+    ensures { result ≡ requested_version image.now }
+{
+    match &image.request {
+        Request::Entry(entry) => entry.version,
+        _ => image.running.version,
+    }
+}
+
+/// The newer of the running version and the version of an intact request.
+fn newest_version(image: &Image) -> Version
+    ensures { result ≡ newest_version image.now }
+{
+    match &image.request {
+        Request::Entry(entry) if entry.version > image.running.version => entry.version,
+        _ => image.running.version,
+    }
+}

@@ -1,0 +1,70 @@
+//! The requests of a table, each taken or refused once.
+
+ghost use Rattle.std.specs.Prelude.{◌≡◌, ◌==◌, ◌+◌, ◌<◌, ◌↔◌, ℕ, count_by, All, IsTrue};
+ghost use Rattle.certificate.specs.Rightness.{has_request, once_if, taken_in};
+
+use crate::checking::images::is_taken;
+use crate::report::{Refusal, Report};
+use crate::table::{Request, Table};
+
+/// Whether the taken and the refused requests are all requests, each once.
+pub(super) fn decides_each_request_once(table: &Table, report: &Report) -> bool
+    ensures { IsTrue result
+        ↔ ((j : ℕ) → count_by (λ refusal. refusal.image == j) report.now.refusals.items + once_if (taken_in report.now j) ≡ once_if (has_request table.now j)) }
+{
+    // Past the last image of both nothing is taken and nothing is requested.
+    let count = table.images.len().max(report.images.len());
+    refuses_only_below(report, count) && decides_each_below(table, report, count)
+}
+
+/// Whether a report refuses nothing but requests of the images below `count`.
+fn refuses_only_below(report: &Report, count: usize) -> bool
+    ensures { IsTrue result ↔ All (λ refusal. refusal.image < count) report.now.refusals.items }
+{
+    report
+        .refusals
+        .iter()
+        .all(|refusal| usize::from(refusal.image) < count)
+}
+
+/// Whether the requests of the images below `count` are taken or refused, each once.
+fn decides_each_below(table: &Table, report: &Report, count: usize) -> bool
+    ensures { IsTrue result
+        ↔ ((j : ℕ) → j < count → count_by (λ refusal. refusal.image == j) report.now.refusals.items + once_if (taken_in report.now j) ≡ once_if (has_request table.now j)) }
+{
+    for number in 0..count {
+        if !is_decided_once(table, report, number) {
+            return false;
+        }
+    }
+    true
+}
+
+/// Whether the request of image `number` is taken or refused, once; if there is none, whether it is neither.
+fn is_decided_once(table: &Table, report: &Report, number: usize) -> bool
+    ensures { IsTrue result
+        ↔ (count_by (λ refusal. refusal.image == number) report.now.refusals.items + once_if (taken_in report.now number) ≡ once_if (has_request table.now number)) }
+{
+    refusals_of(&report.refusals, number) + usize::from(is_taken(report, number))
+        == usize::from(has_request(table, number))
+}
+
+/// How often a list refuses the request of image `number`.
+fn refusals_of(refusals: &[Refusal], number: usize) -> usize
+    ensures { result ≡ count_by (λ refusal. refusal.image == number) refusals.now }
+{
+    refusals
+        .iter()
+        .filter(|refusal| usize::from(refusal.image) == number)
+        .count()
+}
+
+/// Whether a table has an image `number` for which something is requested.
+fn has_request(table: &Table, number: usize) -> bool
+    ensures { result ≡ has_request table.now number }
+{
+    match table.images.get(number) {
+        Some(image) => image.request != Request::None,
+        None => false,
+    }
+}
