@@ -1,8 +1,10 @@
 //! The command line: what the words ask for, what is printed, and the exit status.
+mod checking;
 mod command;
 
 use crate::choosing::{ChooseEnd, choose_over};
 use crate::host::{Host, StandardInput};
+use checking::is_right;
 use clap::error::ErrorKind as UsageKind;
 use command::{Task, task_of, words_fault};
 use std::alloc::{Allocator, Global};
@@ -28,6 +30,8 @@ const STANDARD_INPUT: &str = "-";
 enum Refusal<'a> {
     #[error("table line {0}")]
     TableLine(usize),
+    #[error("report line {0}")]
+    ReportLine(usize),
     #[error("running set not valid")]
     NotValid,
     #[error("cannot read {0}")]
@@ -58,6 +62,10 @@ pub fn cli<S: AsStr, A: Allocator, H: Host, O: Write, E: Write>(
             let end = choose_file(heap, name, host, out);
             status_of(end, name, out, err)
         }
+        Ok(Task::Check { table, report }) => match is_right(heap, table, report, host) {
+            Ok(is_right) => tell_verdict(is_right, out),
+            Err(refusal) => refuse(refusal, err),
+        },
         Err(error) => answer(&error, out, err),
     }
 }
@@ -95,6 +103,21 @@ fn status_of<O: Write, E: Write>(end: ChooseEnd, name: &str, out: &mut O, err: &
         ChooseEnd::ReadFailed => refuse(Refusal::CannotRead(name), err),
         ChooseEnd::WriteFailed => REFUSED,
     }
+}
+
+/// Writes what the checker says: a report that isn't right is refused.
+fn tell_verdict<O: Write>(is_right: bool, out: &mut O) -> u8 {
+    let (word, status) = if is_right {
+        ("yes", DONE)
+    } else {
+        ("no", REFUSED)
+    };
+    status_after(write_word(word, out), status)
+}
+
+fn write_word<W: Write>(word: &str, to: &mut W) -> io::Result<()> {
+    writeln!(to, "{word}")?;
+    to.flush()
 }
 
 /// Writes an error line.

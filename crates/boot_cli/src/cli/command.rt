@@ -11,13 +11,25 @@ pub enum Task<'a> {
     ChooseInput,
     /// The choice over the table in the file of this name.
     ChooseFile(&'a str),
+    /// The check of a report for a table.
+    Check {
+        /// The name of the file that has the table.
+        table: &'a str,
+        /// The name of the file that has the report.
+        report: &'a str,
+    },
 }
 
 const CHOOSE: &str = "choose";
 
+const CHECK: &str = "check";
+
 const TABLE: &str = "TABLE";
 
-const ABOUT: &str = "Chooses which of the images that a device is asked to boot may run together";
+const REPORT: &str = "REPORT";
+
+const ABOUT: &str =
+    "Chooses which of the images that a device is asked to boot may run together, and checks it";
 
 const LONG_ABOUT: &str =
     "Chooses which of the images that a device is asked to boot may run together.
@@ -34,7 +46,12 @@ With no command the program does `choose` on standard input.";
 
 const CHOOSE_ABOUT: &str = "Reads a table from a file and prints the report of the choice over it";
 
+const CHECK_ABOUT: &str =
+    "Reads a table and a report from files and says whether the report is right for the table";
+
 const TABLE_HELP: &str = "The file that the table is read from";
+
+const REPORT_HELP: &str = "The file that the report is read from";
 
 const WORDS_FAULT: &str = "invalid UTF-8 was detected in one or more arguments";
 
@@ -57,14 +74,19 @@ A report's reasons:
   no-such-image IMAGE    it needs an image that the table does not have
   needs IMAGE VERSION    it needs an image with at least a version that no request still possible reaches
 
+A report is right for a table where it has the table's images, takes a valid set, and refuses each other
+request once, with a reason that holds given the refusals before it. What it takes is then the greatest valid
+set. `check` prints `yes` or `no`.
+
 Exit status:
-  0  done
-  1  refused: standard error has a line `error: ..`, such as `error: table line 3` for the first line that
-     no table goes on from, or what had to be printed could not be written
+  0  done; `check` says yes
+  1  refused: `check` says no; or standard error has a line `error: ..`, such as `error: table line 3` for
+     the first line that no table goes on from; or what had to be printed could not be written
   2  the words of the command are wrong
 
-Example:
-  bootswap choose table.txt";
+Examples:
+  bootswap choose table.txt
+  bootswap choose table.txt > report.txt && bootswap check table.txt report.txt";
 
 /// What `words` ask for, of which the first is the program's own name, or the error that says what to print
 /// and how to exit: help, the version or a fault in the words.
@@ -86,17 +108,20 @@ fn words_error(alloc: Global) -> Result<Error, AllocError> {
 }
 
 fn task_in<'a>(matches: &ArgMatches<'a>) -> Task<'a> {
-    match matches.subcommand_matches(CHOOSE) {
-        Some(choose) => table_in(choose),
-        None => Task::ChooseInput,
-    }
+    let task = if let Some(choose) = matches.subcommand_matches(CHOOSE) {
+        choose.get_str(TABLE).map(Task::ChooseFile)
+    } else if let Some(check) = matches.subcommand_matches(CHECK) {
+        check_in(check)
+    } else {
+        None
+    };
+    task.unwrap_or(Task::ChooseInput)
 }
 
-fn table_in<'a>(choose: &ArgMatches<'a>) -> Task<'a> {
-    match choose.get_str(TABLE) {
-        Some(name) => Task::ChooseFile(name),
-        None => Task::ChooseInput,
-    }
+fn check_in<'a>(check: &ArgMatches<'a>) -> Option<Task<'a>> {
+    let table = check.get_str(TABLE)?;
+    let report = check.get_str(REPORT)?;
+    Some(Task::Check { table, report })
 }
 
 fn bootswap<'a>(alloc: Global) -> Result<Command<'a>, AllocError> {
@@ -106,10 +131,24 @@ fn bootswap<'a>(alloc: Global) -> Result<Command<'a>, AllocError> {
         .about(ABOUT)
         .long_about(LONG_ABOUT)
         .after_help(AFTER_HELP)
-        .subcommand(choose(alloc)?)
+        .subcommand(choose(alloc)?)?
+        .subcommand(check(alloc)?)
 }
 
 fn choose<'a>(alloc: Global) -> Result<Command<'a>, AllocError> {
-    let table = Arg::new(alloc, TABLE).required(true).help(TABLE_HELP);
-    Command::new(alloc, CHOOSE).about(CHOOSE_ABOUT).arg(table)
+    Command::new(alloc, CHOOSE)
+        .about(CHOOSE_ABOUT)
+        .arg(file(alloc, TABLE, TABLE_HELP))
+}
+
+fn check<'a>(alloc: Global) -> Result<Command<'a>, AllocError> {
+    Command::new(alloc, CHECK)
+        .about(CHECK_ABOUT)
+        .arg(file(alloc, TABLE, TABLE_HELP))?
+        .arg(file(alloc, REPORT, REPORT_HELP))
+}
+
+/// The name of a file, which has to be there.
+fn file<'a>(alloc: Global, name: &'a str, help: &'a str) -> Arg<'a> {
+    Arg::new(alloc, name).required(true).help(help)
 }

@@ -29,9 +29,9 @@ fn no_word_is_a_choice_over_standard_input(rt: HostRuntime) -> Result<(), Fail> 
 #[test]
 fn choose_reads_the_file(rt: HostRuntime) -> Result<(), Fail> {
     let files = [
-        ("table.txt", ONE_IMAGE),
-        ("long.txt", BAD_LINE),
-        ("--odd", NOT_VALID),
+        ("table.txt", ONE_IMAGE.as_bytes()),
+        ("long.txt", BAD_LINE.as_bytes()),
+        ("--odd", NOT_VALID.as_bytes()),
     ];
     for (words, status, out, err) in [
         (

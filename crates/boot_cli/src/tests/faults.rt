@@ -10,7 +10,7 @@ fn a_read_that_fails_after_a_whole_table_gives_no_report(rt: HostRuntime) -> Res
         (ErrorKind::TimedOut, "error: cannot read -\n"),
         (ErrorKind::OutOfMemory, "error: memory\n"),
     ] {
-        let mut host = MemoryHost::with_failing_input(ONE_IMAGE, failure);
+        let mut host = MemoryHost::with_failing_input(ONE_IMAGE.as_bytes(), failure);
         let outcome = run(rt.alloc(), &mut host, &["bootswap"]);
         assert_eq!(rt; outcome.status, 1);
         assert_eq!(rt; outcome.out.text()?, "");

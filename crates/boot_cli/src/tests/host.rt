@@ -5,7 +5,9 @@ use crate::cli::cli;
 use crate::host::Host;
 use std::alloc::{Allocator, Global};
 use std::io::{ErrorKind, Read, Write};
+use std::process::Abort;
 use std::str::Utf8Error;
+use std::test::Fail;
 use std::{io, str};
 
 /// A table of one image, for which nothing is requested.
@@ -20,8 +22,8 @@ const SHARE: usize = 5;
 /// A host with its files and its standard input in memory. Every other read is interrupted.
 #[derive(Drop)]
 pub struct MemoryHost<'a> {
-    /// The names and texts of the files.
-    pub files: &'a [(&'a str, &'a str)],
+    /// The names and bytes of the files.
+    pub files: &'a [(&'a str, &'a [u8])],
     /// What standard input has left to give.
     pub input: &'a [u8],
     /// The error that comes when standard input has nothing left, in place of its end.
@@ -32,7 +34,7 @@ pub struct MemoryHost<'a> {
 
 impl<'a> MemoryHost<'a> {
     /// These files, and a standard input that is empty.
-    pub fn with_files(files: &'a [(&'a str, &'a str)]) -> Self {
+    pub fn with_files(files: &'a [(&'a str, &'a [u8])]) -> Self {
         MemoryHost {
             files,
             input: b"".as_slice(),
@@ -43,19 +45,24 @@ impl<'a> MemoryHost<'a> {
 
     /// This standard input, and no file.
     pub fn with_input(input: &'a str) -> Self {
+        Self::with_input_bytes(input.as_bytes())
+    }
+
+    /// A standard input of these bytes, and no file.
+    pub fn with_input_bytes(input: &'a [u8]) -> Self {
         MemoryHost {
             files: &[],
-            input: input.as_bytes(),
+            input,
             failure: None,
             was_interrupted: false,
         }
     }
 
-    /// A standard input that gives this text and then fails, and no file.
-    pub fn with_failing_input(input: &'a str, failure: ErrorKind) -> Self {
+    /// A standard input that gives these bytes and then fails, and no file.
+    pub fn with_failing_input(input: &'a [u8], failure: ErrorKind) -> Self {
         MemoryHost {
             files: &[],
-            input: input.as_bytes(),
+            input,
             failure: Some(failure),
             was_interrupted: false,
         }
@@ -65,7 +72,7 @@ impl<'a> MemoryHost<'a> {
 impl Host for MemoryHost<'_> {
     fn read_file<A: Allocator>(&mut self, alloc: A, name: &str) -> io::Result<Vec<u8, A>> {
         match self.files.iter().find(|file| file.0 == name) {
-            Some(file) => Ok(Vec::from_slice(alloc, file.1.as_bytes())?),
+            Some(file) => Ok(Vec::from_slice(alloc, file.1)?),
             None => Err(io::Error::from(ErrorKind::NotFound)),
         }
     }
@@ -160,4 +167,30 @@ pub fn run_within<A: Allocator>(
     let mut err = LimitedWriter::new(alloc, room);
     let status = cli(alloc, heap, words, host, &mut out, &mut err);
     Outcome { status, out, err }
+}
+
+/// Asserts that the choice over this table, from standard input and from a file, leaves this status, this
+/// standard output and this standard error.
+pub fn expect_outcome(
+    rt: &(impl Abort + AllocGlobal),
+    table: &[u8],
+    status: u8,
+    out: &str,
+    err: &str,
+) -> Result<(), Fail> {
+    let mut input = MemoryHost::with_input_bytes(table);
+    let from_input = run(rt.alloc(), &mut input, &["bootswap"]);
+    let files = [("table.txt", table)];
+    let mut folder = MemoryHost::with_files(files.as_slice());
+    let from_file = run(
+        rt.alloc(),
+        &mut folder,
+        &["bootswap", "choose", "table.txt"],
+    );
+    for outcome in [&from_input, &from_file] {
+        assert_eq!(rt; outcome.status, status, "at {table:?}");
+        assert_eq!(rt; outcome.out.text()?, out, "at {table:?}");
+        assert_eq!(rt; outcome.err.text()?, err, "at {table:?}");
+    }
+    Ok(())
 }
