@@ -1,4 +1,6 @@
 //! The command line: what the words ask for, what is printed, and the exit status.
+ghost use Rattle.std.specs.Prelude.{◌≡◌, IsTrue, is_ok, if◌then◌else◌};
+
 mod checking;
 mod command;
 
@@ -94,7 +96,11 @@ fn choose_file<A: Allocator, H: Host, O: Write>(
 }
 
 /// Tells how a choice over the input of this name ended.
-fn status_of<O: Write, E: Write>(end: ChooseEnd, name: &str, out: &mut O, err: &mut E) -> u8 {
+///
+/// The status is 0 only where the whole report is written.
+fn status_of<O: Write, E: Write>(end: ChooseEnd, name: &str, out: &mut O, err: &mut E) -> u8
+    ensures { result ≡ 0 → end ≡ ChooseEnd.Done }
+{
     match end {
         ChooseEnd::Done => status_after(out.flush(), DONE),
         ChooseEnd::BadLine(line) => refuse(Refusal::TableLine(line), err),
@@ -106,7 +112,11 @@ fn status_of<O: Write, E: Write>(end: ChooseEnd, name: &str, out: &mut O, err: &
 }
 
 /// Writes what the checker says: a report that isn't right is refused.
-fn tell_verdict<O: Write>(is_right: bool, out: &mut O) -> u8 {
+///
+/// The status is 0 only where it says yes.
+fn tell_verdict<O: Write>(is_right: bool, out: &mut O) -> u8
+    ensures { result ≡ 0 → IsTrue is_right }
+{
     let (word, status) = if is_right {
         ("yes", DONE)
     } else {
@@ -121,7 +131,9 @@ fn write_word<W: Write>(word: &str, to: &mut W) -> io::Result<()> {
 }
 
 /// Writes an error line.
-fn refuse<E: Write>(refusal: Refusal<'_>, err: &mut E) -> u8 {
+fn refuse<E: Write>(refusal: Refusal<'_>, err: &mut E) -> u8
+    ensures { result ≡ 1 }
+{
     status_after(write_line(refusal, err), REFUSED)
 }
 
@@ -153,7 +165,9 @@ fn write_text<W: Write>(error: &clap::Error, to: &mut W) -> io::Result<()> {
 }
 
 /// The exit status where `written` is what came of the last writes: `status`, unless one failed.
-fn status_after(written: io::Result<()>, status: u8) -> u8 {
+fn status_after(written: io::Result<()>, status: u8) -> u8
+    ensures { result ≡ (if is_ok written then status else 1) }
+{
     match written {
         Ok(()) => status,
         Err(_) => REFUSED,
