@@ -1,6 +1,7 @@
 //! Tables that break a rule, each told by its first bad line, and those at the very limits, which break none.
 use super::host::expect_outcome;
 use std::alloc::{AllocError, Global};
+use std::process::Abort;
 use std::test::Fail;
 
 /// `head`, and then `count` times `line`.
@@ -12,85 +13,123 @@ fn repeated(alloc: Global, head: &str, line: &str, count: u32) -> Result<String,
     Ok(text)
 }
 
-#[test]
-fn the_line_that_breaks_a_rule_is_named(rt: HostRuntime) -> Result<(), Fail> {
-    for (table, err) in [
-        // A second request, of each form.
-        (
-            b"image 0 1.0.0 0 0\nrequest 1.1.0 0\nrequest 1.2.0 0\n".as_slice(),
-            "error: table line 3\n",
-        ),
-        (
-            b"image 0 1.0.0 0 0\nrequest 1.1.0 0\nneeds 0 1.1.0\ndamaged\n".as_slice(),
-            "error: table line 4\n",
-        ),
-        (
-            b"image 0 1.0.0 0 0\ndamaged\nrequest 1.1.0 0\n".as_slice(),
-            "error: table line 3\n",
-        ),
-        // A dependency of what is damaged.
-        (
-            b"image 0 1.0.0 0 0\ndamaged\nneeds 0 1.0.0\n".as_slice(),
-            "error: table line 3\n",
-        ),
-        // An empty line in the middle, and one at the end.
-        (
-            b"image 0 1.0.0 0 0\n\nimage 1 1.0.0 0 0\n".as_slice(),
-            "error: table line 2\n",
-        ),
-        (
-            b"image 0 1.0.0 0 0\nimage 1 1.0.0 0 0\n\n".as_slice(),
-            "error: table line 3\n",
-        ),
-        // Two spaces, between words and at a line's end.
-        (
-            b"image 0 1.0.0 0 0\nrequest  1.1.0 0\n".as_slice(),
-            "error: table line 2\n",
-        ),
-        (
-            b"image 0 1.0.0 0 0\nrequest 1.1.0 0  \n".as_slice(),
-            "error: table line 2\n",
-        ),
-        // Leading zeros, of a counter and in a version.
-        (
-            b"image 0 1.0.0 0 0\nrequest 1.1.0 05\n".as_slice(),
-            "error: table line 2\n",
-        ),
-        (
-            b"image 0 1.0.0 0 0\nimage 1 1.0.0 0 0\nneeds 0 01.0.0\n".as_slice(),
-            "error: table line 3\n",
-        ),
-        // Numbers that are too large for their fields.
-        (
-            b"image 0 1.0.0 0 0\nneeds 256 1.0.0\n".as_slice(),
-            "error: table line 2\n",
-        ),
-        (
-            b"image 0 1.0.0 0 0\nrequest 1.1.0 4294967296\n".as_slice(),
-            "error: table line 2\n",
-        ),
-        // A byte that is no ASCII, a tab and a carriage return.
-        (
-            b"image 0 1.0.0 0 0\nneeds 0 1.0.0\xff\n".as_slice(),
-            "error: table line 2\n",
-        ),
-        (
-            b"image 0 1.0.0 0 0\nrequest\t1.1.0 0\n".as_slice(),
-            "error: table line 2\n",
-        ),
-        (
-            b"image 0 1.0.0 0 0\nrequest 1.1.0 0\r\n".as_slice(),
-            "error: table line 2\n",
-        ),
-        // Image numbers out of order.
-        (
-            b"image 0 1.0.0 0 0\nrequest 1.1.0 0\nimage 2 1.0.0 0 0\n".as_slice(),
-            "error: table line 3\n",
-        ),
-    ] {
-        expect_outcome(&rt, table, 1, "", err)?;
+/// Asserts that each of these tables is refused at its line.
+fn expect_bad_lines(rt: &(impl Abort + AllocGlobal), tables: &[(&[u8], &str)]) -> Result<(), Fail> {
+    for (table, err) in tables {
+        expect_outcome(rt, table, 1, "", err)?;
     }
     Ok(())
+}
+
+#[test]
+fn a_second_request_is_bad(rt: HostRuntime) -> Result<(), Fail> {
+    expect_bad_lines(
+        &rt,
+        &[
+            (
+                b"image 0 1.0.0 0 0\nrequest 1.1.0 0\nrequest 1.2.0 0\n".as_slice(),
+                "error: table line 3\n",
+            ),
+            (
+                b"image 0 1.0.0 0 0\nrequest 1.1.0 0\nneeds 0 1.1.0\ndamaged\n".as_slice(),
+                "error: table line 4\n",
+            ),
+            (
+                b"image 0 1.0.0 0 0\ndamaged\nrequest 1.1.0 0\n".as_slice(),
+                "error: table line 3\n",
+            ),
+        ],
+    )
+}
+
+#[test]
+fn a_line_out_of_its_place_is_bad(rt: HostRuntime) -> Result<(), Fail> {
+    expect_bad_lines(
+        &rt,
+        &[
+            // A dependency of what is damaged.
+            (
+                b"image 0 1.0.0 0 0\ndamaged\nneeds 0 1.0.0\n".as_slice(),
+                "error: table line 3\n",
+            ),
+            // An image number out of order.
+            (
+                b"image 0 1.0.0 0 0\nrequest 1.1.0 0\nimage 2 1.0.0 0 0\n".as_slice(),
+                "error: table line 3\n",
+            ),
+        ],
+    )
+}
+
+#[test]
+fn empty_lines_and_further_spaces_are_bad(rt: HostRuntime) -> Result<(), Fail> {
+    expect_bad_lines(
+        &rt,
+        &[
+            (
+                b"image 0 1.0.0 0 0\n\nimage 1 1.0.0 0 0\n".as_slice(),
+                "error: table line 2\n",
+            ),
+            (
+                b"image 0 1.0.0 0 0\nimage 1 1.0.0 0 0\n\n".as_slice(),
+                "error: table line 3\n",
+            ),
+            (
+                b"image 0 1.0.0 0 0\nrequest  1.1.0 0\n".as_slice(),
+                "error: table line 2\n",
+            ),
+            (
+                b"image 0 1.0.0 0 0\nrequest 1.1.0 0  \n".as_slice(),
+                "error: table line 2\n",
+            ),
+        ],
+    )
+}
+
+#[test]
+fn padded_and_large_numbers_are_bad(rt: HostRuntime) -> Result<(), Fail> {
+    expect_bad_lines(
+        &rt,
+        &[
+            (
+                b"image 0 1.0.0 0 0\nrequest 1.1.0 05\n".as_slice(),
+                "error: table line 2\n",
+            ),
+            (
+                b"image 0 1.0.0 0 0\nimage 1 1.0.0 0 0\nneeds 0 01.0.0\n".as_slice(),
+                "error: table line 3\n",
+            ),
+            (
+                b"image 0 1.0.0 0 0\nneeds 256 1.0.0\n".as_slice(),
+                "error: table line 2\n",
+            ),
+            (
+                b"image 0 1.0.0 0 0\nrequest 1.1.0 4294967296\n".as_slice(),
+                "error: table line 2\n",
+            ),
+        ],
+    )
+}
+
+#[test]
+fn other_bytes_are_bad(rt: HostRuntime) -> Result<(), Fail> {
+    expect_bad_lines(
+        &rt,
+        &[
+            (
+                b"image 0 1.0.0 0 0\nneeds 0 1.0.0\xff\n".as_slice(),
+                "error: table line 2\n",
+            ),
+            (
+                b"image 0 1.0.0 0 0\nrequest\t1.1.0 0\n".as_slice(),
+                "error: table line 2\n",
+            ),
+            (
+                b"image 0 1.0.0 0 0\nrequest 1.1.0 0\r\n".as_slice(),
+                "error: table line 2\n",
+            ),
+        ],
+    )
 }
 
 #[test]
