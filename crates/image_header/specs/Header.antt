@@ -1,0 +1,61 @@
+-- The header of MCUboot's image format.
+use Rattle.std.specs.Prelude.{◌≡◌, ◌≢◌, ℕ, ◌^◌, ◌<◌, ◌≤◌, List, ◌++◌, length, bit_or}
+use Rattle.byteorder.specs.Endian.{little_bytes, little_number}
+use Rattle.version_order.specs.declared.version.Version.{Version}
+use Rattle.version_order.specs.VersionText.{FitsFields}
+use Rattle.image_header.specs.declared.header.Header.{Header}
+use Rattle.image_header.specs.declared.header.HeaderError.{HeaderError}
+use Rattle.image_header.specs.declared.header.HeaderError.TheVariants.{Short, BadMagic, BadHeaderSize, UnsupportedFlags}
+
+-- The magic number of an image.
+abbrev pub header_magic : ℕ
+header_magic = 0x96f3b83d
+
+-- The eight bytes of a version.
+abbrev pub version_bytes : Version → List ℕ
+version_bytes version = little_bytes 1 version.major ++ (little_bytes 1 version.minor ++ (little_bytes 2 version.revision ++ little_bytes 4 version.build))
+
+-- The 28 bytes of a header after its magic number.
+abbrev pub field_bytes : Header → List ℕ
+field_bytes header = little_bytes 4 header.load_address ++ (little_bytes 2 header.header_size ++ (little_bytes 2 header.protected_size
+    ++ (little_bytes 4 header.body_size ++ (little_bytes 4 header.flags ++ (version_bytes header.version ++ little_bytes 4 header.pad)))))
+
+-- The 32 bytes of a header.
+abbrev pub header_bytes : Header → List ℕ
+header_bytes header = little_bytes 4 header_magic ++ field_bytes header
+
+-- Each number of a header fits its field.
+pub record FitsHeader (header : Header) : Type 0 where
+  pub load_address : header.load_address < 2 ^ 32
+  pub header_size : header.header_size < 2 ^ 16
+  pub protected_size : header.protected_size < 2 ^ 16
+  pub body_size : header.body_size < 2 ^ 32
+  pub flags : header.flags < 2 ^ 32
+  pub version : FitsFields header.version
+  pub pad : header.pad < 2 ^ 32
+
+-- The flags that are accepted, all of them set: position independent, not bootable, fixed in read-only memory.
+abbrev pub accepted_flags : ℕ
+accepted_flags = 0x111
+
+-- No flag is set but those that are accepted.
+abbrev pub HasKnownFlags : Header → Type 0
+HasKnownFlags header = bit_or header.flags accepted_flags ≡ accepted_flags
+
+-- Bytes begin with this header, whatever follows.
+pub record BeginsWith (bytes : List ℕ) (header : Header) : Type 0 where
+  pub fits : FitsHeader header
+  pub rest : List ℕ
+  pub parts : bytes ≡ header_bytes header ++ rest
+
+-- A header that is accepted.
+pub record IsAccepted (header : Header) : Type 0 where
+  pub long : 32 ≤ header.header_size
+  pub known : HasKnownFlags header
+
+-- The first check that fails of bytes that begin with no header that is accepted.
+abbrev pub IsHeaderFault : List ℕ → HeaderError → Type 0
+IsHeaderFault bytes Short = length bytes < 32
+IsHeaderFault bytes BadMagic = (32 ≤ length bytes) × (little_number 4 bytes ≢ header_magic)
+IsHeaderFault bytes BadHeaderSize = (header : Header) × BeginsWith bytes header × (header.header_size < 32)
+IsHeaderFault bytes UnsupportedFlags = (header : Header) × BeginsWith bytes header × (32 ≤ header.header_size) × (HasKnownFlags header → ⊥)

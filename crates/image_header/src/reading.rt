@@ -1,0 +1,58 @@
+//! Reading a header.
+
+ghost use Rattle.std.specs.Prelude.{◌≡◌, ◌≤◌, IfErr, IfOk, length};
+ghost use Rattle.byteorder.specs.Endian.{little_number};
+ghost use Rattle.image_header.specs.Header.{BeginsWith, IsAccepted, IsHeaderFault, header_magic};
+ghost use Rattle.image_header.specs.declared.header.Header.{Header};
+
+use crate::header::{ACCEPTED_FLAGS, HEADER_LENGTH, Header, HeaderError, MAGIC};
+use byteorder::{ByteOrder, LittleEndian};
+use version_order::Version;
+
+/// The header in the first 32 bytes, whatever the magic number before its fields.
+fn fields(bytes: &[u8]) -> Header
+    requires { 32 ≤ length bytes.now }
+    ensures { little_number 4 bytes.now ≡ header_magic → BeginsWith bytes.now result }
+{
+    Header {
+        load_address: LittleEndian::read_u32(&bytes[4..8]),
+        header_size: LittleEndian::read_u16(&bytes[8..10]),
+        protected_size: LittleEndian::read_u16(&bytes[10..12]),
+        body_size: LittleEndian::read_u32(&bytes[12..16]),
+        flags: LittleEndian::read_u32(&bytes[16..20]),
+        version: Version {
+            major: bytes[20],
+            minor: bytes[21],
+            revision: LittleEndian::read_u16(&bytes[22..24]),
+            build: LittleEndian::read_u32(&bytes[24..28]),
+        },
+        pad: LittleEndian::read_u32(&bytes[28..32]),
+    }
+}
+
+impl Header {
+    /// Reads the header that bytes begin with; what follows its 32 bytes isn't looked at.
+    ///
+    /// The checks are made in the order of [`HeaderError`]'s kinds, and the first that fails is the error.
+    pub fn read(bytes: &[u8]) -> Result<Header, HeaderError>
+        ensures read { IfOk result (λ header. BeginsWith bytes.now header × IsAccepted header) }
+        ensures only { (header : Header) → BeginsWith bytes.now header → IsAccepted header
+            → result ≡ Ok header }
+        ensures fault { IfErr result (IsHeaderFault bytes.now) }
+    {
+        if bytes.len() < HEADER_LENGTH {
+            return Err(HeaderError::Short);
+        }
+        if LittleEndian::read_u32(bytes) != MAGIC {
+            return Err(HeaderError::BadMagic);
+        }
+        let header = fields(bytes);
+        if usize::from(header.header_size) < HEADER_LENGTH {
+            return Err(HeaderError::BadHeaderSize);
+        }
+        if header.flags | ACCEPTED_FLAGS != ACCEPTED_FLAGS {
+            return Err(HeaderError::UnsupportedFlags);
+        }
+        Ok(header)
+    }
+}

@@ -1,0 +1,39 @@
+//! Writing a header.
+
+ghost use Rattle.std.specs.Prelude.{◌≡◌, ◌≤◌, ◌++◌, drop, length};
+ghost use Rattle.byteorder.specs.Endian.{little_bytes};
+ghost use Rattle.image_header.specs.Header.{header_bytes};
+
+use crate::header::{HEADER_LENGTH, Header, MAGIC};
+use byteorder::{ByteOrder, LittleEndian};
+
+/// Writes a number of one byte, as [`ByteOrder::write_u16`] writes one of two.
+fn write_u8(buffer: &mut [u8], n: u8)
+    requires { 1 ≤ length buffer.old }
+    ensures { buffer.new ≡ little_bytes 1 n ++ drop 1 buffer.old }
+{
+    buffer[0] = n;
+}
+
+impl Header {
+    /// The 32 bytes of a header: the magic number, and its fields in their order.
+    ///
+    /// A header that [`Header::read`] refuses is written too.
+    pub fn write(&self) -> [u8; 32]
+        ensures { result ≡ header_bytes self.now }
+    {
+        let mut bytes = [0; HEADER_LENGTH];
+        LittleEndian::write_u32(&mut bytes[0..4], MAGIC);
+        LittleEndian::write_u32(&mut bytes[4..8], self.load_address);
+        LittleEndian::write_u16(&mut bytes[8..10], self.header_size);
+        LittleEndian::write_u16(&mut bytes[10..12], self.protected_size);
+        LittleEndian::write_u32(&mut bytes[12..16], self.body_size);
+        LittleEndian::write_u32(&mut bytes[16..20], self.flags);
+        write_u8(&mut bytes[20..21], self.version.major);
+        write_u8(&mut bytes[21..22], self.version.minor);
+        LittleEndian::write_u16(&mut bytes[22..24], self.version.revision);
+        LittleEndian::write_u32(&mut bytes[24..28], self.version.build);
+        LittleEndian::write_u32(&mut bytes[28..32], self.pad);
+        bytes
+    }
+}
