@@ -1,0 +1,9 @@
+pub mod Areas
+pub mod Dependencies
+pub mod Descriptions
+pub mod Fronts
+pub mod ImageLaws
+pub mod MakingLaws
+pub mod MakingSteps
+pub mod Parts
+pub mod Walks

@@ -1,0 +1,69 @@
+use Rattle.std.proofs.Common.{◌≤◌, length, Ok, ap, arith}
+use Rattle.tlv.specs.declared.desc.Desc.{Desc}
+use Rattle.tlv.specs.declared.error.ImageError.TheVariants.{TrailingBytes}
+use Rattle.tlv.proofs.Descriptions.{first_behind, first_in_counter, first_in_dependencies, first_in_digest, has_counter, has_dependencies, has_digest, intact_front, intact_has_no_fault, intact-unique, only_fault}
+use Rattle.tlv.proofs.Fronts.{err_is}
+use Rattle.tlv.proofs.describing.describe.Goals as goal
+
+pub returns-in_err-digest-clause-fault : goal.returns-in_err-digest-clause-fault
+returns-in_err-digest-clause-fault c =
+    let found = c.in_ok-front.ensures.found in
+    err_is _ _ _ c.from_residual-in_err-digest.ensures.1
+    (first_in_digest c.args.bytes.now c.in_ok-front.front found.0 c.in_err-digest.field-0.0 found.1 c.in_err-digest.ensures.fault)
+
+pub returns-in_err-dependencies-clause-fault : goal.returns-in_err-dependencies-clause-fault
+returns-in_err-dependencies-clause-fault c =
+    let found = c.in_ok-front.ensures.found in
+    err_is _ _ _ c.from_residual-in_err-dependencies.ensures.1
+    (first_in_dependencies c.args.bytes.now c.in_ok-front.front found.0 c.in_err-dependencies.field-0.0 found.1
+    (has_digest c.args.bytes.now c.in_ok-front.front found.0 found.1 c.in_ok-digest.ensures.own.1) c.in_err-dependencies.ensures.err)
+
+pub returns-in_err-counter-clause-fault : goal.returns-in_err-counter-clause-fault
+returns-in_err-counter-clause-fault c =
+    let found = c.in_ok-front.ensures.found in
+    let dependencies = c.in_ok-dependencies.dependencies.items in
+    let few : length dependencies ≤ 16 = omega (arith, c.len.ensures.value, c.if-prove.false) in
+    err_is _ _ _ c.from_residual-in_err-counter.ensures.1
+    (first_in_counter c.args.bytes.now c.in_ok-front.front found.0 dependencies c.in_err-counter.field-0.0 found.1
+    (has_digest c.args.bytes.now c.in_ok-front.front found.0 found.1 c.in_ok-digest.ensures.own.1)
+    (has_dependencies c.args.bytes.now c.in_ok-front.front found.0 dependencies found.1 c.in_ok-dependencies.ensures.ok)
+    few c.in_err-counter.ensures.err)
+
+pub returns-then-front-bytes-clause-fault : goal.returns-then-front-bytes-clause-fault
+returns-then-front-bytes-clause-fault c =
+    let found = c.in_ok-front.ensures.found in
+    let dependencies = c.in_ok-dependencies.dependencies.items in
+    let few : length dependencies ≤ 16 = omega (arith, c.len.ensures.value, c.if-prove.false) in
+    first_behind c.args.bytes.now c.in_ok-front.front found.0 dependencies c.in_ok-counter.counter found.1
+    (has_digest c.args.bytes.now c.in_ok-front.front found.0 found.1 c.in_ok-digest.ensures.own.1)
+    (has_dependencies c.args.bytes.now c.in_ok-front.front found.0 dependencies found.1 c.in_ok-dependencies.ensures.ok)
+    few
+    (has_counter c.args.bytes.now c.in_ok-front.front found.0 c.in_ok-counter.counter found.1 c.in_ok-counter.ensures.ok)
+    c.if-front-bytes.true
+
+pub returns-clause-described : goal.returns-clause-described
+returns-clause-described c =
+    let found = c.in_ok-front.ensures.found in
+    let dependencies = c.in_ok-dependencies.dependencies in
+    let few : length dependencies.items ≤ 16 = omega (arith, c.len.ensures.value, c.if-prove.false) in
+    intact_front c.args.bytes.now c.in_ok-front.front found.0 c.in_ok-digest.digest dependencies c.in_ok-counter.counter found.1 c.in_ok-digest.ensures.own.0
+    (has_digest c.args.bytes.now c.in_ok-front.front found.0 found.1 c.in_ok-digest.ensures.own.1)
+    (has_dependencies c.args.bytes.now c.in_ok-front.front found.0 dependencies.items found.1 c.in_ok-dependencies.ensures.ok)
+    few
+    (has_counter c.args.bytes.now c.in_ok-front.front found.0 c.in_ok-counter.counter found.1 c.in_ok-counter.ensures.ok)
+    c.if-front-bytes.false
+
+pub returns-in_err-digest-clause-only : goal.returns-in_err-digest-clause-only
+returns-in_err-digest-clause-only c = only_fault _ _ _ c.from_residual-in_err-digest.ensures.1 (returns-in_err-digest-clause-fault c)
+
+pub returns-in_err-dependencies-clause-only : goal.returns-in_err-dependencies-clause-only
+returns-in_err-dependencies-clause-only c = only_fault _ _ _ c.from_residual-in_err-dependencies.ensures.1 (returns-in_err-dependencies-clause-fault c)
+
+pub returns-in_err-counter-clause-only : goal.returns-in_err-counter-clause-only
+returns-in_err-counter-clause-only c = only_fault _ _ _ c.from_residual-in_err-counter.ensures.1 (returns-in_err-counter-clause-fault c)
+
+pub returns-then-front-bytes-clause-only : goal.returns-then-front-bytes-clause-only
+returns-then-front-bytes-clause-only c = λ description intact. absurd (intact_has_no_fault c.args.bytes.now description TrailingBytes intact (returns-then-front-bytes-clause-fault c))
+
+pub returns-clause-only : goal.returns-clause-only
+returns-clause-only c = λ description intact. ap (λ (d : Desc). Ok d) (intact-unique c.args.bytes.now _ description (returns-clause-described c) intact)

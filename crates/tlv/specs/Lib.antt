@@ -1,0 +1,12 @@
+pub mod Area
+pub mod Image
+pub mod Fault
+pub mod Codes
+pub mod Reading
+pub mod AreaLaws
+pub mod Tlv
+pub mod Fields
+pub mod FieldLaws
+pub mod Front
+pub mod Describing
+pub mod Making

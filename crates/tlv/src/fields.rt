@@ -1,0 +1,145 @@
+//! The fields that entries hold: digest, dependencies and security counter.
+
+ghost use Rattle.std.specs.Prelude.{◌≡◌, ℕ, ◌∷◌, [], IfOk, IfErr, IfSome, IfNone};
+ghost use Rattle.byteorder.specs.Endian.{little_bytes};
+ghost use Rattle.tlv.specs.Area.{values_of};
+ghost use Rattle.tlv.specs.Image.{FitsDependency, counter_kind, dependency_bytes, dependency_kind, digest_kind};
+ghost use Rattle.tlv.specs.Reading.{entries_of};
+ghost use Rattle.version_order.specs.declared.dependency.Dependency.{Dependency};
+ghost use Rattle.tlv.specs.Fields.{IsCounterFault, IsDependencyFault, IsDigestFault, SpellCounter, SpellDependencies, values_left};
+
+use crate::error::ImageError;
+use crate::tlvs::Tlvs;
+use arrayvec::ArrayVec;
+use byteorder::{ByteOrder, LittleEndian};
+use version_order::{Dependency, Version};
+
+/// The type of the digest entry.
+pub(crate) const DIGEST_KIND: u16 = 0x10;
+/// The type of a dependency entry.
+pub(crate) const DEPENDENCY_KIND: u16 = 0x40;
+/// The type of the security counter's entry.
+pub(crate) const COUNTER_KIND: u16 = 0x50;
+
+// The values of the entries of one type, in order.
+#[derive(Drop)]
+struct Values<'a> {
+    entries: Tlvs<'a>,
+    kind: u16,
+}
+
+impl<'a> Iterator for Values<'a> {
+    ghost use Rattle.std.specs.Iterator.{YieldsFirstRef, item_count};
+    ghost use Rattle.tlv.specs.Fields.{values_left};
+
+    type Item = &'a [u8];
+
+    ghost next_gives = { YieldsFirstRef values_left };
+
+    ghost remaining = { item_count values_left };
+
+    fn next(&mut self) -> Option<&'a [u8]> {
+        while let Some(entry) = self.entries.next() {
+            if entry.kind == self.kind {
+                return Some(entry.value);
+            }
+        }
+        None
+    }
+}
+
+fn values_in(entries: &[u8], kind: u16) -> Values<'_>
+    ensures { values_left result ≡ values_of kind (entries_of entries.now) }
+{
+    Values {
+        entries: Tlvs::new(entries),
+        kind,
+    }
+}
+
+/// The value of the one digest entry among the entries that these bytes spell.
+///
+/// `NoDigest` where there is none, `TwoDigests` where there are two or more.
+pub(crate) fn digest_value(entries: &[u8]) -> Result<&[u8], ImageError>
+    ensures ok { IfOk result (λ value. values_of digest_kind (entries_of entries.now) ≡ value.now ∷ []) }
+    ensures err { IfErr result (IsDigestFault (values_of digest_kind (entries_of entries.now))) }
+{
+    let mut digests = values_in(entries, DIGEST_KIND);
+    match (digests.next(), digests.next()) {
+        (None, _) => Err(ImageError::NoDigest),
+        (Some(digest), None) => Ok(digest),
+        (Some(_), Some(_)) => Err(ImageError::TwoDigests),
+    }
+}
+
+/// The security counter among the entries that these bytes spell, 0 where there is none.
+///
+/// `BadCounter` where there are two or more, or its value isn't four bytes long.
+pub(crate) fn counter(entries: &[u8]) -> Result<u32, ImageError>
+    ensures ok { IfOk result (SpellCounter (values_of counter_kind (entries_of entries.now))) }
+    ensures err { IfErr result (IsCounterFault (values_of counter_kind (entries_of entries.now))) }
+{
+    let mut counters = values_in(entries, COUNTER_KIND);
+    match (counters.next(), counters.next()) {
+        (None, _) => Ok(0),
+        (Some(value), None) => counter_of(value).ok_or(ImageError::BadCounter),
+        (Some(_), Some(_)) => Err(ImageError::BadCounter),
+    }
+}
+
+// The counter that a value spells, if it spells one.
+fn counter_of(value: &[u8]) -> Option<u32>
+    ensures spelled { IfSome result (λ counter. value.now ≡ little_bytes 4 counter) }
+    ensures none { IfNone result ((counter : ℕ) → value.now ≡ little_bytes 4 counter → ⊥) }
+{
+    if value.len() != 4 {
+        return None;
+    }
+    Some(LittleEndian::read_u32(value))
+}
+
+// The dependency that a value spells, if it spells one.
+fn dependency_of(value: &[u8]) -> Option<Dependency>
+    ensures spelled { IfSome result (λ dependency. FitsDependency dependency × (value.now ≡ dependency_bytes dependency)) }
+    ensures none { IfNone result ((dependency : Dependency) → value.now ≡ dependency_bytes dependency → ⊥) }
+{
+    if value.len() != 12 || value[1] != 0 || value[2] != 0 || value[3] != 0 {
+        return None;
+    }
+    let minimum = Version {
+        major: value[4],
+        minor: value[5],
+        revision: LittleEndian::read_u16(&value[6..]),
+        build: LittleEndian::read_u32(&value[8..]),
+    };
+    Some(Dependency {
+        image: value[0],
+        minimum,
+    })
+}
+
+/// The dependencies among the entries that these bytes spell, in their order.
+///
+/// `BadDependency` where the value of one isn't 12 bytes long, or its three bytes after the image number aren't
+/// zero; `TooManyDependencies` where none is so, but there are more than 16.
+pub(crate) fn dependencies(entries: &[u8]) -> Result<ArrayVec<Dependency, 16>, ImageError>
+    ensures ok { IfOk result (λ dependencies. SpellDependencies (values_of dependency_kind (entries_of entries.now)) dependencies.items) }
+    ensures err { IfErr result (IsDependencyFault (values_of dependency_kind (entries_of entries.now))) }
+{
+    let mut dependencies = ArrayVec::new();
+    let mut too_many = false;
+    for value in values_in(entries, DEPENDENCY_KIND) {
+        let Some(dependency) = dependency_of(value) else {
+            return Err(ImageError::BadDependency);
+        };
+        if dependencies.is_full() {
+            too_many = true;
+        } else {
+            dependencies.push(dependency);
+        }
+    }
+    if too_many {
+        return Err(ImageError::TooManyDependencies);
+    }
+    Ok(dependencies)
+}
