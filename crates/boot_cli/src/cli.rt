@@ -3,12 +3,14 @@ ghost use Rattle.std.specs.Prelude.{◌≡◌, IsTrue, is_ok, if◌then◌else�
 
 mod checking;
 mod command;
+mod describing;
 
 use crate::choosing::{ChooseEnd, choose_over};
 use crate::host::{Host, StandardInput};
 use checking::is_right;
 use clap::error::ErrorKind as UsageKind;
 use command::{Task, task_of, words_fault};
+use describing::{description_in, write_description, write_fault};
 use std::alloc::{Allocator, Global};
 use std::convert::AsStr;
 use std::io;
@@ -68,6 +70,11 @@ pub fn cli<S: AsStr, A: Allocator, H: Host, O: Write, E: Write>(
             Ok(is_right) => tell_verdict(is_right, out),
             Err(refusal) => refuse(refusal, err),
         },
+        Ok(Task::Describe(name)) => match description_in(heap, name, host) {
+            Ok(Ok(description)) => status_after(write_description(&description, out), DONE),
+            Ok(Err(fault)) => status_after(write_fault(fault, out), REFUSED),
+            Err(refusal) => refuse(refusal, err),
+        },
         Err(error) => answer(&error, out, err),
     }
 }
@@ -93,6 +100,19 @@ fn choose_file<A: Allocator, H: Host, O: Write>(
         Err(error) if error.kind() == ErrorKind::OutOfMemory => ChooseEnd::NoMemory,
         Err(_) => ChooseEnd::ReadFailed,
     }
+}
+
+/// All bytes of a file.
+fn bytes_of<'a, 'h, A: Allocator, H: Host>(
+    heap: &'h A,
+    name: &'a str,
+    host: &mut H,
+) -> Result<Vec<u8, &'h A>, Refusal<'a>> {
+    host.read_file(heap, name)
+        .map_err(|error| match error.kind() {
+            ErrorKind::OutOfMemory => Refusal::NoMemory,
+            _ => Refusal::CannotRead(name),
+        })
 }
 
 /// Tells how a choice over the input of this name ended.

@@ -1,10 +1,9 @@
 //! The check of a report for a table, each in a file.
 
-use super::Refusal;
+use super::{Refusal, bytes_of};
 use crate::host::Host;
 use certificate::{Report, Table, check};
 use std::alloc::Allocator;
-use std::io::ErrorKind;
 
 /// Whether the report in one file is right for the table in another. The table is read and judged first.
 ///
@@ -36,17 +35,4 @@ fn report_in<'a, A: Allocator, H: Host>(
 ) -> Result<Report, Refusal<'a>> {
     let bytes = bytes_of(heap, name, host)?;
     Report::parse(&bytes).map_err(|bad| Refusal::ReportLine(bad.0))
-}
-
-/// All bytes of a file.
-fn bytes_of<'a, 'h, A: Allocator, H: Host>(
-    heap: &'h A,
-    name: &'a str,
-    host: &mut H,
-) -> Result<Vec<u8, &'h A>, Refusal<'a>> {
-    host.read_file(heap, name)
-        .map_err(|error| match error.kind() {
-            ErrorKind::OutOfMemory => Refusal::NoMemory,
-            _ => Refusal::CannotRead(name),
-        })
 }

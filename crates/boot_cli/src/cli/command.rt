@@ -18,15 +18,21 @@ pub enum Task<'a> {
         /// The name of the file that has the report.
         report: &'a str,
     },
+    /// What the image in the file of this name says of itself.
+    Describe(&'a str),
 }
 
 const CHOOSE: &str = "choose";
 
 const CHECK: &str = "check";
 
+const IMAGE: &str = "image";
+
 const TABLE: &str = "TABLE";
 
 const REPORT: &str = "REPORT";
+
+const FILE: &str = "FILE";
 
 const ABOUT: &str =
     "Chooses which of the images that a device is asked to boot may run together, and checks it";
@@ -49,9 +55,14 @@ const CHOOSE_ABOUT: &str = "Reads a table from a file and prints the report of t
 const CHECK_ABOUT: &str =
     "Reads a table and a report from files and says whether the report is right for the table";
 
+const IMAGE_ABOUT: &str =
+    "Reads an image from a file, checks it, and prints what it says of itself";
+
 const TABLE_HELP: &str = "The file that the table is read from";
 
 const REPORT_HELP: &str = "The file that the report is read from";
+
+const FILE_HELP: &str = "The file that the image is read from";
 
 const WORDS_FAULT: &str = "invalid UTF-8 was detected in one or more arguments";
 
@@ -78,15 +89,20 @@ A report is right for a table where it has the table's images, takes a valid set
 request once, with a reason that holds given the refusals before it. What it takes is then the greatest valid
 set. `check` prints `yes` or `no`.
 
+An image is one of MCUboot's format. `image` prints its version, length, security counter, digest and the
+images that it needs, or `refused CODE NAME` with the first check that fails. Signatures aren't checked.
+
 Exit status:
   0  done; `check` says yes
-  1  refused: `check` says no; or standard error has a line `error: ..`, such as `error: table line 3` for
-     the first line that no table goes on from; or what had to be printed could not be written
+  1  refused: `check` says no; or `image` refuses the image; or standard error has a line `error: ..`, such
+     as `error: table line 3` for the first line that no table goes on from; or what had to be printed could
+     not be written
   2  the words of the command are wrong
 
 Examples:
   bootswap choose table.txt
-  bootswap choose table.txt > report.txt && bootswap check table.txt report.txt";
+  bootswap choose table.txt > report.txt && bootswap check table.txt report.txt
+  bootswap image firmware.img";
 
 /// What `words` ask for, of which the first is the program's own name, or the error that says what to print
 /// and how to exit: help, the version or a fault in the words.
@@ -112,6 +128,8 @@ fn task_in<'a>(matches: &ArgMatches<'a>) -> Task<'a> {
         choose.get_str(TABLE).map(Task::ChooseFile)
     } else if let Some(check) = matches.subcommand_matches(CHECK) {
         check_in(check)
+    } else if let Some(image) = matches.subcommand_matches(IMAGE) {
+        image.get_str(FILE).map(Task::Describe)
     } else {
         None
     };
@@ -132,7 +150,8 @@ fn bootswap<'a>(alloc: Global) -> Result<Command<'a>, AllocError> {
         .long_about(LONG_ABOUT)
         .after_help(AFTER_HELP)
         .subcommand(choose(alloc)?)?
-        .subcommand(check(alloc)?)
+        .subcommand(check(alloc)?)?
+        .subcommand(image(alloc)?)
 }
 
 fn choose<'a>(alloc: Global) -> Result<Command<'a>, AllocError> {
@@ -146,6 +165,12 @@ fn check<'a>(alloc: Global) -> Result<Command<'a>, AllocError> {
         .about(CHECK_ABOUT)
         .arg(file(alloc, TABLE, TABLE_HELP))?
         .arg(file(alloc, REPORT, REPORT_HELP))
+}
+
+fn image<'a>(alloc: Global) -> Result<Command<'a>, AllocError> {
+    Command::new(alloc, IMAGE)
+        .about(IMAGE_ABOUT)
+        .arg(file(alloc, FILE, FILE_HELP))
 }
 
 /// The name of a file, which has to be there.

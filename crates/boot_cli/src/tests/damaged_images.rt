@@ -1,0 +1,39 @@
+//! No front of an image and no image with one bit turned is described.
+use super::image_bytes::{COUNTED, NEEDING, ONE};
+use std::test::Fail;
+use tlv::describe;
+
+#[test]
+fn no_front_of_an_image_is_intact(rt: HostRuntime) -> Result<(), Fail> {
+    for image in [ONE, NEEDING, COUNTED] {
+        let bytes = hex::decode(rt.alloc(), image)?;
+        for length in 0..bytes.len() {
+            assert!(rt; describe(&bytes[..length]).is_err(), "of {length} bytes");
+        }
+        assert!(rt; describe(&bytes).is_ok());
+    }
+    Ok(())
+}
+
+/// Turns these bits of the byte at a place.
+fn turn(bytes: &mut [u8], place: usize, bits: u8) {
+    if let Some(byte) = bytes.get_mut(place) {
+        *byte ^= bits;
+    }
+}
+
+#[test]
+fn no_image_with_a_turned_bit_is_intact(rt: HostRuntime) -> Result<(), Fail> {
+    for image in [ONE, NEEDING, COUNTED] {
+        let mut bytes = hex::decode(rt.alloc(), image)?;
+        for place in 0..bytes.len() {
+            for bit in [1, 2, 4, 8, 16, 32, 64, 128] {
+                turn(&mut bytes, place, bit);
+                assert!(rt; describe(&bytes).is_err(), "bit {bit} of byte {place}");
+                turn(&mut bytes, place, bit);
+            }
+        }
+        assert!(rt; describe(&bytes).is_ok());
+    }
+    Ok(())
+}
