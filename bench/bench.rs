@@ -1,0 +1,198 @@
+//! Times the proved crates, as a static library, against a plain implementation, and prints ratios alone.
+
+mod inputs;
+mod plain_choice;
+mod plain_digest;
+mod plain_image;
+mod proved;
+mod timing;
+
+use inputs::Random;
+use std::hint::black_box;
+use std::path::{Path, PathBuf};
+use std::process::{Command, ExitCode, Stdio};
+use timing::Rounds;
+
+/// The most that describing an image of a megabyte may take, measured by its digest alone.
+const MOST_OVER_DIGEST: f64 = 1.05;
+
+const MEGABYTE: usize = 1 << 20;
+
+/// How many random images, and how many random tables, both sides are asked about.
+const RANDOM_INPUTS: usize = 100_000;
+
+/// How many megabytes the machine's `sha256sum` is given.
+const SHA256SUM_MEGABYTES: u32 = 200;
+
+/// How often `sha256sum` is run.
+const SHA256SUM_ROUNDS: usize = 5;
+
+fn main() -> ExitCode {
+    let Some(folder) = std::env::args_os().nth(1).map(PathBuf::from) else {
+        eprintln!("usage: bench FOLDER, where a large file may be written for a while");
+        return ExitCode::from(2);
+    };
+    expect_same_answers();
+    expect_same_choices();
+    println!("same answers to {RANDOM_INPUTS} images and {RANDOM_INPUTS} tables");
+    let over_digest = time_image("1 MiB", MEGABYTE);
+    time_image("64 KiB", 1 << 16);
+    time_image("no body", 0);
+    time_choice();
+    time_sha256sum(&folder);
+    if over_digest < MOST_OVER_DIGEST {
+        ExitCode::SUCCESS
+    } else {
+        eprintln!(
+            "describe of a megabyte takes {over_digest:.3} of its digest, not below {MOST_OVER_DIGEST}"
+        );
+        ExitCode::FAILURE
+    }
+}
+
+/// Both sides answer the same to intact and to damaged images.
+fn expect_same_answers() {
+    for body_size in [0, 1, 1 << 16, MEGABYTE] {
+        let image = inputs::image(body_size);
+        let length = image.bytes.len() as u64;
+        assert_eq!(
+            proved::describe(&image.bytes),
+            length,
+            "body of {body_size} bytes"
+        );
+        assert_eq!(
+            plain_image::answer(&image.bytes),
+            length,
+            "body of {body_size} bytes"
+        );
+    }
+    let mut random = Random::new();
+    // How often each answer came: 0 for an intact image, else the number of the check that fails.
+    let mut seen = [0; 15];
+    for _ in 0..RANDOM_INPUTS {
+        let bytes = inputs::damaged_image(&mut random);
+        let answer = proved::describe(&bytes);
+        assert_eq!(answer, plain_image::answer(&bytes), "{bytes:?}");
+        seen[(answer >> 63) as usize * (answer & 15) as usize] += 1;
+        assert_eq!(
+            proved::digest(&bytes),
+            plain_digest_number(&bytes),
+            "{bytes:?}"
+        );
+    }
+    assert!(
+        seen.iter().all(|count| *count > 0),
+        "some answer never came: {seen:?}"
+    );
+}
+
+/// Both sides choose the same from the full table and from random tables.
+fn expect_same_choices() {
+    let table = inputs::full_table();
+    let all_refused = 8 * 256;
+    assert_eq!(proved::choose(table.as_bytes()), all_refused);
+    assert_eq!(plain_choice::answer(table.as_bytes()), all_refused);
+    let report = inputs::full_report();
+    assert!(proved::check(table.as_bytes(), report.as_bytes()));
+    assert!(!proved::check(table.as_bytes(), table.as_bytes()));
+    let mut random = Random::new();
+    // How often none and some were taken, and how often there was no table and no valid running set.
+    let mut seen = [0; 4];
+    for _ in 0..RANDOM_INPUTS {
+        let table = inputs::random_table(&mut random);
+        let answer = proved::choose(table.as_bytes());
+        assert_eq!(answer, plain_choice::answer(table.as_bytes()), "{table}");
+        let kind = match answer {
+            chosen if chosen < 1 << 12 => usize::from(chosen & 255 != 0),
+            bad => 2 + (bad & 1) as usize,
+        };
+        seen[kind] += 1;
+    }
+    assert!(
+        seen.iter().all(|count| *count > 0),
+        "some answer never came: {seen:?}"
+    );
+}
+
+fn plain_digest_number(bytes: &[u8]) -> u64 {
+    let digest = plain_digest::sha256(bytes);
+    u64::from_be_bytes(digest[..8].try_into().expect("eight bytes"))
+}
+
+/// Prints the ratios of one image, and returns that of `describe` over the proved digest alone.
+fn time_image(name: &str, body_size: usize) -> f64 {
+    let image = inputs::image(body_size);
+    let (bytes, hashed) = (&image.bytes[..], &image.bytes[..image.hashed]);
+    let rounds = Rounds::of([
+        &|| proved::describe(black_box(bytes)),
+        &|| proved::digest(black_box(hashed)),
+        &|| plain_image::answer(black_box(bytes)),
+        &|| plain_digest_number(black_box(hashed)),
+    ]);
+    let over_digest = rounds.ratio(0, 1);
+    print_ratio(
+        &format!("{name}: describe / plain describe"),
+        rounds.ratio(0, 2),
+    );
+    print_ratio(
+        &format!("{name}: describe / plain digest"),
+        rounds.ratio(0, 3),
+    );
+    print_ratio(&format!("{name}: describe / digest"), over_digest);
+    print_ratio(
+        &format!("{name}: digest / plain digest"),
+        rounds.ratio(1, 3),
+    );
+    over_digest
+}
+
+fn time_choice() {
+    let (table, report) = (inputs::full_table(), inputs::full_report());
+    let (table, report) = (table.as_bytes(), report.as_bytes());
+    let rounds = Rounds::of([
+        &|| proved::choose(black_box(table)),
+        &|| plain_choice::answer(black_box(table)),
+        &|| u64::from(proved::check(black_box(table), black_box(report))),
+    ]);
+    print_ratio("full table: choose / plain choose", rounds.ratio(0, 1));
+    print_ratio("full table: check / choose", rounds.ratio(2, 0));
+}
+
+/// Prints the ratio of the proved digest to the machine's `sha256sum`, where there is one.
+fn time_sha256sum(folder: &Path) {
+    let megabyte = inputs::image(MEGABYTE).bytes;
+    let file = folder.join("megabytes");
+    let written = std::fs::write(
+        &file,
+        megabyte[..MEGABYTE].repeat(SHA256SUM_MEGABYTES as usize),
+    );
+    if let Err(error) = written {
+        eprintln!("sha256sum isn't timed: {}: {error}", file.display());
+        return;
+    }
+    let sum = || u64::from(runs_sha256sum(&file));
+    let digest = || proved::digest(black_box(&megabyte[..MEGABYTE]));
+    if sum() == 0 {
+        eprintln!("sha256sum isn't timed: it can't be run");
+    } else {
+        let ratios = (0..SHA256SUM_ROUNDS)
+            .map(|_| timing::seconds(&digest, SHA256SUM_MEGABYTES) / timing::seconds(&sum, 1));
+        let ratio = timing::median(ratios.collect());
+        print_ratio("digest of 200 MiB / sha256sum", ratio);
+    }
+    if let Err(error) = std::fs::remove_file(&file) {
+        eprintln!("{} is left: {error}", file.display());
+    }
+}
+
+fn runs_sha256sum(file: &Path) -> bool {
+    let status = Command::new("sha256sum")
+        .arg(file)
+        .stdout(Stdio::null())
+        .status();
+    status.is_ok_and(|status| status.success())
+}
+
+fn print_ratio(name: &str, ratio: f64) {
+    println!("{name:<36} {ratio:6.3}");
+}

@@ -1,0 +1,222 @@
+//! The choice among the requests of a table, from its text, in plain Rust.
+
+/// The answers to a text that is no table, and to running images that don't fit each other.
+const NO_TABLE: u64 = 1 << 63;
+const NOT_VALID: u64 = NO_TABLE + 1;
+
+const MOST_IMAGES: usize = 8;
+const MOST_DEPENDENCIES: usize = 16;
+
+type Version = (u8, u8, u16, u32);
+
+struct Dependency {
+    image: u8,
+    minimum: Version,
+}
+
+struct Entry {
+    version: Version,
+    counter: u32,
+    dependencies: Vec<Dependency>,
+}
+
+enum Request {
+    None,
+    Damaged,
+    Entry(Entry),
+}
+
+struct Image {
+    running: Entry,
+    request: Request,
+    floor: u32,
+}
+
+/// Why a request is refused.
+#[allow(dead_code, reason = "it holds what the proved report holds")]
+enum Reason {
+    Damaged,
+    Older,
+    Counter,
+    NoSuchImage(u8),
+    Needs(u8, Version),
+}
+
+#[allow(dead_code, reason = "as of `Reason`")]
+struct Refusal {
+    image: usize,
+    reason: Reason,
+}
+
+/// The answer to a text, in the numbers of the proved library.
+pub fn answer(text: &[u8]) -> u64 {
+    let Some(images) = parse(text) else {
+        return NO_TABLE;
+    };
+    if !is_valid(&images) {
+        return NOT_VALID;
+    }
+    let refusals = std::hint::black_box(refusals(&images));
+    let taken = images.iter().enumerate().filter(|(number, image)| {
+        matches!(image.request, Request::Entry(_)) && !is_refused(&refusals, *number)
+    });
+    let mask = taken.fold(0, |mask, (number, _)| mask | 1 << number);
+    mask + 256 * refusals.len() as u64
+}
+
+fn parse(text: &[u8]) -> Option<Vec<Image>> {
+    let text = std::str::from_utf8(text).ok()?;
+    let mut images = Vec::new();
+    for line in text.strip_suffix('\n').unwrap_or(text).split('\n') {
+        add_line(&mut images, line)?;
+    }
+    Some(images)
+}
+
+fn add_line(images: &mut Vec<Image>, line: &str) -> Option<()> {
+    let mut words = line.split(' ');
+    match words.next()? {
+        "image" => {
+            let number: u8 = number(words.next()?)?;
+            if usize::from(number) != images.len() || images.len() == MOST_IMAGES {
+                return None;
+            }
+            let running = entry(words.next()?, words.next()?)?;
+            let floor = self::number(words.next()?)?;
+            images.push(Image {
+                running,
+                request: Request::None,
+                floor,
+            });
+        }
+        "needs" => {
+            let image = number(words.next()?)?;
+            let minimum = version(words.next()?)?;
+            let last = images.last_mut()?;
+            let entry = match &mut last.request {
+                Request::None => &mut last.running,
+                Request::Damaged => return None,
+                Request::Entry(entry) => entry,
+            };
+            if entry.dependencies.len() == MOST_DEPENDENCIES {
+                return None;
+            }
+            entry.dependencies.push(Dependency { image, minimum });
+        }
+        "request" => request(images, Request::Entry(entry(words.next()?, words.next()?)?))?,
+        "damaged" => request(images, Request::Damaged)?,
+        _ => return None,
+    }
+    words.next().is_none().then_some(())
+}
+
+fn request(images: &mut [Image], request: Request) -> Option<()> {
+    let last = images.last_mut()?;
+    if !matches!(last.request, Request::None) {
+        return None;
+    }
+    last.request = request;
+    Some(())
+}
+
+fn entry(version: &str, counter: &str) -> Option<Entry> {
+    Some(Entry {
+        version: self::version(version)?,
+        counter: number(counter)?,
+        dependencies: Vec::new(),
+    })
+}
+
+/// `major.minor.revision+build`, of which parts may be missing from the right.
+fn version(text: &str) -> Option<Version> {
+    let (front, build) = match text.split_once('+') {
+        Some((front, build)) => (front, Some(build)),
+        None => (text, None),
+    };
+    let mut parts = front.split('.');
+    let major = number(parts.next()?)?;
+    let minor = parts.next().map_or(Some(0), number)?;
+    let revision = parts.next();
+    if parts.next().is_some() || (build.is_some() && revision.is_none()) {
+        return None;
+    }
+    let revision = revision.map_or(Some(0), number)?;
+    let build = build.map_or(Some(0), number)?;
+    Some((major, minor, revision, build))
+}
+
+/// A decimal number without sign and leading zeros.
+fn number<N: std::str::FromStr>(text: &str) -> Option<N> {
+    let is_plain = text.bytes().all(|byte| byte.is_ascii_digit());
+    if !is_plain || (text.len() > 1 && text.starts_with('0')) {
+        return None;
+    }
+    text.parse().ok()
+}
+
+fn is_valid(images: &[Image]) -> bool {
+    let needs = images.iter().flat_map(|image| &image.running.dependencies);
+    needs.into_iter().all(|needed| {
+        let image = images.get(usize::from(needed.image));
+        image.is_some_and(|image| image.running.version >= needed.minimum)
+    })
+}
+
+/// First the requests that are refused by themselves, then again and again the lowest that needs what can't come.
+fn refusals(images: &[Image]) -> Vec<Refusal> {
+    let mut refusals = Vec::new();
+    for (image, told) in images.iter().enumerate() {
+        if let Some(reason) = own_reason(images, told) {
+            refusals.push(Refusal { image, reason });
+        }
+    }
+    while let Some(refusal) = next_refusal(images, &refusals) {
+        refusals.push(refusal);
+    }
+    refusals
+}
+
+fn own_reason(images: &[Image], image: &Image) -> Option<Reason> {
+    let entry = match &image.request {
+        Request::None => return None,
+        Request::Damaged => return Some(Reason::Damaged),
+        Request::Entry(entry) => entry,
+    };
+    if entry.version < image.running.version {
+        return Some(Reason::Older);
+    }
+    if entry.counter < image.floor {
+        return Some(Reason::Counter);
+    }
+    let mut needs = entry.dependencies.iter();
+    let missing = needs.find(|needed| usize::from(needed.image) >= images.len())?;
+    Some(Reason::NoSuchImage(missing.image))
+}
+
+fn next_refusal(images: &[Image], refusals: &[Refusal]) -> Option<Refusal> {
+    images.iter().enumerate().find_map(|(image, told)| {
+        let Request::Entry(entry) = &told.request else {
+            return None;
+        };
+        if is_refused(refusals, image) {
+            return None;
+        }
+        // A request that isn't refused is at least the running version, so it is the best that can come.
+        let mut needs = entry.dependencies.iter();
+        let unmet = needs.find(|needed| {
+            let number = usize::from(needed.image);
+            match &images[number].request {
+                Request::Entry(best) if !is_refused(refusals, number) => {
+                    best.version < needed.minimum
+                }
+                _ => images[number].running.version < needed.minimum,
+            }
+        })?;
+        let reason = Reason::Needs(unmet.image, unmet.minimum);
+        Some(Refusal { image, reason })
+    })
+}
+
+fn is_refused(refusals: &[Refusal], number: usize) -> bool {
+    refusals.iter().any(|refusal| refusal.image == number)
+}

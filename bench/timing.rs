@@ -1,0 +1,59 @@
+//! Times of several sides, taken in turn so that what slows the machine slows all of them.
+
+use std::time::{Duration, Instant};
+
+/// How often each side is timed. A ratio is the median of as many, each within one round.
+const ROUNDS: usize = 31;
+
+/// How long a side is called over and over in one round, at least.
+const SHORTEST: Duration = Duration::from_millis(10);
+
+/// A side: what is called.
+pub type Side<'a> = &'a dyn Fn() -> u64;
+
+/// The time of a call of each side, in seconds, round by round.
+pub struct Rounds<const N: usize>(Vec<[f64; N]>);
+
+impl<const N: usize> Rounds<N> {
+    pub fn of(sides: [Side; N]) -> Rounds<N> {
+        let calls = sides.map(calls_for);
+        let round = || {
+            std::array::from_fn(|side| seconds(sides[side], calls[side]) / f64::from(calls[side]))
+        };
+        Rounds((0..ROUNDS).map(|_| round()).collect())
+    }
+
+    /// How often the time of one side holds that of another: the median over the rounds.
+    pub fn ratio(&self, side: usize, other: usize) -> f64 {
+        median(
+            self.0
+                .iter()
+                .map(|times| times[side] / times[other])
+                .collect(),
+        )
+    }
+}
+
+/// The seconds that so many calls of a side take.
+pub fn seconds(side: Side, calls: u32) -> f64 {
+    let start = Instant::now();
+    for _ in 0..calls {
+        std::hint::black_box(side());
+    }
+    start.elapsed().as_secs_f64()
+}
+
+/// The value in the middle.
+pub fn median(mut values: Vec<f64>) -> f64 {
+    values.sort_by(f64::total_cmp);
+    values[values.len() / 2]
+}
+
+/// How many calls of a side take the shortest time of a round.
+fn calls_for(side: Side) -> u32 {
+    let mut calls = 1;
+    while seconds(side, calls) < SHORTEST.as_secs_f64() {
+        calls *= 2;
+    }
+    calls
+}

@@ -1,0 +1,61 @@
+//! Tables: which requests are taken, and whether a report is right.
+
+ghost use Rattle.std.specs.Prelude.{◌≡◌, ◌↔◌, ◌<◌, ◌≤◌, ◌^◌, IsTrue, length};
+ghost use Rattle.certificate.specs.Rightness.{IsRight};
+ghost use Rattle.certificate.specs.TableText.{IsTableText};
+ghost use Rattle.certificate.specs.ReportText.{IsReportText};
+ghost use Rattle.certificate.specs.declared.table.Table.{Table};
+ghost use Rattle.certificate.specs.declared.report.Report.{Report};
+ghost use Rattle.bootswap_c.specs.Answers.{IsChooseAnswer, taken_mask};
+
+use certificate::{Report, ReportedImage, Table, check, is_valid};
+use chooser::choose;
+
+/// The answer to a text that is no table.
+const NO_TABLE: u64 = 1 << 63;
+
+/// The answer to a table whose running images don't fit each other.
+const NOT_VALID: u64 = (1 << 63) + 1;
+
+/// The choice among the requests of the table that a text spells: in the lowest eight bits, from the lowest on,
+/// which images' requests are taken, and above them the number of refusals; below 2^12. It is 2^63 where the
+/// text spells no table, and 2^63 + 1 where the running images don't fit each other. Takes no memory.
+#[unsafe(no_mangle)]
+pub extern "C" fn bootswap_choose(text: &[u8]) -> u64
+    ensures { IsChooseAnswer text.now result }
+{
+    let Ok(table) = Table::parse(text) else {
+        return NO_TABLE;
+    };
+    if !is_valid(&table) {
+        return NOT_VALID;
+    }
+    let report = choose(&table);
+    prove!(report.images.len() <= 8);
+    prove!(report.refusals.len() <= 8);
+    taken_mask(&report.images) + 256 * report.refusals.len() as u64
+}
+
+/// Whether the texts spell a table and a report that is right for it; no also where either spells nothing.
+/// Takes no memory.
+#[unsafe(no_mangle)]
+pub extern "C" fn bootswap_check(table: &[u8], report: &[u8]) -> bool
+    ensures { IsTrue result ↔ ((told : Table) × (answered : Report) × IsTableText table.now told × IsReportText report.now answered × IsRight told answered) }
+{
+    match (Table::parse(table), Report::parse(report)) {
+        (Ok(table), Ok(report)) => check(&table, &report),
+        _ => false,
+    }
+}
+
+// The number whose bit j says whether the request of the j-th of these images is taken.
+fn taken_mask(images: &[ReportedImage]) -> u64
+    requires { length images.now ≤ 8 }
+    ensures mask { result ≡ taken_mask images.now }
+    ensures fits { result < 2 ^ length images.now }
+{
+    match images {
+        [] => 0,
+        [image, others @ ..] => u64::from(image.is_taken) + 2 * taken_mask(others),
+    }
+}
