@@ -2,6 +2,7 @@
 use super::host::{MemoryHost, run};
 use super::image_bytes::{
     COUNTED, COUNTED_OUTSIDE, COUNTED_TWICE, NEEDING, ONE, SEVENTEEN, SIGNED, SIXTEEN,
+    WITH_VENDOR_ENTRIES,
 };
 use std::process::Abort;
 use std::test::Fail;
@@ -68,6 +69,16 @@ fn a_signature_belongs_to_the_image(rt: HostRuntime) -> Result<(), Fail> {
         "version 1.0.0+0\nlength 186\ncounter 0\ndigest {ONE_DIGEST}\n"
     )?;
     expect_image(&rt, bytes.as_slice(), 0, &out)
+}
+
+#[test]
+fn entries_of_a_vendor_are_skipped(rt: HostRuntime) -> Result<(), Fail> {
+    let bytes = hex::decode(rt.alloc(), WITH_VENDOR_ENTRIES)?;
+    let out = "version 1.0.0+0\n\
+        length 104\n\
+        counter 7\n\
+        digest 679db1266140e6129b424ef7aa84467f1b7e7c43ab92c2ae016bf0f6006dfceb\n";
+    expect_image(&rt, bytes.as_slice(), 0, out)
 }
 
 #[test]
