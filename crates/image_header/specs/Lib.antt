@@ -1,3 +1,5 @@
 pub mod Header
 pub mod Codes
 pub mod Laws
+pub mod Checks
+pub mod Faults

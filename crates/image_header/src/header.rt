@@ -10,10 +10,10 @@ use version_order::Version;
 pub(crate) const MAGIC: u32 = 0x96f3b83d;
 
 /// The length in bytes of a header without what fills it up to the body.
-pub(crate) const HEADER_LENGTH: usize = 32;
+pub const HEADER_LENGTH: usize = 32;
 
-/// The flags that are accepted, all of them set.
-pub(crate) const ACCEPTED_FLAGS: u32 = 0x111;
+/// The flags that are accepted, all of them set: position independent, not bootable, fixed in read-only memory.
+pub const ACCEPTED_FLAGS: u32 = 0x111;
 
 /// The header of an image, without its magic number: the first 32 bytes of MCUboot's image format. All numbers
 /// are little-endian.

@@ -8,7 +8,7 @@ mod header;
 mod reading;
 mod writing;
 
-pub use header::{Header, HeaderError};
+pub use header::{ACCEPTED_FLAGS, HEADER_LENGTH, Header, HeaderError};
 
 #[cfg(test)]
 mod tests;

@@ -1,9 +1,10 @@
 //! Reading a header.
 
-ghost use Rattle.std.specs.Prelude.{◌≡◌, ◌≤◌, IfErr, IfOk, length};
+ghost use Rattle.std.specs.Prelude.{◌≡◌, ◌≤◌, Err, IfErr, IfOk, Ok, length};
 ghost use Rattle.byteorder.specs.Endian.{little_number};
 ghost use Rattle.image_header.specs.Header.{BeginsWith, IsAccepted, IsHeaderFault, header_magic};
 ghost use Rattle.image_header.specs.declared.header.Header.{Header};
+ghost use Rattle.image_header.specs.declared.header.HeaderError.{HeaderError};
 
 use crate::header::{ACCEPTED_FLAGS, HEADER_LENGTH, Header, HeaderError, MAGIC};
 use byteorder::{ByteOrder, LittleEndian};
@@ -35,10 +36,14 @@ impl Header {
     ///
     /// The checks are made in the order of [`HeaderError`]'s kinds, and the first that fails is the error.
     pub fn read(bytes: &[u8]) -> Result<Header, HeaderError>
+        // What is read is accepted, and the bytes begin with it.
         ensures read { IfOk result (λ header. BeginsWith bytes.now header × IsAccepted header) }
-        ensures only { (header : Header) → BeginsWith bytes.now header → IsAccepted header
-            → result ≡ Ok header }
+        // Each header that is accepted is read.
+        ensures only { (header : Header) → BeginsWith bytes.now header → IsAccepted header → result ≡ Ok header }
+        // The error is the first check that fails ..
         ensures fault { IfErr result (IsHeaderFault bytes.now) }
+        // .. and where one fails first, that is the error.
+        ensures refused { (fault : HeaderError) → IsHeaderFault bytes.now fault → result ≡ Err fault }
     {
         if bytes.len() < HEADER_LENGTH {
             return Err(HeaderError::Short);
