@@ -11,8 +11,10 @@ use Rattle.arrayvec.specs.ArrayVec.{ArrayVec}
 use Rattle.version_order.specs.declared.dependency.Dependency.{Dependency}
 use Rattle.version_order.specs.declared.version.Version.{Version}
 use Rattle.image_header.specs.declared.header.Header.{Header}
-use Rattle.image_header.specs.Header.{BeginsWith, HasKnownFlags}
-use Rattle.image_header.specs.Laws.{header-unique, BeginsWith-length, BeginsWith-magic}
+use Rattle.image_header.specs.declared.header.HeaderError.{HeaderError}
+use Rattle.image_header.specs.declared.header.HeaderError.TheVariants as header_fault
+use Rattle.image_header.specs.Faults.{accepted_has_no_fault}
+use Rattle.image_header.specs.Header.{IsHeaderFault}
 use Rattle.tlv.specs.declared.desc.Desc.{Desc}
 use Rattle.tlv.specs.declared.error.ImageError.{ImageError}
 use Rattle.tlv.specs.declared.error.ImageError.TheVariants.{Short, BadMagic, BadHeaderSize, UnsupportedFlags, Truncated, BadTlvMagic, BadTlvSize, NoDigest, TwoDigests, BadDigest, BadDependency, TooManyDependencies, TrailingBytes, BadCounter}
@@ -56,7 +58,7 @@ counter-unique values first second a b =
     ]
 
 -- Lists with one spelling in common are the same.
-dependencies-unique : (first second : List Dependency) → AllByRecursion FitsDependency first → AllByRecursion FitsDependency second → map dependency_bytes first ≡ map dependency_bytes second → first ≡ second
+pub dependencies-unique : (first second : List Dependency) → AllByRecursion FitsDependency first → AllByRecursion FitsDependency second → map dependency_bytes first ≡ map dependency_bytes second → first ≡ second
 dependencies-unique [] [] a b e = refl
 dependencies-unique [] (y ∷ ys) a b e = absurd (omega (arith, ap length e))
 dependencies-unique (x ∷ xs) [] a b e = absurd (omega (arith, ap length e))
@@ -98,8 +100,8 @@ carried : (bytes : List ℕ) (image own : Image) (trailing : List ℕ) (Holds : 
 carried bytes image own trailing Holds begins is holds = subst Holds (image-unique bytes image own trailing [] begins is).0 holds
 
 -- No check of the header fails of an image ..
-no_header_fault : (bytes : List ℕ) (image : Image) → BeginsWithImage bytes image [] → (header : Header) (Holds : Header → Type 0) → BeginsWith bytes header → Holds header → Holds image.header
-no_header_fault bytes image begins header Holds is holds = subst Holds (header-unique bytes header image.header is (parts_of_image bytes image [] begins).header) holds
+no_header_fault : (bytes : List ℕ) (image : Image) (fault : HeaderError) → BeginsWithImage bytes image [] → IsHeaderFault bytes fault → ⊥
+no_header_fault bytes image fault begins failed = accepted_has_no_fault bytes image.header fault (parts_of_image bytes image [] begins).header begins.formed.accepted failed
 
 -- .. and none of its areas ..
 no_front_fault : (bytes : List ℕ) (image : Image) (fault : ImageError) → BeginsWithImage bytes image [] → IsFrontFault bytes fault → ⊥
@@ -111,16 +113,10 @@ no_front_fault bytes image fault begins failed =
 
 -- .. and no other of an intact one.
 pub intact_has_no_fault : (bytes : List ℕ) (description : Desc) (fault : ImageError) → IsIntact bytes description → IsFirstFault bytes fault → ⊥
-intact_has_no_fault bytes description Short intact failed =
-    omega (arith, failed, BeginsWith-length bytes intact.0.header (parts_of_image bytes intact.0 [] intact.1).header)
-intact_has_no_fault bytes description BadMagic intact failed =
-    failed.1 (BeginsWith-magic bytes intact.0.header (parts_of_image bytes intact.0 [] intact.1).header)
-intact_has_no_fault bytes description BadHeaderSize intact failed =
-    let short = no_header_fault bytes intact.0 intact.1 failed.0 (λ (h : Header). h.header_size < 32) failed.1 failed.2 in
-    omega (arith, short, intact.1.formed.accepted.long)
-intact_has_no_fault bytes description UnsupportedFlags intact failed =
-    let unknown = no_header_fault bytes intact.0 intact.1 failed.0 (λ (h : Header). HasKnownFlags h → ⊥) failed.1 failed.3 in
-    unknown intact.1.formed.accepted.known
+intact_has_no_fault bytes description Short intact failed = no_header_fault bytes intact.0 header_fault.Short intact.1 failed
+intact_has_no_fault bytes description BadMagic intact failed = no_header_fault bytes intact.0 header_fault.BadMagic intact.1 failed
+intact_has_no_fault bytes description BadHeaderSize intact failed = no_header_fault bytes intact.0 header_fault.BadHeaderSize intact.1 failed
+intact_has_no_fault bytes description UnsupportedFlags intact failed = no_header_fault bytes intact.0 header_fault.UnsupportedFlags intact.1 failed
 intact_has_no_fault bytes description Truncated intact failed = no_front_fault bytes intact.0 Truncated intact.1 failed
 intact_has_no_fault bytes description BadTlvMagic intact failed = no_front_fault bytes intact.0 BadTlvMagic intact.1 failed
 intact_has_no_fault bytes description BadTlvSize intact failed = no_front_fault bytes intact.0 BadTlvSize intact.1 failed

@@ -1,6 +1,7 @@
 pub mod Areas
 pub mod Dependencies
 pub mod Descriptions
+pub mod FirstFaults
 pub mod Fronts
 pub mod ImageLaws
 pub mod MakingLaws

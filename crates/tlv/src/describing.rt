@@ -1,6 +1,6 @@
 //! What a whole file says of itself, where it is an intact image.
 
-ghost use Rattle.std.specs.Prelude.{◌≡◌, ◌∷◌, [], IfOk, IfErr, Ok};
+ghost use Rattle.std.specs.Prelude.{◌≡◌, ◌∷◌, [], Err, IfErr, IfOk, Ok};
 ghost use Rattle.sha2.specs.Sha256.{sha256};
 ghost use Rattle.tlv.specs.Area.{values_of};
 ghost use Rattle.tlv.specs.Describing.{IsOwnDigestFault};
@@ -8,6 +8,7 @@ ghost use Rattle.tlv.specs.Fault.{IsFirstFault};
 ghost use Rattle.tlv.specs.Image.{IsIntact, digest_kind};
 ghost use Rattle.tlv.specs.Reading.{entries_of};
 ghost use Rattle.tlv.specs.declared.desc.Desc.{Desc};
+ghost use Rattle.tlv.specs.declared.error.ImageError.{ImageError};
 
 use crate::desc::Desc;
 use crate::error::ImageError;
@@ -27,13 +28,14 @@ pub fn describe(bytes: &[u8]) -> Result<Desc, ImageError>
     ensures described { IfOk result (IsIntact bytes.now) }
     // Each intact image is described.
     ensures only { (description : Desc) → IsIntact bytes.now description → result ≡ Ok description }
-    // Which check fails.
+    // The error is the first check that fails ..
     ensures fault { IfErr result (IsFirstFault bytes.now) }
+    // .. and where one fails first, that is the error.
+    ensures refused { (fault : ImageError) → IsFirstFault bytes.now fault → result ≡ Err fault }
 {
     let front = Front::read(bytes)?;
     let digest = own_digest(front.hashed, front.unprotected)?;
     let dependencies = dependencies(front.protected)?;
-    prove!(dependencies.len() <= 16);
     let counter = counter(front.protected)?;
     if front.length < bytes.len() {
         return Err(ImageError::TrailingBytes);

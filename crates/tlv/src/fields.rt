@@ -1,6 +1,6 @@
 //! The fields that entries hold: digest, dependencies and security counter.
 
-ghost use Rattle.std.specs.Prelude.{◌≡◌, ℕ, ◌∷◌, [], IfOk, IfErr, IfSome, IfNone};
+ghost use Rattle.std.specs.Prelude.{◌≡◌, ℕ, ◌≤◌, ◌∷◌, [], length, IfOk, IfErr, IfSome, IfNone};
 ghost use Rattle.byteorder.specs.Endian.{little_bytes};
 ghost use Rattle.tlv.specs.Area.{values_of};
 ghost use Rattle.tlv.specs.Image.{FitsDependency, counter_kind, dependency_bytes, dependency_kind, digest_kind};
@@ -9,17 +9,13 @@ ghost use Rattle.version_order.specs.declared.dependency.Dependency.{Dependency}
 ghost use Rattle.tlv.specs.Fields.{IsCounterFault, IsDependencyFault, IsDigestFault, SpellCounter, SpellDependencies, values_left};
 
 use crate::error::ImageError;
+use crate::format::{
+    COUNTER_KIND, COUNTER_LENGTH, DEPENDENCY_KIND, DEPENDENCY_LENGTH, DIGEST_KIND,
+};
 use crate::tlvs::Tlvs;
 use arrayvec::ArrayVec;
 use byteorder::{ByteOrder, LittleEndian};
 use version_order::{Dependency, Version};
-
-/// The type of the digest entry.
-pub(crate) const DIGEST_KIND: u16 = 0x10;
-/// The type of a dependency entry.
-pub(crate) const DEPENDENCY_KIND: u16 = 0x40;
-/// The type of the security counter's entry.
-pub(crate) const COUNTER_KIND: u16 = 0x50;
 
 // The values of the entries of one type, in order.
 #[derive(Drop)]
@@ -92,7 +88,7 @@ fn counter_of(value: &[u8]) -> Option<u32>
     ensures spelled { IfSome result (λ counter. value.now ≡ little_bytes 4 counter) }
     ensures none { IfNone result ((counter : ℕ) → value.now ≡ little_bytes 4 counter → ⊥) }
 {
-    if value.len() != 4 {
+    if value.len() != COUNTER_LENGTH {
         return None;
     }
     Some(LittleEndian::read_u32(value))
@@ -103,7 +99,7 @@ fn dependency_of(value: &[u8]) -> Option<Dependency>
     ensures spelled { IfSome result (λ dependency. FitsDependency dependency × (value.now ≡ dependency_bytes dependency)) }
     ensures none { IfNone result ((dependency : Dependency) → value.now ≡ dependency_bytes dependency → ⊥) }
 {
-    if value.len() != 12 || value[1] != 0 || value[2] != 0 || value[3] != 0 {
+    if value.len() != DEPENDENCY_LENGTH || value[1] != 0 || value[2] != 0 || value[3] != 0 {
         return None;
     }
     let minimum = Version {
@@ -124,6 +120,7 @@ fn dependency_of(value: &[u8]) -> Option<Dependency>
 /// zero; `TooManyDependencies` where none is so, but there are more than 16.
 pub(crate) fn dependencies(entries: &[u8]) -> Result<ArrayVec<Dependency, 16>, ImageError>
     ensures ok { IfOk result (λ dependencies. SpellDependencies (values_of dependency_kind (entries_of entries.now)) dependencies.items) }
+    ensures few { IfOk result (λ dependencies. length dependencies.items ≤ 16) }
     ensures err { IfErr result (IsDependencyFault (values_of dependency_kind (entries_of entries.now))) }
 {
     let mut dependencies = ArrayVec::new();

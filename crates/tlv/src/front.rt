@@ -7,18 +7,10 @@ ghost use Rattle.tlv.specs.Front.{IsFront, IsProtected, IsTotal};
 ghost use Rattle.tlv.specs.Image.{Image, BeginsWithImage};
 
 use crate::error::ImageError;
+use crate::format::{HEAD_LENGTH, PROTECTED_MAGIC, UNPROTECTED_MAGIC};
 use crate::tlvs::is_filled;
 use byteorder::{ByteOrder, LittleEndian};
 use image_header::Header;
-
-/// The magic number that a protected area begins with.
-const PROTECTED_MAGIC: u16 = 0x6908;
-
-/// The magic number that an unprotected area begins with.
-const UNPROTECTED_MAGIC: u16 = 0x6907;
-
-/// The length in bytes of an area's magic number and length, which stand before its entries.
-const AREA_HEAD: usize = 4;
 
 /// The image that bytes begin with: header, body, protected area and unprotected area.
 #[derive(Clone, Copy)]
@@ -59,7 +51,7 @@ impl<'a> Front<'a> {
             hashed: &bytes[..unprotected_place],
             protected,
             unprotected,
-            length: unprotected_place + AREA_HEAD + unprotected.len(),
+            length: unprotected_place + HEAD_LENGTH + unprotected.len(),
         })
     }
 }
@@ -88,7 +80,7 @@ fn area_entries(
     ensures found { IfOk result (λ entries. IsArea bytes.now place magic (IsTotal expected) × (entries.now ≡ entries_at bytes.now place)) }
     ensures fault { IfErr result (IsAreaFault bytes.now place magic (IsTotal expected)) }
 {
-    if bytes.len() < place + AREA_HEAD {
+    if bytes.len() < place + HEAD_LENGTH {
         return Err(ImageError::Truncated);
     }
     if LittleEndian::read_u16(&bytes[place..]) != magic {
@@ -102,7 +94,7 @@ fn area_entries(
     if bytes.len() < end {
         return Err(ImageError::Truncated);
     }
-    let entries = &bytes[place + AREA_HEAD..end];
+    let entries = &bytes[place + HEAD_LENGTH..end];
     if !is_filled(entries) {
         return Err(ImageError::BadTlvSize);
     }
@@ -114,7 +106,7 @@ fn is_total(expected: Option<u16>, total: u16) -> bool
     ensures { IsTrue result ↔ IsTotal expected total }
 {
     match expected {
-        Some(size) => total == size && total >= 4,
-        None => total >= 4,
+        Some(size) => total == size && usize::from(total) >= HEAD_LENGTH,
+        None => usize::from(total) >= HEAD_LENGTH,
     }
 }

@@ -9,6 +9,7 @@ mod desc;
 mod describing;
 mod error;
 mod fields;
+mod format;
 mod front;
 mod laws;
 mod make;

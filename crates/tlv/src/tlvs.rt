@@ -6,6 +6,7 @@ ghost use Rattle.tlv.specs.Fault.{IsFilled};
 ghost use Rattle.tlv.specs.Reading.{first_entry};
 ghost use Rattle.tlv.specs.Tlv.{tlv_view, tlvs_rest};
 
+use crate::format::HEAD_LENGTH;
 use byteorder::{ByteOrder, LittleEndian};
 
 /// An entry of an area.
@@ -59,7 +60,7 @@ impl<'a> Iterator for Tlvs<'a> {
         ensures ended { IfNone result (tlvs_rest self.new ≡ rest_of (tlvs_rest self.old)) }
     {
         let (tlv, rest) = first_tlv(self.rest)?;
-        self.rest = rest;
+        *self = Tlvs { rest };
         Some(tlv)
     }
 }
@@ -68,12 +69,12 @@ impl<'a> Iterator for Tlvs<'a> {
 fn first_tlv(bytes: &[u8]) -> Option<(Tlv<'_>, &[u8])>
     ensures { option_map (λ found. (tlv_view found.0, found.1.now)) result ≡ first_entry bytes.now }
 {
-    if bytes.len() < 4 {
+    if bytes.len() < HEAD_LENGTH {
         return None;
     }
     let kind = LittleEndian::read_u16(bytes);
     let size = usize::from(LittleEndian::read_u16(&bytes[2..]));
-    let rest = &bytes[4..];
+    let rest = &bytes[HEAD_LENGTH..];
     if rest.len() < size {
         return None;
     }

@@ -1,7 +1,9 @@
-use Rattle.std.proofs.Common.{◌≤◌, length, Ok, ap, arith}
+use Rattle.std.proofs.Common.{◌≤◌, length, Err, Ok, ap}
 use Rattle.tlv.specs.declared.desc.Desc.{Desc}
+use Rattle.tlv.specs.declared.error.ImageError.{ImageError}
 use Rattle.tlv.specs.declared.error.ImageError.TheVariants.{TrailingBytes}
 use Rattle.tlv.proofs.Descriptions.{first_behind, first_in_counter, first_in_dependencies, first_in_digest, has_counter, has_dependencies, has_digest, intact_front, intact_has_no_fault, intact-unique, only_fault}
+use Rattle.tlv.proofs.FirstFaults.{first_fault-unique, only_refusal}
 use Rattle.tlv.proofs.Fronts.{err_is}
 use Rattle.tlv.proofs.describing.describe.Goals as goal
 
@@ -22,7 +24,7 @@ pub returns-in_err-counter-clause-fault : goal.returns-in_err-counter-clause-fau
 returns-in_err-counter-clause-fault c =
     let found = c.in_ok-front.ensures.found in
     let dependencies = c.in_ok-dependencies.dependencies.items in
-    let few : length dependencies ≤ 16 = omega (arith, c.len.ensures.value, c.if-prove.false) in
+    let few : length dependencies ≤ 16 = c.in_ok-dependencies.ensures.few in
     err_is _ _ _ c.from_residual-in_err-counter.ensures.1
     (first_in_counter c.args.bytes.now c.in_ok-front.front found.0 dependencies c.in_err-counter.field-0.0 found.1
     (has_digest c.args.bytes.now c.in_ok-front.front found.0 found.1 c.in_ok-digest.ensures.own.1)
@@ -33,7 +35,7 @@ pub returns-then-front-bytes-clause-fault : goal.returns-then-front-bytes-clause
 returns-then-front-bytes-clause-fault c =
     let found = c.in_ok-front.ensures.found in
     let dependencies = c.in_ok-dependencies.dependencies.items in
-    let few : length dependencies ≤ 16 = omega (arith, c.len.ensures.value, c.if-prove.false) in
+    let few : length dependencies ≤ 16 = c.in_ok-dependencies.ensures.few in
     first_behind c.args.bytes.now c.in_ok-front.front found.0 dependencies c.in_ok-counter.counter found.1
     (has_digest c.args.bytes.now c.in_ok-front.front found.0 found.1 c.in_ok-digest.ensures.own.1)
     (has_dependencies c.args.bytes.now c.in_ok-front.front found.0 dependencies found.1 c.in_ok-dependencies.ensures.ok)
@@ -45,7 +47,7 @@ pub returns-clause-described : goal.returns-clause-described
 returns-clause-described c =
     let found = c.in_ok-front.ensures.found in
     let dependencies = c.in_ok-dependencies.dependencies in
-    let few : length dependencies.items ≤ 16 = omega (arith, c.len.ensures.value, c.if-prove.false) in
+    let few : length dependencies.items ≤ 16 = c.in_ok-dependencies.ensures.few in
     intact_front c.args.bytes.now c.in_ok-front.front found.0 c.in_ok-digest.digest dependencies c.in_ok-counter.counter found.1 c.in_ok-digest.ensures.own.0
     (has_digest c.args.bytes.now c.in_ok-front.front found.0 found.1 c.in_ok-digest.ensures.own.1)
     (has_dependencies c.args.bytes.now c.in_ok-front.front found.0 dependencies.items found.1 c.in_ok-dependencies.ensures.ok)
@@ -67,3 +69,22 @@ returns-then-front-bytes-clause-only c = λ description intact. absurd (intact_h
 
 pub returns-clause-only : goal.returns-clause-only
 returns-clause-only c = λ description intact. ap (λ (d : Desc). Ok d) (intact-unique c.args.bytes.now _ description (returns-clause-described c) intact)
+
+pub returns-in_err-front-clause-refused : goal.returns-in_err-front-clause-refused
+returns-in_err-front-clause-refused c =
+    only_refusal _ _ _ c.from_residual.ensures.1 (err_is _ _ _ c.from_residual.ensures.1 c.in_err-front.ensures.fault)
+
+pub returns-in_err-digest-clause-refused : goal.returns-in_err-digest-clause-refused
+returns-in_err-digest-clause-refused c = only_refusal _ _ _ c.from_residual-in_err-digest.ensures.1 (returns-in_err-digest-clause-fault c)
+
+pub returns-in_err-dependencies-clause-refused : goal.returns-in_err-dependencies-clause-refused
+returns-in_err-dependencies-clause-refused c = only_refusal _ _ _ c.from_residual-in_err-dependencies.ensures.1 (returns-in_err-dependencies-clause-fault c)
+
+pub returns-in_err-counter-clause-refused : goal.returns-in_err-counter-clause-refused
+returns-in_err-counter-clause-refused c = only_refusal _ _ _ c.from_residual-in_err-counter.ensures.1 (returns-in_err-counter-clause-fault c)
+
+pub returns-then-front-bytes-clause-refused : goal.returns-then-front-bytes-clause-refused
+returns-then-front-bytes-clause-refused c = λ fault failed. ap (λ (e : ImageError). Err e) (first_fault-unique c.args.bytes.now TrailingBytes fault (returns-then-front-bytes-clause-fault c) failed)
+
+pub returns-clause-refused : goal.returns-clause-refused
+returns-clause-refused c = λ fault failed. absurd (intact_has_no_fault c.args.bytes.now _ fault (returns-clause-described c) failed)
