@@ -1,1 +1,3 @@
 pub mod ChooseEnd
+pub mod DescribeEnd
+pub mod ImageText

@@ -3,14 +3,13 @@ ghost use Rattle.std.specs.Prelude.{◌≡◌, IsTrue, is_ok, if◌then◌else�
 
 mod checking;
 mod command;
-mod describing;
 
 use crate::choosing::{ChooseEnd, choose_over};
 use crate::host::{Host, StandardInput};
+use crate::imaging::{DescribeEnd, describe_over};
 use checking::is_right;
 use clap::error::ErrorKind as UsageKind;
 use command::{Task, task_of, words_fault};
-use describing::{description_in, write_description, write_fault};
 use std::alloc::{Allocator, Global};
 use std::convert::AsStr;
 use std::io;
@@ -70,9 +69,8 @@ pub fn cli<S: AsStr, A: Allocator, H: Host, O: Write, E: Write>(
             Ok(is_right) => tell_verdict(is_right, out),
             Err(refusal) => refuse(refusal, err),
         },
-        Ok(Task::Describe(name)) => match description_in(heap, name, host) {
-            Ok(Ok(description)) => status_after(write_description(&description, out), DONE),
-            Ok(Err(fault)) => status_after(write_fault(fault, out), REFUSED),
+        Ok(Task::Describe(name)) => match bytes_of(heap, name, host) {
+            Ok(bytes) => status_of_description(describe_over(heap, &bytes, out), out, err),
             Err(refusal) => refuse(refusal, err),
         },
         Err(error) => answer(&error, out, err),
@@ -128,6 +126,20 @@ fn status_of<O: Write, E: Write>(end: ChooseEnd, name: &str, out: &mut O, err: &
         ChooseEnd::NoMemory => refuse(Refusal::NoMemory, err),
         ChooseEnd::ReadFailed => refuse(Refusal::CannotRead(name), err),
         ChooseEnd::WriteFailed => REFUSED,
+    }
+}
+
+/// Tells how a description ended.
+///
+/// The status is 0 only where the image is intact and all that it says of itself is written.
+fn status_of_description<O: Write, E: Write>(end: DescribeEnd, out: &mut O, err: &mut E) -> u8
+    ensures { result ≡ 0 → end ≡ DescribeEnd.Done }
+{
+    match end {
+        DescribeEnd::Done => status_after(out.flush(), DONE),
+        DescribeEnd::Refused => status_after(out.flush(), REFUSED),
+        DescribeEnd::NoMemory => refuse(Refusal::NoMemory, err),
+        DescribeEnd::WriteFailed => REFUSED,
     }
 }
 

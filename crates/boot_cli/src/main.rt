@@ -4,6 +4,7 @@
 mod choosing;
 mod cli;
 mod host;
+mod imaging;
 mod streams;
 #[cfg(test)]
 mod tests;

@@ -9,6 +9,7 @@ mod faults;
 mod host;
 mod image_bytes;
 mod images;
+mod imaging;
 mod made_images;
 mod random_tables;
 mod slow_chooser;
