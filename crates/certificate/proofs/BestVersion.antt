@@ -6,7 +6,7 @@ use Rattle.std.proofs.lemmas.Bool.{false≢true, true≢false, cond_both, not_fr
 use Rattle.version_order.specs.declared.version.Version.{Version}
 use Rattle.version_order.specs.Order.{is_older, IsAtLeast}
 use Rattle.certificate.specs.declared.table.Entry.{Entry}
-use Rattle.version_order.specs.OrderLaws.{IsAtLeast_refl, IsAtLeast-from_older}
+use Rattle.version_order.proofs.OrderLaws.{IsAtLeast_refl, IsAtLeast-from_older}
 
 -- the version of the requested entry, or else the running one
 abbrev pub version_of_request : Option Entry → Entry → Version

@@ -21,7 +21,7 @@ use Rattle.certificate.specs.Reasons.{is_refused, best_version, is_out_of_reach,
 use Rattle.certificate.specs.Rightness.{IsRight, taken_in, is_requested, has_request, once_if}
 use Rattle.certificate.proofs.Lists.{Passes-from_list_any, Passes-from_count_by, IfSome-from_list_all, slice_get-take}
 use Rattle.certificate.proofs.Options.{IsSomeAnd-at, option_map_or-true, option_map_or-at}
-use Rattle.version_order.specs.OrderLaws.{IsAtLeast_trans}
+use Rattle.version_order.proofs.OrderLaws.{IsAtLeast_trans}
 use Rattle.certificate.proofs.BestVersion.{best-at_least}
 use Rattle.certificate.proofs.Members.{IsMember, IsMember-from_valid}
 

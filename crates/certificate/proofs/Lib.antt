@@ -2,7 +2,6 @@ pub mod BestVersion
 pub mod CheckingRequests
 pub mod Greatest
 pub mod LineLaws
-pub mod LinesLaws
 pub mod Lists
 pub mod Members
 pub mod Options

@@ -6,9 +6,10 @@ use Rattle.std.proofs.lemmas.Slice.Eq.{bytes_eq-Decides}
 use Rattle.std.proofs.lemmas.Option.{option_and_then_some, none-some, same_Some}
 use Rattle.version_order.specs.declared.version.Version.{Version}
 use Rattle.version_order.specs.declared.dependency.Dependency.{Dependency}
-use Rattle.version_order.specs.Ascii.{number_of, number_below, cut, LacksByte}
+use Rattle.common.specs.Ascii.{number_of, number_below, cut, LacksByte}
 use Rattle.version_order.specs.VersionText.{IsVersionText, version_of, version_text}
-use Rattle.version_order.specs.Laws.{number_of-decimal, number_of-spelled, number_below-decimal, number_below-spelled, LacksByte-decimal, LacksByte-append, cut-found, cut-parts, LacksByte-version, version_of-text, version_of-spelled}
+use Rattle.common.proofs.AsciiLaws.{number_of-decimal, number_of-spelled, number_below-decimal, number_below-spelled, LacksByte-decimal, LacksByte-append, cut-found, cut-parts}
+use Rattle.version_order.proofs.VersionTexts.{LacksByte-version, version_of-text, version_of-spelled}
 use Rattle.certificate.specs.declared.report.Reason.{Reason}
 use Rattle.certificate.specs.declared.report.Reason.TheVariants.{Damaged, Older, Counter, NoSuchImage, Needs}
 use Rattle.certificate.specs.declared.report.Refusal.{Refusal}

@@ -3,14 +3,14 @@ use Rattle.std.proofs.Common.{◌≡◌, ℕ, List, [], ◌∷◌, ◌++◌, map
 use Rattle.std.specs.List.{AllByRecursion, AllZip, flat_map}
 use Rattle.std.proofs.lemmas.List.{append-nil}
 use Rattle.std.proofs.lemmas.List.Concat.{flat_map-cons}
-use Rattle.version_order.specs.Ascii.{LacksByte}
+use Rattle.common.specs.Ascii.{LacksByte}
 use Rattle.certificate.specs.declared.table.Table.{Table}
 use Rattle.certificate.specs.declared.report.Report.{Report}
-use Rattle.certificate.specs.Lines.{lines_of, text_of_lines}
+use Rattle.common.specs.Lines.{lines_of, text_of_lines}
 use Rattle.certificate.specs.TableText.{table_lines, table_line_text, table_text, FitsTable, FitsTableLine, IsTableLineText, IsTableText}
 use Rattle.certificate.specs.ReportText.{report_lines, report_line_text, report_text, FitsReport, FitsReportLine, IsReportLineText, IsReportText}
 use Rattle.certificate.proofs.LineLaws.{table_line_text-said, LacksByte-table_line, report_line_text-said, LacksByte-report_line}
-use Rattle.certificate.proofs.LinesLaws.{AreLines, lines_of-text_of_lines}
+use Rattle.common.proofs.LinesLaws.{AreLines, lines_of-text_of_lines}
 
 module _ {L : Type 0} (text_of : L → List ℕ) (Says : List ℕ → L → Type 0) (Fits : L → Type 0) (says : (said : L) → Fits said → Says (text_of said) said) (lack : (said : L) → Fits said → LacksByte 10 (text_of said)) where
   -- Printed lines are the lines' texts, each ended by a line feed.

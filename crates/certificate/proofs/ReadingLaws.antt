@@ -4,9 +4,9 @@ use Rattle.std.specs.Prelude.{option_and_then}
 use Rattle.std.specs.List.{AllZip}
 use Rattle.std.proofs.lemmas.List.{append-nil}
 use Rattle.std.proofs.Common.{append_assoc}
-use Rattle.certificate.specs.Lines.{lines_of, text_of_lines, Begins, IsFirstBadLine}
+use Rattle.common.specs.Lines.{lines_of, text_of_lines, Begins, IsFirstBadLine}
 use Rattle.certificate.specs.Reading.{read_lines, with_text}
-use Rattle.certificate.proofs.LinesLaws.{AreLines, AreLines-lines_of, AreLines-take, lines_of-text_of_lines}
+use Rattle.common.proofs.LinesLaws.{AreLines, AreLines-lines_of, AreLines-take, lines_of-text_of_lines}
 
 -- The state after these lines, if each can be placed.
 abbrev pub run : {S X : Type 0} → (S → X → Option S) → S → List X → Option S

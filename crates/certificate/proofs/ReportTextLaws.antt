@@ -8,12 +8,12 @@ use Rattle.certificate.specs.declared.report.Report.{Report}
 use Rattle.certificate.specs.declared.report_line.ReportLine.{ReportLine}
 use Rattle.certificate.specs.declared.report_line.ReportLine.TheVariants as line
 use Rattle.certificate.specs.LineReading.{report_line_of}
-use Rattle.certificate.specs.Lines.{lines_of, text_of_lines, Begins, IsFirstBadLine}
+use Rattle.common.specs.Lines.{lines_of, text_of_lines, Begins, IsFirstBadLine}
 use Rattle.certificate.specs.Reading.{read_lines, with_text}
 use Rattle.certificate.specs.ReportText.{report_lines, report_line_text, IsReportLineText, IsReportText, IsSomeReport}
 use Rattle.certificate.specs.ReportReading.{empty_report, with_report_line}
 use Rattle.certificate.proofs.LineLaws.{report_line_of-text, report_line_of-spelled, LacksByte-report_line}
-use Rattle.certificate.proofs.LinesLaws.{AreLines, lines_of-text_of_lines}
+use Rattle.common.proofs.LinesLaws.{AreLines, lines_of-text_of_lines}
 use Rattle.certificate.proofs.ReadingLaws.{run, Spells, run-with_text, said_by_run, read_lines-ok, read_lines-run, IsFirstBadLine-stops}
 use Rattle.certificate.proofs.ReportLaws.{report_lines-grow, IsShort, IsShort-run, run-report_lines, has_image_after}
 

@@ -9,12 +9,12 @@ use Rattle.certificate.specs.declared.table.Table.{Table}
 use Rattle.certificate.specs.declared.table_line.TableLine.{TableLine}
 use Rattle.certificate.specs.declared.table_line.TableLine.TheVariants as line
 use Rattle.certificate.specs.LineReading.{table_line_of}
-use Rattle.certificate.specs.Lines.{lines_of, text_of_lines, Begins, IsFirstBadLine}
+use Rattle.common.specs.Lines.{lines_of, text_of_lines, Begins, IsFirstBadLine}
 use Rattle.certificate.specs.Reading.{read_lines, with_text}
 use Rattle.certificate.specs.TableText.{table_lines, table_line_text, IsTableLineText, IsTableText, IsSomeTable}
 use Rattle.certificate.specs.TableReading.{new_entry, with_table_line}
 use Rattle.certificate.proofs.LineLaws.{table_line_of-text, table_line_of-spelled, LacksByte-table_line}
-use Rattle.certificate.proofs.LinesLaws.{AreLines, lines_of-text_of_lines}
+use Rattle.common.proofs.LinesLaws.{AreLines, lines_of-text_of_lines}
 use Rattle.certificate.proofs.ReadingLaws.{run, Spells, run-with_text, said_by_run, read_lines-ok, read_lines-run, IsFirstBadLine-stops}
 use Rattle.certificate.proofs.TableLaws.{table_lines-grow}
 use Rattle.certificate.proofs.TableLimits.{AreFew, AreFew-run}

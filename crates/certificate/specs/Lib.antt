@@ -1,6 +1,5 @@
 pub mod Combination
 pub mod LineReading
-pub mod Lines
 pub mod Printing
 pub mod Reading
 pub mod Reasons

@@ -3,7 +3,7 @@
 use Rattle.std.specs.Prelude.{ℕ, ◌^◌, List, Option, Some, None, codes, option_and_then, if◌then◌else◌}
 use Rattle.std.specs.Str.{bytes_eq}
 use Rattle.version_order.specs.declared.version.Version.{Version}
-use Rattle.version_order.specs.Ascii.{number_of, number_below, cut}
+use Rattle.common.specs.Ascii.{number_of, number_below, cut}
 use Rattle.version_order.specs.VersionText.{version_of}
 use Rattle.certificate.specs.declared.report.Reason.{Reason}
 use Rattle.certificate.specs.declared.report.Reason.TheVariants.{Damaged, Older, Counter, NoSuchImage, Needs}

@@ -8,7 +8,7 @@ use Rattle.certificate.specs.declared.report.ReportedImage.{ReportedImage}
 use Rattle.certificate.specs.declared.report.Report.{Report}
 use Rattle.certificate.specs.declared.report_line.ReportLine.{ReportLine}
 use Rattle.certificate.specs.declared.report_line.ReportLine.TheVariants as line
-use Rattle.certificate.specs.Lines.{lines_of}
+use Rattle.common.specs.Lines.{lines_of}
 use Rattle.certificate.specs.TableText.{◌␣◌}
 
 -- A reason as it is printed.

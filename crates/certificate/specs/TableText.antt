@@ -9,7 +9,7 @@ use Rattle.certificate.specs.declared.table.Image.{Image}
 use Rattle.certificate.specs.declared.table.Table.{Table}
 use Rattle.certificate.specs.declared.table_line.TableLine.{TableLine}
 use Rattle.certificate.specs.declared.table_line.TableLine.TheVariants as line
-use Rattle.certificate.specs.Lines.{lines_of}
+use Rattle.common.specs.Lines.{lines_of}
 
 -- Two words with a space (32) between them.
 infixr 30 ◌␣◌

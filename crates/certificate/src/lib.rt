@@ -9,7 +9,6 @@
 
 mod checking;
 mod laws;
-mod lines;
 mod printing;
 mod report;
 mod report_line;

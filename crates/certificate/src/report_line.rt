@@ -5,8 +5,8 @@ ghost use Rattle.certificate.specs.LineReading.{reason_at, reason_of, refuse_lin
 
 use crate::report::{Reason, Refusal};
 use crate::table_line::{DAMAGED, NEEDS, image_and_version};
+use common::ascii::{cut, number_u8};
 use version_order::Version;
-use version_order::ascii::{cut, number_u8};
 
 /// What one line of a report says.
 #[derive(Clone, Copy, Debug, PartialEq, Eq)]

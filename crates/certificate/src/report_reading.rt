@@ -1,15 +1,15 @@
 //! Reading a report, line by line.
 
 ghost use Rattle.std.specs.Prelude.{◌≡◌, Ok, Err, Some, None, IfOk, IfErr, MatchBool, MatchResult};
-ghost use Rattle.certificate.specs.Lines.{lines_of, IsFirstBadLine};
+ghost use Rattle.common.specs.Lines.{lines_of, IsFirstBadLine};
 ghost use Rattle.certificate.specs.LineReading.{report_line_of};
 ghost use Rattle.certificate.specs.Reading.{read_lines, with_text};
 ghost use Rattle.certificate.specs.ReportReading.{empty_report, with_reported_image, with_refusal, with_report_line};
 ghost use Rattle.certificate.specs.ReportText.{IsReportText, IsSomeReport};
 
-use crate::lines::first_line;
 use crate::report::{Refusal, Report, ReportedImage};
 use crate::report_line::ReportLine;
+use common::lines::first_line;
 use thiserror::Error;
 
 /// A text that is no report, with the number of the first line, counted from 1, after which no report can

@@ -3,7 +3,7 @@
 ghost use Rattle.std.specs.Prelude.{◌≡◌};
 ghost use Rattle.certificate.specs.LineReading.{image_and_version_of, image_line_of, needs_line_of, request_line_of, table_line_of};
 
-use version_order::ascii::{cut, number, number_u8};
+use common::ascii::{cut, number, number_u8};
 use version_order::{Dependency, Version};
 
 /// What one line of a table says.

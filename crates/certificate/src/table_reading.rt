@@ -1,17 +1,17 @@
 //! Reading a table, line by line.
 
 ghost use Rattle.std.specs.Prelude.{◌≡◌, ℕ, [], List, Ok, Err, Some, None, IfOk, IfErr, MatchBool, MatchResult};
-ghost use Rattle.certificate.specs.Lines.{lines_of, IsFirstBadLine};
+ghost use Rattle.common.specs.Lines.{lines_of, IsFirstBadLine};
 ghost use Rattle.certificate.specs.LineReading.{table_line_of};
 ghost use Rattle.certificate.specs.Reading.{read_lines, with_text};
 ghost use Rattle.certificate.specs.TableReading.{with_table_line};
 ghost use Rattle.certificate.specs.TableText.{IsTableText, IsSomeTable};
 
-use crate::lines::first_line;
 use crate::table::{Image, Table};
 use crate::table_line::TableLine;
 use crate::table_placing::place_line;
 use arrayvec::ArrayVec;
+use common::lines::first_line;
 use thiserror::Error;
 
 /// A text that is no table, with the number of the first line, counted from 1, after which no table can

@@ -22,7 +22,7 @@ use Rattle.certificate.specs.StandardOrder.{own_reason, own_reason_of_entry, nee
 use Rattle.chooser.specs.Reported.{is_taken_unless_refused}
 use Rattle.chooser.proofs.Options.{IfSome-from, IsSomeAnd-from, some_value, option_map-None, option_and_then-None, option_map_or-true}
 use Rattle.chooser.proofs.Lists.{list_all-from_finds, list_all-weaker}
-use Rattle.version_order.specs.OrderLaws.{IsAtLeast_refl, IsAtLeast_trans}
+use Rattle.version_order.proofs.OrderLaws.{IsAtLeast_refl, IsAtLeast_trans}
 
 -- the version of the requested entry, or else the running one
 abbrev pub version_of_request : Option Entry → Entry → Version

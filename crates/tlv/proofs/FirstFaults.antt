@@ -4,7 +4,7 @@ use Rattle.std.specs.Result.{IsErrAnd, IfErr}
 use Rattle.image_header.specs.declared.header.Header.{Header}
 use Rattle.image_header.specs.declared.header.HeaderError.{HeaderError}
 use Rattle.image_header.specs.declared.header.HeaderError.TheVariants as header_fault
-use Rattle.image_header.specs.Checks.{FailsFirst, FailsFirst-unique, PassBefore}
+use Rattle.common.specs.Checks.{FailsFirst, FailsFirst-unique, PassBefore}
 use Rattle.image_header.specs.Faults.{accepted_has_no_fault, header_fault-unique}
 use Rattle.image_header.specs.Header.{BeginsWith, IsAccepted, IsHeaderFault}
 use Rattle.image_header.specs.Laws.{header-unique}

@@ -1,3 +1,3 @@
-pub mod Cuts
-pub mod Numbers
+pub mod OrderLaws
 pub mod Readings
+pub mod VersionTexts

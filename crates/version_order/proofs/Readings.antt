@@ -3,7 +3,7 @@ use Rattle.std.proofs.Common.{◌≡◌, ℕ, List, Result, Ok, Err, IfOk, OnErr
 use Rattle.std.specs.Result.{result_ok}
 use Rattle.std.proofs.lemmas.Option.{none-some, same_Some}
 use Rattle.version_order.specs.VersionText.{IsVersionText, version_of}
-use Rattle.version_order.specs.Laws.{version_of-text, version_of-spelled}
+use Rattle.version_order.proofs.VersionTexts.{version_of-text, version_of-spelled}
 use Rattle.version_order.specs.declared.version.Version.{Version}
 
 -- what was read is spelled so

@@ -2,7 +2,7 @@
 use Rattle.std.specs.Prelude.{◌≡◌, ℕ, ◌^◌, ◌<◌, ◌⊎◌, List, ◌∷◌, ◌++◌, Option, Some, decimal, option_and_then}
 use Rattle.std.specs.Option.{option_map_or}
 use Rattle.version_order.specs.declared.version.Version.{Version}
-use Rattle.version_order.specs.Ascii.{number_below, cut}
+use Rattle.common.specs.Ascii.{number_below, cut}
 
 -- Each part of the version fits its field.
 pub record FitsFields (version : Version) : Type 0 where

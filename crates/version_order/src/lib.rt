@@ -5,7 +5,6 @@
 //! call it.
 #![tactic(auto)]
 
-pub mod ascii;
 mod dependency;
 pub mod laws;
 mod version;

@@ -5,8 +5,8 @@ ghost use Rattle.std.specs.Result.{result_ok};
 ghost use Rattle.version_order.specs.VersionText.{IsVersionText, version_of, version_text};
 ghost use Rattle.version_order.specs.declared.version.Version.{Version};
 
-use crate::ascii::{cut, number, number_u8, number_u16};
 use crate::version::Version;
+use common::ascii::{cut, number, number_u8, number_u16};
 use std::fmt;
 use thiserror::Error;
 

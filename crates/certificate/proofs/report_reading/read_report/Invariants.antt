@@ -1,5 +1,5 @@
 use Rattle.std.proofs.Common.{◌≡◌, ◌+◌, ◌≤◌, length}
-use Rattle.certificate.specs.Lines.{lines_of}
+use Rattle.common.specs.Lines.{lines_of}
 use Rattle.certificate.specs.Reading.{read_lines}
 use Rattle.certificate.specs.ReportReading.{empty_report}
 use Rattle.certificate.proofs.ReportTextLaws.{place_text}

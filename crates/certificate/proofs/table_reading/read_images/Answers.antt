@@ -1,6 +1,6 @@
 use Rattle.std.proofs.Common.{◌+◌, sym, arith}
 use Rattle.std.proofs.lemmas.Bool.{eqb-true}
-use Rattle.certificate.specs.Lines.{lines_of}
+use Rattle.common.specs.Lines.{lines_of}
 use Rattle.certificate.proofs.ReadingLaws.{read_lines-stops, read_lines-goes_on, read_lines-ends}
 use Rattle.certificate.proofs.TableTextLaws.{place_text}
 use Rattle.certificate.proofs.table_reading.read_images.Goals as goal

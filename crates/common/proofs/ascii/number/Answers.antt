@@ -1,6 +1,6 @@
 use Rattle.std.proofs.Common.{refl, sym, ◌∙◌}
-use Rattle.version_order.proofs.Numbers.{IfNone_number, number_of_no_text, padded_is_other}
-use Rattle.version_order.proofs.ascii.number.Goals as goal
+use Rattle.common.proofs.Numbers.{IfNone_number, number_of_no_text, padded_is_other}
+use Rattle.common.proofs.ascii.number.Goals as goal
 
 pub returns-then-begins_padded-clause-other : goal.returns-then-begins_padded-clause-other
 returns-then-begins_padded-clause-other c = padded_is_other c.args.text.now (c.if-begins_padded.ensures.0 refl)

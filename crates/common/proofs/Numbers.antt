@@ -10,8 +10,8 @@ use Rattle.std.proofs.lemmas.Fmt.{decimal_digit, decimal_is_IsNumeral, first_dec
 use Rattle.std.proofs.lemmas.Str.{IsUtf8-from_ascii}
 use Rattle.std.proofs.lemmas.Str.Parse.{IsNumeralModel, numerals_by_value, tells_digits, parse_plain}
 use Rattle.std.proofs.lemmas.Option.{none-some, same_Some}
-use Rattle.version_order.specs.Ascii.{number_of}
-use Rattle.version_order.specs.Laws.{number_of-decimal, number_of-spelled}
+use Rattle.common.specs.Ascii.{number_of}
+use Rattle.common.proofs.AsciiLaws.{number_of-decimal, number_of-spelled}
 
 -- the text is the text of no number below the limit
 abbrev pub IsOther : List ℕ → Type 0

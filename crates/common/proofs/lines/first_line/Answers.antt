@@ -1,7 +1,7 @@
 use Rattle.std.proofs.Common.{◌≡◌, ℕ, List, [], Option, Some, None, Bor, refl, ap, ◌∙◌}
 use Rattle.std.specs.Prelude.{option_copied, unwrap_or}
-use Rattle.certificate.proofs.LinesLaws.{lines_of-first, length-after_cut}
-use Rattle.certificate.proofs.lines.first_line.Goals as goal
+use Rattle.common.proofs.LinesLaws.{lines_of-first, length-after_cut}
+use Rattle.common.proofs.lines.first_line.Goals as goal
 
 -- What stands behind the reference, or behind the default.
 now-unwrap_or : (found : Option (Bor (List ℕ))) (default : Bor (List ℕ)) → default.now ≡ [] → (unwrap_or found default).now ≡ unwrap_or (option_copied found) []

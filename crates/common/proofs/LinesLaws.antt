@@ -6,8 +6,8 @@ use Rattle.std.specs.Option.{option_map_or}
 use Rattle.std.proofs.lemmas.Bool.Decides.{eqb_tells}
 use Rattle.std.proofs.lemmas.Bool.{ne_eqb}
 use Rattle.std.proofs.lemmas.List.Concat.{flat_map-cons}
-use Rattle.version_order.specs.Ascii.{LacksByte, cut}
-use Rattle.certificate.specs.Lines.{with_byte, lines_of, text_of_lines}
+use Rattle.common.specs.Ascii.{LacksByte, cut}
+use Rattle.common.specs.Lines.{with_byte, lines_of, text_of_lines}
 
 -- No line has a line feed.
 abbrev pub AreLines : List (List ℕ) → Type 0

@@ -1,7 +1,7 @@
 //! Numbers and separators in ASCII text.
 
 ghost use Rattle.std.specs.Prelude.{◌≡◌, ◌≢◌, ◌==◌, ℕ, ◌^◌, ◌<◌, ◌↔◌, ◌⊎◌, IfNone, IfSome, IsTrue, decimal, length, option_copied, position, slice_index};
-ghost use Rattle.version_order.specs.Ascii.{cut, number_below, number_of};
+ghost use Rattle.common.specs.Ascii.{cut, number_below, number_of};
 
 /// The place of the first `separator` in a text.
 fn place_of(text: &[u8], separator: u8) -> Option<usize>

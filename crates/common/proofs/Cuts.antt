@@ -7,8 +7,8 @@ use Rattle.std.proofs.lemmas.List.{length-take, get_or-take, take_all, take_rest
 use Rattle.std.proofs.lemmas.List.Elements.{recursion_from_All}
 use Rattle.std.proofs.lemmas.List.Sums.{split_at_first, fails_before_first, passes_at_first}
 use Rattle.std.proofs.lemmas.Option.{cond_some, none-some}
-use Rattle.version_order.specs.Ascii.{LacksByte, cut}
-use Rattle.version_order.specs.Laws.{cut-found, cut-missing}
+use Rattle.common.specs.Ascii.{LacksByte, cut}
+use Rattle.common.proofs.AsciiLaws.{cut-found, cut-missing}
 
 -- the first place of the separator, or the length
 abbrev place : ℕ → List ℕ → ℕ

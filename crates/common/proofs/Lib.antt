@@ -1,0 +1,4 @@
+pub mod AsciiLaws
+pub mod Cuts
+pub mod LinesLaws
+pub mod Numbers
