@@ -4,10 +4,15 @@ use Rattle.std.specs.declared.cmp.Ordering.{Ordering}
 use Rattle.std.specs.Ordering.{nat_cmp, on, then_cmp, is_lt}
 use Rattle.version_order.specs.declared.version.Version.{Version}
 
--- Versions are compared by major version, then minor version, then revision, then build number (MCUboot,
--- dependency check, where the build number is left out; here it counts).
+-- Versions are compared by major version, then minor version, then revision, then build number
+-- (MCUboot, dependency check, where the build number is left out; here it counts).
 abbrev pub version_cmp : Version → Version → Ordering
-version_cmp = then_cmp (then_cmp (then_cmp (on (λ v. v.major) nat_cmp) (on (λ v. v.minor) nat_cmp)) (on (λ v. v.revision) nat_cmp)) (on (λ v. v.build) nat_cmp)
+version_cmp =
+    then_cmp
+    (then_cmp
+    (then_cmp (on (λ v. v.major) nat_cmp) (on (λ v. v.minor) nat_cmp))
+    (on (λ v. v.revision) nat_cmp))
+    (on (λ v. v.build) nat_cmp)
 
 -- Whether v is older than w.
 abbrev pub is_older : Version → Version → Bool
