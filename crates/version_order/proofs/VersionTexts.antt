@@ -4,6 +4,7 @@ use Rattle.std.specs.Prelude.{decimal}
 use Rattle.std.proofs.lemmas.Option.{option_and_then_some, none-some, same_Some}
 use Rattle.common.specs.Ascii.{number_below, LacksByte, cut}
 use Rattle.common.proofs.AsciiLaws.{number_below-decimal, number_below-spelled, LacksByte-append, LacksByte-decimal, cut-found, cut-missing, cut-parts, cut-whole}
+use Rattle.version_order.proofs.OrderLaws.{version_from-parts}
 use Rattle.version_order.specs.VersionText.{FitsFields, IsVersionText, version_from, part_at, build_at, revision_at, minor_at, version_of}
 use Rattle.version_order.specs.declared.version.Version.{Version}
 
@@ -55,11 +56,9 @@ build_at-last : (major minor revision build : ℕ) → build < 2 ^ 32
     → build_at major minor revision (Some (decimal build)) ≡ Some (version_from major minor revision build)
 build_at-last major minor revision build fits = rw (number_below-decimal (2 ^ 32) build fits fits) refl
 
--- a version by its four numbers
-version_from-parts : (major minor revision build : ℕ) (version : Version)
-    → major ≡ version.major → minor ≡ version.minor → revision ≡ version.revision → build ≡ version.build
-    → Some (version_from major minor revision build) ≡ Some version
-version_from-parts major minor revision build version a b c d = rw (a, b, c, d) refl
+-- the answer where a version is read
+abbrev answer : Version → Option Version
+answer version = Some version
 
 -- A text of a version is read as that version.
 pub version_of-text : (text : List ℕ) (version : Version) → IsVersionText text version
@@ -74,14 +73,15 @@ version_of-text text version (fits, inr (inl (no_build, short))) =
     rw short (version_of-more version.major (decimal version.minor ++ 46 ∷ decimal version.revision) fits.major
     ∙ minor_at-more version.major version.minor (decimal version.revision) fits.minor
     ∙ revision_at-last version.major version.minor version.revision fits.revision
-    ∙ version_from-parts version.major version.minor version.revision 0 version refl refl refl (sym no_build))
+    ∙ ap answer
+    (version_from-parts version.major version.minor version.revision 0 version refl refl refl (sym no_build)))
 version_of-text text version (fits, inr (inr (inl (no_revision, no_build, short)))) =
     rw short (version_of-more version.major (decimal version.minor) fits.major
     ∙ minor_at-last version.major version.minor fits.minor
-    ∙ version_from-parts version.major version.minor 0 0 version refl refl (sym no_revision) (sym no_build))
+    ∙ ap answer (version_from-parts version.major version.minor 0 0 version refl refl (sym no_revision) (sym no_build)))
 version_of-text text version (fits, inr (inr (inr (no_minor, no_revision, no_build, short)))) =
     rw short (version_of-last version.major fits.major
-    ∙ version_from-parts version.major 0 0 0 version refl (sym no_minor) (sym no_revision) (sym no_build))
+    ∙ ap answer (version_from-parts version.major 0 0 0 version refl (sym no_minor) (sym no_revision) (sym no_build)))
 
 -- a number, with its separator and what follows, or alone
 abbrev part_text : ℕ → ℕ → Option (List ℕ) → List ℕ
@@ -285,7 +285,8 @@ LacksByte-version byte text version low (fits, spelled) =
     LacksByte-part byte n 46 after low (omega arith) (omega arith) in
     let minor : version.minor < 2 ^ 32 = omega (arith, fits.minor) in
     let revision : version.revision < 2 ^ 32 = omega (arith, fits.revision) in
-    let built = LacksByte-part byte version.revision 43 _ low revision (omega arith) (number version.build fits.build) in
+    let build = number version.build fits.build in
+    let built = LacksByte-part byte version.revision 43 _ low revision (omega arith) build in
     elim spelled [
       | inl e ↦ rw e (dotted version.major _ fits.major (dotted version.minor _ fits.minor built))
       | inr e ↦ elim e [

@@ -7,5 +7,6 @@ ghost use Rattle.version_order.specs.declared.version.Version.{Version};
 ///
 /// It does nothing: its contract is the law.
 pub fn version_texts_are_read_back()
-    ensures { (version : Version) → FitsFields version → IsVersionText (version_text version) version }
+    ensures { (version : Version) → FitsFields version
+        → IsVersionText (version_text version) version }
 {}

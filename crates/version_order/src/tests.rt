@@ -83,8 +83,8 @@ fn every_part_is_printed(rt: HostRuntime) -> Result<(), Fail> {
 fn a_refusal_says_what_to_write(rt: HostRuntime) -> Result<(), Fail> {
     assert_eq!(rt;
         BadVersion.to_string(rt.alloc())?.as_str(),
-        "not a version: write major.minor.revision+build in decimal without leading zeros, as 1.4.0+7; \
-         parts may be left out from the right"
+        "not a version: write major.minor.revision+build in decimal without leading zeros, \
+         as 1.4.0+7; parts may be left out from the right"
     );
     Ok(())
 }

@@ -8,19 +8,20 @@ ghost use Rattle.version_order.specs.Order.{version_cmp};
 
 use std::cmp::Ordering;
 
-/// The version of an image: the eight bytes `major.minor.revision+build` of MCUboot's image header.
+/// The version of an image, `major.minor.revision+build` (`struct image_version` of MCUboot's image
+/// header: MCUboot design document, "Image format").
 ///
-/// Versions are ordered by these four numbers, in this order (the dependency check of MCUboot, with the
-/// build number counting as well).
+/// Versions are ordered by these four numbers, in this order. MCUboot's dependency check leaves the
+/// build number out unless `MCUBOOT_VERSION_CMP_USE_BUILD_NUMBER` is set; here it always counts.
 #[derive(Clone, Copy, Debug, Default, PartialEq, Eq, Hash)]
 pub struct Version {
-    /// The major version, 0 to 255.
+    /// The major version, 0 to 255 (`iv_major`).
     pub major: u8,
-    /// The minor version, 0 to 255.
+    /// The minor version, 0 to 255 (`iv_minor`).
     pub minor: u8,
-    /// The revision, 0 to 65535.
+    /// The revision, 0 to 65535 (`iv_revision`).
     pub revision: u16,
-    /// The build number, 0 to 4294967295.
+    /// The build number, 0 to 4294967295 (`iv_build_num`).
     pub build: u32,
 }
 
@@ -45,7 +46,9 @@ impl Ord for Version {
 impl PartialOrd for Version {
     ghost partial_cmp = { as_partial_cmp version_cmp };
 
-    ghost laws = { partial_order_from_own_ties (Prim.search (comparing, rules) depth 12) (Prim.search (comparing, rules) depth 12) };
+    ghost laws = { partial_order_from_own_ties
+        (Prim.search (comparing, rules) depth 12)
+        (Prim.search (comparing, rules) depth 12) };
 
     fn partial_cmp(&self, other: &Version) -> Option<Ordering> {
         Some(self.cmp(other))

@@ -5,15 +5,10 @@ ghost use Rattle.std.specs.Result.{result_ok};
 ghost use Rattle.version_order.specs.VersionText.{IsVersionText, version_of, version_text};
 ghost use Rattle.version_order.specs.declared.version.Version.{Version};
 
+use crate::error::BadVersion;
 use crate::version::Version;
 use common::ascii::{cut, number, number_u8, number_u16};
 use std::fmt;
-use thiserror::Error;
-
-/// A text that spells no version.
-#[derive(Clone, Copy, Debug, PartialEq, Eq, Error)]
-#[error("not a version: write major.minor.revision+build in decimal without leading zeros, as 1.4.0+7; parts may be left out from the right")]
-pub struct BadVersion;
 
 /// The version that a text spells, read from left to right.
 #[tactic(auto, unfolding(crate::specs::VersionText::version_of))]
@@ -40,12 +35,13 @@ fn read(text: &[u8]) -> Option<Version>
 }
 
 impl Version {
-    /// Reads a version from ASCII text: `major.minor.revision+build`, each part in decimal, without leading
-    /// zeros and within its field.
+    /// Reads a version from ASCII text: `major.minor.revision+build`, each part in decimal, without
+    /// leading zeros and within its field (the form that MCUboot's `imgtool` takes).
     ///
-    /// Parts may be left out from the right, with the separator before them, and are 0 then: `1.2` is
-    /// `1.2.0+0`. Any other text is refused, spaces and the empty text included.
-    #[tactic(auto, using(crate::proofs::Readings::IsVersionText_read, crate::proofs::Readings::refused_text))]
+    /// Parts may be left out from the right, with the separator before them, and are 0 then: `1.2`
+    /// is `1.2.0+0`. Any other text is refused with [`BadVersion`], spaces and the empty text
+    /// included.
+    #[tactic(auto, using(crate::proofs::Readings::readings))]
     pub fn from_ascii(text: &[u8]) -> Result<Version, BadVersion>
         ensures value { result_ok result ≡ version_of text.now }
         ensures spelled { IfOk result (λ version. IsVersionText text.now version) }
