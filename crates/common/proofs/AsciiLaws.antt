@@ -32,7 +32,8 @@ number_of-spelled text n read =
 pub number_below-decimal : (limit n : ℕ) → n < limit → n < 2 ^ 32 → number_below limit (decimal n) ≡ Some n
 number_below-decimal limit n below fits = rw (number_of-decimal n fits, lt-ltb n limit below) refl
 
-pub number_below-spelled : (limit : ℕ) (text : List ℕ) (n : ℕ) → number_below limit text ≡ Some n → (text ≡ decimal n) × (n < limit) × (n < 2 ^ 32)
+pub number_below-spelled : (limit : ℕ) (text : List ℕ) (n : ℕ) → number_below limit text ≡ Some n
+    → (text ≡ decimal n) × (n < limit) × (n < 2 ^ 32)
 number_below-spelled limit text n read =
     option_and_then_some (λ value. cond (ltb value limit) (Some value) None) (number_of text) n read
     (λ value first test.
@@ -58,7 +59,8 @@ LacksByte-decimal byte n fits low =
 -- ---- cutting at a separator
 
 -- The first separator is where the text is cut.
-pub cut-found : (separator : ℕ) (before after : List ℕ) → LacksByte separator before → cut separator (before ++ separator ∷ after) ≡ (before, Some after)
+pub cut-found : (separator : ℕ) (before after : List ℕ) → LacksByte separator before
+    → cut separator (before ++ separator ∷ after) ≡ (before, Some after)
 unfolding cut
 cut-found separator [] after lacks = rw (eq-eqb separator separator refl) refl
 cut-found separator (b ∷ bs) after lacks = rw (ne_eqb b separator lacks.0, cut-found separator bs after lacks.1) refl
@@ -70,7 +72,8 @@ cut-missing separator [] lacks = refl
 cut-missing separator (b ∷ bs) lacks = rw (ne_eqb b separator lacks.0, cut-missing separator bs lacks.1) refl
 
 -- The two parts and the separator are the text.
-pub cut-parts : (separator : ℕ) (text after : List ℕ) → (cut separator text).1 ≡ Some after → (text ≡ (cut separator text).0 ++ separator ∷ after)
+pub cut-parts : (separator : ℕ) (text after : List ℕ) → (cut separator text).1 ≡ Some after
+    → (text ≡ (cut separator text).0 ++ separator ∷ after)
 unfolding cut
 cut-parts separator [] after found = absurd (none-some after found)
 cut-parts separator (b ∷ bs) after found =

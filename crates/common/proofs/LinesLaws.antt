@@ -34,14 +34,19 @@ lines_of-line : (line more : List ℕ) → LacksByte 10 line → lines_of (line 
 lines_of-line [] more lack = refl
 lines_of-line (b ∷ bs) more lack = rw (ne_eqb b 10 lack.0, lines_of-line bs more lack.1) refl
 
-pub lines_of-text_of_lines : (lines : List (List ℕ)) (more : List ℕ) → AreLines lines → lines_of (text_of_lines lines ++ more) ≡ lines ++ lines_of more
+pub lines_of-text_of_lines : (lines : List (List ℕ)) (more : List ℕ) → AreLines lines
+    → lines_of (text_of_lines lines ++ more) ≡ lines ++ lines_of more
 lines_of-text_of_lines [] more lack = refl
 lines_of-text_of_lines (line ∷ lines) more lack =
-    let regrouped : text_of_lines (line ∷ lines) ++ more ≡ line ++ 10 ∷ (text_of_lines lines ++ more) = ap (λ (t : List ℕ). t ++ more) (flat_map-cons (λ l. l ++ 10 ∷ []) line lines) ∙ simp append_assoc in
-    ap lines_of regrouped ∙ lines_of-line line (text_of_lines lines ++ more) lack.0 ∙ ap (λ (ls : List (List ℕ)). line ∷ ls) (lines_of-text_of_lines lines more lack.1)
+    let regrouped : text_of_lines (line ∷ lines) ++ more ≡ line ++ 10 ∷ (text_of_lines lines ++ more) =
+    ap (λ (t : List ℕ). t ++ more) (flat_map-cons (λ l. l ++ 10 ∷ []) line lines) ∙ simp append_assoc in
+    let others = lines_of-text_of_lines lines more lack.1 in
+    ap lines_of regrouped ∙ lines_of-line line (text_of_lines lines ++ more) lack.0
+    ∙ ap (λ (ls : List (List ℕ)). line ∷ ls) others
 
 -- The first line of a text that isn't empty, and the lines of what follows it.
-pub lines_of-cut : (b : ℕ) (bs : List ℕ) → lines_of (b ∷ bs) ≡ (cut 10 (b ∷ bs)).0 ∷ option_map_or lines_of (cut 10 (b ∷ bs)).1 []
+pub lines_of-cut : (b : ℕ) (bs : List ℕ)
+    → lines_of (b ∷ bs) ≡ (cut 10 (b ∷ bs)).0 ∷ option_map_or lines_of (cut 10 (b ∷ bs)).1 []
 unfolding cut
 lines_of-cut b [] = elim (eqb_tells b 10) [ inl feed ↦ rw feed.0 refl | inr other ↦ rw other.0 refl ]
 lines_of-cut b (c ∷ cs) = elim (eqb_tells b 10) [
@@ -54,15 +59,21 @@ lines_of-after None = refl
 lines_of-after (Some rest) = refl
 
 -- A text that isn't empty is its first line and what follows.
-pub lines_of-first : (text : List ℕ) → 0 < length text → lines_of text ≡ (cut 10 text).0 ∷ lines_of (unwrap_or (cut 10 text).1 [])
+pub lines_of-first : (text : List ℕ) → 0 < length text
+    → lines_of text ≡ (cut 10 text).0 ∷ lines_of (unwrap_or (cut 10 text).1 [])
 lines_of-first [] some = absurd (omega arith)
-lines_of-first (b ∷ bs) some = lines_of-cut b bs ∙ ap (λ (ls : List (List ℕ)). (cut 10 (b ∷ bs)).0 ∷ ls) (lines_of-after (cut 10 (b ∷ bs)).1)
+lines_of-first (b ∷ bs) some =
+    let after = lines_of-after (cut 10 (b ∷ bs)).1 in
+    lines_of-cut b bs ∙ ap (λ (ls : List (List ℕ)). (cut 10 (b ∷ bs)).0 ∷ ls) after
 
 -- What follows the first line is shorter.
 pub length-after_cut : (text : List ℕ) → 0 < length text → length (unwrap_or (cut 10 text).1 []) < length text
 unfolding cut
 length-after_cut [] some = absurd (omega arith)
-length-after_cut (b ∷ []) some = elim (eqb_tells b 10) [ inl feed ↦ rw feed.0 (omega arith) | inr other ↦ rw other.0 (omega arith) ]
+length-after_cut (b ∷ []) some = elim (eqb_tells b 10) [
+  | inl feed ↦ rw feed.0 (omega arith)
+  | inr other ↦ rw other.0 (omega arith)
+]
 length-after_cut (b ∷ c ∷ cs) some = elim (eqb_tells b 10) [
   | inl feed ↦ rw feed.0 (omega arith)
   | inr other ↦ rw other.0 (omega (arith, length-after_cut (c ∷ cs) (omega arith)))

@@ -26,7 +26,8 @@ number_of-other text other =
     ] (λ n read. let spelled = number_of-spelled text n read in other n spelled.1 spelled.0)
 
 -- what was read is what is printed
-pub IfSome_number : (text : List ℕ) (result : Option ℕ) → result ≡ number_of text → IfSome result (λ n. text ≡ decimal n)
+pub IfSome_number : (text : List ℕ) (result : Option ℕ) → result ≡ number_of text
+    → IfSome result (λ n. text ≡ decimal n)
 IfSome_number text None read = tt
 IfSome_number text (Some n) read = (number_of-spelled text n (sym read)).0
 
@@ -57,18 +58,23 @@ pub padded_is_other : (text : List ℕ) → IsPadded text → IsOther text
 padded_is_other text padded n fits e = decimal_begins n fits (rw e at padded)
 
 no_text_is_other : (text : List ℕ) → (IsUtf8 text → ⊥) → IsOther text
-no_text_is_other text no_text n fits e = no_text (rw e (IsUtf8-from_ascii (decimal n) (IsAscii-decimal n (omega arith))))
+no_text_is_other text no_text n fits e =
+    no_text (rw e (IsUtf8-from_ascii (decimal n) (IsAscii-decimal n (omega arith))))
 
 -- what `from_utf8` ensures
 abbrev pub Decodes : List ℕ → Result (Bor (List ℕ)) Utf8Error → Type 0
-Decodes text r = MatchResult r (λ s. (s.now ≡ text) × IsUtf8 text) (λ e. ¬ (IsUtf8 text) × IsValidUpTo text (valid_up_to e))
+Decodes text r =
+    MatchResult r (λ s. (s.now ≡ text) × IsUtf8 text) (λ e. ¬ (IsUtf8 text) × IsValidUpTo text (valid_up_to e))
 
 -- what it tells of a text that it refuses, and of one that it takes
-no_text_at_none : (text : List ℕ) (r : Result (Bor (List ℕ)) Utf8Error) → Decodes text r → None ≡ result_ok r → ¬ (IsUtf8 text)
+no_text_at_none : (text : List ℕ) (r : Result (Bor (List ℕ)) Utf8Error) → Decodes text r → None ≡ result_ok r
+    → ¬ (IsUtf8 text)
 no_text_at_none text (Ok x) decodes none = absurd (none-some x none)
 no_text_at_none text (Err e) decodes none = decodes.0
 
-pub same_text_at_some : (text : List ℕ) (r : Result (Bor (List ℕ)) Utf8Error) (x : Bor (List ℕ)) → Decodes text r → Some x ≡ result_ok r → x.now ≡ text
+pub same_text_at_some : (text : List ℕ) (r : Result (Bor (List ℕ)) Utf8Error) (x : Bor (List ℕ)) → Decodes text r
+    → Some x ≡ result_ok r
+    → x.now ≡ text
 same_text_at_some text (Ok y) x decodes some = ap (λ (s : Bor (List ℕ)). s.now) (same_Some x y some) ∙ decodes.0
 same_text_at_some text (Err e) x decodes some = absurd (none-some x (sym some))
 
@@ -76,7 +82,9 @@ own : IsNumeralModel (AllDigits 10) (digits_value 10)
 own = numerals_by_value (AllDigits 10) tells_digits
 
 -- a text that does not begin so is read by `parse`
-pub number_of_parsed : {E : Type 0} (text : List ℕ) (r : Result ℕ E) → (IsPadded text → ⊥) → ParsesUnsigned 32 10 text r → result_ok r ≡ number_of text
+pub number_of_parsed : {E : Type 0} (text : List ℕ) (r : Result ℕ E) → (IsPadded text → ⊥)
+    → ParsesUnsigned 32 10 text r
+    → result_ok r ≡ number_of text
 number_of_parsed {E} text (Ok n) plain parsed =
     let p = parse_plain own {E = E} 32 text (Ok n) parsed (λ plus. plain (inl plus)) in
     let value = digits_value 10 text in
@@ -97,7 +105,10 @@ number_of_parsed {E} text (Err e) plain parsed =
 pub number_of_padded : (text : List ℕ) → IsPadded text → number_of text ≡ None
 number_of_padded text padded = sym (number_of-other text (padded_is_other text padded))
 
-pub number_of_no_text : (text : List ℕ) (r : Result (Bor (List ℕ)) Utf8Error) → Decodes text r → None ≡ result_ok r → number_of text ≡ None
-number_of_no_text text r decodes none = sym (number_of-other text (no_text_is_other text (no_text_at_none text r decodes none)))
+pub number_of_no_text : (text : List ℕ) (r : Result (Bor (List ℕ)) Utf8Error) → Decodes text r
+    → None ≡ result_ok r
+    → number_of text ≡ None
+number_of_no_text text r decodes none =
+    sym (number_of-other text (no_text_is_other text (no_text_at_none text r decodes none)))
 
 pub ruleset numbers = (number_of_padded, IfSome_number, IfNone_number, number_of_parsed, same_text_at_some)

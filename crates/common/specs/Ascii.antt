@@ -6,11 +6,14 @@ use Rattle.std.specs.Str.Parse.{digits_value}
 
 -- The number that a text spells: decimal, without leading zeros, below 2 ^ 32.
 unfoldable pub number_of : List ℕ → Option ℕ
-number_of text = let value = digits_value 10 text in if bytes_eq (decimal value) text && nat_lt value (2 ^ 32) then Some value else None
+number_of text =
+    let value = digits_value 10 text in
+    if bytes_eq (decimal value) text && nat_lt value (2 ^ 32) then Some value else None
 
 -- The number below a limit that a text spells.
 abbrev pub number_below : ℕ → List ℕ → Option ℕ
-number_below limit text = option_and_then (λ value. if nat_lt value limit then Some value else None) (number_of text)
+number_below limit text =
+    option_and_then (λ value. if nat_lt value limit then Some value else None) (number_of text)
 
 -- No byte of the text is this one.
 abbrev pub LacksByte : ℕ → List ℕ → Type 0
@@ -19,4 +22,5 @@ LacksByte byte text = AllByRecursion (λ b. b ≢ byte) text
 -- The text before the first separator, and the text after it where there is a separator.
 unfoldable pub cut : ℕ → List ℕ → List ℕ × Option (List ℕ)
 cut separator [] = ([], None)
-cut separator (b ∷ bs) = if b == separator then ([], Some bs) else (b ∷ (cut separator bs).0, (cut separator bs).1)
+cut separator (b ∷ bs) =
+    if b == separator then ([], Some bs) else (b ∷ (cut separator bs).0, (cut separator bs).1)

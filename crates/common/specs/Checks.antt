@@ -13,7 +13,8 @@ abbrev pub FailsFirst : (ℕ → Type 0) → ℕ → Type 0
 FailsFirst check place = PassBefore check place × (check place → ⊥)
 
 -- Each check before the place passes.
-passes_at : (check : ℕ → Type 0) (place before : ℕ) → before < place → PassBefore check place → check before
+passes_at : (check : ℕ → Type 0) (place before : ℕ) → before < place → PassBefore check place
+    → check before
 passes_at check zero before less pass = absurd (omega (arith, less))
 passes_at check (suc place) before less pass =
     elim (cases_lt before place) [
@@ -24,7 +25,9 @@ passes_at check (suc place) before less pass =
     ]
 
 -- One check at most is the first that fails.
-pub FailsFirst-unique : (check : ℕ → Type 0) (first second : ℕ) → FailsFirst check first → FailsFirst check second → first ≡ second
+pub FailsFirst-unique : (check : ℕ → Type 0) (first second : ℕ) → FailsFirst check first
+    → FailsFirst check second
+    → first ≡ second
 FailsFirst-unique check first second a b =
     elim (cases_lt first second) [
       | inl before ↦ absurd (a.1 (passes_at check second first before b.0))

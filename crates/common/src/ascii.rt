@@ -12,8 +12,8 @@ fn place_of(text: &[u8], separator: u8) -> Option<usize>
 
 /// Cuts a text at the first `separator`.
 ///
-/// Gives what stands before it, and what stands after it: `None` where the text has no such byte, and the
-/// first part is the whole text then.
+/// Gives what stands before it, and what stands after it: `None` where the text has no such byte,
+/// and the first part is the whole text then.
 #[tactic(auto, using(crate::proofs::Cuts::cut_before, crate::proofs::Cuts::cut_after))]
 pub fn cut(text: &[u8], separator: u8) -> (&[u8], Option<&[u8]>)
     ensures before { result.0.now ≡ (cut separator text.now).0 }
@@ -25,18 +25,20 @@ pub fn cut(text: &[u8], separator: u8) -> (&[u8], Option<&[u8]>)
     }
 }
 
-/// Whether a text begins as no number is printed: with a plus sign, or with a zero before anything else.
+/// Whether a text begins as no number is printed: with a plus sign, or with a zero before anything
+/// else.
 fn begins_padded(text: &[u8]) -> bool
-    ensures { IsTrue result
-        ↔ ((slice_index text.now 0 ≡ 43) ⊎ ((slice_index text.now 0 ≡ 48) × (1 < length text.now))) }
+    ensures { IsTrue result ↔ ((slice_index text.now 0 ≡ 43)
+        ⊎ ((slice_index text.now 0 ≡ 48) × (1 < length text.now))) }
 {
     matches!(text, [b'+', ..] | [b'0', _, ..])
 }
 
 /// The number that a text spells, 0 to 4294967295.
 ///
-/// A number is written in decimal digits alone: without a sign, without spaces, and without leading zeros,
-/// but for 0 itself. `None` at any other text, the empty one included, and at a number that is too large.
+/// A number is written in decimal digits alone: without a sign, without spaces, and without leading
+/// zeros, but for 0 itself. `None` at any other text, the empty one included, and at a number that
+/// is too large.
 #[tactic(auto, using(crate::proofs::Numbers::numbers))]
 pub fn number(text: &[u8]) -> Option<u32>
     ensures value { result ≡ number_of text.now }

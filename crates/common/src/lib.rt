@@ -1,8 +1,8 @@
-//! What belongs to no layer: limits of a device, numbers and lines of ASCII text, and the definitions and lemmas
-//! that crates of different layers cite.
+//! What belongs to no layer: limits of a device, numbers and lines of ASCII text, and the
+//! definitions and lemmas that crates of different layers cite.
 //!
-//! Promises: a number is read exactly where the text is what is printed of it; a text is cut at its first
-//! separator, and into its lines. Does not allocate. Any crate may call it.
+//! Promises: a number is read exactly where the text is what is printed of it; a text is cut at its
+//! first separator, and into its lines. Does not allocate. Any crate may call it.
 #![tactic(auto)]
 
 pub mod ascii;
