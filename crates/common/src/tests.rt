@@ -11,6 +11,16 @@ fn a_text_is_cut_once(rt: HostRuntime) {
 }
 
 #[test]
+fn a_line_ends_at_its_line_feed(rt: HostRuntime) {
+    let (line, after) = lines::first_line(b"one\ntwo\n");
+    assert_eq!(rt; line, b"one".as_slice());
+    assert_eq!(rt; after, b"two\n".as_slice());
+    let (last, nothing) = lines::first_line(b"two");
+    assert_eq!(rt; last, b"two".as_slice());
+    assert!(rt; nothing.is_empty());
+}
+
+#[test]
 fn numbers_are_read_within_their_limits(rt: HostRuntime) {
     assert_eq!(rt; ascii::number(b"4294967295"), Some(4294967295));
     assert_eq!(rt; ascii::number(b"4294967296"), None);

@@ -68,14 +68,13 @@ fn other_texts_are_refused(rt: HostRuntime) {
 }
 
 #[test]
-fn every_part_is_printed(rt: HostRuntime) -> Result<(), Fail> {
+fn every_part_is_printed_and_read_back(rt: HostRuntime) -> Result<(), Fail> {
     let short = Version::parse("1.2")?;
     assert_eq!(rt; short.to_string(rt.alloc())?.as_str(), "1.2.0+0");
     let long = version(255, 255, 65535, 4294967295);
-    assert_eq!(rt;
-        long.to_string(rt.alloc())?.as_str(),
-        "255.255.65535+4294967295"
-    );
+    let printed = long.to_string(rt.alloc())?;
+    assert_eq!(rt; printed.as_str(), "255.255.65535+4294967295");
+    assert_eq!(rt; Version::parse(printed.as_str()), Ok(long));
     Ok(())
 }
 
