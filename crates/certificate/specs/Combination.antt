@@ -1,7 +1,9 @@
--- Combinations: sets of images with an intact request, any set. A set is a test of image numbers.
+-- Combinations: sets of images, those whose requests are taken. A set is a test of image numbers, and any test is
+-- one: that its members have intact requests is said where it is called valid.
 use Rattle.std.specs.Prelude.{ℕ, ◌≤◌, Bool, false, not, IsTrue, Option, Some, None, unwrap_or, IsSomeAnd, IfSome, slice_get, if◌then◌else◌}
 use Rattle.std.specs.List.{list_all}
 use Rattle.std.specs.Option.{option_map_or}
+use Rattle.version_order.specs.declared.version.Version.{Version}
 use Rattle.version_order.specs.declared.dependency.Dependency.{Dependency}
 use Rattle.version_order.specs.Order.{is_older, IsAtLeast}
 use Rattle.certificate.specs.declared.table.Entry.{Entry}
@@ -20,21 +22,51 @@ intact_entry request.None = None
 intact_entry request.Damaged = None
 intact_entry (request.Entry entry) = Some entry
 
+-- Image j has an intact request of which P holds.
+abbrev pub RequestMeets : Table → ℕ → (Image → Entry → Type 0) → Type 0
+RequestMeets table j P =
+    IsSomeAnd (image_at table j)
+    (λ image. IsSomeAnd (intact_entry image.request) (λ entry. P image entry))
+
 -- What an image contributes to a combination: the requested entry if it is a member, else the running one.
 abbrev pub entry_in : Image → Bool → Entry
-entry_in image is_member = if is_member then unwrap_or (intact_entry image.request) image.running else image.running
+entry_in image is_member =
+    if is_member then unwrap_or (intact_entry image.request) image.running else image.running
+
+-- Whether a combination has an image in this version at least.
+abbrev pub reaches : (ℕ → Bool) → ℕ → Version → Image → Bool
+reaches taken j minimum image = not (is_older (entry_in image (taken j)).version minimum)
 
 -- Whether a combination meets a dependency: the image exists, and its version there isn't below the minimum
 -- (MCUboot, dependency check).
 abbrev pub is_met : Table → (ℕ → Bool) → Dependency → Bool
-is_met table taken dependency = option_map_or (λ image. not (is_older (entry_in image (taken dependency.image)).version dependency.minimum)) (image_at table dependency.image) false
+is_met table taken dependency =
+    option_map_or (reaches taken dependency.image dependency.minimum)
+    (image_at table dependency.image) false
 
--- A combination is valid where each member has an intact request that isn't older than the running image, with
--- a security counter not below the floor, and each dependency of each image, members by their requested
--- entries and the others by their running ones, is met (MCUboot, multiple image boot and downgrade prevention).
+-- Whether a combination meets all dependencies of an entry.
+abbrev pub meets_all : Table → (ℕ → Bool) → Entry → Bool
+meets_all table taken entry = list_all (is_met table taken) entry.dependencies.items
+
+-- An entry may run in the place of an image: it isn't older, and its security counter isn't below the floor
+-- (MCUboot, downgrade prevention).
+abbrev pub MayReplace : Image → Entry → Type 0
+MayReplace image entry = IsAtLeast entry.version image.running.version × (image.floor ≤ entry.counter)
+
+-- Image j has an intact request that may run in its place.
+abbrev pub IsAcceptable : Table → ℕ → Type 0
+IsAcceptable table j = RequestMeets table j MayReplace
+
+-- All dependencies of image j are met: of its requested entry if it is a member, else of its running one.
+abbrev pub HasMetDependencies : Table → (ℕ → Bool) → ℕ → Type 0
+HasMetDependencies table taken j =
+    IfSome (image_at table j) (λ image. IsTrue (meets_all table taken (entry_in image (taken j))))
+
+-- A combination is valid where each member has a request that may run in its place, and the dependencies of each
+-- image, member or not, are met (MCUboot, multiple image boot).
 pub record IsValid (table : Table) (taken : ℕ → Bool) : Type 0 where
-  pub members : (j : ℕ) → IsTrue (taken j) → IsSomeAnd (image_at table j) (λ image. IsSomeAnd (intact_entry image.request) (λ entry. IsAtLeast entry.version image.running.version × (image.floor ≤ entry.counter)))
-  pub met : (j : ℕ) → IfSome (image_at table j) (λ image. IsTrue (list_all (is_met table taken) (entry_in image (taken j)).dependencies.items))
+  pub members : (j : ℕ) → IsTrue (taken j) → IsAcceptable table j
+  pub met : (j : ℕ) → HasMetDependencies table taken j
 
 -- The combination that takes no request: the running images.
 abbrev pub running_set : ℕ → Bool
@@ -43,4 +75,11 @@ running_set j = false
 -- The greatest combination is valid and contains every valid one.
 pub record IsGreatest (table : Table) (taken : ℕ → Bool) : Type 0 where
   pub valid : IsValid table taken
-  pub contains : (other : ℕ → Bool) → IsValid table other → (j : ℕ) → IsTrue (other j) → IsTrue (taken j)
+  pub contains :
+      (other : ℕ → Bool) → IsValid table other → (j : ℕ) → IsTrue (other j) → IsTrue (taken j)
+
+-- The version of image j in one combination isn't below its version in another.
+abbrev pub IsAtLeastIn : Table → (ℕ → Bool) → (ℕ → Bool) → ℕ → Type 0
+IsAtLeastIn table taken other j =
+    IfSome (image_at table j)
+    (λ image. IsAtLeast (entry_in image (taken j)).version (entry_in image (other j)).version)

@@ -1,5 +1,5 @@
 -- Why a request is refused, judged at its place in a list of refusals.
-use Rattle.std.specs.Prelude.{◌≡◌, ℕ, ◌<◌, ◌==◌, Bool, false, List, take, IsTrue, None, Contains, IsSomeAnd, IfSome, slice_get, if◌then◌else◌}
+use Rattle.std.specs.Prelude.{◌≡◌, ℕ, ◌<◌, ◌==◌, Bool, false, List, take, IsTrue, None, count_by, Contains, IsSomeAnd, IfSome, slice_get, if◌then◌else◌}
 use Rattle.std.specs.List.{list_any}
 use Rattle.std.specs.Option.{option_map_or}
 use Rattle.version_order.specs.declared.version.Version.{Version}
@@ -12,43 +12,80 @@ use Rattle.certificate.specs.declared.table.Table.{Table}
 use Rattle.certificate.specs.declared.report.Reason.{Reason}
 use Rattle.certificate.specs.declared.report.Reason.TheVariants.{Damaged, Older, Counter, NoSuchImage, Needs}
 use Rattle.certificate.specs.declared.report.Refusal.{Refusal}
-use Rattle.certificate.specs.Combination.{image_at, intact_entry}
+use Rattle.certificate.specs.Combination.{image_at, intact_entry, RequestMeets}
 
 -- Whether the list refuses the request of image j.
 abbrev pub is_refused : List Refusal → ℕ → Bool
 is_refused refusals j = list_any (λ refusal. refusal.image == j) refusals
 
+-- How often the list refuses the request of image j.
+abbrev pub times_refused : List Refusal → ℕ → ℕ
+times_refused refusals j = count_by (λ refusal. refusal.image == j) refusals
+
+-- The newer of two versions.
+abbrev pub newer_of : Version → Version → Version
+newer_of v w = if is_older v w then w else v
+
 -- The newer of the running version and the version of an intact request.
 abbrev pub newest_version : Image → Version
-newest_version image = option_map_or (λ entry. if is_older image.running.version entry.version then entry.version else image.running.version) (intact_entry image.request) image.running.version
+newest_version image =
+    option_map_or (λ entry. newer_of image.running.version entry.version)
+    (intact_entry image.request) image.running.version
 
 -- The version of an intact request, or else the running one.
 abbrev pub requested_version : Image → Version
-requested_version image = option_map_or (λ entry. entry.version) (intact_entry image.request) image.running.version
+requested_version image =
+    option_map_or (λ entry. entry.version) (intact_entry image.request) image.running.version
 
 -- The best version that the request of image own can hope for at image j, after these refusals: for its own
 -- image the requested one; for another the running version or, where it has an intact request that isn't yet
 -- refused and is newer, the requested one.
 abbrev pub best_version : List Refusal → ℕ → ℕ → Image → Version
-best_version before own j image = if j == own then requested_version image else (if is_refused before j then image.running.version else newest_version image)
+best_version before own j image =
+    if j == own then requested_version image
+    else (if is_refused before j then image.running.version else newest_version image)
 
 -- Whether, after these refusals, a dependency of the request of image own names an image that exists and whose
 -- best version is below the minimum.
 abbrev pub is_out_of_reach : Table → List Refusal → ℕ → Dependency → Bool
-is_out_of_reach table before own dependency = option_map_or (λ image. is_older (best_version before own dependency.image image) dependency.minimum) (image_at table dependency.image) false
+is_out_of_reach table before own dependency =
+    option_map_or
+    (λ image. is_older (best_version before own dependency.image image) dependency.minimum)
+    (image_at table dependency.image) false
 
--- Image i has an intact request of which P holds.
-abbrev pub RequestMeets : Table → ℕ → (Image → Entry → Type 0) → Type 0
-RequestMeets table i P = IsSomeAnd (image_at table i) (λ image. IsSomeAnd (intact_entry image.request) (λ entry. P image entry))
+-- Whether an entry depends on image j, in any version.
+abbrev pub depends_on : Entry → ℕ → Bool
+depends_on entry j = list_any (λ dependency. dependency.image == j) entry.dependencies.items
+
+-- An entry depends on an image that the table doesn't have.
+abbrev pub NeedsMissing : Table → ℕ → Entry → Type 0
+NeedsMissing table j entry = IsTrue (depends_on entry j) × (image_at table j ≡ None)
+
+-- An entry that is requested of image own has a dependency that is out of reach after these refusals.
+abbrev pub NeedsUnreachable : Table → List Refusal → ℕ → Dependency → Entry → Type 0
+NeedsUnreachable table before own dependency entry =
+    Contains entry.dependencies.items dependency
+    × IsTrue (is_out_of_reach table before own dependency)
 
 -- A reason for refusing the request of image i holds after these refusals.
 abbrev pub ReasonHolds : Table → List Refusal → ℕ → Reason → Type 0
-ReasonHolds table before i Damaged = IsSomeAnd (image_at table i) (λ image. image.request ≡ request.Damaged)
-ReasonHolds table before i Older = RequestMeets table i (λ image entry. IsOlder entry.version image.running.version)
-ReasonHolds table before i Counter = RequestMeets table i (λ image entry. entry.counter < image.floor)
-ReasonHolds table before i (NoSuchImage j) = RequestMeets table i (λ image entry. IsTrue (list_any (λ dependency. dependency.image == j) entry.dependencies.items) × (image_at table j ≡ None))
-ReasonHolds table before i (Needs j minimum) = RequestMeets table i (λ image entry. let dependency : Dependency = record { image = j; minimum = minimum } in Contains entry.dependencies.items dependency × IsTrue (is_out_of_reach table before i dependency))
+ReasonHolds table before i Damaged =
+    IsSomeAnd (image_at table i) (λ image. image.request ≡ request.Damaged)
+ReasonHolds table before i Older =
+    RequestMeets table i (λ image entry. IsOlder entry.version image.running.version)
+ReasonHolds table before i Counter =
+    RequestMeets table i (λ image entry. entry.counter < image.floor)
+ReasonHolds table before i (NoSuchImage j) =
+    RequestMeets table i (λ image entry. NeedsMissing table j entry)
+ReasonHolds table before i (Needs j minimum) =
+    RequestMeets table i
+    (λ image entry. NeedsUnreachable table before i (record { image = j; minimum = minimum }) entry)
 
--- A list of refusals is founded where each entry has a reason that holds at its place, after those before it.
+-- A refusal has a reason that holds after these refusals.
+abbrev pub IsFoundedAfter : Table → List Refusal → Refusal → Type 0
+IsFoundedAfter table before refusal = ReasonHolds table before refusal.image refusal.reason
+
+-- A list of refusals is founded where each has a reason that holds at its place, after those before it.
 abbrev pub IsFounded : Table → List Refusal → Type 0
-IsFounded table refusals = (k : ℕ) → IfSome (slice_get refusals k) (λ refusal. ReasonHolds table (take k refusals) refusal.image refusal.reason)
+IsFounded table refusals =
+    (k : ℕ) → IfSome (slice_get refusals k) (IsFoundedAfter table (take k refusals))

@@ -1,6 +1,7 @@
 -- The order in which a choice lists its refusals: of all founded lists the one that is printed.
-use Rattle.std.specs.Prelude.{◌≡◌, ℕ, ◌<◌, false, List, ◌++◌, take, Option, Some, None, option_map, option_and_then, is_none, nat_lt, find, filter_map, IfSome, slice_get, if◌then◌else◌}
+use Rattle.std.specs.Prelude.{◌≡◌, ℕ, ◌<◌, Bool, false, List, ◌++◌, take, Option, Some, None, option_map, option_and_then, is_none, nat_lt, find, filter_map, IfSome, slice_get, if◌then◌else◌}
 use Rattle.std.specs.List.{enumerate_from}
+use Rattle.version_order.specs.declared.dependency.Dependency.{Dependency}
 use Rattle.version_order.specs.Order.{is_older}
 use Rattle.certificate.specs.declared.table.Entry.{Entry}
 use Rattle.certificate.specs.declared.table.Request.{Request}
@@ -13,13 +14,21 @@ use Rattle.certificate.specs.declared.report.Refusal.{Refusal}
 use Rattle.certificate.specs.Combination.{image_at, intact_entry}
 use Rattle.certificate.specs.Reasons.{is_refused, is_out_of_reach}
 
+-- Whether a dependency is on an image that the table doesn't have.
+abbrev pub is_missing : Table → Dependency → Bool
+is_missing table dependency = is_none (image_at table dependency.image)
+
 -- The first dependency on an image that the table doesn't have, as a reason.
 abbrev pub missing_image : Table → Entry → Option Reason
-missing_image table entry = option_map (λ dependency. NoSuchImage dependency.image) (find (λ dependency. is_none (image_at table dependency.image)) entry.dependencies.items)
+missing_image table entry =
+    option_map (λ dependency. NoSuchImage dependency.image)
+    (find (is_missing table) entry.dependencies.items)
 
 -- The lowest of the first four reasons that holds of the intact request of an image.
 abbrev pub own_reason_of_entry : Table → Image → Entry → Option Reason
-own_reason_of_entry table image entry = if is_older entry.version image.running.version then Some Older else (if nat_lt entry.counter image.floor then Some Counter else missing_image table entry)
+own_reason_of_entry table image entry =
+    if is_older entry.version image.running.version then Some Older
+    else (if nat_lt entry.counter image.floor then Some Counter else missing_image table entry)
 
 -- The lowest of the first four reasons that holds of a request: those that depend on no other refusal.
 abbrev pub own_reason : Table → Image → Request → Option Reason
@@ -29,24 +38,44 @@ own_reason table image (request.Entry entry) = own_reason_of_entry table image e
 
 -- The refusal of image i by itself, if there is one.
 abbrev pub own_refusal : Table → ℕ × Image → Option Refusal
-own_refusal table numbered = option_map (λ reason. record { image = numbered.0; reason = reason }) (own_reason table numbered.1 numbered.1.request)
+own_refusal table numbered =
+    option_map (λ reason. record { image = numbered.0; reason = reason })
+    (own_reason table numbered.1 numbered.1.request)
 
 -- All requests that are refused by themselves, by ascending number.
 abbrev pub own_refusals : Table → List Refusal
-own_refusals table = filter_map (own_refusal table) (enumerate_from 0 table.images.items)
+own_refusals table =
+    filter_map (own_refusal table) (enumerate_from 0 table.images.items)
 
--- The first dependency of the intact request of image i that is out of reach after these refusals, as a reason.
+-- The first dependency of an entry that is requested of image i which is out of reach after these refusals, as a
+-- reason.
+abbrev pub needs_reason_of_entry : Table → List Refusal → ℕ → Entry → Option Reason
+needs_reason_of_entry table before i entry =
+    option_map (λ dependency. Needs dependency.image dependency.minimum)
+    (find (is_out_of_reach table before i) entry.dependencies.items)
+
+-- The same of the intact request of image i.
 abbrev pub needs_reason : Table → List Refusal → ℕ → Option Reason
-needs_reason table before i = option_and_then (λ image. option_and_then (λ entry. option_map (λ dependency. Needs dependency.image dependency.minimum) (find (is_out_of_reach table before i) entry.dependencies.items)) (intact_entry image.request)) (image_at table i)
+needs_reason table before i =
+    option_and_then
+    (λ image. option_and_then (needs_reason_of_entry table before i) (intact_entry image.request))
+    (image_at table i)
 
 -- After these refusals comes this one: the lowest request not yet refused of which a dependency is out of
 -- reach, with the first such dependency.
 pub record IsNextNeed (table : Table) (before : List Refusal) (refusal : Refusal) : Type 0 where
   pub unrefused : is_refused before refusal.image ≡ false
   pub reason : needs_reason table before refusal.image ≡ Some refusal.reason
-  pub lowest : (i : ℕ) → i < refusal.image → is_refused before i ≡ false → needs_reason table before i ≡ None
+  pub lowest :
+      (i : ℕ) → i < refusal.image → is_refused before i ≡ false → needs_reason table before i ≡ None
+
+-- Each of these refusals is the next need after those by themselves and those before it.
+abbrev pub AreNextNeeds : Table → List Refusal → Type 0
+AreNextNeeds table later =
+    (k : ℕ) → IfSome (slice_get later k) (IsNextNeed table (own_refusals table ++ take k later))
 
 -- First all requests that are refused by themselves, then one after another the lowest that needs what can't
 -- come.
 abbrev pub IsInStandardOrder : Table → List Refusal → Type 0
-IsInStandardOrder table refusals = (later : List Refusal) × (refusals ≡ own_refusals table ++ later) × ((k : ℕ) → IfSome (slice_get later k) (IsNextNeed table (own_refusals table ++ take k later)))
+IsInStandardOrder table refusals =
+    (later : List Refusal) × (refusals ≡ own_refusals table ++ later) × AreNextNeeds table later
