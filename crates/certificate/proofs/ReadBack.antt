@@ -12,26 +12,6 @@ use Rattle.certificate.specs.ReportText.{report_lines, report_line_text, report_
 use Rattle.certificate.proofs.LineLaws.{table_line_text-said, LacksByte-table_line, report_line_text-said, LacksByte-report_line}
 use Rattle.common.proofs.LinesLaws.{AreLines, lines_of-text_of_lines}
 
-module _ {L : Type 0} (text_of : L → List ℕ) (Says : List ℕ → L → Type 0) (Fits : L → Type 0) (says : (said : L) → Fits said → Says (text_of said) said) (lack : (said : L) → Fits said → LacksByte 10 (text_of said)) where
-  -- Printed lines are the lines' texts, each ended by a line feed.
-  printed : (lines : List L) → flat_map (λ said. text_of said ++ 10 ∷ []) lines ≡ text_of_lines (map text_of lines)
-  printed [] = refl
-  printed (said ∷ lines) = flat_map-cons (λ l. text_of l ++ 10 ∷ []) said lines ∙ ap (λ (t : List ℕ). (text_of said ++ 10 ∷ []) ++ t) (printed lines) ∙ sym (flat_map-cons (λ l. l ++ 10 ∷ []) (text_of said) (map text_of lines))
-
-  AreLines-map : (lines : List L) → AllByRecursion Fits lines → AreLines (map text_of lines)
-  AreLines-map [] fit = tt
-  AreLines-map (said ∷ lines) fit = (lack said fit.0, AreLines-map lines fit.1)
-
-  each_says : (lines : List L) → AllByRecursion Fits lines → AllZip Says (map text_of lines) lines
-  each_says [] fit = tt
-  each_says (said ∷ lines) fit = (says said fit.0, each_says lines fit.1)
-
-  -- The lines of what is printed say the lines that were printed.
-  pub lines_of-printed : (lines : List L) → AllByRecursion Fits lines → AllZip Says (lines_of (flat_map (λ said. text_of said ++ 10 ∷ []) lines)) lines
-  lines_of-printed lines fit =
-      let joined = ap lines_of (sym (append-nil (text_of_lines (map text_of lines)))) ∙ lines_of-text_of_lines (map text_of lines) [] (AreLines-map lines fit) ∙ append-nil (map text_of lines) in
-      rw (printed lines, joined) (each_says lines fit)
-
 -- A printed table is a text of the table.
 pub printed_table_is_text : (table : Table) → FitsTable table → IsTableText (table_text table) table
 printed_table_is_text table fits = record {

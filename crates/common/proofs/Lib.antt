@@ -1,4 +1,9 @@
 pub mod AsciiLaws
 pub mod Cuts
 pub mod LinesLaws
+pub mod Lists
+pub mod Numbered
 pub mod Numbers
+pub mod Options
+pub mod Printed
+pub mod ReadingLaws

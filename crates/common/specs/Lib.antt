@@ -1,3 +1,4 @@
 pub mod Ascii
 pub mod Checks
 pub mod Lines
+pub mod Reading

@@ -2,6 +2,11 @@
 use Rattle.std.specs.Prelude.{◌≡◌, ℕ, ◌<◌, ◌==◌, ◌⊎◌, List, [], ◌∷◌, ◌++◌, take, if◌then◌else◌}
 use Rattle.std.specs.List.{flat_map}
 
+-- Two words with a space (32) between them.
+infixr 30 ◌␣◌
+abbrev pub ◌␣◌ : List ℕ → List ℕ → List ℕ
+first ␣ others = first ++ 32 ∷ others
+
 -- The lines with this byte before the first of them.
 abbrev pub with_byte : ℕ → List (List ℕ) → List (List ℕ)
 with_byte b [] = (b ∷ []) ∷ []
@@ -12,16 +17,25 @@ abbrev pub lines_of : List ℕ → List (List ℕ)
 lines_of [] = []
 lines_of (b ∷ bs) = if b == 10 then [] ∷ lines_of bs else with_byte b (lines_of bs)
 
+-- What is printed of these things, a line each: its text, ended by a line feed.
+abbrev pub printed_lines : {L : Type 0} → (L → List ℕ) → List L → List ℕ
+printed_lines text_of things = flat_map (λ thing. text_of thing ++ 10 ∷ []) things
+
 -- The text of these lines, each ended by a line feed.
 abbrev pub text_of_lines : List (List ℕ) → List ℕ
-text_of_lines lines = flat_map (λ line. line ++ 10 ∷ []) lines
+text_of_lines lines = printed_lines (λ line. line) lines
 
 -- These lines, each ended by a line feed, begin a text: some bytes after them make one.
 abbrev pub Begins : (List ℕ → Type 0) → List (List ℕ) → Type 0
 Begins IsText lines = (more : List ℕ) × IsText (text_of_lines lines ++ more)
 
+-- The first n lines are one too many: they begin no text, and fewer of them do.
+abbrev pub IsFirstBeyond : (List ℕ → Type 0) → List (List ℕ) → ℕ → Type 0
+IsFirstBeyond IsText lines n =
+    (Begins IsText (take n lines) → ⊥) × ((m : ℕ) → m < n → Begins IsText (take m lines))
+
 -- The line that a refusal names, counted from 1: the least n of which the first n lines begin no text, and 1
 -- where there are no lines.
 abbrev pub IsFirstBadLine : (List ℕ → Type 0) → List ℕ → ℕ → Type 0
-IsFirstBadLine IsText bytes n = ((lines_of bytes ≡ []) × (n ≡ 1))
-    ⊎ ((Begins IsText (take n (lines_of bytes)) → ⊥) × ((m : ℕ) → m < n → Begins IsText (take m (lines_of bytes))))
+IsFirstBadLine IsText bytes n =
+    ((lines_of bytes ≡ []) × (n ≡ 1)) ⊎ IsFirstBeyond IsText (lines_of bytes) n

@@ -1,9 +1,46 @@
-//! Cutting a text into its lines.
+//! Texts of lines: cutting them, and reading them into a state that takes one line after another.
 
-ghost use Rattle.std.specs.Prelude.{◌≡◌, ◌<◌, ◌∷◌, length};
+ghost use Rattle.std.specs.Prelude.{◌≡◌, ◌<◌, ◌∷◌, ℕ, List, Option, Some, None, Ok, Err, length, MatchBool, MatchResult};
 ghost use Rattle.common.specs.Lines.{lines_of};
+ghost use Rattle.common.specs.Reading.{read_lines};
 
 use crate::ascii::cut;
+
+/// A state that takes the lines of a text, one after another.
+pub trait TakesLines {
+    // The state with one more line, if the lines so far go on with it.
+    ghost with_line: { Self → List ℕ → Option Self };
+
+    /// Takes one more line, given without its line feed.
+    ///
+    /// `false` where the lines so far don't go on with it; the state is of no use then.
+    fn take_line(&mut self, line: &[u8]) -> bool
+        ensures { MatchBool result (with_line self.old line.now ≡ Some self.new)
+            (with_line self.old line.now ≡ None) };
+}
+
+/// Reads a text into a state, line by line. A line ends with a line feed, which may be missing at the end of
+/// the text.
+///
+/// # Errors
+/// The number of the first line, counted from 1, that the state doesn't take. The state is of no use then.
+pub fn read_lines<S: TakesLines>(state: &mut S, text: &[u8]) -> Result<(), usize>
+    ensures { MatchResult result
+        (λ done. read_lines S.with_line state.old 1 (lines_of text.now) ≡ Ok state.new)
+        (λ bad. read_lines S.with_line state.old 1 (lines_of text.now) ≡ Err bad) }
+{
+    let mut number = 0;
+    let mut rest = text;
+    while !rest.is_empty() {
+        let (line, after) = first_line(rest);
+        number += 1;
+        rest = after;
+        if !state.take_line(line) {
+            return Err(number);
+        }
+    }
+    Ok(())
+}
 
 /// The first line of a text that isn't empty, without its line feed, and the text after it.
 pub fn first_line(text: &[u8]) -> (&[u8], &[u8])

@@ -1,11 +1,11 @@
 -- Reading lines one after another into a state.
-use Rattle.std.proofs.Common.{◌≡◌, ℕ, zero, suc, ◌+◌, ◌<◌, ◌⊎◌, List, [], ◌∷◌, ◌++◌, take, length, Option, Some, None, Result, Ok, Err, refl, sym, ap, ◌∙◌, inl, inr, arith}
-use Rattle.std.specs.Prelude.{option_and_then}
+use Rattle.std.proofs.Common.{◌≡◌, ℕ, zero, suc, ◌+◌, ◌<◌, ◌⊎◌, List, [], ◌∷◌, ◌++◌, take, length, Option, Some, None, Result, Ok, Err, refl, sym, ap, ◌∙◌, append_assoc, inl, inr, arith}
+use Rattle.std.specs.Prelude.{option_and_then, option_map}
 use Rattle.std.specs.List.{AllZip}
 use Rattle.std.proofs.lemmas.List.{append-nil}
-use Rattle.std.proofs.Common.{append_assoc}
 use Rattle.common.specs.Lines.{lines_of, text_of_lines, Begins, IsFirstBadLine}
-use Rattle.certificate.specs.Reading.{read_lines, with_text}
+use Rattle.common.specs.Reading.{read_lines, with_text}
+use Rattle.common.proofs.Options.{cases_option, and_then_some, same_after}
 use Rattle.common.proofs.LinesLaws.{AreLines, AreLines-lines_of, AreLines-take, lines_of-text_of_lines}
 
 -- The state after these lines, if each can be placed.
@@ -29,10 +29,18 @@ run_front step state final xs ys done =
       | Some middle ↦ λ e. (middle, refl)
     ] both
 
--- An option is nothing or something.
-pub cases_option : {A : Type 0} (r : Option A) → (r ≡ None) ⊎ ((x : A) × (r ≡ Some x))
-cases_option None = inl refl
-cases_option (Some x) = inr (x, refl)
+wrapped_after : {S T : Type 0} (wrap : S → T) (r : Option S) (f : S → Option S) (g : T → Option T) → ((s : S) → g (wrap s) ≡ option_map wrap (f s)) → option_and_then g (option_map wrap r) ≡ option_map wrap (option_and_then f r)
+wrapped_after wrap None f g same = refl
+wrapped_after wrap (Some s) f g same = same s
+
+-- Where a state is another one in a wrapping, its steps end in what the other's end in.
+pub run-wrapped : {S T X : Type 0} (wrap : S → T) (step : S → X → Option S) (wrapped : T → X → Option T)
+    → ((state : S) (x : X) → wrapped (wrap state) x ≡ option_map wrap (step state x))
+    → (state : S) (xs : List X) → run wrapped (wrap state) xs ≡ option_map wrap (run step state xs)
+run-wrapped wrap step wrapped same state [] = refl
+run-wrapped wrap step wrapped same state (x ∷ xs) =
+    ap (option_and_then (λ next. run wrapped next xs)) (same state x)
+    ∙ wrapped_after wrap (step state x) (λ s. run step s xs) (λ t. run wrapped t xs) (λ s. run-wrapped wrap step wrapped same s xs)
 
 -- One line that can't be placed, and one that can.
 pub read_lines-none : {S : Type 0} (step : S → List ℕ → Option S) (state : S) (n : ℕ) (line : List ℕ) (lines : List (List ℕ)) → step state line ≡ None → read_lines step state n (line ∷ lines) ≡ Err n
@@ -84,10 +92,6 @@ pub record Spells {S L : Type 0} (line_of : List ℕ → Option L) (place : S �
   pub spelled : (text : List ℕ) (said : L) → line_of text ≡ Some said → Says text said
   pub grows : (state next : S) (said : L) → place state said ≡ Some next → lines next ≡ lines state ++ said ∷ []
 
-same_after : {S B : Type 0} (r : Option S) (f g : S → Option B) → ((s : S) → f s ≡ g s) → option_and_then f r ≡ option_and_then g r
-same_after None f g same = refl
-same_after (Some s) f g same = same s
-
 -- Reading texts is placing what they say.
 pub run-with_text : {S L : Type 0} (line_of : List ℕ → Option L) (place : S → L → Option S) (Says : List ℕ → L → Type 0) (lines : S → List L) → Spells line_of place Says lines
     → (state : S) (texts : List (List ℕ)) (said : List L) → AllZip Says texts said → run (with_text line_of place) state texts ≡ run place state said
@@ -96,11 +100,6 @@ run-with_text line_of place Says lines spells state [] (l ∷ said) say = absurd
 run-with_text line_of place Says lines spells state (text ∷ texts) [] say = absurd say
 run-with_text line_of place Says lines spells state (text ∷ texts) (l ∷ said) say =
     rw (spells.again text l say.0) (same_after (place state l) (λ next. run (with_text line_of place) next texts) (λ next. run place next said) (λ next. run-with_text line_of place Says lines spells next texts said say.1))
-
--- The value of a first step that a second step followed.
-pub and_then_some : {A B : Type 0} (r : Option A) (f : A → Option B) (y : B) → option_and_then f r ≡ Some y → (x : A) × (r ≡ Some x) × (f x ≡ Some y)
-and_then_some None f y e = cc
-and_then_some (Some x) f y e = (x, refl, e)
 
 -- What was read says the lines that the state has gained.
 pub said_by_run : {S L : Type 0} (line_of : List ℕ → Option L) (place : S → L → Option S) (Says : List ℕ → L → Type 0) (lines : S → List L) → Spells line_of place Says lines

@@ -5,8 +5,8 @@ use Rattle.std.specs.List.{cons_option, enumerate_from, filter_map}
 use Rattle.std.proofs.lemmas.List.{take_all, take_more}
 use Rattle.std.proofs.lemmas.List.Elements.{filter_map-append}
 use Rattle.std.proofs.lemmas.List.FromFn.{length-enumerate_from, get_or-enumerate_from}
-use Rattle.chooser.proofs.Options.{option_map-Some}
-use Rattle.chooser.proofs.Lists.{StandsIn}
+use Rattle.common.proofs.Options.{option_map-Some}
+use Rattle.common.proofs.Lists.{StandsIn}
 
 -- a list of one element or none
 cons_option-nil : {Y : Type 0} (o : Option Y) → cons_option o [] ≡ option_to_list o
