@@ -8,12 +8,8 @@ use Rattle.std.proofs.lemmas.Option.{slice_get_past, slice_get_within, get_or_fr
 use Rattle.certificate.specs.declared.table.Table.{Table}
 use Rattle.certificate.specs.declared.report.Refusal.{Refusal}
 use Rattle.certificate.specs.declared.report.Report.{Report}
-use Rattle.certificate.specs.Rightness.{taken_in, is_requested, has_request, once_if}
-use Rattle.certificate.proofs.Lists.{Passes-from_count_by}
-
--- the request of image j is taken or refused once, or there is none and it is neither
-abbrev pub IsDecidedOnce : Table → Report → ℕ → Type 0
-IsDecidedOnce table report j = count_by (λ refusal. refusal.image == j) report.refusals.items + once_if (taken_in report j) ≡ once_if (has_request table j)
+use Rattle.certificate.specs.Rightness.{taken_in, is_requested, has_request, once_if, IsDecidedOnce}
+use Rattle.common.proofs.Lists.{Passes-from_count_by}
 
 module _ (table : Table) (report : Report) (count : ℕ) (in_table : length table.images.items ≤ count) (in_report : length report.images.items ≤ count) where
   -- nothing is taken past the last image

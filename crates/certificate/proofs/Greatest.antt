@@ -16,25 +16,20 @@ use Rattle.certificate.specs.declared.report.Reason.{Reason}
 use Rattle.certificate.specs.declared.report.Reason.TheVariants.{Damaged, Older, Counter, NoSuchImage, Needs}
 use Rattle.certificate.specs.declared.report.Refusal.{Refusal}
 use Rattle.certificate.specs.declared.report.Report.{Report}
-use Rattle.certificate.specs.Combination.{image_at, intact_entry, entry_in, is_met, IsValid, IsGreatest}
-use Rattle.certificate.specs.Reasons.{is_refused, best_version, is_out_of_reach, RequestMeets, ReasonHolds, IsFounded}
-use Rattle.certificate.specs.Rightness.{IsRight, taken_in, is_requested, has_request, once_if}
-use Rattle.certificate.proofs.Lists.{Passes-from_list_any, Passes-from_count_by, IfSome-from_list_all, slice_get-take}
-use Rattle.certificate.proofs.Options.{IsSomeAnd-at, option_map_or-true, option_map_or-at}
+use Rattle.certificate.specs.Combination.{image_at, intact_entry, entry_in, is_met, RequestMeets, IsValid, IsGreatest}
+use Rattle.certificate.specs.Reasons.{is_refused, best_version, is_out_of_reach, ReasonHolds, IsFounded}
+use Rattle.certificate.specs.Rightness.{IsRight, taken_in, has_request, once_if}
+use Rattle.common.proofs.Lists.{Passes-from_list_any, Passes-from_count_by, IfSome-from_list_all, slice_get-take}
+use Rattle.common.proofs.Options.{IsSomeAnd-at, option_map_or-true, option_map_or-at}
 use Rattle.version_order.proofs.OrderLaws.{IsAtLeast_trans}
 use Rattle.certificate.proofs.BestVersion.{best-at_least}
 use Rattle.certificate.proofs.Members.{IsMember, IsMember-from_valid}
+use Rattle.certificate.proofs.Requests.{has_request-intact}
 
 -- a dependency that a list meets, at its place
 passes_where_contained : {X : Type 0} (p : X → Bool) (xs : List X) (x : X) → list_all p xs ≡ true → Contains xs x → p x ≡ true
 passes_where_contained p xs x all (k, within, is) =
     MatchOption-at_some ⊤ _ x (slice_get-get_or xs k x within ∙ ap Some is) (IfSome-from_list_all p xs k all)
-
--- an intact request is a request
-is_requested-intact : (asked : Request) (entry : Entry) → intact_entry asked ≡ Some entry → is_requested asked ≡ true
-is_requested-intact request.None entry is = absurd (none-some entry is)
-is_requested-intact request.Damaged entry is = absurd (none-some entry is)
-is_requested-intact (request.Entry intact) entry is = refl
 
 module _ (table : Table) (other : ℕ → Bool) (valid : IsValid table other) where
   -- what a member needs is within reach, where no member is refused
@@ -97,7 +92,7 @@ module _ (table : Table) (other : ℕ → Bool) (valid : IsValid table other) wh
   has_request-member : (j : ℕ) → other j ≡ true → has_request table j ≡ true
   has_request-member j member =
       let (image, entry, is) = IsMember-from_valid table other valid j member in
-      ap (λ found. option_map_or (λ im. is_requested im.request) found false) is.has_image ∙ is_requested-intact image.request entry is.has_entry
+      has_request-intact table j image entry is.has_image is.has_entry
 
   -- each member is taken
   taken_in-member : (report : Report) → IsRight table report → (j : ℕ) → other j ≡ true → taken_in report j ≡ true

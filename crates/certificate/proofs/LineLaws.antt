@@ -6,6 +6,7 @@ use Rattle.std.proofs.lemmas.Slice.Eq.{bytes_eq-Decides}
 use Rattle.std.proofs.lemmas.Option.{option_and_then_some, none-some, same_Some}
 use Rattle.version_order.specs.declared.version.Version.{Version}
 use Rattle.version_order.specs.declared.dependency.Dependency.{Dependency}
+use Rattle.common.specs.Lines.{◌␣◌}
 use Rattle.common.specs.Ascii.{number_of, number_below, cut, LacksByte}
 use Rattle.version_order.specs.VersionText.{IsVersionText, version_of, version_text}
 use Rattle.common.proofs.AsciiLaws.{number_of-decimal, number_of-spelled, number_below-decimal, number_below-spelled, LacksByte-decimal, LacksByte-append, cut-found, cut-parts}
@@ -17,7 +18,7 @@ use Rattle.certificate.specs.declared.report_line.ReportLine.{ReportLine}
 use Rattle.certificate.specs.declared.report_line.ReportLine.TheVariants as report_line
 use Rattle.certificate.specs.declared.table_line.TableLine.{TableLine}
 use Rattle.certificate.specs.declared.table_line.TableLine.TheVariants as table_line
-use Rattle.certificate.specs.TableText.{FitsTableLine, ◌␣◌, table_line_text, IsTableLineText}
+use Rattle.certificate.specs.TableText.{FitsTableLine, table_line_text, IsTableLineText}
 use Rattle.certificate.specs.ReportText.{FitsReason, FitsReportLine, reason_text, report_line_text, IsReasonText, IsReportLineText}
 use Rattle.certificate.specs.LineReading.{image_and_version_of, image_line_of, needs_line_of, request_line_of, table_line_at, table_line_of, run_line_of, take_line_of, reason_at, reason_of, refuse_line_of, report_line_at, report_line_of}
 
@@ -219,6 +220,13 @@ table_line_text-said (table_line.Needs dependency) (small, fits) = (small, versi
 table_line_text-said (table_line.Request version counter) (fits, counter_fits) = (counter_fits, version_text version, (fits, inl refl), refl)
 table_line_text-said table_line.Damaged fits = refl
 
+-- What a line says fits its fields.
+pub FitsTableLine-from_text : (text : List ℕ) (said : TableLine) → IsTableLineText text said → FitsTableLine said
+FitsTableLine-from_text text (table_line.Image number version counter floor) (small, counter_fits, floor_fits, spelled, says, is) = (small, says.0, counter_fits, floor_fits)
+FitsTableLine-from_text text (table_line.Needs dependency) (small, spelled, says, is) = (small, says.0)
+FitsTableLine-from_text text (table_line.Request version counter) (counter_fits, spelled, says, is) = (says.0, counter_fits)
+FitsTableLine-from_text text table_line.Damaged is = tt
+
 -- ---- lines of a report
 
 -- The fields of each line and reason are read.
@@ -398,3 +406,16 @@ pub report_line_text-said : (said : ReportLine) → FitsReportLine said → IsRe
 report_line_text-said (report_line.Run number version) (small, fits) = (small, version_text version, (fits, inl refl), refl)
 report_line_text-said (report_line.Take number version) (small, fits) = (small, version_text version, (fits, inl refl), refl)
 report_line_text-said (report_line.Refuse refusal) (small, fits) = (small, reason_text refusal.reason, reason_text-said refusal.reason fits, refl)
+
+-- What a reason says fits its fields, and what a line says.
+FitsReason-from_text : (text : List ℕ) (reason : Reason) → IsReasonText text reason → FitsReason reason
+FitsReason-from_text text Damaged is = tt
+FitsReason-from_text text Older is = tt
+FitsReason-from_text text Counter is = tt
+FitsReason-from_text text (NoSuchImage image) (small, is) = small
+FitsReason-from_text text (Needs image minimum) (small, spelled, says, is) = (small, says.0)
+
+pub FitsReportLine-from_text : (text : List ℕ) (said : ReportLine) → IsReportLineText text said → FitsReportLine said
+FitsReportLine-from_text text (report_line.Run number version) (small, spelled, says, is) = (small, says.0)
+FitsReportLine-from_text text (report_line.Take number version) (small, spelled, says, is) = (small, says.0)
+FitsReportLine-from_text text (report_line.Refuse refusal) (small, reason, says, is) = (small, FitsReason-from_text reason refusal.reason says)

@@ -9,7 +9,7 @@ use Rattle.certificate.specs.declared.table.Entry.{Entry}
 use Rattle.certificate.specs.declared.table.Image.{Image}
 use Rattle.certificate.specs.declared.table.Table.{Table}
 use Rattle.certificate.specs.Combination.{image_at, intact_entry, entry_in, is_met, IsValid}
-use Rattle.certificate.proofs.Options.{opened}
+use Rattle.common.proofs.Options.{opened}
 
 -- image j with its requested entry, as a member of a valid combination has them
 pub record IsMember (table : Table) (taken : ℕ → Bool) (j : ℕ) (image : Image) (entry : Entry) : Type 0 where
@@ -20,7 +20,7 @@ pub record IsMember (table : Table) (taken : ℕ → Bool) (j : ℕ) (image : Im
   pub met : list_all (is_met table taken) entry.dependencies.items ≡ true
 
 -- what a member contributes is its requested entry
-entry_in-member : (image : Image) (entry : Entry) (is_member : Bool) → is_member ≡ true → intact_entry image.request ≡ Some entry → entry_in image is_member ≡ entry
+pub entry_in-member : (image : Image) (entry : Entry) (is_member : Bool) → is_member ≡ true → intact_entry image.request ≡ Some entry → entry_in image is_member ≡ entry
 entry_in-member image entry is_member member has_entry =
     cond-true is_member _ _ member ∙ ap (λ requested. unwrap_or requested image.running) has_entry
 

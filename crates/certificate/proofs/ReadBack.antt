@@ -1,16 +1,10 @@
 -- What is printed is the text of what was printed.
-use Rattle.std.proofs.Common.{◌≡◌, ℕ, List, [], ◌∷◌, ◌++◌, map, refl, sym, ap, ◌∙◌}
-use Rattle.std.specs.List.{AllByRecursion, AllZip, flat_map}
-use Rattle.std.proofs.lemmas.List.{append-nil}
-use Rattle.std.proofs.lemmas.List.Concat.{flat_map-cons}
-use Rattle.common.specs.Ascii.{LacksByte}
+use Rattle.common.proofs.Printed.{lines_of-printed}
 use Rattle.certificate.specs.declared.table.Table.{Table}
 use Rattle.certificate.specs.declared.report.Report.{Report}
-use Rattle.common.specs.Lines.{lines_of, text_of_lines}
 use Rattle.certificate.specs.TableText.{table_lines, table_line_text, table_text, FitsTable, FitsTableLine, IsTableLineText, IsTableText}
 use Rattle.certificate.specs.ReportText.{report_lines, report_line_text, report_text, FitsReport, FitsReportLine, IsReportLineText, IsReportText}
 use Rattle.certificate.proofs.LineLaws.{table_line_text-said, LacksByte-table_line, report_line_text-said, LacksByte-report_line}
-use Rattle.common.proofs.LinesLaws.{AreLines, lines_of-text_of_lines}
 
 -- A printed table is a text of the table.
 pub printed_table_is_text : (table : Table) → FitsTable table → IsTableText (table_text table) table

@@ -1,18 +1,21 @@
 -- Reading a report line by line gives what the lines say, and all of it.
 use Rattle.std.proofs.Common.{◌≡◌, ℕ, suc, ◌+◌, ◌<◌, ◌≤◌, Bool, true, false, eqb, ltb, ◌&&◌, List, [], ◌∷◌, ◌++◌, length, map, Option, Some, refl, sym, ap, ◌∙◌, append_assoc, length-append, arith, add-zero, zero-add, ◌⊎◌, inl, inr}
 use Rattle.std.proofs.lemmas.List.{append-nil, map-append, nil_from_length}
-use Rattle.std.proofs.lemmas.Bool.{eqb-true, ltb-true, lt-ltb, eq-eqb}
+use Rattle.std.proofs.lemmas.Bool.{and_parts, eqb-true, ltb-true, lt-ltb, eq-eqb}
+use Rattle.std.proofs.lemmas.Option.{cond_some}
+use Rattle.common.specs.declared.limits.TheConstants.{MOST_IMAGES}
 use Rattle.version_order.specs.declared.version.Version.{Version}
+use Rattle.certificate.specs.declared.report.TheConstants.{MOST_REFUSALS}
 use Rattle.certificate.specs.declared.report.Refusal.{Refusal}
 use Rattle.certificate.specs.declared.report.ReportedImage.{ReportedImage}
 use Rattle.certificate.specs.declared.report.Report.{Report}
 use Rattle.certificate.specs.declared.report_line.ReportLine.{ReportLine}
 use Rattle.certificate.specs.declared.report_line.ReportLine.TheVariants as line
-use Rattle.certificate.specs.Reading.{with_text}
+use Rattle.common.specs.Reading.{with_text}
 use Rattle.certificate.specs.ReportText.{reported_line, reported_lines, report_lines}
 use Rattle.certificate.specs.ReportReading.{empty_report, with_reported_image, with_refusal, with_report_line}
-use Rattle.certificate.proofs.ReadingLaws.{run, and_then_some}
-use Rattle.certificate.proofs.TableLaws.{guarded, both}
+use Rattle.common.proofs.Options.{and_then_some}
+use Rattle.common.proofs.ReadingLaws.{run}
 
 abbrev refuse_line : Refusal → ReportLine
 refuse_line refusal = line.Refuse refusal
@@ -28,20 +31,20 @@ reported_lines-append n (x ∷ xs) ys =
 
 -- What let one more image in.
 with_reported_image-some : (report next : Report) (number : ℕ) (image : ReportedImage) → with_reported_image report number image ≡ Some next
-    → (report.refusals.items ≡ []) × (number ≡ length report.images.items) × (length report.images.items < 8) × (record report { images = record { items = report.images.items ++ image ∷ [] } } ≡ next)
+    → (report.refusals.items ≡ []) × (number ≡ length report.images.items) × (length report.images.items < MOST_IMAGES) × (record report { images = record { items = report.images.items ++ image ∷ [] } } ≡ next)
 with_reported_image-some report next number image e =
     let counts = eqb number (length report.images.items) in
-    let room = ltb (length report.images.items) 8 in
-    let g = guarded (eqb (length report.refusals.items) 0 && (counts && room)) (record report { images = record { items = report.images.items ++ image ∷ [] } }) next e in
-    let a = both (eqb (length report.refusals.items) 0) (counts && room) g.0 in
-    let b = both counts room a.1 in
+    let room = ltb (length report.images.items) MOST_IMAGES in
+    let g = cond_some (eqb (length report.refusals.items) 0 && (counts && room)) (record report { images = record { items = report.images.items ++ image ∷ [] } }) next e in
+    let a = and_parts (eqb (length report.refusals.items) 0) (counts && room) g.0 in
+    let b = and_parts counts room a.1 in
     (nil_from_length report.refusals.items (eqb-true _ _ a.0), eqb-true _ _ b.0, ltb-true _ _ b.1, g.1)
 
 with_refusal-some : (report next : Report) (refusal : Refusal) → with_refusal report refusal ≡ Some next
-    → (0 < length report.images.items) × (length report.refusals.items < 8) × (record report { refusals = record { items = report.refusals.items ++ refusal ∷ [] } } ≡ next)
+    → (0 < length report.images.items) × (length report.refusals.items < MOST_REFUSALS) × (record report { refusals = record { items = report.refusals.items ++ refusal ∷ [] } } ≡ next)
 with_refusal-some report next refusal e =
-    let g = guarded (ltb 0 (length report.images.items) && ltb (length report.refusals.items) 8) (record report { refusals = record { items = report.refusals.items ++ refusal ∷ [] } }) next e in
-    let a = both (ltb 0 (length report.images.items)) (ltb (length report.refusals.items) 8) g.0 in
+    let g = cond_some (ltb 0 (length report.images.items) && ltb (length report.refusals.items) MOST_REFUSALS) (record report { refusals = record { items = report.refusals.items ++ refusal ∷ [] } }) next e in
+    let a = and_parts (ltb 0 (length report.images.items)) (ltb (length report.refusals.items) MOST_REFUSALS) g.0 in
     (ltb-true _ _ a.0, ltb-true _ _ a.1, g.1)
 
 report_lines-image : (report next : Report) (number : ℕ) (image : ReportedImage) → with_reported_image report number image ≡ Some next → report_lines next ≡ report_lines report ++ reported_line number image ∷ []
@@ -65,8 +68,8 @@ report_lines-grow report next (line.Refuse refusal) e =
 
 -- At most eight images and eight refusals.
 pub record IsShort (report : Report) : Type 0 where
-  pub images : length report.images.items ≤ 8
-  pub refusals : length report.refusals.items ≤ 8
+  pub images : length report.images.items ≤ MOST_IMAGES
+  pub refusals : length report.refusals.items ≤ MOST_REFUSALS
 
 IsShort-image : (report next : Report) (number : ℕ) (image : ReportedImage) → with_reported_image report number image ≡ Some next → IsShort report → IsShort next
 IsShort-image report next number image e short =
@@ -94,16 +97,16 @@ IsShort-run line_of report final (text ∷ texts) e short =
 abbrev of_lists : List ReportedImage → List Refusal → Report
 of_lists images refusals = record { images = record { items = images }; refusals = record { items = refusals } }
 
-placed-image : (front : List ReportedImage) (image : ReportedImage) → length front < 8 → with_reported_image (of_lists front []) (length front) image ≡ Some (of_lists (front ++ image ∷ []) [])
-placed-image front image room = rw (eq-eqb (length front) (length front) refl, lt-ltb (length front) 8 room) refl
+placed-image : (front : List ReportedImage) (image : ReportedImage) → length front < MOST_IMAGES → with_reported_image (of_lists front []) (length front) image ≡ Some (of_lists (front ++ image ∷ []) [])
+placed-image front image room = rw (eq-eqb (length front) (length front) refl, lt-ltb (length front) MOST_IMAGES room) refl
 
-placed-reported_line : (front : List ReportedImage) (is_taken : Bool) (version : Version) → length front < 8
+placed-reported_line : (front : List ReportedImage) (is_taken : Bool) (version : Version) → length front < MOST_IMAGES
     → with_report_line (of_lists front []) (reported_line (length front) (record { is_taken = is_taken; version = version })) ≡ Some (of_lists (front ++ record { is_taken = is_taken; version = version } ∷ []) [])
 unfolding with_report_line
 placed-reported_line front true version room = placed-image front (record { is_taken = true; version = version }) room
 placed-reported_line front false version room = placed-image front (record { is_taken = false; version = version }) room
 
-run-reported_lines : (front images : List ReportedImage) (rest : List ReportLine) → length front + length images ≤ 8
+run-reported_lines : (front images : List ReportedImage) (rest : List ReportLine) → length front + length images ≤ MOST_IMAGES
     → run with_report_line (of_lists front []) (reported_lines (length front) images ++ rest) ≡ run with_report_line (of_lists (front ++ images) []) rest
 run-reported_lines front [] rest room = ap (λ (xs : List ReportedImage). run with_report_line (of_lists xs []) rest) (sym (append-nil front))
 run-reported_lines front (image ∷ images) rest room =
@@ -112,11 +115,11 @@ run-reported_lines front (image ∷ images) rest room =
     let others = run-reported_lines (front ++ image ∷ []) images rest (omega arith) in
     rw first ((rw more at others) ∙ ap (λ (xs : List ReportedImage). run with_report_line (of_lists xs []) rest) (append_assoc front (image ∷ []) images))
 
-placed-refusal : (images : List ReportedImage) (front : List Refusal) (refusal : Refusal) → 1 ≤ length images → length front < 8 → with_report_line (of_lists images front) (refuse_line refusal) ≡ Some (of_lists images (front ++ refusal ∷ []))
+placed-refusal : (images : List ReportedImage) (front : List Refusal) (refusal : Refusal) → 1 ≤ length images → length front < MOST_REFUSALS → with_report_line (of_lists images front) (refuse_line refusal) ≡ Some (of_lists images (front ++ refusal ∷ []))
 unfolding with_report_line
-placed-refusal images front refusal some room = rw (lt-ltb 0 (length images) (omega arith), lt-ltb (length front) 8 room) refl
+placed-refusal images front refusal some room = rw (lt-ltb 0 (length images) (omega arith), lt-ltb (length front) MOST_REFUSALS room) refl
 
-run-refusals : (images : List ReportedImage) (front refusals : List Refusal) → 1 ≤ length images → length front + length refusals ≤ 8
+run-refusals : (images : List ReportedImage) (front refusals : List Refusal) → 1 ≤ length images → length front + length refusals ≤ MOST_REFUSALS
     → run with_report_line (of_lists images front) (map refuse_line refusals) ≡ Some (of_lists images (front ++ refusals))
 run-refusals images front [] some room = ap (λ (rs : List Refusal). Some (of_lists images rs)) (sym (append-nil front))
 run-refusals images front (refusal ∷ refusals) some room =

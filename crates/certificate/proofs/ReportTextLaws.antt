@@ -9,40 +9,47 @@ use Rattle.certificate.specs.declared.report_line.ReportLine.{ReportLine}
 use Rattle.certificate.specs.declared.report_line.ReportLine.TheVariants as line
 use Rattle.certificate.specs.LineReading.{report_line_of}
 use Rattle.common.specs.Lines.{lines_of, text_of_lines, Begins, IsFirstBadLine}
-use Rattle.certificate.specs.Reading.{read_lines, with_text}
-use Rattle.certificate.specs.ReportText.{report_lines, report_line_text, IsReportLineText, IsReportText, IsSomeReport}
-use Rattle.certificate.specs.ReportReading.{empty_report, with_report_line}
-use Rattle.certificate.proofs.LineLaws.{report_line_of-text, report_line_of-spelled, LacksByte-report_line}
+use Rattle.common.specs.Reading.{read_lines}
+use Rattle.certificate.specs.ReportText.{report_lines, report_line_text, FitsReport, FitsReportLine, IsReportLineText, IsReportText, IsSomeReport}
+use Rattle.certificate.specs.ReportReading.{empty_report, with_report_line, with_text_of_report}
+use Rattle.certificate.proofs.LineLaws.{report_line_of-text, report_line_of-spelled, FitsReportLine-from_text, LacksByte-report_line}
+use Rattle.common.proofs.Lists.{AllByRecursion-from_AllZip}
 use Rattle.common.proofs.LinesLaws.{AreLines, lines_of-text_of_lines}
-use Rattle.certificate.proofs.ReadingLaws.{run, Spells, run-with_text, said_by_run, read_lines-ok, read_lines-run, IsFirstBadLine-stops}
+use Rattle.common.proofs.ReadingLaws.{run, Spells, run-with_text, said_by_run, read_lines-ok, read_lines-run, IsFirstBadLine-stops}
 use Rattle.certificate.proofs.ReportLaws.{report_lines-grow, IsShort, IsShort-run, run-report_lines, has_image_after}
-
-abbrev pub place_text : Report → List ℕ → Option Report
-place_text = with_text report_line_of with_report_line
 
 -- Lines of text tell lines of a report.
 spells : Spells report_line_of with_report_line IsReportLineText report_lines
 spells = record { again = report_line_of-text; spelled = report_line_of-spelled; grows = report_lines-grow }
 
 -- Lines that say the lines of a report give it.
-run-text : (bytes : List ℕ) (report : Report) → IsReportText bytes report → run place_text empty_report (lines_of bytes) ≡ Some report
+run-text : (bytes : List ℕ) (report : Report) → IsReportText bytes report → run with_text_of_report empty_report (lines_of bytes) ≡ Some report
 run-text bytes report is = run-with_text report_line_of with_report_line IsReportLineText report_lines spells empty_report (lines_of bytes) (report_lines report) is.lines ∙ run-report_lines report is.some (record { images = is.most; refusals = is.few })
 
 -- What was read is spelled by the lines.
-said_lines : (texts : List (List ℕ)) (report : Report) → run place_text empty_report texts ≡ Some report → AllZip IsReportLineText texts (report_lines report) × IsShort report
+said_lines : (texts : List (List ℕ)) (report : Report) → run with_text_of_report empty_report texts ≡ Some report → AllZip IsReportLineText texts (report_lines report) × IsShort report
 said_lines texts report read =
     let said = said_by_run report_line_of with_report_line IsReportLineText report_lines spells empty_report report texts read in
     (rw said.1 said.2, IsShort-run report_line_of empty_report report texts read (record { images = omega arith; refusals = omega arith }))
 
 -- What is read, and has an image, is spelled so.
-pub IsReportText-read : (bytes : List ℕ) (report : Report) → read_lines place_text empty_report 1 (lines_of bytes) ≡ Ok report → 1 ≤ length report.images.items → IsReportText bytes report
+pub IsReportText-read : (bytes : List ℕ) (report : Report) → read_lines with_text_of_report empty_report 1 (lines_of bytes) ≡ Ok report → 1 ≤ length report.images.items → IsReportText bytes report
 IsReportText-read bytes report read some =
-    let said = said_lines (lines_of bytes) report (read_lines-ok place_text empty_report report 1 (lines_of bytes) read) in
+    let said = said_lines (lines_of bytes) report (read_lines-ok with_text_of_report empty_report report 1 (lines_of bytes) read) in
     record { some = some; most = said.1.images; few = said.1.refusals; lines = said.0 }
 
+-- What is spelled so fits its fields.
+pub FitsReport-from_text : (bytes : List ℕ) (report : Report) → IsReportText bytes report → FitsReport report
+FitsReport-from_text bytes report is = record {
+  some = is.some;
+  most = is.most;
+  few = is.few;
+  fields = AllByRecursion-from_AllZip IsReportLineText FitsReportLine FitsReportLine-from_text (lines_of bytes) (report_lines report) is.lines;
+}
+
 -- What is spelled so is read.
-pub read_lines-report : (bytes : List ℕ) (report : Report) → IsReportText bytes report → read_lines place_text empty_report 1 (lines_of bytes) ≡ Ok report
-read_lines-report bytes report spelled = read_lines-run place_text empty_report report 1 (lines_of bytes) (run-text bytes report spelled)
+pub read_lines-report : (bytes : List ℕ) (report : Report) → IsReportText bytes report → read_lines with_text_of_report empty_report 1 (lines_of bytes) ≡ Ok report
+read_lines-report bytes report spelled = read_lines-run with_text_of_report empty_report report 1 (lines_of bytes) (run-text bytes report spelled)
 
 -- The smallest report.
 abbrev first_line : ReportLine
@@ -66,7 +73,7 @@ some_report = (
 )
 
 -- Lines that were read begin a report.
-goes_on : (texts : List (List ℕ)) (report : Report) → AreLines texts → run place_text empty_report texts ≡ Some report → Begins IsSomeReport texts
+goes_on : (texts : List (List ℕ)) (report : Report) → AreLines texts → run with_text_of_report empty_report texts ≡ Some report → Begins IsSomeReport texts
 goes_on [] report lack read = (text_of_lines (report_line_text first_line ∷ []) ++ [], some_report)
 goes_on (text ∷ texts) report lack read =
     let said = said_lines (text ∷ texts) report read in
@@ -84,13 +91,13 @@ goes_on (text ∷ texts) report lack read =
     )
 
 -- The line at which reading stops is the first that no report goes on from.
-pub IsFirstBadLine-report : (bytes : List ℕ) (n : ℕ) → read_lines place_text empty_report 1 (lines_of bytes) ≡ Err n → IsFirstBadLine IsSomeReport bytes n
-IsFirstBadLine-report bytes n failed = IsFirstBadLine-stops IsSomeReport place_text empty_report (λ text is. (is.0, run-text text is.0 is.1)) goes_on bytes n failed
+pub IsFirstBadLine-report : (bytes : List ℕ) (n : ℕ) → read_lines with_text_of_report empty_report 1 (lines_of bytes) ≡ Err n → IsFirstBadLine IsSomeReport bytes n
+IsFirstBadLine-report bytes n failed = IsFirstBadLine-stops IsSomeReport with_text_of_report empty_report (λ text is. (is.0, run-text text is.0 is.1)) goes_on bytes n failed
 
 -- Where no image was read there are no lines.
-pub lines_of-no_report : (bytes : List ℕ) (report : Report) → read_lines place_text empty_report 1 (lines_of bytes) ≡ Ok report → report.images.items ≡ [] → lines_of bytes ≡ []
-lines_of-no_report bytes report read none = no_lines (lines_of bytes) (read_lines-ok place_text empty_report report 1 (lines_of bytes) read) where
-  no_lines : (texts : List (List ℕ)) → run place_text empty_report texts ≡ Some report → texts ≡ []
+pub lines_of-no_report : (bytes : List ℕ) (report : Report) → read_lines with_text_of_report empty_report 1 (lines_of bytes) ≡ Ok report → report.images.items ≡ [] → lines_of bytes ≡ []
+lines_of-no_report bytes report read none = no_lines (lines_of bytes) (read_lines-ok with_text_of_report empty_report report 1 (lines_of bytes) read) where
+  no_lines : (texts : List (List ℕ)) → run with_text_of_report empty_report texts ≡ Some report → texts ≡ []
   no_lines [] done = refl
   no_lines (text ∷ texts) done =
       let some = has_image_after report_line_of empty_report report (text ∷ texts) done (inl (omega arith)) in

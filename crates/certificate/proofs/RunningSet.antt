@@ -4,7 +4,7 @@ use Rattle.std.specs.List.{list_all}
 use Rattle.std.proofs.lemmas.Bool.{false≢true}
 use Rattle.certificate.specs.declared.table.Table.{Table}
 use Rattle.certificate.specs.Combination.{IsValid, is_met, running_set}
-use Rattle.certificate.proofs.Lists.{IfSome-from_list_all, list_all-from_IfSome}
+use Rattle.common.proofs.Lists.{IfSome-from_list_all, list_all-from_IfSome}
 
 -- whether all dependencies of all running images are met by what runs
 abbrev pub running_images_fit : Table → Bool

@@ -1,35 +1,21 @@
 -- Reading a table line by line gives what the lines say, and all of it.
 use Rattle.std.proofs.Common.{◌≡◌, ℕ, suc, ◌+◌, ◌<◌, Bool, true, false, cond, eqb, ltb, ◌&&◌, List, [], ◌∷◌, ◌++◌, length, Option, Some, None, refl, sym, ap, ◌∙◌, append_assoc, arith}
-use Rattle.std.specs.Prelude.{option_map}
 use Rattle.std.proofs.lemmas.List.{append-nil, map-append}
 use Rattle.std.proofs.Common.{add-zero, zero-add}
-use Rattle.std.proofs.lemmas.Bool.{eqb-true, ltb-true}
+use Rattle.std.proofs.lemmas.Bool.{and_parts, eqb-true, ltb-true}
+use Rattle.std.proofs.lemmas.Option.{cond_some}
+use Rattle.common.proofs.Options.{option_map-Some}
+use Rattle.common.specs.declared.limits.TheConstants.{MOST_DEPENDENCIES, MOST_IMAGES}
 use Rattle.version_order.specs.declared.dependency.Dependency.{Dependency}
 use Rattle.certificate.specs.declared.table.Entry.{Entry}
 use Rattle.certificate.specs.declared.table.Request.{Request}
 use Rattle.certificate.specs.declared.table.Request.TheVariants as request
 use Rattle.certificate.specs.declared.table.Image.{Image}
+use Rattle.certificate.specs.declared.table.Table.{Table}
 use Rattle.certificate.specs.declared.table_line.TableLine.{TableLine}
 use Rattle.certificate.specs.declared.table_line.TableLine.TheVariants as line
 use Rattle.certificate.specs.TableText.{needs_lines, request_lines, image_lines, table_lines}
-use Rattle.certificate.specs.TableReading.{new_entry, with_dependency, with_needs, with_request, with_line, with_line_in_last, with_table_line}
-
--- ---- small tools
-
--- What an option was mapped from.
-pub map_some : {A B : Type 0} (f : A → B) (r : Option A) (y : B) → option_map f r ≡ Some y → (x : A) × (r ≡ Some x) × (f x ≡ y)
-map_some f None y e = cc
-map_some f (Some x) y e = (x, refl, cc)
-
--- A test that let a value through.
-pub guarded : {A : Type 0} (b : Bool) (x y : A) → cond b (Some x) None ≡ Some y → (b ≡ true) × (x ≡ y)
-guarded true x y e = (refl, cc)
-guarded false x y e = cc
-
--- Both tests hold.
-pub both : (a b : Bool) → (a && b) ≡ true → (a ≡ true) × (b ≡ true)
-both true b e = (refl, e)
-both false b e = cc
+use Rattle.certificate.specs.TableReading.{new_entry, with_dependency, with_needs, with_request, with_line, with_line_in_last, with_line_of_images, table_of, with_table_line}
 
 push_nil : {A : Type 0} (xs : List A) (x : A) → (xs ++ x ∷ []) ++ [] ≡ (xs ++ []) ++ x ∷ []
 push_nil xs x = append-nil (xs ++ x ∷ []) ∙ ap (λ (t : List _). t ++ x ∷ []) (sym (append-nil xs))
@@ -47,9 +33,9 @@ table_lines-append n (x ∷ xs) ys =
     ap (λ (ls : List TableLine). image_lines n x ++ ls) (table_lines-append (n + 1) xs ys ∙ ap (λ (k : ℕ). table_lines (n + 1) xs ++ table_lines k ys) e) ∙ simp append_assoc
 
 -- One more dependency, where there is room.
-pub with_dependency-some : (dependency : Dependency) (entry more : Entry) → with_dependency dependency entry ≡ Some more → (length entry.dependencies.items < 16) × (record entry { dependencies = record { items = entry.dependencies.items ++ dependency ∷ [] } } ≡ more)
+pub with_dependency-some : (dependency : Dependency) (entry more : Entry) → with_dependency dependency entry ≡ Some more → (length entry.dependencies.items < MOST_DEPENDENCIES) × (record entry { dependencies = record { items = entry.dependencies.items ++ dependency ∷ [] } } ≡ more)
 with_dependency-some dependency entry more e =
-    let g = guarded (ltb (length entry.dependencies.items) 16) (record entry { dependencies = record { items = entry.dependencies.items ++ dependency ∷ [] } }) more e in
+    let g = cond_some (ltb (length entry.dependencies.items) MOST_DEPENDENCIES) (record entry { dependencies = record { items = entry.dependencies.items ++ dependency ∷ [] } }) more e in
     (ltb-true _ _ g.0, g.1)
 
 needs_lines-push : (dependency : Dependency) (entry more : Entry) → with_dependency dependency entry ≡ Some more → needs_lines more ≡ needs_lines entry ++ line.Needs dependency ∷ []
@@ -59,13 +45,13 @@ needs_lines-push dependency entry more e =
 
 image_lines-needs : (n : ℕ) (image more : Image) (dependency : Dependency) (asked : Request) → image.request ≡ asked → with_needs image dependency asked ≡ Some more → image_lines n more ≡ image_lines n image ++ line.Needs dependency ∷ []
 image_lines-needs n image more dependency request.None is e =
-    let a = map_some (λ entry. record image { running = entry }) (with_dependency dependency image.running) more e in
+    let a = option_map-Some (λ entry. record image { running = entry }) (with_dependency dependency image.running) more e in
     let d = with_dependency-some dependency image.running a.0 a.1 in
     rw (← a.2, ← d.1, is) (ap (λ (ls : List TableLine). line.Image n image.running.version image.running.counter image.floor ∷ ls)
     (ap (λ (ls : List TableLine). ls ++ []) (map-append needs_line image.running.dependencies.items (dependency ∷ [])) ∙ push_nil (needs_lines image.running) (line.Needs dependency)))
 image_lines-needs n image more dependency request.Damaged is e = cc
 image_lines-needs n image more dependency (request.Entry entry) is e =
-    let a = map_some (λ asked. record image { request = request.Entry asked }) (with_dependency dependency entry) more e in
+    let a = option_map-Some (λ asked. record image { request = request.Entry asked }) (with_dependency dependency entry) more e in
     let d = with_dependency-some dependency entry a.0 a.1 in
     rw (← a.2, ← d.1, is) (ap (λ (ls : List TableLine). line.Image n image.running.version image.running.counter image.floor ∷ ls)
     (ap (λ (ls : List TableLine). needs_lines image.running ++ line.Request entry.version entry.counter ∷ ls) (map-append needs_line entry.dependencies.items (dependency ∷ []))
@@ -88,20 +74,25 @@ table_lines-in_last : (n : ℕ) (images next : List Image) (said : TableLine) �
 unfolding with_line_in_last
 table_lines-in_last n [] next said e = cc
 table_lines-in_last n (image ∷ []) next said e =
-    let a = map_some (λ more. more ∷ []) (with_line image said) next e in
+    let a = option_map-Some (λ more. more ∷ []) (with_line image said) next e in
     rw (← a.2) (append-nil (image_lines n a.0) ∙ image_lines-with_line n image a.0 said a.1 ∙ ap (λ (ls : List TableLine). ls ++ said ∷ []) (sym (append-nil (image_lines n image))))
 table_lines-in_last n (image ∷ other ∷ images) next said e =
-    let a = map_some (λ more. image ∷ more) (with_line_in_last (other ∷ images) said) next e in
+    let a = option_map-Some (λ more. image ∷ more) (with_line_in_last (other ∷ images) said) next e in
     rw (← a.2) (ap (λ (ls : List TableLine). image_lines n image ++ ls) (table_lines-in_last (n + 1) (other ∷ images) a.0 said a.1) ∙ sym (append_assoc (image_lines n image) (table_lines (n + 1) (other ∷ images)) (said ∷ [])))
 
 -- One more line that was placed is one more line of what the images spell.
-pub table_lines-grow : (images next : List Image) (said : TableLine) → with_table_line images said ≡ Some next → table_lines 0 next ≡ table_lines 0 images ++ said ∷ []
-unfolding with_table_line
-table_lines-grow images next (line.Image number version counter floor) e =
+images-grow : (images next : List Image) (said : TableLine) → with_line_of_images images said ≡ Some next → table_lines 0 next ≡ table_lines 0 images ++ said ∷ []
+unfolding with_line_of_images
+images-grow images next (line.Image number version counter floor) e =
     let image : Image = record { running = new_entry version counter; request = request.None; floor = floor } in
-    let g = guarded (eqb number (length images) && ltb (length images) 8) (images ++ image ∷ []) next e in
-    let number-is = eqb-true number (length images) (both (eqb number (length images)) (ltb (length images) 8) g.0).0 in
+    let g = cond_some (eqb number (length images) && ltb (length images) MOST_IMAGES) (images ++ image ∷ []) next e in
+    let number-is = eqb-true number (length images) (and_parts (eqb number (length images)) (ltb (length images) MOST_IMAGES) g.0).0 in
     rw (← g.1, number-is) (table_lines-append 0 images (image ∷ []) ∙ ap (λ (n : ℕ). table_lines 0 images ++ table_lines n (image ∷ [])) (zero-add (length images)))
-table_lines-grow images next (line.Needs dependency) e = table_lines-in_last 0 images next (line.Needs dependency) e
-table_lines-grow images next (line.Request version counter) e = table_lines-in_last 0 images next (line.Request version counter) e
-table_lines-grow images next line.Damaged e = table_lines-in_last 0 images next line.Damaged e
+images-grow images next (line.Needs dependency) e = table_lines-in_last 0 images next (line.Needs dependency) e
+images-grow images next (line.Request version counter) e = table_lines-in_last 0 images next (line.Request version counter) e
+images-grow images next line.Damaged e = table_lines-in_last 0 images next line.Damaged e
+
+pub table_lines-grow : (table next : Table) (said : TableLine) → with_table_line table said ≡ Some next → table_lines 0 next.images.items ≡ table_lines 0 table.images.items ++ said ∷ []
+table_lines-grow table next said e =
+    let a = option_map-Some table_of (with_line_of_images table.images.items said) next e in
+    rw (← a.2) (images-grow table.images.items a.0 said a.1)

@@ -1,27 +1,27 @@
 -- What is read keeps the limits of a table.
 use Rattle.std.proofs.Common.{◌≡◌, ℕ, suc, ◌≤◌, eqb, ltb, ◌&&◌, List, [], ◌∷◌, ◌++◌, length, Option, Some, refl, ap, length-append, arith}
 use Rattle.std.specs.List.{AllByRecursion}
-use Rattle.std.proofs.lemmas.Bool.{ltb-true}
+use Rattle.std.proofs.lemmas.Bool.{and_parts, ltb-true}
+use Rattle.std.proofs.lemmas.Option.{cond_some, same_Some}
+use Rattle.common.specs.declared.limits.TheConstants.{MOST_IMAGES}
 use Rattle.version_order.specs.declared.dependency.Dependency.{Dependency}
 use Rattle.certificate.specs.declared.table.Entry.{Entry}
 use Rattle.certificate.specs.declared.table.Request.{Request}
 use Rattle.certificate.specs.declared.table.Request.TheVariants as request
 use Rattle.certificate.specs.declared.table.Image.{Image}
+use Rattle.certificate.specs.declared.table.Table.{Table}
 use Rattle.certificate.specs.declared.table_line.TableLine.{TableLine}
 use Rattle.certificate.specs.declared.table_line.TableLine.TheVariants as line
-use Rattle.certificate.specs.Reading.{with_text}
-use Rattle.certificate.specs.TableText.{HasFewDependencies, AsksForFew}
-use Rattle.certificate.specs.TableReading.{new_entry, with_dependency, with_needs, with_request, with_line, with_line_in_last, with_table_line}
-use Rattle.certificate.proofs.ReadingLaws.{run, and_then_some}
-use Rattle.certificate.proofs.TableLaws.{map_some, guarded, both, with_dependency-some}
-
--- An image of few dependencies.
-abbrev pub IsSmall : Image → Type 0
-IsSmall image = HasFewDependencies image.running × AsksForFew image.request
+use Rattle.common.specs.Reading.{with_text}
+use Rattle.certificate.specs.TableText.{HasFewDependencies, AsksForFew, IsSmall}
+use Rattle.certificate.specs.TableReading.{new_entry, with_dependency, with_needs, with_request, with_line, with_line_in_last, with_line_of_images, table_of, with_table_line}
+use Rattle.common.proofs.Options.{and_then_some, option_map-Some}
+use Rattle.common.proofs.ReadingLaws.{run}
+use Rattle.certificate.proofs.TableLaws.{with_dependency-some}
 
 -- At most eight images of few dependencies.
 pub record AreFew (images : List Image) : Type 0 where
-  pub most : length images ≤ 8
+  pub most : length images ≤ MOST_IMAGES
   pub few : AllByRecursion IsSmall images
 
 few-with_dependency : (dependency : Dependency) (entry more : Entry) → with_dependency dependency entry ≡ Some more → HasFewDependencies more
@@ -31,11 +31,11 @@ few-with_dependency dependency entry more e =
 
 IsSmall-needs : (image more : Image) (dependency : Dependency) (asked : Request) → image.request ≡ asked → with_needs image dependency asked ≡ Some more → IsSmall image → IsSmall more
 IsSmall-needs image more dependency request.None is e small =
-    let a = map_some (λ entry. record image { running = entry }) (with_dependency dependency image.running) more e in
+    let a = option_map-Some (λ entry. record image { running = entry }) (with_dependency dependency image.running) more e in
     rw (← a.2) (few-with_dependency dependency image.running a.0 a.1, small.1)
 IsSmall-needs image more dependency request.Damaged is e small = cc
 IsSmall-needs image more dependency (request.Entry entry) is e small =
-    let a = map_some (λ asked. record image { request = request.Entry asked }) (with_dependency dependency entry) more e in
+    let a = option_map-Some (λ asked. record image { request = request.Entry asked }) (with_dependency dependency entry) more e in
     rw (← a.2) (small.0, few-with_dependency dependency entry a.0 a.1)
 
 IsSmall-request : (image more : Image) (new asked : Request) → AsksForFew new → with_request image new asked ≡ Some more → IsSmall image → IsSmall more
@@ -53,10 +53,10 @@ in_last-keeps : (images next : List Image) (said : TableLine) → with_line_in_l
 unfolding with_line_in_last
 in_last-keeps [] next said e small = cc
 in_last-keeps (image ∷ []) next said e small =
-    let a = map_some (λ more. more ∷ []) (with_line image said) next e in
+    let a = option_map-Some (λ more. more ∷ []) (with_line image said) next e in
     rw (← a.2) (refl, (IsSmall-with_line image a.0 said a.1 small.0, tt))
 in_last-keeps (image ∷ other ∷ images) next said e small =
-    let a = map_some (λ more. image ∷ more) (with_line_in_last (other ∷ images) said) next e in
+    let a = option_map-Some (λ more. image ∷ more) (with_line_in_last (other ∷ images) said) next e in
     let kept = in_last-keeps (other ∷ images) a.0 said a.1 small.1 in
     rw (← a.2) (ap suc kept.0, (small.0, kept.1))
 
@@ -67,21 +67,23 @@ All-push : (images : List Image) (image : Image) → AllByRecursion IsSmall imag
 All-push [] image small one = (one, tt)
 All-push (first ∷ images) image small one = (small.0, All-push images image small.1 one)
 
-AreFew-with_table_line : (images next : List Image) (said : TableLine) → with_table_line images said ≡ Some next → AreFew images → AreFew next
-unfolding with_table_line
-AreFew-with_table_line images next (line.Image number version counter floor) e few =
+AreFew-with_line_of_images : (images next : List Image) (said : TableLine) → with_line_of_images images said ≡ Some next → AreFew images → AreFew next
+unfolding with_line_of_images
+AreFew-with_line_of_images images next (line.Image number version counter floor) e few =
     let image : Image = record { running = new_entry version counter; request = request.None; floor = floor } in
-    let g = guarded (eqb number (length images) && ltb (length images) 8) (images ++ image ∷ []) next e in
-    let room = ltb-true (length images) 8 (both (eqb number (length images)) (ltb (length images) 8) g.0).1 in
+    let g = cond_some (eqb number (length images) && ltb (length images) MOST_IMAGES) (images ++ image ∷ []) next e in
+    let room = ltb-true (length images) MOST_IMAGES (and_parts (eqb number (length images)) (ltb (length images) MOST_IMAGES) g.0).1 in
     rw (← g.1) (record { most = omega (arith, length-append images (image ∷ [])); few = All-push images image few.few (omega arith, tt) })
-AreFew-with_table_line images next (line.Needs dependency) e few = AreFew-in_last images next (line.Needs dependency) e few
-AreFew-with_table_line images next (line.Request version counter) e few = AreFew-in_last images next (line.Request version counter) e few
-AreFew-with_table_line images next line.Damaged e few = AreFew-in_last images next line.Damaged e few
+AreFew-with_line_of_images images next (line.Needs dependency) e few = AreFew-in_last images next (line.Needs dependency) e few
+AreFew-with_line_of_images images next (line.Request version counter) e few = AreFew-in_last images next (line.Request version counter) e few
+AreFew-with_line_of_images images next line.Damaged e few = AreFew-in_last images next line.Damaged e few
 
--- Images that were read keep the limits.
-pub AreFew-run : (line_of : List ℕ → Option TableLine) (images final : List Image) (texts : List (List ℕ)) → run (with_text line_of with_table_line) images texts ≡ Some final → AreFew images → AreFew final
-AreFew-run line_of images final [] e few = let d : images ≡ final = cc in rw (← d) few
-AreFew-run line_of images final (text ∷ texts) e few =
-    let first = and_then_some (with_text line_of with_table_line images text) (λ next. run (with_text line_of with_table_line) next texts) final e in
-    let placed = and_then_some (line_of text) (with_table_line images) first.0 first.1 in
-    AreFew-run line_of first.0 final texts first.2 (AreFew-with_table_line images first.0 placed.0 placed.2 few)
+-- A table that was read keeps the limits.
+pub AreFew-run : (line_of : List ℕ → Option TableLine) (table final : Table) (texts : List (List ℕ)) → run (with_text line_of with_table_line) table texts ≡ Some final → AreFew table.images.items → AreFew final.images.items
+AreFew-run line_of table final [] e few = rw (← same_Some table final e) few
+AreFew-run line_of table final (text ∷ texts) e few =
+    let first = and_then_some (with_text line_of with_table_line table text) (λ next. run (with_text line_of with_table_line) next texts) final e in
+    let placed = and_then_some (line_of text) (with_table_line table) first.0 first.1 in
+    let images = option_map-Some table_of (with_line_of_images table.images.items placed.0) first.0 placed.2 in
+    let next : AreFew first.0.images.items = rw (← images.2) (AreFew-with_line_of_images table.images.items images.0 placed.0 images.1 few) in
+    AreFew-run line_of first.0 final texts first.2 next

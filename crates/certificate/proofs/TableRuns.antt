@@ -5,6 +5,7 @@ use Rattle.std.specs.List.{AllByRecursion}
 use Rattle.std.proofs.Common.{get_or, set, MatchBool}
 use Rattle.std.proofs.lemmas.List.{append-nil}
 use Rattle.std.proofs.lemmas.Bool.{lt-ltb, eq-eqb}
+use Rattle.common.specs.declared.limits.TheConstants.{MOST_DEPENDENCIES, MOST_IMAGES}
 use Rattle.version_order.specs.declared.version.Version.{Version}
 use Rattle.version_order.specs.declared.dependency.Dependency.{Dependency}
 use Rattle.certificate.specs.declared.table.Entry.{Entry}
@@ -13,9 +14,9 @@ use Rattle.certificate.specs.declared.table.Request.TheVariants as request
 use Rattle.certificate.specs.declared.table.Image.{Image}
 use Rattle.certificate.specs.declared.table_line.TableLine.{TableLine}
 use Rattle.certificate.specs.declared.table_line.TableLine.TheVariants as line
-use Rattle.certificate.specs.TableText.{needs_lines, request_lines, image_lines, table_lines, HasFewDependencies, AsksForFew}
-use Rattle.certificate.specs.TableReading.{with_line, with_line_in_last, with_image, with_table_line}
-use Rattle.certificate.proofs.ReadingLaws.{run}
+use Rattle.certificate.specs.TableText.{needs_lines, request_lines, image_lines, table_lines, HasFewDependencies, AsksForFew, IsSmall}
+use Rattle.certificate.specs.TableReading.{with_line, with_line_in_last, with_image, with_line_of_images}
+use Rattle.common.proofs.ReadingLaws.{run}
 
 in_last-cons : (image last : Image) (front : List Image) (said : TableLine) → with_line_in_last (image ∷ (front ++ last ∷ [])) said ≡ option_map (λ more. image ∷ more) (with_line_in_last (front ++ last ∷ []) said)
 unfolding with_line_in_last
@@ -35,15 +36,15 @@ in_last-refused [] last said refused = rw refused refl
 in_last-refused (image ∷ front) last said refused = in_last-cons image last front said ∙ rw (in_last-refused front last said refused) refl
 
 -- Dependencies that the last image takes one by one.
-run-needs : (put : List Dependency → Image) → ((before : List Dependency) (dependency : Dependency) → length before < 16 → with_line (put before) (line.Needs dependency) ≡ Some (put (before ++ dependency ∷ [])))
-    → (front : List Image) (before dependencies : List Dependency) (rest : List TableLine) → length before + length dependencies ≤ 16
-    → run with_table_line (front ++ put before ∷ []) (map (λ dependency. line.Needs dependency) dependencies ++ rest) ≡ run with_table_line (front ++ put (before ++ dependencies) ∷ []) rest
-unfolding with_table_line
-run-needs put takes front before [] rest few = ap (λ (ds : List Dependency). run with_table_line (front ++ put ds ∷ []) rest) (sym (append-nil before))
+run-needs : (put : List Dependency → Image) → ((before : List Dependency) (dependency : Dependency) → length before < MOST_DEPENDENCIES → with_line (put before) (line.Needs dependency) ≡ Some (put (before ++ dependency ∷ [])))
+    → (front : List Image) (before dependencies : List Dependency) (rest : List TableLine) → length before + length dependencies ≤ MOST_DEPENDENCIES
+    → run with_line_of_images (front ++ put before ∷ []) (map (λ dependency. line.Needs dependency) dependencies ++ rest) ≡ run with_line_of_images (front ++ put (before ++ dependencies) ∷ []) rest
+unfolding with_line_of_images
+run-needs put takes front before [] rest few = ap (λ (ds : List Dependency). run with_line_of_images (front ++ put ds ∷ []) rest) (sym (append-nil before))
 run-needs put takes front before (dependency ∷ dependencies) rest few =
     let first : with_line_in_last (front ++ put before ∷ []) (line.Needs dependency) ≡ Some (front ++ put (before ++ dependency ∷ []) ∷ []) = in_last-push front (put before) (put (before ++ dependency ∷ [])) (line.Needs dependency) (takes before dependency (omega arith)) in
     let others = run-needs put takes front (before ++ dependency ∷ []) dependencies rest (omega (arith, length-append before (dependency ∷ []))) in
-    rw first (others ∙ ap (λ (ds : List Dependency). run with_table_line (front ++ put ds ∷ []) rest) (append_assoc before (dependency ∷ []) dependencies))
+    rw first (others ∙ ap (λ (ds : List Dependency). run with_line_of_images (front ++ put ds ∷ []) rest) (append_assoc before (dependency ∷ []) dependencies))
 
 -- An image whose running entry has these dependencies so far, and which has no request yet.
 abbrev running_so_far : Version → ℕ → ℕ → List Dependency → Image
@@ -53,16 +54,16 @@ running_so_far version counter floor dependencies = record { running = record { 
 abbrev request_so_far : Entry → ℕ → Version → ℕ → List Dependency → Image
 request_so_far running floor version counter dependencies = record { running = running; request = request.Entry (record { version = version; counter = counter; dependencies = record { items = dependencies } }); floor = floor }
 
-running-takes : (version : Version) (counter floor : ℕ) (before : List Dependency) (dependency : Dependency) → length before < 16 → with_line (running_so_far version counter floor before) (line.Needs dependency) ≡ Some (running_so_far version counter floor (before ++ dependency ∷ []))
-running-takes version counter floor before dependency few = rw (lt-ltb (length before) 16 few) refl
+running-takes : (version : Version) (counter floor : ℕ) (before : List Dependency) (dependency : Dependency) → length before < MOST_DEPENDENCIES → with_line (running_so_far version counter floor before) (line.Needs dependency) ≡ Some (running_so_far version counter floor (before ++ dependency ∷ []))
+running-takes version counter floor before dependency few = rw (lt-ltb (length before) MOST_DEPENDENCIES few) refl
 
-request-takes : (running : Entry) (floor : ℕ) (version : Version) (counter : ℕ) (before : List Dependency) (dependency : Dependency) → length before < 16 → with_line (request_so_far running floor version counter before) (line.Needs dependency) ≡ Some (request_so_far running floor version counter (before ++ dependency ∷ []))
-request-takes running floor version counter before dependency few = rw (lt-ltb (length before) 16 few) refl
+request-takes : (running : Entry) (floor : ℕ) (version : Version) (counter : ℕ) (before : List Dependency) (dependency : Dependency) → length before < MOST_DEPENDENCIES → with_line (request_so_far running floor version counter before) (line.Needs dependency) ≡ Some (request_so_far running floor version counter (before ++ dependency ∷ []))
+request-takes running floor version counter before dependency few = rw (lt-ltb (length before) MOST_DEPENDENCIES few) refl
 
 -- The lines of what is requested, after those of the running image.
 run-request : (front : List Image) (image : Image) (asked : Request) (rest : List TableLine) → image.request ≡ request.None → AsksForFew asked
-    → run with_table_line (front ++ image ∷ []) (request_lines asked ++ rest) ≡ run with_table_line (front ++ record image { request = asked } ∷ []) rest
-unfolding with_table_line
+    → run with_line_of_images (front ++ image ∷ []) (request_lines asked ++ rest) ≡ run with_line_of_images (front ++ record image { request = asked } ∷ []) rest
+unfolding with_line_of_images
 run-request front image request.None rest none few = let e : record image { request = request.None } ≡ image = ap (λ (r : Request). record image { request = r }) (sym none) in rw e refl
 run-request front image request.Damaged rest none few =
     let first : with_line_in_last (front ++ image ∷ []) line.Damaged ≡ Some (front ++ record image { request = request.Damaged } ∷ []) = in_last-push front image (record image { request = request.Damaged }) line.Damaged (rw none refl) in
@@ -73,19 +74,19 @@ run-request front image (request.Entry entry) rest none few =
     rw first (run-needs (request_so_far image.running image.floor entry.version entry.counter) (request-takes image.running image.floor entry.version entry.counter) front [] entry.dependencies.items rest (omega arith))
 
 -- The lines of one image.
-run-image : (front : List Image) (image : Image) (rest : List TableLine) → length front < 8 → HasFewDependencies image.running → AsksForFew image.request
-    → run with_table_line front (image_lines (length front) image ++ rest) ≡ run with_table_line (front ++ image ∷ []) rest
-unfolding with_table_line
+run-image : (front : List Image) (image : Image) (rest : List TableLine) → length front < MOST_IMAGES → HasFewDependencies image.running → AsksForFew image.request
+    → run with_line_of_images front (image_lines (length front) image ++ rest) ≡ run with_line_of_images (front ++ image ∷ []) rest
+unfolding with_line_of_images
 run-image front image rest room few_running few_request =
     let begun = running_so_far image.running.version image.running.counter image.floor [] in
-    let first : with_image front (length front) begun ≡ Some (front ++ begun ∷ []) = rw (eq-eqb (length front) (length front) refl, lt-ltb (length front) 8 room) refl in
+    let first : with_image front (length front) begun ≡ Some (front ++ begun ∷ []) = rw (eq-eqb (length front) (length front) refl, lt-ltb (length front) MOST_IMAGES room) refl in
     let needs = run-needs (running_so_far image.running.version image.running.counter image.floor) (running-takes image.running.version image.running.counter image.floor) front [] image.running.dependencies.items (request_lines image.request ++ rest) (omega arith) in
     let asked = run-request front (record image { request = request.None }) image.request rest refl few_request in
-    rw first (ap (λ (ls : List TableLine). run with_table_line (front ++ begun ∷ []) ls) (append_assoc (needs_lines image.running) (request_lines image.request) rest) ∙ needs ∙ asked)
+    rw first (ap (λ (ls : List TableLine). run with_line_of_images (front ++ begun ∷ []) ls) (append_assoc (needs_lines image.running) (request_lines image.request) rest) ∙ needs ∙ asked)
 
 -- The lines of images, one image after the other.
-pub run-table_lines : (front images : List Image) → AllByRecursion (λ image. HasFewDependencies image.running × AsksForFew image.request) images → length front + length images ≤ 8
-    → run with_table_line front (table_lines (length front) images) ≡ Some (front ++ images)
+pub run-table_lines : (front images : List Image) → AllByRecursion IsSmall images → length front + length images ≤ MOST_IMAGES
+    → run with_line_of_images front (table_lines (length front) images) ≡ Some (front ++ images)
 run-table_lines front [] few room = ap Some (sym (append-nil front))
 run-table_lines front (image ∷ images) few room =
     let first = run-image front image (table_lines (length front + 1) images) (omega arith) few.0.0 few.0.1 in

@@ -1,7 +1,6 @@
 pub mod Combination
+pub mod DependencyText
 pub mod LineReading
-pub mod Printing
-pub mod Reading
 pub mod Reasons
 pub mod ReportReading
 pub mod ReportText

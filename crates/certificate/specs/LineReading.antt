@@ -57,13 +57,15 @@ request_line_of fields = do
 
 -- The line of a table that begins with this word, with these fields after it.
 abbrev pub table_line_at : List ℕ → List ℕ → Option TableLine
-table_line_at word fields = if bytes_eq word (codes "image") then image_line_of fields
+table_line_at word fields =
+    if bytes_eq word (codes "image") then image_line_of fields
     else (if bytes_eq word (codes "needs") then needs_line_of fields
     else (if bytes_eq word (codes "request") then request_line_of fields else None))
 
 -- The line of a table that a text says.
 unfoldable pub table_line_of : List ℕ → Option TableLine
-table_line_of text = if bytes_eq text (codes "damaged") then Some table_line.Damaged else (do
+table_line_of text =
+    if bytes_eq text (codes "damaged") then Some table_line.Damaged else (do
   let words = cut 32 text
   fields ← words.1
   table_line_at words.0 fields)
@@ -81,12 +83,17 @@ take_line_of fields = do
 
 -- The reason that begins with this word, with these fields after it.
 abbrev pub reason_at : List ℕ → List ℕ → Option Reason
-reason_at word fields = if bytes_eq word (codes "no-such-image") then option_and_then (λ image. Some (NoSuchImage image)) (number_below (2 ^ 8) fields)
-    else (if bytes_eq word (codes "needs") then option_and_then (λ needed. Some (Needs needed.0 needed.1)) (image_and_version_of fields) else None)
+reason_at word fields =
+    if bytes_eq word (codes "no-such-image")
+    then option_and_then (λ image. Some (NoSuchImage image)) (number_below (2 ^ 8) fields)
+    else (if bytes_eq word (codes "needs")
+    then option_and_then (λ needed. Some (Needs needed.0 needed.1)) (image_and_version_of fields)
+    else None)
 
 -- The reason that a text says.
 unfoldable pub reason_of : List ℕ → Option Reason
-reason_of text = if bytes_eq text (codes "damaged") then Some Damaged
+reason_of text =
+    if bytes_eq text (codes "damaged") then Some Damaged
     else (if bytes_eq text (codes "older") then Some Older
     else (if bytes_eq text (codes "counter") then Some Counter else (do
       let words = cut 32 text
@@ -104,7 +111,8 @@ refuse_line_of fields = do
 
 -- The line of a report that begins with this word, with these fields after it.
 abbrev pub report_line_at : List ℕ → List ℕ → Option ReportLine
-report_line_at word fields = if bytes_eq word (codes "run") then run_line_of fields
+report_line_at word fields =
+    if bytes_eq word (codes "run") then run_line_of fields
     else (if bytes_eq word (codes "take") then take_line_of fields
     else (if bytes_eq word (codes "refuse") then refuse_line_of fields else None))
 

@@ -1,11 +1,15 @@
 -- Reading a report line by line: what one more line makes of the lines so far. The reader follows these steps;
 -- what they mean is in `ReportText`.
-use Rattle.std.specs.Prelude.{ℕ, ◌==◌, ◌&&◌, true, false, [], ◌∷◌, ◌++◌, length, Option, Some, None, nat_lt, if◌then◌else◌}
+use Rattle.std.specs.Prelude.{ℕ, ◌==◌, ◌&&◌, true, false, [], ◌∷◌, ◌++◌, List, length, Option, Some, None, nat_lt, if◌then◌else◌}
+use Rattle.common.specs.declared.limits.TheConstants.{MOST_IMAGES}
+use Rattle.common.specs.Reading.{with_text}
+use Rattle.certificate.specs.declared.report.TheConstants.{MOST_REFUSALS}
 use Rattle.certificate.specs.declared.report.Refusal.{Refusal}
 use Rattle.certificate.specs.declared.report.ReportedImage.{ReportedImage}
 use Rattle.certificate.specs.declared.report.Report.{Report}
 use Rattle.certificate.specs.declared.report_line.ReportLine.{ReportLine}
 use Rattle.certificate.specs.declared.report_line.ReportLine.TheVariants as line
+use Rattle.certificate.specs.LineReading.{report_line_of}
 
 -- No line yet.
 abbrev pub empty_report : Report
@@ -14,14 +18,28 @@ empty_report = record { images = record { items = [] }; refusals = record { item
 -- A report with one more image, of at most eight, whose number is the count of those before it, and no refusal
 -- yet.
 abbrev pub with_reported_image : Report → ℕ → ReportedImage → Option Report
-with_reported_image report number image = if (length report.refusals.items == 0) && ((number == length report.images.items) && nat_lt (length report.images.items) 8) then Some (record report { images = record { items = report.images.items ++ image ∷ [] } }) else None
+with_reported_image report number image =
+    if (length report.refusals.items == 0)
+    && ((number == length report.images.items) && nat_lt (length report.images.items) MOST_IMAGES)
+    then Some (record report { images = record { items = report.images.items ++ image ∷ [] } })
+    else None
 
 -- A report of some images with one more refusal, of at most eight.
 abbrev pub with_refusal : Report → Refusal → Option Report
-with_refusal report refusal = if nat_lt 0 (length report.images.items) && nat_lt (length report.refusals.items) 8 then Some (record report { refusals = record { items = report.refusals.items ++ refusal ∷ [] } }) else None
+with_refusal report refusal =
+    if nat_lt 0 (length report.images.items)
+    && nat_lt (length report.refusals.items) MOST_REFUSALS
+    then Some (record report { refusals = record { items = report.refusals.items ++ refusal ∷ [] } })
+    else None
 
 -- A report with what one more line says.
 unfoldable pub with_report_line : Report → ReportLine → Option Report
-with_report_line report (line.Run number version) = with_reported_image report number (record { is_taken = false; version = version })
-with_report_line report (line.Take number version) = with_reported_image report number (record { is_taken = true; version = version })
+with_report_line report (line.Run number version) =
+    with_reported_image report number (record { is_taken = false; version = version })
+with_report_line report (line.Take number version) =
+    with_reported_image report number (record { is_taken = true; version = version })
 with_report_line report (line.Refuse refusal) = with_refusal report refusal
+
+-- A report with what one more line of text says.
+abbrev pub with_text_of_report : Report → List ℕ → Option Report
+with_text_of_report = with_text report_line_of with_report_line

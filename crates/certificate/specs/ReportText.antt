@@ -1,15 +1,18 @@
 -- The text of a report.
 use Rattle.std.specs.Prelude.{◌≡◌, ℕ, ◌+◌, ◌^◌, ◌<◌, ◌≤◌, List, [], ◌∷◌, ◌++◌, length, map, codes, decimal, if◌then◌else◌}
-use Rattle.std.specs.List.{AllByRecursion, AllZip, flat_map}
-use Rattle.version_order.specs.VersionText.{FitsFields, version_text, IsVersionText}
+use Rattle.std.specs.List.{AllByRecursion, AllZip}
+use Rattle.common.specs.declared.limits.TheConstants.{MOST_IMAGES}
+use Rattle.common.specs.Lines.{◌␣◌, lines_of, printed_lines}
+use Rattle.version_order.specs.VersionText.{FitsFields, version_text}
+use Rattle.certificate.specs.declared.report.TheConstants.{MOST_REFUSALS}
+use Rattle.certificate.specs.declared.report.Refusal.{Refusal}
 use Rattle.certificate.specs.declared.report.Reason.{Reason}
 use Rattle.certificate.specs.declared.report.Reason.TheVariants.{Damaged, Older, Counter, NoSuchImage, Needs}
 use Rattle.certificate.specs.declared.report.ReportedImage.{ReportedImage}
 use Rattle.certificate.specs.declared.report.Report.{Report}
 use Rattle.certificate.specs.declared.report_line.ReportLine.{ReportLine}
 use Rattle.certificate.specs.declared.report_line.ReportLine.TheVariants as line
-use Rattle.common.specs.Lines.{lines_of}
-use Rattle.certificate.specs.TableText.{◌␣◌}
+use Rattle.certificate.specs.DependencyText.{needs_text, FitsDependency, IsNeedsText, IsVersionLine}
 
 -- A reason as it is printed.
 abbrev pub reason_text : Reason → List ℕ
@@ -17,13 +20,14 @@ reason_text Damaged = codes "damaged"
 reason_text Older = codes "older"
 reason_text Counter = codes "counter"
 reason_text (NoSuchImage j) = codes "no-such-image" ␣ decimal j
-reason_text (Needs j minimum) = codes "needs" ␣ decimal j ␣ version_text minimum
+reason_text (Needs j minimum) = needs_text (record { image = j; minimum = minimum })
 
 -- A line as it is printed.
 abbrev pub report_line_text : ReportLine → List ℕ
 report_line_text (line.Run number version) = codes "run" ␣ decimal number ␣ version_text version
 report_line_text (line.Take number version) = codes "take" ␣ decimal number ␣ version_text version
-report_line_text (line.Refuse refusal) = codes "refuse" ␣ decimal refusal.image ␣ reason_text refusal.reason
+report_line_text (line.Refuse refusal) =
+    codes "refuse" ␣ decimal refusal.image ␣ reason_text refusal.reason
 
 -- A text says a reason: numbers that fit their fields, and for a version any of its texts.
 abbrev pub IsReasonText : List ℕ → Reason → Type 0
@@ -31,38 +35,49 @@ IsReasonText text Damaged = text ≡ codes "damaged"
 IsReasonText text Older = text ≡ codes "older"
 IsReasonText text Counter = text ≡ codes "counter"
 IsReasonText text (NoSuchImage j) = (j < 2 ^ 8) × (text ≡ codes "no-such-image" ␣ decimal j)
-IsReasonText text (Needs j minimum) = (j < 2 ^ 8) × (spelled : List ℕ) × IsVersionText spelled minimum × (text ≡ codes "needs" ␣ decimal j ␣ spelled)
+IsReasonText text (Needs j minimum) = IsNeedsText text (record { image = j; minimum = minimum })
 
 -- A text without its line feed says a line.
 abbrev pub IsReportLineText : List ℕ → ReportLine → Type 0
-IsReportLineText text (line.Run number version) = (number < 2 ^ 8) × (spelled : List ℕ) × IsVersionText spelled version × (text ≡ codes "run" ␣ decimal number ␣ spelled)
-IsReportLineText text (line.Take number version) = (number < 2 ^ 8) × (spelled : List ℕ) × IsVersionText spelled version × (text ≡ codes "take" ␣ decimal number ␣ spelled)
-IsReportLineText text (line.Refuse refusal) = (refusal.image < 2 ^ 8) × (reason : List ℕ) × IsReasonText reason refusal.reason × (text ≡ codes "refuse" ␣ decimal refusal.image ␣ reason)
+IsReportLineText text (line.Run number version) =
+    IsVersionLine text (codes "run") number version
+IsReportLineText text (line.Take number version) =
+    IsVersionLine text (codes "take") number version
+IsReportLineText text (line.Refuse refusal) =
+    (refusal.image < 2 ^ 8)
+    × (reason : List ℕ) × IsReasonText reason refusal.reason
+    × (text ≡ codes "refuse" ␣ decimal refusal.image ␣ reason)
 
 -- The line of image number n.
 abbrev pub reported_line : ℕ → ReportedImage → ReportLine
-reported_line n image = if image.is_taken then line.Take n image.version else line.Run n image.version
+reported_line n image =
+    if image.is_taken then line.Take n image.version else line.Run n image.version
 
 -- The lines of the images from number n on.
 abbrev pub reported_lines : ℕ → List ReportedImage → List ReportLine
 reported_lines n [] = []
 reported_lines n (image ∷ images) = reported_line n image ∷ reported_lines (n + 1) images
 
+-- The lines of refusals.
+abbrev pub refuse_lines : List Refusal → List ReportLine
+refuse_lines refusals = map (λ refusal. line.Refuse refusal) refusals
+
 -- The lines of a report: its images in order, then its refusals in order.
 abbrev pub report_lines : Report → List ReportLine
-report_lines report = reported_lines 0 report.images.items ++ map (λ refusal. line.Refuse refusal) report.refusals.items
+report_lines report =
+    reported_lines 0 report.images.items ++ refuse_lines report.refusals.items
 
 -- The text of a report: one to eight images and at most eight refusals, and the lines say the report's lines,
 -- one after the other.
 pub record IsReportText (bytes : List ℕ) (report : Report) : Type 0 where
   pub some : 1 ≤ length report.images.items
-  pub most : length report.images.items ≤ 8
-  pub few : length report.refusals.items ≤ 8
+  pub most : length report.images.items ≤ MOST_IMAGES
+  pub few : length report.refusals.items ≤ MOST_REFUSALS
   pub lines : AllZip IsReportLineText (lines_of bytes) (report_lines report)
 
 -- A report as it is printed.
 abbrev pub report_text : Report → List ℕ
-report_text report = flat_map (λ said. report_line_text said ++ 10 ∷ []) (report_lines report)
+report_text report = printed_lines report_line_text (report_lines report)
 
 -- Bytes that are the text of some report.
 abbrev pub IsSomeReport : List ℕ → Type 0
@@ -74,7 +89,7 @@ FitsReason Damaged = Unit {0}
 FitsReason Older = Unit {0}
 FitsReason Counter = Unit {0}
 FitsReason (NoSuchImage j) = j < 2 ^ 8
-FitsReason (Needs j minimum) = (j < 2 ^ 8) × FitsFields minimum
+FitsReason (Needs j minimum) = FitsDependency (record { image = j; minimum = minimum })
 
 abbrev pub FitsReportLine : ReportLine → Type 0
 FitsReportLine (line.Run number version) = (number < 2 ^ 8) × FitsFields version
@@ -85,6 +100,6 @@ FitsReportLine (line.Refuse refusal) = (refusal.image < 2 ^ 8) × FitsReason ref
 -- those of a report in memory do.
 pub record FitsReport (report : Report) : Type 0 where
   pub some : 1 ≤ length report.images.items
-  pub most : length report.images.items ≤ 8
-  pub few : length report.refusals.items ≤ 8
+  pub most : length report.images.items ≤ MOST_IMAGES
+  pub few : length report.refusals.items ≤ MOST_REFUSALS
   pub fields : AllByRecursion FitsReportLine (report_lines report)

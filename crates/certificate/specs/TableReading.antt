@@ -1,14 +1,18 @@
 -- Reading a table line by line: what the lines so far say, and what one more line makes of it. The reader
 -- follows these steps; what they mean is in `TableText`.
 use Rattle.std.specs.Prelude.{ℕ, ◌==◌, ◌&&◌, List, [], ◌∷◌, ◌++◌, length, Option, Some, None, option_map, nat_lt, if◌then◌else◌}
+use Rattle.common.specs.declared.limits.TheConstants.{MOST_DEPENDENCIES, MOST_IMAGES}
+use Rattle.common.specs.Reading.{with_text}
 use Rattle.version_order.specs.declared.version.Version.{Version}
 use Rattle.version_order.specs.declared.dependency.Dependency.{Dependency}
 use Rattle.certificate.specs.declared.table.Entry.{Entry}
 use Rattle.certificate.specs.declared.table.Request.{Request}
 use Rattle.certificate.specs.declared.table.Request.TheVariants as request
 use Rattle.certificate.specs.declared.table.Image.{Image}
+use Rattle.certificate.specs.declared.table.Table.{Table}
 use Rattle.certificate.specs.declared.table_line.TableLine.{TableLine}
 use Rattle.certificate.specs.declared.table_line.TableLine.TheVariants as line
+use Rattle.certificate.specs.LineReading.{table_line_of}
 
 -- An entry without dependencies.
 abbrev pub new_entry : Version → ℕ → Entry
@@ -16,14 +20,21 @@ new_entry version counter = record { version = version; counter = counter; depen
 
 -- An entry with one more dependency, of at most 16.
 abbrev pub with_dependency : Dependency → Entry → Option Entry
-with_dependency dependency entry = if nat_lt (length entry.dependencies.items) 16 then Some (record entry { dependencies = record { items = entry.dependencies.items ++ dependency ∷ [] } }) else None
+with_dependency dependency entry =
+    if nat_lt (length entry.dependencies.items) MOST_DEPENDENCIES
+    then Some (record entry { dependencies = record { items = entry.dependencies.items ++ dependency ∷ [] } })
+    else None
 
 -- An image whose request is this, with one more dependency: of the request where there is one, else of the
 -- running image.
 abbrev pub with_needs : Image → Dependency → Request → Option Image
-with_needs image dependency request.None = option_map (λ entry. record image { running = entry }) (with_dependency dependency image.running)
+with_needs image dependency request.None =
+    option_map (λ entry. record image { running = entry })
+    (with_dependency dependency image.running)
 with_needs image dependency request.Damaged = None
-with_needs image dependency (request.Entry entry) = option_map (λ more. record image { request = request.Entry more }) (with_dependency dependency entry)
+with_needs image dependency (request.Entry entry) =
+    option_map (λ more. record image { request = request.Entry more })
+    (with_dependency dependency entry)
 
 -- An image that had this request, with a new one, of at most one.
 abbrev pub with_request : Image → Request → Request → Option Image
@@ -35,22 +46,41 @@ with_request image new (request.Entry entry) = None
 abbrev pub with_line : Image → TableLine → Option Image
 with_line image (line.Image number version counter floor) = None
 with_line image (line.Needs dependency) = with_needs image dependency image.request
-with_line image (line.Request version counter) = with_request image (request.Entry (new_entry version counter)) image.request
+with_line image (line.Request version counter) =
+    with_request image (request.Entry (new_entry version counter)) image.request
 with_line image line.Damaged = with_request image request.Damaged image.request
 
 -- Images with what a line says of the last of them.
 unfoldable pub with_line_in_last : List Image → TableLine → Option (List Image)
 with_line_in_last [] said = None
 with_line_in_last (image ∷ []) said = option_map (λ more. more ∷ []) (with_line image said)
-with_line_in_last (image ∷ next ∷ images) said = option_map (λ more. image ∷ more) (with_line_in_last (next ∷ images) said)
+with_line_in_last (image ∷ next ∷ images) said =
+    option_map (λ more. image ∷ more) (with_line_in_last (next ∷ images) said)
 
 -- Images with one more, of at most eight, whose number is the count of those before it.
 abbrev pub with_image : List Image → ℕ → Image → Option (List Image)
-with_image images number image = if (number == length images) && nat_lt (length images) 8 then Some (images ++ image ∷ []) else None
+with_image images number image =
+    if (number == length images) && nat_lt (length images) MOST_IMAGES
+    then Some (images ++ image ∷ []) else None
 
 -- Images with what one more line says.
-unfoldable pub with_table_line : List Image → TableLine → Option (List Image)
-with_table_line images (line.Image number version counter floor) = with_image images number (record { running = new_entry version counter; request = request.None; floor = floor })
-with_table_line images (line.Needs dependency) = with_line_in_last images (line.Needs dependency)
-with_table_line images (line.Request version counter) = with_line_in_last images (line.Request version counter)
-with_table_line images line.Damaged = with_line_in_last images line.Damaged
+unfoldable pub with_line_of_images : List Image → TableLine → Option (List Image)
+with_line_of_images images (line.Image number version counter floor) =
+    with_image images number
+    (record { running = new_entry version counter; request = request.None; floor = floor })
+with_line_of_images images (line.Needs dependency) = with_line_in_last images (line.Needs dependency)
+with_line_of_images images (line.Request version counter) =
+    with_line_in_last images (line.Request version counter)
+with_line_of_images images line.Damaged = with_line_in_last images line.Damaged
+
+-- The table of these images.
+abbrev pub table_of : List Image → Table
+table_of images = record { images = record { items = images } }
+
+-- A table with what one more line says.
+abbrev pub with_table_line : Table → TableLine → Option Table
+with_table_line table said = option_map table_of (with_line_of_images table.images.items said)
+
+-- A table with what one more line of text says.
+abbrev pub with_text_of_table : Table → List ℕ → Option Table
+with_text_of_table = with_text table_line_of with_table_line

@@ -1,6 +1,8 @@
 -- The text of a table.
 use Rattle.std.specs.Prelude.{◌≡◌, ℕ, ◌+◌, ◌^◌, ◌<◌, ◌≤◌, List, [], ◌∷◌, ◌++◌, length, map, codes, decimal}
-use Rattle.std.specs.List.{AllByRecursion, AllZip, flat_map}
+use Rattle.std.specs.List.{AllByRecursion, AllZip}
+use Rattle.common.specs.declared.limits.TheConstants.{MOST_DEPENDENCIES, MOST_IMAGES}
+use Rattle.common.specs.Lines.{◌␣◌, lines_of, printed_lines}
 use Rattle.version_order.specs.VersionText.{FitsFields, version_text, IsVersionText}
 use Rattle.certificate.specs.declared.table.Entry.{Entry}
 use Rattle.certificate.specs.declared.table.Request.{Request}
@@ -9,29 +11,29 @@ use Rattle.certificate.specs.declared.table.Image.{Image}
 use Rattle.certificate.specs.declared.table.Table.{Table}
 use Rattle.certificate.specs.declared.table_line.TableLine.{TableLine}
 use Rattle.certificate.specs.declared.table_line.TableLine.TheVariants as line
-use Rattle.common.specs.Lines.{lines_of}
-
--- Two words with a space (32) between them.
-infixr 30 ◌␣◌
-abbrev pub ◌␣◌ : List ℕ → List ℕ → List ℕ
-first ␣ others = first ++ 32 ∷ others
+use Rattle.certificate.specs.DependencyText.{needs_text, FitsDependency, IsNeedsText}
 
 -- A line as it is printed, of numbers that fit their fields.
 abbrev pub table_line_text : TableLine → List ℕ
-table_line_text (line.Image number version counter floor) = codes "image" ␣ decimal number ␣ version_text version ␣ decimal counter ␣ decimal floor
-table_line_text (line.Needs dependency) = codes "needs" ␣ decimal dependency.image ␣ version_text dependency.minimum
-table_line_text (line.Request version counter) = codes "request" ␣ version_text version ␣ decimal counter
+table_line_text (line.Image number version counter floor) =
+    codes "image" ␣ decimal number ␣ version_text version ␣ decimal counter ␣ decimal floor
+table_line_text (line.Needs dependency) = needs_text dependency
+table_line_text (line.Request version counter) =
+    codes "request" ␣ version_text version ␣ decimal counter
 table_line_text line.Damaged = codes "damaged"
 
 -- A text without its line feed says a line: words separated by one space, decimal numbers that fit their
 -- fields, and for a version any of its texts.
 abbrev pub IsTableLineText : List ℕ → TableLine → Type 0
-IsTableLineText text (line.Image number version counter floor) = (number < 2 ^ 8) × (counter < 2 ^ 32) × (floor < 2 ^ 32)
-    × (spelled : List ℕ) × IsVersionText spelled version × (text ≡ codes "image" ␣ decimal number ␣ spelled ␣ decimal counter ␣ decimal floor)
-IsTableLineText text (line.Needs dependency) = (dependency.image < 2 ^ 8)
-    × (spelled : List ℕ) × IsVersionText spelled dependency.minimum × (text ≡ codes "needs" ␣ decimal dependency.image ␣ spelled)
-IsTableLineText text (line.Request version counter) = (counter < 2 ^ 32)
-    × (spelled : List ℕ) × IsVersionText spelled version × (text ≡ codes "request" ␣ spelled ␣ decimal counter)
+IsTableLineText text (line.Image number version counter floor) =
+    (number < 2 ^ 8) × (counter < 2 ^ 32) × (floor < 2 ^ 32)
+    × (spelled : List ℕ) × IsVersionText spelled version
+    × (text ≡ codes "image" ␣ decimal number ␣ spelled ␣ decimal counter ␣ decimal floor)
+IsTableLineText text (line.Needs dependency) = IsNeedsText text dependency
+IsTableLineText text (line.Request version counter) =
+    (counter < 2 ^ 32)
+    × (spelled : List ℕ) × IsVersionText spelled version
+    × (text ≡ codes "request" ␣ spelled ␣ decimal counter)
 IsTableLineText text line.Damaged = text ≡ codes "damaged"
 
 -- The dependencies of an entry, a line each.
@@ -46,7 +48,9 @@ request_lines (request.Entry entry) = line.Request entry.version entry.counter �
 
 -- The lines of image number n: the running image, its dependencies, and the request.
 abbrev pub image_lines : ℕ → Image → List TableLine
-image_lines n image = line.Image n image.running.version image.running.counter image.floor ∷ (needs_lines image.running ++ request_lines image.request)
+image_lines n image =
+    line.Image n image.running.version image.running.counter image.floor
+    ∷ (needs_lines image.running ++ request_lines image.request)
 
 -- The lines of the images from number n on.
 abbrev pub table_lines : ℕ → List Image → List TableLine
@@ -55,19 +59,23 @@ table_lines n (image ∷ images) = image_lines n image ++ table_lines (n + 1) im
 
 -- An entry has at most 16 dependencies.
 abbrev pub HasFewDependencies : Entry → Type 0
-HasFewDependencies entry = length entry.dependencies.items ≤ 16
+HasFewDependencies entry = length entry.dependencies.items ≤ MOST_DEPENDENCIES
 
 abbrev pub AsksForFew : Request → Type 0
 AsksForFew request.None = Unit {0}
 AsksForFew request.Damaged = Unit {0}
 AsksForFew (request.Entry entry) = HasFewDependencies entry
 
+-- An image of few dependencies: what runs has few, and so has what is requested.
+abbrev pub IsSmall : Image → Type 0
+IsSmall image = HasFewDependencies image.running × AsksForFew image.request
+
 -- The text of a table: one to eight images with at most 16 dependencies an entry, and the lines say the
 -- table's lines, one after the other.
 pub record IsTableText (bytes : List ℕ) (table : Table) : Type 0 where
   pub some : 1 ≤ length table.images.items
-  pub most : length table.images.items ≤ 8
-  pub few : AllByRecursion (λ image. HasFewDependencies image.running × AsksForFew image.request) table.images.items
+  pub most : length table.images.items ≤ MOST_IMAGES
+  pub few : AllByRecursion IsSmall table.images.items
   pub lines : AllZip IsTableLineText (lines_of bytes) (table_lines 0 table.images.items)
 
 -- Bytes that are the text of some table.
@@ -76,12 +84,13 @@ IsSomeTable bytes = (table : Table) × IsTableText bytes table
 
 -- A table as it is printed.
 abbrev pub table_text : Table → List ℕ
-table_text table = flat_map (λ said. table_line_text said ++ 10 ∷ []) (table_lines 0 table.images.items)
+table_text table = printed_lines table_line_text (table_lines 0 table.images.items)
 
 -- The numbers that a line says fit their fields.
 abbrev pub FitsTableLine : TableLine → Type 0
-FitsTableLine (line.Image number version counter floor) = (number < 2 ^ 8) × FitsFields version × (counter < 2 ^ 32) × (floor < 2 ^ 32)
-FitsTableLine (line.Needs dependency) = (dependency.image < 2 ^ 8) × FitsFields dependency.minimum
+FitsTableLine (line.Image number version counter floor) =
+    (number < 2 ^ 8) × FitsFields version × (counter < 2 ^ 32) × (floor < 2 ^ 32)
+FitsTableLine (line.Needs dependency) = FitsDependency dependency
 FitsTableLine (line.Request version counter) = FitsFields version × (counter < 2 ^ 32)
 FitsTableLine line.Damaged = Unit {0}
 
@@ -89,6 +98,6 @@ FitsTableLine line.Damaged = Unit {0}
 -- fields, as those of a table in memory do.
 pub record FitsTable (table : Table) : Type 0 where
   pub some : 1 ≤ length table.images.items
-  pub most : length table.images.items ≤ 8
-  pub few : AllByRecursion (λ image. HasFewDependencies image.running × AsksForFew image.request) table.images.items
+  pub most : length table.images.items ≤ MOST_IMAGES
+  pub few : AllByRecursion IsSmall table.images.items
   pub fields : AllByRecursion FitsTableLine (table_lines 0 table.images.items)

@@ -26,7 +26,7 @@ use crate::table::Table;
 ///
 /// No means that one of these fails, and doesn't say which. The answer depends on these two values alone, and
 /// not on how the report was made; any table and any report have one, also where their numbers of images
-/// differ. A yes doesn't say that the table is what the device has. Takes no memory.
+/// differ. A yes doesn't say that the table is what the device has. Does not allocate.
 pub fn check(table: &Table, report: &Report) -> bool
     ensures exact { IsTrue result ↔ IsRight table.now report.now }
     ensures greatest { IsTrue result → IsGreatest table.now (taken_in report.now) }

@@ -8,7 +8,9 @@
 #![tactic(auto)]
 
 mod checking;
+mod error;
 mod laws;
+mod needs;
 mod printing;
 mod report;
 mod report_line;
@@ -20,12 +22,12 @@ mod table_reading;
 mod validity;
 
 pub use checking::check;
+pub use error::{BadReport, BadTable};
 pub use laws::{
-    greatest_sets_are_equal, reports_are_read_back, right_reports_are_greatest,
-    tables_are_read_back,
+    greatest_sets_are_equal, greatest_sets_have_the_newest_versions, reports_are_read_back,
+    right_reports_are_greatest, right_reports_have_a_text, tables_are_read_back,
 };
-pub use report::{Reason, Refusal, Report, ReportedImage};
-pub use report_reading::BadReport;
+pub use needs::Needs;
+pub use report::{MOST_REFUSALS, Reason, Refusal, Report, ReportedImage};
 pub use table::{Entry, Image, Request, Table};
-pub use table_reading::BadTable;
 pub use validity::is_valid;

@@ -1,16 +1,17 @@
 //! How tables and reports are printed: a line for each thing they say, each ended by a line feed.
 
 ghost use Rattle.std.specs.Fmt.{WritesOnOk};
-ghost use Rattle.std.specs.Prelude.{◌≡◌, ◌≤◌, map, length, Some};
-ghost use Rattle.certificate.specs.Printing.{printed_table_lines, printed_report_lines};
-ghost use Rattle.certificate.specs.ReportText.{reason_text, report_line_text, report_text, reported_line, reported_lines};
+ghost use Rattle.std.specs.Prelude.{◌≡◌, ◌≤◌, length, Some};
+ghost use Rattle.common.specs.Lines.{printed_lines};
+ghost use Rattle.certificate.specs.ReportText.{reason_text, refuse_lines, report_line_text, report_text, reported_line, reported_lines};
 ghost use Rattle.certificate.specs.TableText.{image_lines, needs_lines, request_lines, table_line_text, table_lines, table_text};
-ghost use Rattle.certificate.specs.declared.report_line.ReportLine.{ReportLine};
 
+use crate::needs::Needs;
 use crate::report::{Reason, Refusal, Report, ReportedImage};
 use crate::report_line::ReportLine;
 use crate::table::{Entry, Image, Request, Table};
 use crate::table_line::TableLine;
+use common::limits::MOST_IMAGES;
 use std::fmt;
 use version_order::Dependency;
 
@@ -42,7 +43,7 @@ impl fmt::Display for TableLine {
                 counter,
                 floor,
             } => write!(f, "image {number} {version} {counter} {floor}"),
-            TableLine::Needs(Dependency { image, minimum }) => write!(f, "needs {image} {minimum}"),
+            TableLine::Needs(dependency) => write!(f, "{}", Needs(dependency)),
             TableLine::Request { version, counter } => write!(f, "request {version} {counter}"),
             TableLine::Damaged => write!(f, "damaged"),
         }
@@ -70,16 +71,16 @@ impl fmt::Display for Reason {
             Reason::Older => write!(f, "older"),
             Reason::Counter => write!(f, "counter"),
             Reason::NoSuchImage(image) => write!(f, "no-such-image {image}"),
-            Reason::Needs(image, minimum) => write!(f, "needs {image} {minimum}"),
+            Reason::Needs(image, minimum) => write!(f, "{}", Needs(Dependency { image, minimum })),
         }
     }
 }
 
 // The lines of the images, numbered from 0.
 fn write_images<W: fmt::Write>(f: &mut fmt::Formatter<W>, images: &[Image]) -> fmt::Result
-    requires { length images.now ≤ 8 }
+    requires { length images.now ≤ MOST_IMAGES }
     ensures { WritesOnOk W.write_str_gives f.old result
-        (printed_table_lines (table_lines 0 images.now)) f.new }
+        (printed_lines table_line_text (table_lines 0 images.now)) f.new }
 {
     for (number, image) in images.iter().enumerate() {
         write_image(f, number as u8, image)?;
@@ -90,7 +91,7 @@ fn write_images<W: fmt::Write>(f: &mut fmt::Formatter<W>, images: &[Image]) -> f
 // What runs, what it needs, and what is requested in its place.
 fn write_image<W: fmt::Write>(f: &mut fmt::Formatter<W>, number: u8, image: &Image) -> fmt::Result
     ensures { WritesOnOk W.write_str_gives f.old result
-        (printed_table_lines (image_lines number image.now)) f.new }
+        (printed_lines table_line_text (image_lines number image.now)) f.new }
 {
     let line = TableLine::Image {
         number,
@@ -106,7 +107,7 @@ fn write_image<W: fmt::Write>(f: &mut fmt::Formatter<W>, number: u8, image: &Ima
 // What is requested.
 fn write_request<W: fmt::Write>(f: &mut fmt::Formatter<W>, request: &Request) -> fmt::Result
     ensures { WritesOnOk W.write_str_gives f.old result
-        (printed_table_lines (request_lines request.now)) f.new }
+        (printed_lines table_line_text (request_lines request.now)) f.new }
 {
     match request {
         Request::None => Ok(()),
@@ -128,7 +129,7 @@ fn write_request<W: fmt::Write>(f: &mut fmt::Formatter<W>, request: &Request) ->
 // The dependencies of an entry.
 fn write_needs<W: fmt::Write>(f: &mut fmt::Formatter<W>, entry: &Entry) -> fmt::Result
     ensures { WritesOnOk W.write_str_gives f.old result
-        (printed_table_lines (needs_lines entry.now)) f.new }
+        (printed_lines table_line_text (needs_lines entry.now)) f.new }
 {
     for dependency in entry.dependencies.as_slice() {
         let line = TableLine::Needs(*dependency);
@@ -142,9 +143,9 @@ fn write_reported_images<W: fmt::Write>(
     f: &mut fmt::Formatter<W>,
     images: &[ReportedImage],
 ) -> fmt::Result
-    requires { length images.now ≤ 8 }
+    requires { length images.now ≤ MOST_IMAGES }
     ensures { WritesOnOk W.write_str_gives f.old result
-        (printed_report_lines (reported_lines 0 images.now)) f.new }
+        (printed_lines report_line_text (reported_lines 0 images.now)) f.new }
 {
     for (index, image) in images.iter().enumerate() {
         let line = reported_line(index as u8, image);
@@ -168,7 +169,7 @@ fn reported_line(number: u8, image: &ReportedImage) -> ReportLine
 // The refusals, in order.
 fn write_refusals<W: fmt::Write>(f: &mut fmt::Formatter<W>, refusals: &[Refusal]) -> fmt::Result
     ensures { WritesOnOk W.write_str_gives f.old result
-        (printed_report_lines (map (λ refusal. ReportLine.Refuse refusal) refusals.now)) f.new }
+        (printed_lines report_line_text (refuse_lines refusals.now)) f.new }
 {
     for refusal in refusals {
         let line = ReportLine::Refuse(*refusal);

@@ -1,7 +1,11 @@
 //! Reports: which requests are taken, and why each of the others is refused.
 
 use arrayvec::ArrayVec;
+use common::limits::MOST_IMAGES;
 use version_order::Version;
+
+/// How many refusals a report has at most: one an image.
+pub const MOST_REFUSALS: usize = 8;
 
 /// Why a request is refused. The numbers of the reasons are 1 to 5, in this order.
 #[derive(Clone, Copy, Debug, Default, PartialEq, Eq)]
@@ -42,7 +46,7 @@ pub struct ReportedImage {
 #[derive(Clone, Debug, Default, Drop, PartialEq, Eq)]
 pub struct Report {
     /// The images, in the order of their numbers from 0; at most 8.
-    pub images: ArrayVec<ReportedImage, 8>,
+    pub images: ArrayVec<ReportedImage, MOST_IMAGES>,
     /// The refused requests, each with a reason that holds given those before it; at most 8.
-    pub refusals: ArrayVec<Refusal, 8>,
+    pub refusals: ArrayVec<Refusal, MOST_REFUSALS>,
 }

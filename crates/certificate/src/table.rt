@@ -1,6 +1,7 @@
 //! Tables: what runs, what is requested, and the floors of the security counters.
 
 use arrayvec::ArrayVec;
+use common::limits::{MOST_DEPENDENCIES, MOST_IMAGES};
 use version_order::{Dependency, Version};
 
 /// What the decision knows of one image's bytes: MCUboot's image version, security counter and dependencies.
@@ -11,7 +12,7 @@ pub struct Entry {
     /// The security counter, 0 where the image has none.
     pub counter: u32,
     /// What it asks of the images of the device, in the order of the image's entries; at most 16.
-    pub dependencies: ArrayVec<Dependency, 16>,
+    pub dependencies: ArrayVec<Dependency, MOST_DEPENDENCIES>,
 }
 
 /// What stands in an image's secondary slot.
@@ -41,5 +42,5 @@ pub struct Image {
 #[derive(Clone, Debug, Default, Drop, PartialEq, Eq)]
 pub struct Table {
     /// The images, of which the k-th, from 0, is image number k.
-    pub images: ArrayVec<Image, 8>,
+    pub images: ArrayVec<Image, MOST_IMAGES>,
 }

@@ -1,18 +1,20 @@
 //! Placing one more line of a table: what it says of the image that it belongs to.
 
 ghost use Rattle.std.specs.Prelude.{◌≡◌, Some, None, MatchBool};
-ghost use Rattle.certificate.specs.TableReading.{new_entry, with_needs, with_request, with_line, with_line_in_last, with_image, with_table_line};
+ghost use Rattle.certificate.specs.TableReading.{new_entry, with_needs, with_request, with_line, with_line_in_last, with_image, with_line_of_images};
 
 use crate::table::{Entry, Image, Request};
 use crate::table_line::TableLine;
 use arrayvec::ArrayVec;
+use common::limits::MOST_IMAGES;
 use version_order::{Dependency, Version};
 
 /// Adds what a line says to the images that the lines before it told. `false` where no table has such a line
 /// there; the images are of no use then.
-#[tactic(auto, unfolding(crate::specs::TableReading::with_table_line))]
-pub(crate) fn place_line(images: &mut ArrayVec<Image, 8>, line: TableLine) -> bool
-    ensures { MatchBool result (with_table_line images.old.items line ≡ Some images.new.items) (with_table_line images.old.items line ≡ None) }
+#[tactic(auto, unfolding(crate::specs::TableReading::with_line_of_images))]
+pub(crate) fn place_line(images: &mut ArrayVec<Image, MOST_IMAGES>, line: TableLine) -> bool
+    ensures { MatchBool result (with_line_of_images images.old.items line ≡ Some images.new.items)
+        (with_line_of_images images.old.items line ≡ None) }
 {
     match line {
         TableLine::Image {
@@ -47,22 +49,25 @@ fn new_entry(version: Version, counter: u32) -> Entry
     }
 }
 
-fn place_image(images: &mut ArrayVec<Image, 8>, number: u8, image: Image) -> bool
-    ensures { MatchBool result (with_image images.old.items number image ≡ Some images.new.items) (with_image images.old.items number image ≡ None) }
+fn place_image(images: &mut ArrayVec<Image, MOST_IMAGES>, number: u8, image: Image) -> bool
+    ensures { MatchBool result (with_image images.old.items number image ≡ Some images.new.items)
+        (with_image images.old.items number image ≡ None) }
 {
     usize::from(number) == images.len() && images.try_push(image).is_ok()
 }
 
 #[tactic(auto, unfolding(crate::specs::TableReading::with_line_in_last))]
-fn place_in_last(images: &mut ArrayVec<Image, 8>, line: TableLine) -> bool
-    ensures { MatchBool result (with_line_in_last images.old.items line ≡ Some images.new.items) (with_line_in_last images.old.items line ≡ None) }
+fn place_in_last(images: &mut ArrayVec<Image, MOST_IMAGES>, line: TableLine) -> bool
+    ensures { MatchBool result (with_line_in_last images.old.items line ≡ Some images.new.items)
+        (with_line_in_last images.old.items line ≡ None) }
 {
     let count = images.len();
     count > 0 && place_in_image(&mut images[count - 1], line)
 }
 
 fn place_in_image(image: &mut Image, line: TableLine) -> bool
-    ensures { MatchBool result (with_line image.old line ≡ Some image.new) (with_line image.old line ≡ None) }
+    ensures { MatchBool result (with_line image.old line ≡ Some image.new)
+        (with_line image.old line ≡ None) }
 {
     match line {
         TableLine::Image { .. } => false,
@@ -75,7 +80,8 @@ fn place_in_image(image: &mut Image, line: TableLine) -> bool
 }
 
 fn place_needs(image: &mut Image, dependency: Dependency) -> bool
-    ensures { MatchBool result (with_needs image.old dependency image.old.request ≡ Some image.new) (with_needs image.old dependency image.old.request ≡ None) }
+    ensures { MatchBool result (with_needs image.old dependency image.old.request ≡ Some image.new)
+        (with_needs image.old dependency image.old.request ≡ None) }
 {
     match &mut image.request {
         Request::None => image.running.dependencies.try_push(dependency).is_ok(),
@@ -85,7 +91,8 @@ fn place_needs(image: &mut Image, dependency: Dependency) -> bool
 }
 
 fn place_request(image: &mut Image, request: Request) -> bool
-    ensures { MatchBool result (with_request image.old request image.old.request ≡ Some image.new) (with_request image.old request image.old.request ≡ None) }
+    ensures { MatchBool result (with_request image.old request image.old.request ≡ Some image.new)
+        (with_request image.old request image.old.request ≡ None) }
 {
     if matches!(image.request, Request::None) {
         image.request = request;

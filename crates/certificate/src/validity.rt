@@ -1,8 +1,7 @@
 //! Whether the running images fit each other.
 
-ghost use Rattle.std.specs.List.{list_all};
 ghost use Rattle.std.specs.Prelude.{◌≡◌, ◌↔◌, IsTrue};
-ghost use Rattle.certificate.specs.Combination.{IsValid, is_met, running_set};
+ghost use Rattle.certificate.specs.Combination.{IsValid, is_met, meets_all, running_set};
 
 use crate::table::{Image, Table};
 use version_order::Dependency;
@@ -18,7 +17,7 @@ pub fn is_valid(table: &Table) -> bool
 
 /// Whether the dependencies of a running image are met by the running versions.
 fn can_run_on(table: &Table, image: &Image) -> bool
-    ensures { result ≡ list_all (is_met table.now running_set) image.now.running.dependencies.items }
+    ensures { result ≡ meets_all table.now running_set image.now.running }
 {
     image
         .running

@@ -17,9 +17,9 @@ use Rattle.certificate.specs.declared.report.Refusal.{Refusal}
 use Rattle.certificate.specs.Combination.{image_at, intact_entry}
 use Rattle.certificate.specs.Reasons.{is_out_of_reach, RequestMeets, ReasonHolds, IsFounded}
 use Rattle.certificate.specs.StandardOrder.{missing_image, own_reason, own_reason_of_entry, own_refusal, own_refusals, needs_reason, IsInStandardOrder}
-use Rattle.chooser.proofs.Options.{IfSome-from, IsSomeAnd-from, no_value, option_map-Some}
-use Rattle.chooser.proofs.Lists.{StandsIn, find-Some, Contains-from_stands, list_any-from_stands, filter_map-source, each-append}
-use Rattle.chooser.proofs.Numbered.{numbered-stands}
+use Rattle.common.proofs.Options.{IfSome-from, IsSomeAnd-from, no_value, option_map-Some}
+use Rattle.common.proofs.Lists.{StandsIn, find-Some, Contains-from_stands, list_any-from_stands, filter_map-source, each-append}
+use Rattle.common.proofs.Numbered.{numbered-stands}
 use Rattle.chooser.proofs.Order.{HasNeed-from_reason}
 
 -- a reason that is another holds where that holds

@@ -1,8 +1,3 @@
-pub mod Options
-pub mod Lists
-pub mod Numbered
-pub mod Requests
-pub mod Counts
 pub mod OwnRefusals
 pub mod Order
 pub mod Founded

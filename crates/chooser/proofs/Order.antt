@@ -15,10 +15,10 @@ use Rattle.certificate.specs.declared.report.Refusal.{Refusal}
 use Rattle.certificate.specs.Combination.{image_at, intact_entry}
 use Rattle.certificate.specs.Reasons.{is_refused, is_out_of_reach}
 use Rattle.certificate.specs.StandardOrder.{own_reason, own_refusals, needs_reason, IsNextNeed, IsInStandardOrder}
-use Rattle.chooser.proofs.Options.{option_map-Some}
-use Rattle.chooser.proofs.Lists.{each-push}
-use Rattle.chooser.proofs.Requests.{has_request-intact}
-use Rattle.chooser.proofs.Counts.{IsOnce, IsOnce-push, length-once}
+use Rattle.common.proofs.Options.{option_map-Some}
+use Rattle.common.proofs.Lists.{each-push}
+use Rattle.certificate.proofs.Requests.{has_request-intact}
+use Rattle.certificate.proofs.Counts.{IsOnce, IsOnce-push, length-once}
 use Rattle.chooser.proofs.OwnRefusals.{IsOnce-own_refusals, own_reason-unlisted}
 
 -- it begins with the requests that are refused by themselves

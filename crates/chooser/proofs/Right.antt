@@ -17,9 +17,9 @@ use Rattle.certificate.specs.Reasons.{is_refused}
 use Rattle.certificate.specs.Rightness.{IsRight, taken_in, has_request, once_if}
 use Rattle.certificate.specs.StandardOrder.{IsInStandardOrder, needs_reason}
 use Rattle.chooser.specs.Reported.{is_taken_unless_refused, reported_image, reported_images}
-use Rattle.chooser.proofs.Options.{IfSome-from, option_map-option_map, option_map_or-option_map}
-use Rattle.chooser.proofs.Numbered.{slice_get-enumerate_from}
-use Rattle.chooser.proofs.Counts.{IsOnce, times_refused, count_by-none, count_by-some, once_if-le}
+use Rattle.common.proofs.Options.{IfSome-from, option_map-option_map, option_map_or-option_map}
+use Rattle.common.proofs.Numbered.{slice_get-enumerate_from}
+use Rattle.certificate.proofs.Counts.{IsOnce, times_refused, count_by-none, count_by-some, once_if-le}
 use Rattle.chooser.proofs.Order.{own_reason-unrefused}
 use Rattle.chooser.proofs.Founded.{IsFounded-from_standard}
 use Rattle.chooser.proofs.Taken.{IsSettled, IsValid-taken, taken-refused, taken-unrefused}

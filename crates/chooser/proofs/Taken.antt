@@ -20,8 +20,8 @@ use Rattle.certificate.specs.Reasons.{is_refused, best_version, is_out_of_reach}
 use Rattle.certificate.specs.Rightness.{has_request, is_requested}
 use Rattle.certificate.specs.StandardOrder.{own_reason, own_reason_of_entry, needs_reason}
 use Rattle.chooser.specs.Reported.{is_taken_unless_refused}
-use Rattle.chooser.proofs.Options.{IfSome-from, IsSomeAnd-from, some_value, option_map-None, option_and_then-None, option_map_or-true}
-use Rattle.chooser.proofs.Lists.{list_all-from_finds, list_all-weaker}
+use Rattle.common.proofs.Options.{IfSome-from, IsSomeAnd-from, some_value, option_map-None, option_and_then-None, option_map_or-true}
+use Rattle.common.proofs.Lists.{list_all-from_finds, list_all-weaker}
 use Rattle.version_order.proofs.OrderLaws.{IsAtLeast_refl, IsAtLeast_trans}
 
 -- the version of the requested entry, or else the running one

@@ -1,9 +1,7 @@
 //! The combination that a report takes.
 
-ghost use Rattle.std.specs.Prelude.{◌≡◌, ◌≤◌, ◌↔◌, ℕ, IfSome, IsSomeAnd, IsTrue};
-ghost use Rattle.std.specs.List.{list_all};
-ghost use Rattle.version_order.specs.Order.{IsAtLeast};
-ghost use Rattle.certificate.specs.Combination.{entry_in, image_at, intact_entry, is_met, IsValid};
+ghost use Rattle.std.specs.Prelude.{◌≡◌, ◌↔◌, ℕ, IsTrue};
+ghost use Rattle.certificate.specs.Combination.{entry_in, is_met, meets_all, HasMetDependencies, IsAcceptable, IsValid};
 ghost use Rattle.certificate.specs.Rightness.{taken_in};
 
 use crate::checking::images::{entry_in, is_taken};
@@ -21,7 +19,7 @@ pub(super) fn takes_a_valid_combination(table: &Table, report: &Report) -> bool
 /// Whether each request that a report takes is acceptable.
 fn has_acceptable_members(table: &Table, report: &Report) -> bool
     ensures { IsTrue result
-        ↔ ((j : ℕ) → IsTrue (taken_in report.now j) → IsSomeAnd (image_at table.now j) (λ image. IsSomeAnd (intact_entry image.request) (λ entry. IsAtLeast entry.version image.running.version × (image.floor ≤ entry.counter)))) }
+        ↔ ((j : ℕ) → IsTrue (taken_in report.now j) → IsAcceptable table.now j) }
 {
     report.images.iter().enumerate().all(|(number, image)| {
         !image.is_taken || is_acceptable(table, number)
@@ -31,8 +29,7 @@ fn has_acceptable_members(table: &Table, report: &Report) -> bool
 /// Whether a table has an image `number` with an intact request that isn't older than the running image, with a
 /// security counter not below the floor.
 fn is_acceptable(table: &Table, number: usize) -> bool
-    ensures { IsTrue result
-        ↔ IsSomeAnd (image_at table.now number) (λ image. IsSomeAnd (intact_entry image.request) (λ entry. IsAtLeast entry.version image.running.version × (image.floor ≤ entry.counter))) }
+    ensures { IsTrue result ↔ IsAcceptable table.now number }
 {
     let Some(image) = table.images.get(number) else {
         return false;
@@ -48,7 +45,7 @@ fn is_acceptable(table: &Table, number: usize) -> bool
 /// Whether all dependencies of all images, those taken and those that run on, are met by what a report takes.
 fn meets_all_dependencies(table: &Table, report: &Report) -> bool
     ensures { IsTrue result
-        ↔ ((j : ℕ) → IfSome (image_at table.now j) (λ image. IsTrue (list_all (is_met table.now (taken_in report.now)) (entry_in image (taken_in report.now j)).dependencies.items))) }
+        ↔ ((j : ℕ) → HasMetDependencies table.now (taken_in report.now) j) }
 {
     table
         .images
@@ -60,7 +57,8 @@ fn meets_all_dependencies(table: &Table, report: &Report) -> bool
 /// Whether all dependencies of image `number`, taken or running on, are met by what a report takes.
 fn can_run_on(table: &Table, report: &Report, number: usize, image: &Image) -> bool
     ensures { result
-        ≡ list_all (is_met table.now (taken_in report.now)) (entry_in image.now (taken_in report.now number)).dependencies.items }
+        ≡ meets_all table.now (taken_in report.now)
+            (entry_in image.now (taken_in report.now number)) }
 {
     entry_in(image, is_taken(report, number))
         .dependencies

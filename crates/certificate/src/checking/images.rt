@@ -1,8 +1,8 @@
 //! The images of a report: as many as the table has, each with its version.
 
-ghost use Rattle.std.specs.Prelude.{◌≡◌, ◌↔◌, ℕ, length, IfSome, IsTrue, slice_get};
-ghost use Rattle.certificate.specs.Combination.{entry_in, image_at};
-ghost use Rattle.certificate.specs.Rightness.{taken_in};
+ghost use Rattle.std.specs.Prelude.{◌≡◌, ◌↔◌, ℕ, length, IsTrue};
+ghost use Rattle.certificate.specs.Combination.{entry_in};
+ghost use Rattle.certificate.specs.Rightness.{taken_in, HasVersionAt, HasVersionOf};
 
 use crate::report::Report;
 use crate::table::{Entry, Image, Request, Table};
@@ -18,7 +18,7 @@ pub(super) fn has_as_many_images(table: &Table, report: &Report) -> bool
 /// taken or running on.
 pub(super) fn has_the_versions(table: &Table, report: &Report) -> bool
     ensures { IsTrue result
-        ↔ ((j : ℕ) → IfSome (image_at table.now j) (λ image. IfSome (slice_get report.now.images.items j) (λ reported. reported.version ≡ (entry_in image reported.is_taken).version))) }
+        ↔ ((j : ℕ) → HasVersionAt table.now report.now j) }
 {
     table
         .images
@@ -30,8 +30,7 @@ pub(super) fn has_the_versions(table: &Table, report: &Report) -> bool
 /// Whether a report that has an image `number` has it with the version that it names for being taken or running
 /// on.
 fn has_its_version(report: &Report, number: usize, image: &Image) -> bool
-    ensures { IsTrue result
-        ↔ IfSome (slice_get report.now.images.items number) (λ reported. reported.version ≡ (entry_in image.now reported.is_taken).version) }
+    ensures { IsTrue result ↔ HasVersionOf report.now number image.now }
 {
     match report.images.get(number) {
         Some(reported) => reported.version == entry_in(image, reported.is_taken).version,

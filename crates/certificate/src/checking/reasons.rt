@@ -1,9 +1,8 @@
 //! The refusals of a report, each with a reason that holds at its place.
 
-ghost use Rattle.std.specs.Prelude.{◌≡◌, ◌==◌, ◌↔◌, None, Contains, IsTrue};
-ghost use Rattle.std.specs.List.{list_any};
+ghost use Rattle.std.specs.Prelude.{◌≡◌, ◌↔◌, None, Contains, IsTrue};
 ghost use Rattle.certificate.specs.Combination.{image_at};
-ghost use Rattle.certificate.specs.Reasons.{best_version, is_out_of_reach, is_refused, newest_version, requested_version, IsFounded, ReasonHolds};
+ghost use Rattle.certificate.specs.Reasons.{best_version, depends_on, is_out_of_reach, is_refused, newest_version, requested_version, IsFounded, ReasonHolds};
 
 use crate::report::{Reason, Refusal};
 use crate::table::{Entry, Image, Request, Table};
@@ -50,7 +49,7 @@ fn reason_holds(table: &Table, before: &[Refusal], own: u8, reason: Reason) -> b
 
 /// Whether an entry depends on image `number`, in any version.
 fn depends_on(entry: &Entry, number: u8) -> bool
-    ensures { result ≡ list_any (λ dependency. dependency.image == number) entry.now.dependencies.items }
+    ensures { result ≡ depends_on entry.now number }
 {
     entry
         .dependencies

@@ -1,7 +1,8 @@
 //! The requests of a table, each taken or refused once.
 
-ghost use Rattle.std.specs.Prelude.{◌≡◌, ◌==◌, ◌+◌, ◌<◌, ◌↔◌, ℕ, count_by, All, IsTrue};
-ghost use Rattle.certificate.specs.Rightness.{has_request, once_if, taken_in};
+ghost use Rattle.std.specs.Prelude.{◌≡◌, ◌<◌, ◌↔◌, ℕ, All, IsTrue};
+ghost use Rattle.certificate.specs.Reasons.{times_refused};
+ghost use Rattle.certificate.specs.Rightness.{has_request, IsDecidedOnce};
 
 use crate::checking::images::is_taken;
 use crate::report::{Refusal, Report};
@@ -9,8 +10,7 @@ use crate::table::{Request, Table};
 
 /// Whether the taken and the refused requests are all requests, each once.
 pub(super) fn decides_each_request_once(table: &Table, report: &Report) -> bool
-    ensures { IsTrue result
-        ↔ ((j : ℕ) → count_by (λ refusal. refusal.image == j) report.now.refusals.items + once_if (taken_in report.now j) ≡ once_if (has_request table.now j)) }
+    ensures { IsTrue result ↔ ((j : ℕ) → IsDecidedOnce table.now report.now j) }
 {
     // Past the last image of both nothing is taken and nothing is requested.
     let count = table.images.len().max(report.images.len());
@@ -30,7 +30,7 @@ fn refuses_only_below(report: &Report, count: usize) -> bool
 /// Whether the requests of the images below `count` are taken or refused, each once.
 fn decides_each_below(table: &Table, report: &Report, count: usize) -> bool
     ensures { IsTrue result
-        ↔ ((j : ℕ) → j < count → count_by (λ refusal. refusal.image == j) report.now.refusals.items + once_if (taken_in report.now j) ≡ once_if (has_request table.now j)) }
+        ↔ ((j : ℕ) → j < count → IsDecidedOnce table.now report.now j) }
 {
     for number in 0..count {
         if !is_decided_once(table, report, number) {
@@ -42,8 +42,7 @@ fn decides_each_below(table: &Table, report: &Report, count: usize) -> bool
 
 /// Whether the request of image `number` is taken or refused, once; if there is none, whether it is neither.
 fn is_decided_once(table: &Table, report: &Report, number: usize) -> bool
-    ensures { IsTrue result
-        ↔ (count_by (λ refusal. refusal.image == number) report.now.refusals.items + once_if (taken_in report.now number) ≡ once_if (has_request table.now number)) }
+    ensures { IsTrue result ↔ IsDecidedOnce table.now report.now number }
 {
     refusals_of(&report.refusals, number) + usize::from(is_taken(report, number))
         == usize::from(has_request(table, number))
@@ -51,7 +50,7 @@ fn is_decided_once(table: &Table, report: &Report, number: usize) -> bool
 
 /// How often a list refuses the request of image `number`.
 fn refusals_of(refusals: &[Refusal], number: usize) -> usize
-    ensures { result ≡ count_by (λ refusal. refusal.image == number) refusals.now }
+    ensures { result ≡ times_refused refusals.now number }
 {
     refusals
         .iter()

@@ -1,10 +1,11 @@
 use Rattle.std.proofs.Common.{map, take}
 use Rattle.std.specs.Fmt.{IsPlainFormatter, HasWritten}
-use Rattle.certificate.specs.Printing.{printed_table_lines}
+use Rattle.common.specs.Lines.{printed_lines}
+use Rattle.certificate.specs.TableText.{table_line_text}
 use Rattle.certificate.specs.declared.table_line.TableLine.TheVariants as line
 use Rattle.certificate.proofs.printing.write_needs.Given as goal
 
 abbrev pub invariant-loop-dependency : goal.invariant-loop-dependency
 invariant-loop-dependency g l =
     IsPlainFormatter l.initial.f → HasWritten g.W.Write.write_str_gives l.initial.f
-    (printed_table_lines (map (λ dependency. line.Needs dependency) (take l.dependency-index l.dependency-items))) l.f
+    (printed_lines table_line_text (map (λ dependency. line.Needs dependency) (take l.dependency-index l.dependency-items))) l.f

@@ -1,9 +1,9 @@
 use Rattle.std.proofs.Common.{ℕ, ◌<◌, take, slice_get}
 use Rattle.std.specs.Prelude.{IfSome}
-use Rattle.certificate.specs.Reasons.{ReasonHolds}
+use Rattle.certificate.specs.Reasons.{IsFoundedAfter}
 use Rattle.certificate.proofs.checking.reasons.is_founded.Given as goal
 
 -- each refusal so far has a reason that holds at its place
 abbrev pub invariant-loop-place : goal.invariant-loop-place
 invariant-loop-place l =
-    (k : ℕ) → k < l.place → IfSome (slice_get l.refusals k) (λ refusal. ReasonHolds l.table (take k l.refusals) refusal.image refusal.reason)
+    (k : ℕ) → k < l.place → IfSome (slice_get l.refusals k) (IsFoundedAfter l.table (take k l.refusals))

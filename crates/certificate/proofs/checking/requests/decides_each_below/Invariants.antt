@@ -1,5 +1,5 @@
 use Rattle.std.proofs.Common.{ℕ, ◌<◌}
-use Rattle.certificate.proofs.CheckingRequests.{IsDecidedOnce}
+use Rattle.certificate.specs.Rightness.{IsDecidedOnce}
 use Rattle.certificate.proofs.checking.requests.decides_each_below.Given as goal
 
 -- the requests of the images so far are decided once

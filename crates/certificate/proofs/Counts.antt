@@ -10,34 +10,14 @@ use Rattle.std.proofs.lemmas.Option.{slice_get_within}
 use Rattle.certificate.specs.declared.table.Table.{Table}
 use Rattle.certificate.specs.declared.report.Refusal.{Refusal}
 use Rattle.certificate.specs.Combination.{image_at}
-use Rattle.certificate.specs.Reasons.{is_refused}
+use Rattle.certificate.specs.Reasons.{is_refused, times_refused}
 use Rattle.certificate.specs.Rightness.{has_request, once_if}
-use Rattle.chooser.proofs.Options.{option_map_or-true}
-
--- how many entries of a list refuse the request of image j
-abbrev pub times_refused : List Refusal → ℕ → ℕ
-times_refused refusals j = count_by (λ refusal. refusal.image == j) refusals
+use Rattle.common.proofs.Options.{option_map_or-true}
+use Rattle.common.proofs.Lists.{count_by-none, count_by-some}
 
 -- each request is refused at most once, and nothing else is
 pub record IsOnce (table : Table) (refusals : List Refusal) : Type 0 where
   pub once : (j : ℕ) → times_refused refusals j ≤ once_if (has_request table j)
-
--- nothing passes where the test of any answers false
-pub count_by-none : {X : Type 0} (p : X → Bool) (xs : List X) → list_any p xs ≡ false → count_by p xs ≡ 0
-count_by-none p [] none = refl
-count_by-none p (x ∷ xs) none =
-    let parts = or_parts (p x) (list_any p xs) none in
-    omega (arith, sum_by-cons (λ y. once_if (p y)) x xs, ap once_if parts.0, count_by-none p xs parts.1)
-
--- something passes where the test of any answers true
-pub count_by-some : {X : Type 0} (p : X → Bool) (xs : List X) → list_any p xs ≡ true → 0 < count_by p xs
-count_by-some p [] some = absurd cc
-count_by-some p (x ∷ xs) some =
-    let count = sum_by-cons (λ y. once_if (p y)) x xs in
-    elim (cases_Bool (p x)) [
-      | inl pass ↦ omega (arith, count, ap once_if pass)
-      | inr fail ↦ omega (arith, count, count_by-some p xs (rw fail at some))
-    ]
 
 -- once for a test is once or never
 pub once_if-le : (test : Bool) → once_if test ≤ 1
