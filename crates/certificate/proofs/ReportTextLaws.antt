@@ -1,6 +1,6 @@
 -- Reading a report is exact: what is read is spelled so, what is spelled so is read, and the fault is the
 -- first.
-use Rattle.std.proofs.Common.{◌≡◌, ℕ, ◌≤◌, false, List, [], ◌∷◌, ◌++◌, length, Option, Some, Ok, Err, refl, ap, ◌∙◌, inl, arith, lit<}
+use Rattle.std.proofs.Common.{◌≡◌, ℕ, ◌≤◌, false, List, [], ◌∷◌, ◌++◌, length, Some, Result, Ok, Err, refl, ap, subst, ◌∙◌, inl, arith, lit<}
 use Rattle.std.specs.List.{AllZip}
 use Rattle.std.proofs.lemmas.List.{append-nil}
 use Rattle.version_order.specs.VersionText.{version_text}
@@ -17,6 +17,12 @@ use Rattle.common.proofs.Lists.{AllByRecursion-from_AllZip}
 use Rattle.common.proofs.LinesLaws.{AreLines, lines_of-text_of_lines}
 use Rattle.common.proofs.ReadingLaws.{run, Spells, run-with_text, said_by_run, read_lines-ok, read_lines-run, IsFirstBadLine-stops}
 use Rattle.certificate.proofs.ReportLaws.{report_lines-grow, IsShort, IsShort-run, run-report_lines, has_image_after}
+
+-- Reading from no line on, where the state that it begins with has none.
+pub from_empty_report : (start : Report) (total : Result Report ℕ) (texts : List (List ℕ)) → start.images.items ≡ [] → start.refusals.items ≡ [] → read_lines with_text_of_report start 1 texts ≡ total → read_lines with_text_of_report empty_report 1 texts ≡ total
+from_empty_report start total texts no_images no_refusals read =
+    subst (λ (t : Report). read_lines with_text_of_report t 1 texts ≡ total)
+    (ap (λ items. record { images = record { items = items }; refusals = start.refusals }) no_images ∙ ap (λ items. record { images = record { items = [] }; refusals = record { items = items } }) no_refusals) read
 
 -- Lines of text tell lines of a report.
 spells : Spells report_line_of with_report_line IsReportLineText report_lines

@@ -1,5 +1,5 @@
 -- Reading a table is exact: what is read is spelled so, what is spelled so is read, and the fault is the first.
-use Rattle.std.proofs.Common.{◌≡◌, ℕ, ◌≤◌, List, [], ◌∷◌, ◌++◌, length, Option, Some, Ok, Err, refl, ap, ◌∙◌, inl, arith, lit<}
+use Rattle.std.proofs.Common.{◌≡◌, ℕ, ◌≤◌, List, [], ◌∷◌, ◌++◌, length, Some, Result, Ok, Err, refl, ap, subst, ◌∙◌, inl, arith, lit<}
 use Rattle.std.specs.Prelude.{option_map}
 use Rattle.std.specs.List.{AllZip}
 use Rattle.std.proofs.lemmas.List.{append-nil}
@@ -25,6 +25,10 @@ use Rattle.certificate.proofs.TableRuns.{run-table_lines}
 -- No image yet.
 abbrev pub no_images : Table
 no_images = table_of []
+
+-- Reading from no image on, where the state that it begins with has none.
+pub from_no_images : (start : Table) (total : Result Table ℕ) (texts : List (List ℕ)) → start.images.items ≡ [] → read_lines with_text_of_table start 1 texts ≡ total → read_lines with_text_of_table no_images 1 texts ≡ total
+from_no_images start total texts none read = subst (λ (t : Table). read_lines with_text_of_table t 1 texts ≡ total) (ap table_of none) read
 
 -- Lines of text tell lines of a table.
 spells : Spells table_line_of with_table_line IsTableLineText (λ table. table_lines 0 table.images.items)

@@ -32,7 +32,9 @@ impl Report {
         ensures line { IfErr result (λ bad. IsFirstBadLine IsSomeReport text.now bad.0) }
     {
         let mut report = Report::default();
-        read_lines(&mut report, text).map_err(BadReport)?;
+        if let Err(line) = read_lines(&mut report, text) {
+            return Err(BadReport(line));
+        }
         if report.images.is_empty() {
             return Err(BadReport(1));
         }

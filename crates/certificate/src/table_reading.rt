@@ -33,7 +33,9 @@ impl Table {
         ensures line { IfErr result (λ bad. IsFirstBadLine IsSomeTable text.now bad.0) }
     {
         let mut table = Table::default();
-        read_lines(&mut table, text).map_err(BadTable)?;
+        if let Err(line) = read_lines(&mut table, text) {
+            return Err(BadTable(line));
+        }
         if table.images.is_empty() {
             return Err(BadTable(1));
         }

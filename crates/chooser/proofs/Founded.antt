@@ -3,6 +3,7 @@ use Rattle.std.proofs.Common.{◌≡◌, ℕ, ◌<◌, cond, List, ◌++◌, tak
 use Rattle.std.specs.Prelude.{◌==◌, IfSome, IsTrue, Contains, find, is_none, nat_lt, slice_get}
 use Rattle.std.specs.List.{enumerate_from, list_any}
 use Rattle.std.proofs.lemmas.Bool.{cases_Bool, cond-true, cond-false, ltb-true, eq-eqb}
+use Rattle.std.proofs.lemmas.Map.Keys.{any_passes_from_place}
 use Rattle.std.proofs.lemmas.Option.{IfSome_then, none-some, same_Some}
 use Rattle.version_order.specs.declared.dependency.Dependency.{Dependency}
 use Rattle.version_order.specs.Order.{is_older, IsOlder}
@@ -14,11 +15,11 @@ use Rattle.certificate.specs.declared.table.Table.{Table}
 use Rattle.certificate.specs.declared.report.Reason.{Reason}
 use Rattle.certificate.specs.declared.report.Reason.TheVariants.{Damaged, Older, Counter, NoSuchImage, Needs}
 use Rattle.certificate.specs.declared.report.Refusal.{Refusal}
-use Rattle.certificate.specs.Combination.{image_at, intact_entry}
-use Rattle.certificate.specs.Reasons.{is_out_of_reach, RequestMeets, ReasonHolds, IsFounded}
+use Rattle.certificate.specs.Combination.{image_at, intact_entry, RequestMeets}
+use Rattle.certificate.specs.Reasons.{is_out_of_reach, ReasonHolds, IsFounded}
 use Rattle.certificate.specs.StandardOrder.{missing_image, own_reason, own_reason_of_entry, own_refusal, own_refusals, needs_reason, IsInStandardOrder}
 use Rattle.common.proofs.Options.{IfSome-from, IsSomeAnd-from, no_value, option_map-Some}
-use Rattle.common.proofs.Lists.{StandsIn, find-Some, Contains-from_stands, list_any-from_stands, filter_map-source, each-append}
+use Rattle.common.proofs.Lists.{StandsIn, find-Some, Contains-from_stands, filter_map-source, each-append}
 use Rattle.common.proofs.Numbered.{numbered-stands}
 use Rattle.chooser.proofs.Order.{HasNeed-from_reason}
 
@@ -40,7 +41,7 @@ module _ (table : Table) (before : List Refusal) (i : ℕ) (image : Image) (has_
       holds_as table before i (NoSuchImage dependency.image) reason names
       (meets
       (λ (any_image : Image) (any_entry : Entry). IsTrue (list_any (λ any_dependency. any_dependency.image == dependency.image) any_entry.dependencies.items) × (image_at table dependency.image ≡ None)) entry has_entry
-      (list_any-from_stands (λ (any_dependency : Dependency). any_dependency.image == dependency.image) entry.dependencies.items stands.place dependency stands.at (eq-eqb dependency.image dependency.image refl), no_value (image_at table dependency.image) missing))
+      (any_passes_from_place (λ (any_dependency : Dependency). any_dependency.image == dependency.image) entry.dependencies.items stands.place dependency stands.at (eq-eqb dependency.image dependency.image refl), no_value (image_at table dependency.image) missing))
 
   -- the reason of an intact request
   entry-holds : (entry : Entry) → intact_entry image.request ≡ Some entry → (reason : Reason) → own_reason_of_entry table image entry ≡ Some reason → ReasonHolds table before i reason

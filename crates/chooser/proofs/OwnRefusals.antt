@@ -12,12 +12,12 @@ use Rattle.certificate.specs.declared.table.Table.{Table}
 use Rattle.certificate.specs.declared.report.Reason.{Reason}
 use Rattle.certificate.specs.declared.report.Refusal.{Refusal}
 use Rattle.certificate.specs.Combination.{image_at}
-use Rattle.certificate.specs.Reasons.{is_refused}
+use Rattle.certificate.specs.Reasons.{is_refused, times_refused}
 use Rattle.certificate.specs.Rightness.{is_requested, once_if}
 use Rattle.certificate.specs.StandardOrder.{own_reason, own_reason_of_entry, own_refusal, own_refusals}
 use Rattle.common.proofs.Lists.{filter_map-none}
 use Rattle.common.proofs.Numbered.{filter_map-numbered_more, take-numbered_all, slice_get-enumerate_from}
-use Rattle.certificate.proofs.Counts.{IsOnce, times_refused, once_if-le}
+use Rattle.certificate.proofs.Counts.{IsOnce, once_if-le}
 
 -- those of the first images
 abbrev pub own_refusals_below : Table → ℕ → List Refusal

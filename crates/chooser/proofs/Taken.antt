@@ -20,17 +20,11 @@ use Rattle.certificate.specs.Reasons.{is_refused, best_version, is_out_of_reach}
 use Rattle.certificate.specs.Rightness.{has_request, is_requested}
 use Rattle.certificate.specs.StandardOrder.{own_reason, own_reason_of_entry, needs_reason}
 use Rattle.chooser.specs.Reported.{is_taken_unless_refused}
-use Rattle.common.proofs.Options.{IfSome-from, IsSomeAnd-from, some_value, option_map-None, option_and_then-None, option_map_or-true}
+use Rattle.common.proofs.Options.{IfSome-from, IsSomeAnd-from, is_some_value, some_value, option_map-None, option_and_then-None, option_map_or-true}
 use Rattle.common.proofs.Lists.{list_all-from_finds, list_all-weaker}
+use Rattle.certificate.proofs.Members.{entry_in-member}
+use Rattle.certificate.proofs.BestVersion.{version_of_request, newer_version}
 use Rattle.version_order.proofs.OrderLaws.{IsAtLeast_refl, IsAtLeast_trans}
-
--- the version of the requested entry, or else the running one
-abbrev pub version_of_request : Option Entry → Entry → Version
-version_of_request requested running = option_map_or (λ entry. entry.version) requested running.version
-
--- the newer of the running version and that of the requested entry
-abbrev pub newer_version : Option Entry → Entry → Version
-newer_version requested running = option_map_or (λ entry. cond (is_older running.version entry.version) entry.version running.version) requested running.version
 
 -- the requested entry has the requested version
 version_of_request-reached : (requested : Option Entry) (running : Entry) → IsAtLeast (unwrap_or requested running).version (version_of_request requested running)
@@ -90,16 +84,6 @@ record IsTaken (table : Table) (refusals : List Refusal) (j : ℕ) (image : Imag
   pub has_image : image_at table j ≡ Some image
   pub has_entry : intact_entry image.request ≡ Some entry
   pub unrefused : is_refused refusals j ≡ false
-
--- a value that is there
-is_some_value : {X : Type 0} (o : Option X) → is_some o ≡ true → (x : X) × (o ≡ Some x)
-is_some_value None some = absurd (false≢true some)
-is_some_value (Some x) some = (x, refl)
-
--- what a member contributes is its requested entry
-entry_in-taken : (image : Image) (entry : Entry) (is_member : Bool) → is_member ≡ true → intact_entry image.request ≡ Some entry → entry_in image is_member ≡ entry
-entry_in-taken image entry is_member member has_entry =
-    cond-true is_member _ _ member ∙ ap (λ requested. unwrap_or requested image.running) has_entry
 
 -- nothing is taken that is refused
 none_if_refused : (refusals : List Refusal) (j : ℕ) → is_refused refusals j ≡ true → (found : Option Image) → option_map_or (is_taken_unless_refused refusals j) found false ≡ false
@@ -171,7 +155,7 @@ module _ (table : Table) (refusals : List Refusal) (taken : ℕ → Bool) (takes
       elim (cases_Bool (taken j)) [
         | inl is ↦
             let (entry, is_taken) = IsTaken-at j image has_image is in
-            subst P (sym (entry_in-taken image entry (taken j) is is_taken.has_entry)) (accepted j image entry has_image is_taken.has_entry is_taken.unrefused).at_least_running
+            subst P (sym (entry_in-member image entry (taken j) is is_taken.has_entry)) (accepted j image entry has_image is_taken.has_entry is_taken.unrefused).at_least_running
         | inr runs_on ↦ subst P (sym (cond-false (taken j) _ image.running runs_on)) (IsAtLeast_refl image.running.version)
       ]
 
@@ -197,7 +181,7 @@ module _ (table : Table) (refusals : List Refusal) (taken : ℕ → Bool) (takes
         elim (cases_Bool (taken j)) [
           | inl is ↦
               let (entry, is_taken) = IsTaken-at j image has_image is in
-              subst P (sym (entry_in-taken image entry (taken j) is is_taken.has_entry)) (met-taken j image entry is is_taken)
+              subst P (sym (entry_in-member image entry (taken j) is is_taken.has_entry)) (met-taken j image entry is is_taken)
           | inr runs_on ↦
               subst P (sym (cond-false (taken j) _ image.running runs_on))
               (list_all-weaker (is_met table running_set) (is_met table taken) is_met-running image.running.dependencies.items (MatchOption-at_some ⊤ _ image has_image (running.met j)))

@@ -1,16 +1,15 @@
 //! Requests that are refused by themselves, whatever becomes of the others.
 
 ghost use Rattle.std.specs.Option.{option_copied};
-ghost use Rattle.std.specs.Prelude.{◌≡◌, find, is_none};
-ghost use Rattle.certificate.specs.Combination.{image_at};
-ghost use Rattle.certificate.specs.StandardOrder.{missing_image, own_reason, own_reason_of_entry, own_refusal, own_refusals};
+ghost use Rattle.std.specs.Prelude.{◌≡◌, find};
+ghost use Rattle.certificate.specs.StandardOrder.{is_missing, missing_image, own_reason, own_reason_of_entry, own_refusal, own_refusals};
 
 use arrayvec::ArrayVec;
-use certificate::{Entry, Image, Reason, Refusal, Request, Table};
+use certificate::{Entry, Image, MOST_REFUSALS, Reason, Refusal, Request, Table};
 use version_order::Dependency;
 
 /// The requests that are refused by themselves, by ascending number, each with the lowest reason.
-pub(crate) fn own_refusals(table: &Table) -> ArrayVec<Refusal, 8>
+pub(crate) fn own_refusals(table: &Table) -> ArrayVec<Refusal, MOST_REFUSALS>
     ensures { result.items ≡ own_refusals table.now }
 {
     let mut refusals = ArrayVec::new();
@@ -65,8 +64,7 @@ fn missing_image(table: &Table, entry: &Entry) -> Option<Reason>
 }
 
 fn first_missing<'a>(table: &Table, dependencies: &'a [Dependency]) -> Option<&'a Dependency>
-    ensures { option_copied result
-        ≡ find (λ dependency. is_none (image_at table.now dependency.image)) dependencies.now }
+    ensures { option_copied result ≡ find (is_missing table.now) dependencies.now }
 {
     dependencies
         .iter()
@@ -74,7 +72,7 @@ fn first_missing<'a>(table: &Table, dependencies: &'a [Dependency]) -> Option<&'
 }
 
 fn is_missing(table: &Table, dependency: &Dependency) -> bool
-    ensures { result ≡ is_none (image_at table.now dependency.now.image) }
+    ensures { result ≡ is_missing table.now dependency.now }
 {
     table.images.get(usize::from(dependency.image)).is_none()
 }

@@ -5,10 +5,10 @@ ghost use Rattle.chooser.specs.Reported.{reported_image, reported_images};
 
 use crate::needs::is_refused;
 use arrayvec::ArrayVec;
-use certificate::{Image, Refusal, Report, ReportedImage, Request, Table};
+use certificate::{Image, MOST_REFUSALS, Refusal, Report, ReportedImage, Request, Table};
 
 /// The report that takes each intact request that these refusals don't name.
-pub(crate) fn report_of(table: &Table, refusals: ArrayVec<Refusal, 8>) -> Report
+pub(crate) fn report_of(table: &Table, refusals: ArrayVec<Refusal, MOST_REFUSALS>) -> Report
     ensures images { result.images.items ≡ reported_images table.now refusals.items }
     ensures refusals { result.refusals ≡ refusals }
 {

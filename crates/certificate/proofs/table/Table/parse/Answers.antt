@@ -1,33 +1,46 @@
-use Rattle.std.proofs.Common.{rules, ◌≡◌, Ok, IfOk, IfErr, ℕ, ◌+◌, ◌-◌, ◌*◌, ◌<◌, ◌≤◌, length, ◌/◌, ◌%◌, Bool, true, false, nat_eq, nat_lt, List, [], ◌∷◌, ◌++◌, slice_index_or, slice_set, bit_and, bit_or, Fits, w8, w32, w64, Bor, MutBor}
-use Rattle.common.specs.Lines.{IsFirstBadLine}
-use Rattle.certificate.specs.TableReading.{with_text_of_table}
-use Rattle.certificate.specs.TableText.{FitsTable, IsTableText, IsSomeTable}
+use Rattle.std.proofs.Common.{◌≡◌, Ok, length, refl, sym, ap, inl, arith}
+use Rattle.std.proofs.lemmas.Bool.{eqb-true, eqb-false}
+use Rattle.std.proofs.lemmas.List.{nil_from_length}
+use Rattle.common.specs.Lines.{lines_of}
+use Rattle.certificate.proofs.TableTextLaws.{from_no_images, FitsTable-from_text, IsTableText-read, read_lines-table, IsFirstBadLine-table, lines_of-no_images}
 use Rattle.certificate.proofs.table.Table.parse.Goals as goal
 
--- src/table_reading.rt:36:9
-pub returns-in_err-map_err-clause-only : goal.returns-in_err-map_err-clause-only
-returns-in_err-map_err-clause-only c = ?
+pub returns-in-Err-clause-only : goal.returns-in-Err-clause-only
+returns-in-Err-clause-only c = λ table spelled.
+    let read = read_lines-table c.args.text.now table spelled in
+    let failed = from_no_images c.default-table.result _ (lines_of c.args.text.now) c.default-table.ensures c.in-Err.ensures in
+    cc
 
--- src/table_reading.rt:36:9
-pub returns-in_err-map_err-clause-line : goal.returns-in_err-map_err-clause-line
-returns-in_err-map_err-clause-line c = ?
+pub returns-in-Err-clause-line : goal.returns-in-Err-clause-line
+returns-in-Err-clause-line c =
+    IsFirstBadLine-table c.args.text.now c.in-Err.line (from_no_images c.default-table.result _ (lines_of c.args.text.now) c.default-table.ensures c.in-Err.ensures)
 
--- src/table_reading.rt:38:13
 pub returns-then-is_empty-clause-only : goal.returns-then-is_empty-clause-only
-returns-then-is_empty-clause-only c = ?
+returns-then-is_empty-clause-only c = λ table spelled.
+    let read = read_lines-table c.args.text.now table spelled in
+    let found = from_no_images c.default-table.result _ (lines_of c.args.text.now) c.default-table.ensures c.in_default.ensures in
+    let none = eqb-true _ _ (sym c.if-is_empty.ensures) in
+    let same : c.read_lines.new.state ≡ table = cc in
+    absurd (omega (arith, spelled.some, none, ap (λ (t : _). length t.images.items) same))
 
--- src/table_reading.rt:38:13
 pub returns-then-is_empty-clause-line : goal.returns-then-is_empty-clause-line
-returns-then-is_empty-clause-line c = ?
+returns-then-is_empty-clause-line c =
+    let found = from_no_images c.default-table.result _ (lines_of c.args.text.now) c.default-table.ensures c.in_default.ensures in
+    let none = nil_from_length c.read_lines.new.state.images.items (eqb-true _ _ (sym c.if-is_empty.ensures)) in
+    inl (lines_of-no_images c.args.text.now c.read_lines.new.state found none, refl)
 
--- src/table_reading.rt:25:5
 pub returns-clause-spelled : goal.returns-clause-spelled
-returns-clause-spelled c = ?
+returns-clause-spelled c =
+    let found = from_no_images c.default-table.result _ (lines_of c.args.text.now) c.default-table.ensures c.in_default.ensures in
+    let some = eqb-false _ _ (sym c.if-is_empty.ensures) in
+    IsTableText-read c.args.text.now c.read_lines.new.state found (omega (arith, some))
 
--- src/table_reading.rt:25:5
 pub returns-clause-fits : goal.returns-clause-fits
-returns-clause-fits c = ?
+returns-clause-fits c = FitsTable-from_text c.args.text.now c.read_lines.new.state (returns-clause-spelled c)
 
--- src/table_reading.rt:25:5
 pub returns-clause-only : goal.returns-clause-only
-returns-clause-only c = ?
+returns-clause-only c = λ table spelled.
+    let read = read_lines-table c.args.text.now table spelled in
+    let found = from_no_images c.default-table.result _ (lines_of c.args.text.now) c.default-table.ensures c.in_default.ensures in
+    let same : c.read_lines.new.state ≡ table = cc in
+    ap Ok same
