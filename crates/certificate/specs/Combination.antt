@@ -1,5 +1,5 @@
--- Combinations: sets of images, those whose requests are taken. A set is a test of image numbers, and any test is
--- one: that its members have intact requests is said where it is called valid.
+-- Combinations: sets of images, those whose requests are taken. A set is a test of image numbers,
+-- and any test is one: that its members have intact requests is said where it is called valid.
 use Rattle.std.specs.Prelude.{ℕ, ◌≤◌, Bool, false, not, IsTrue, Option, Some, None, unwrap_or, IsSomeAnd, IfSome, slice_get, if◌then◌else◌}
 use Rattle.std.specs.List.{list_all}
 use Rattle.std.specs.Option.{option_map_or}
@@ -28,7 +28,8 @@ RequestMeets table j P =
     IsSomeAnd (image_at table j)
     (λ image. IsSomeAnd (intact_entry image.request) (λ entry. P image entry))
 
--- What an image contributes to a combination: the requested entry if it is a member, else the running one.
+-- What an image contributes to a combination: the requested entry if it is a member, else the
+-- running one.
 abbrev pub entry_in : Image → Bool → Entry
 entry_in image is_member =
     if is_member then unwrap_or (intact_entry image.request) image.running else image.running
@@ -37,8 +38,8 @@ entry_in image is_member =
 abbrev pub reaches : (ℕ → Bool) → ℕ → Version → Image → Bool
 reaches taken j minimum image = not (is_older (entry_in image (taken j)).version minimum)
 
--- Whether a combination meets a dependency: the image exists, and its version there isn't below the minimum
--- (MCUboot, dependency check).
+-- Whether a combination meets a dependency: the image exists, and its version there isn't below the
+-- minimum (MCUboot, dependency check).
 abbrev pub is_met : Table → (ℕ → Bool) → Dependency → Bool
 is_met table taken dependency =
     option_map_or (reaches taken dependency.image dependency.minimum)
@@ -48,22 +49,24 @@ is_met table taken dependency =
 abbrev pub meets_all : Table → (ℕ → Bool) → Entry → Bool
 meets_all table taken entry = list_all (is_met table taken) entry.dependencies.items
 
--- An entry may run in the place of an image: it isn't older, and its security counter isn't below the floor
--- (MCUboot, downgrade prevention).
+-- An entry may run in the place of an image: it isn't older, and its security counter isn't below
+-- the floor (MCUboot, downgrade prevention).
 abbrev pub MayReplace : Image → Entry → Type 0
-MayReplace image entry = IsAtLeast entry.version image.running.version × (image.floor ≤ entry.counter)
+MayReplace image entry =
+    IsAtLeast entry.version image.running.version × (image.floor ≤ entry.counter)
 
 -- Image j has an intact request that may run in its place.
 abbrev pub IsAcceptable : Table → ℕ → Type 0
 IsAcceptable table j = RequestMeets table j MayReplace
 
--- All dependencies of image j are met: of its requested entry if it is a member, else of its running one.
+-- All dependencies of image j are met: of its requested entry if it is a member, else of its
+-- running one.
 abbrev pub HasMetDependencies : Table → (ℕ → Bool) → ℕ → Type 0
 HasMetDependencies table taken j =
     IfSome (image_at table j) (λ image. IsTrue (meets_all table taken (entry_in image (taken j))))
 
--- A combination is valid where each member has a request that may run in its place, and the dependencies of each
--- image, member or not, are met (MCUboot, multiple image boot).
+-- A combination is valid where each member has a request that may run in its place, and the
+-- dependencies of each image, member or not, are met (MCUboot, multiple image boot).
 pub record IsValid (table : Table) (taken : ℕ → Bool) : Type 0 where
   pub members : (j : ℕ) → IsTrue (taken j) → IsAcceptable table j
   pub met : (j : ℕ) → HasMetDependencies table taken j

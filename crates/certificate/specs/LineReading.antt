@@ -1,5 +1,5 @@
--- Reading a line from left to right, step by step: words are cut at spaces (32), the first word tells which
--- line it is, and the last field takes the whole rest of the line.
+-- Reading a line from left to right, step by step: words are cut at spaces (32), the first word
+-- tells which line it is, and the last field takes the whole rest of the line.
 use Rattle.std.specs.Prelude.{ℕ, ◌^◌, List, Option, Some, None, codes, option_and_then, if◌then◌else◌}
 use Rattle.std.specs.Str.{bytes_eq}
 use Rattle.version_order.specs.declared.version.Version.{Version}

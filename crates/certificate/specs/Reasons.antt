@@ -37,16 +37,16 @@ abbrev pub requested_version : Image → Version
 requested_version image =
     option_map_or (λ entry. entry.version) (intact_entry image.request) image.running.version
 
--- The best version that the request of image own can hope for at image j, after these refusals: for its own
--- image the requested one; for another the running version or, where it has an intact request that isn't yet
--- refused and is newer, the requested one.
+-- The best version that the request of image own can hope for at image j, after these refusals: for
+-- its own image the requested one; for another the running version or, where it has an intact
+-- request that isn't yet refused and is newer, the requested one.
 abbrev pub best_version : List Refusal → ℕ → ℕ → Image → Version
 best_version before own j image =
     if j == own then requested_version image
     else (if is_refused before j then image.running.version else newest_version image)
 
--- Whether, after these refusals, a dependency of the request of image own names an image that exists and whose
--- best version is below the minimum.
+-- Whether, after these refusals, a dependency of the request of image own names an image that
+-- exists and whose best version is below the minimum.
 abbrev pub is_out_of_reach : Table → List Refusal → ℕ → Dependency → Bool
 is_out_of_reach table before own dependency =
     option_map_or
@@ -61,7 +61,8 @@ depends_on entry j = list_any (λ dependency. dependency.image == j) entry.depen
 abbrev pub NeedsMissing : Table → ℕ → Entry → Type 0
 NeedsMissing table j entry = IsTrue (depends_on entry j) × (image_at table j ≡ None)
 
--- An entry that is requested of image own has a dependency that is out of reach after these refusals.
+-- An entry that is requested of image own has a dependency that is out of reach after these
+-- refusals.
 abbrev pub NeedsUnreachable : Table → List Refusal → ℕ → Dependency → Entry → Type 0
 NeedsUnreachable table before own dependency entry =
     Contains entry.dependencies.items dependency
@@ -85,7 +86,8 @@ ReasonHolds table before i (Needs j minimum) =
 abbrev pub IsFoundedAfter : Table → List Refusal → Refusal → Type 0
 IsFoundedAfter table before refusal = ReasonHolds table before refusal.image refusal.reason
 
--- A list of refusals is founded where each has a reason that holds at its place, after those before it.
+-- A list of refusals is founded where each has a reason that holds at its place, after those before
+-- it.
 abbrev pub IsFounded : Table → List Refusal → Type 0
 IsFounded table refusals =
     (k : ℕ) → IfSome (slice_get refusals k) (IsFoundedAfter table (take k refusals))

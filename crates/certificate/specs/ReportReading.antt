@@ -1,5 +1,5 @@
--- Reading a report line by line: what one more line makes of the lines so far. The reader follows these steps;
--- what they mean is in `ReportText`.
+-- Reading a report line by line: what one more line makes of the lines so far. The reader follows
+-- these steps; what they mean is in `ReportText`.
 use Rattle.std.specs.Prelude.{ℕ, ◌==◌, ◌&&◌, true, false, [], ◌∷◌, ◌++◌, List, length, Option, Some, None, nat_lt, if◌then◌else◌}
 use Rattle.common.specs.declared.limits.TheConstants.{MOST_IMAGES}
 use Rattle.common.specs.Reading.{with_text}
@@ -15,8 +15,8 @@ use Rattle.certificate.specs.LineReading.{report_line_of}
 abbrev pub empty_report : Report
 empty_report = record { images = record { items = [] }; refusals = record { items = [] } }
 
--- A report with one more image, of at most eight, whose number is the count of those before it, and no refusal
--- yet.
+-- A report with one more image, of at most eight, whose number is the count of those before it, and
+-- no refusal yet.
 abbrev pub with_reported_image : Report → ℕ → ReportedImage → Option Report
 with_reported_image report number image =
     if (length report.refusals.items == 0)
@@ -29,8 +29,9 @@ abbrev pub with_refusal : Report → Refusal → Option Report
 with_refusal report refusal =
     if nat_lt 0 (length report.images.items)
     && nat_lt (length report.refusals.items) MOST_REFUSALS
-    then Some (record report { refusals = record { items = report.refusals.items ++ refusal ∷ [] } })
-    else None
+    then Some (record report {
+      refusals = record { items = report.refusals.items ++ refusal ∷ [] };
+    }) else None
 
 -- A report with what one more line says.
 unfoldable pub with_report_line : Report → ReportLine → Option Report

@@ -67,8 +67,8 @@ abbrev pub report_lines : Report → List ReportLine
 report_lines report =
     reported_lines 0 report.images.items ++ refuse_lines report.refusals.items
 
--- The text of a report: one to eight images and at most eight refusals, and the lines say the report's lines,
--- one after the other.
+-- The text of a report: one to eight images and at most eight refusals, and the lines say the
+-- report's lines, one after the other.
 pub record IsReportText (bytes : List ℕ) (report : Report) : Type 0 where
   pub some : 1 ≤ length report.images.items
   pub most : length report.images.items ≤ MOST_IMAGES
@@ -96,8 +96,8 @@ FitsReportLine (line.Run number version) = (number < 2 ^ 8) × FitsFields versio
 FitsReportLine (line.Take number version) = (number < 2 ^ 8) × FitsFields version
 FitsReportLine (line.Refuse refusal) = (refusal.image < 2 ^ 8) × FitsReason refusal.reason
 
--- A report that has a text: one to eight images, at most eight refusals, and numbers that fit their fields, as
--- those of a report in memory do.
+-- A report that has a text: one to eight images, at most eight refusals, and numbers that fit their
+-- fields, as those of a report in memory do.
 pub record FitsReport (report : Report) : Type 0 where
   pub some : 1 ≤ length report.images.items
   pub most : length report.images.items ≤ MOST_IMAGES

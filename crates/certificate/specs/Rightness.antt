@@ -43,9 +43,9 @@ IsDecidedOnce table report j =
     times_refused report.refusals.items j + once_if (taken_in report j)
     ≡ once_if (has_request table j)
 
--- A report is right for a table where it has the table's images, each with the version that it names for being
--- taken or running on; taken and refused requests are all requests, each once; what it takes is a valid
--- combination; and its refusals are founded.
+-- A report is right for a table where it has the table's images, each with the version that it
+-- names for being taken or running on; taken and refused requests are all requests, each once; what
+-- it takes is a valid combination; and its refusals are founded.
 pub record IsRight (table : Table) (report : Report) : Type 0 where
   pub images : length report.images.items ≡ length table.images.items
   pub versions : (j : ℕ) → HasVersionAt table report j

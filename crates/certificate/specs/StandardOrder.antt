@@ -30,7 +30,8 @@ own_reason_of_entry table image entry =
     if is_older entry.version image.running.version then Some Older
     else (if nat_lt entry.counter image.floor then Some Counter else missing_image table entry)
 
--- The lowest of the first four reasons that holds of a request: those that depend on no other refusal.
+-- The lowest of the first four reasons that holds of a request: those that depend on no other
+-- refusal.
 abbrev pub own_reason : Table → Image → Request → Option Reason
 own_reason table image request.None = None
 own_reason table image request.Damaged = Some Damaged
@@ -47,8 +48,8 @@ abbrev pub own_refusals : Table → List Refusal
 own_refusals table =
     filter_map (own_refusal table) (enumerate_from 0 table.images.items)
 
--- The first dependency of an entry that is requested of image i which is out of reach after these refusals, as a
--- reason.
+-- The first dependency of an entry that is requested of image i which is out of reach after these
+-- refusals, as a reason.
 abbrev pub needs_reason_of_entry : Table → List Refusal → ℕ → Entry → Option Reason
 needs_reason_of_entry table before i entry =
     option_map (λ dependency. Needs dependency.image dependency.minimum)
@@ -61,8 +62,8 @@ needs_reason table before i =
     (λ image. option_and_then (needs_reason_of_entry table before i) (intact_entry image.request))
     (image_at table i)
 
--- After these refusals comes this one: the lowest request not yet refused of which a dependency is out of
--- reach, with the first such dependency.
+-- After these refusals comes this one: the lowest request not yet refused of which a dependency is
+-- out of reach, with the first such dependency.
 pub record IsNextNeed (table : Table) (before : List Refusal) (refusal : Refusal) : Type 0 where
   pub unrefused : is_refused before refusal.image ≡ false
   pub reason : needs_reason table before refusal.image ≡ Some refusal.reason
@@ -74,8 +75,8 @@ abbrev pub AreNextNeeds : Table → List Refusal → Type 0
 AreNextNeeds table later =
     (k : ℕ) → IfSome (slice_get later k) (IsNextNeed table (own_refusals table ++ take k later))
 
--- First all requests that are refused by themselves, then one after another the lowest that needs what can't
--- come.
+-- First all requests that are refused by themselves, then one after another the lowest that needs
+-- what can't come.
 abbrev pub IsInStandardOrder : Table → List Refusal → Type 0
 IsInStandardOrder table refusals =
     (later : List Refusal) × (refusals ≡ own_refusals table ++ later) × AreNextNeeds table later

@@ -1,5 +1,5 @@
--- Reading a table line by line: what the lines so far say, and what one more line makes of it. The reader
--- follows these steps; what they mean is in `TableText`.
+-- Reading a table line by line: what the lines so far say, and what one more line makes of it. The
+-- reader follows these steps; what they mean is in `TableText`.
 use Rattle.std.specs.Prelude.{ℕ, ◌==◌, ◌&&◌, List, [], ◌∷◌, ◌++◌, length, Option, Some, None, option_map, nat_lt, if◌then◌else◌}
 use Rattle.common.specs.declared.limits.TheConstants.{MOST_DEPENDENCIES, MOST_IMAGES}
 use Rattle.common.specs.Reading.{with_text}
@@ -16,17 +16,22 @@ use Rattle.certificate.specs.LineReading.{table_line_of}
 
 -- An entry without dependencies.
 abbrev pub new_entry : Version → ℕ → Entry
-new_entry version counter = record { version = version; counter = counter; dependencies = record { items = [] } }
+new_entry version counter =
+    record { version = version; counter = counter; dependencies = record { items = [] } }
 
--- An entry with one more dependency, of at most 16.
+-- An entry with one more dependency.
+abbrev pub with_one_more : Dependency → Entry → Entry
+with_one_more dependency entry =
+    record entry { dependencies = record { items = entry.dependencies.items ++ dependency ∷ [] } }
+
+-- The same where there is room: an entry has at most 16.
 abbrev pub with_dependency : Dependency → Entry → Option Entry
 with_dependency dependency entry =
     if nat_lt (length entry.dependencies.items) MOST_DEPENDENCIES
-    then Some (record entry { dependencies = record { items = entry.dependencies.items ++ dependency ∷ [] } })
-    else None
+    then Some (with_one_more dependency entry) else None
 
--- An image whose request is this, with one more dependency: of the request where there is one, else of the
--- running image.
+-- An image whose request is this, with one more dependency: of the request where there is one, else
+-- of the running image.
 abbrev pub with_needs : Image → Dependency → Request → Option Image
 with_needs image dependency request.None =
     option_map (λ entry. record image { running = entry })
@@ -68,7 +73,8 @@ unfoldable pub with_line_of_images : List Image → TableLine → Option (List I
 with_line_of_images images (line.Image number version counter floor) =
     with_image images number
     (record { running = new_entry version counter; request = request.None; floor = floor })
-with_line_of_images images (line.Needs dependency) = with_line_in_last images (line.Needs dependency)
+with_line_of_images images (line.Needs dependency) =
+    with_line_in_last images (line.Needs dependency)
 with_line_of_images images (line.Request version counter) =
     with_line_in_last images (line.Request version counter)
 with_line_of_images images line.Damaged = with_line_in_last images line.Damaged

@@ -22,8 +22,8 @@ table_line_text (line.Request version counter) =
     codes "request" ␣ version_text version ␣ decimal counter
 table_line_text line.Damaged = codes "damaged"
 
--- A text without its line feed says a line: words separated by one space, decimal numbers that fit their
--- fields, and for a version any of its texts.
+-- A text without its line feed says a line: words separated by one space, decimal numbers that fit
+-- their fields, and for a version any of its texts.
 abbrev pub IsTableLineText : List ℕ → TableLine → Type 0
 IsTableLineText text (line.Image number version counter floor) =
     (number < 2 ^ 8) × (counter < 2 ^ 32) × (floor < 2 ^ 32)
@@ -70,8 +70,8 @@ AsksForFew (request.Entry entry) = HasFewDependencies entry
 abbrev pub IsSmall : Image → Type 0
 IsSmall image = HasFewDependencies image.running × AsksForFew image.request
 
--- The text of a table: one to eight images with at most 16 dependencies an entry, and the lines say the
--- table's lines, one after the other.
+-- The text of a table: one to eight images with at most 16 dependencies an entry, and the lines say
+-- the table's lines, one after the other.
 pub record IsTableText (bytes : List ℕ) (table : Table) : Type 0 where
   pub some : 1 ≤ length table.images.items
   pub most : length table.images.items ≤ MOST_IMAGES
@@ -94,8 +94,8 @@ FitsTableLine (line.Needs dependency) = FitsDependency dependency
 FitsTableLine (line.Request version counter) = FitsFields version × (counter < 2 ^ 32)
 FitsTableLine line.Damaged = Unit {0}
 
--- A table that has a text: one to eight images with at most 16 dependencies an entry, and numbers that fit their
--- fields, as those of a table in memory do.
+-- A table that has a text: one to eight images with at most 16 dependencies an entry, and numbers
+-- that fit their fields, as those of a table in memory do.
 pub record FitsTable (table : Table) : Type 0 where
   pub some : 1 ≤ length table.images.items
   pub most : length table.images.items ≤ MOST_IMAGES

@@ -19,14 +19,16 @@ use crate::table::Table;
 /// - `table`: what runs, what is requested, and the floors of the security counters.
 /// - `report`: which requests are said to be taken, and why each other one is refused.
 ///
-/// Yes means: the report has the table's images, each with the version that it names for being taken or
-/// running on; taken and refused requests are all requests, each once; what is taken is a valid combination;
-/// and each refusal has a reason that holds after those before it. What is taken is then the greatest valid
-/// combination. The order of the refusals is free, as long as each reason holds at its place.
+/// Yes means: the report has the table's images, each with the version that it names for being
+/// taken or running on; taken and refused requests are all requests, each once; what is taken is a
+/// valid combination; and each refusal has a reason that holds after those before it. What is taken
+/// is then the greatest valid combination. The order of the refusals is free, as long as each
+/// reason holds at its place.
 ///
-/// No means that one of these fails, and doesn't say which. The answer depends on these two values alone, and
-/// not on how the report was made; any table and any report have one, also where their numbers of images
-/// differ. A yes doesn't say that the table is what the device has. Does not allocate.
+/// No means that one of these fails, and doesn't say which. The answer depends on these two values
+/// alone, and not on how the report was made; any table and any report have one, also where their
+/// numbers of images differ. A yes doesn't say that the table is what the device has. Does not
+/// allocate.
 pub fn check(table: &Table, report: &Report) -> bool
     ensures exact { IsTrue result ↔ IsRight table.now report.now }
     ensures greatest { IsTrue result → IsGreatest table.now (taken_in report.now) }

@@ -8,7 +8,8 @@ ghost use Rattle.certificate.specs.Rightness.{IsRight, taken_in};
 ghost use Rattle.certificate.specs.TableText.{FitsTable, IsTableText, table_text};
 ghost use Rattle.certificate.specs.ReportText.{FitsReport, IsReportText, report_text};
 
-/// The combination that a right report takes is the greatest: it is valid, and contains every valid one.
+/// The combination that a right report takes is the greatest: it is valid, and contains every valid
+/// one.
 ///
 /// It does nothing: its contract is the theorem.
 #[tactic(auto, using(crate::proofs::Greatest::right_is_greatest))]
@@ -25,7 +26,8 @@ pub fn greatest_sets_are_equal()
         → IsGreatest table first → IsGreatest table second → (j : ℕ) → first j ≡ second j }
 {}
 
-/// Image by image, the version of the greatest combination isn't below the version of any valid one.
+/// Image by image, the version of the greatest combination isn't below the version of any valid
+/// one.
 ///
 /// It does nothing: its contract is the theorem.
 #[tactic(auto, using(crate::proofs::Newest::greatest_is_newest))]
@@ -51,8 +53,8 @@ pub fn reports_are_read_back()
     ensures { (report : Report) → FitsReport report → IsReportText (report_text report) report }
 {}
 
-/// What is printed of a report that is right for a table is a text of this report, where the table fits its
-/// fields, as one that was read does.
+/// What is printed of a report that is right for a table is a text of this report, where the table
+/// fits its fields, as one that was read does.
 ///
 /// It does nothing: its contract is the law.
 #[tactic(auto, using(crate::proofs::RightFits::right_report_has_text))]

@@ -1,10 +1,17 @@
-//! The decision's data, and what makes a decision right: tables of running and requested images, reports of a
-//! choice among them, and the reasons for which a request is refused.
+//! The decision's data, and what makes a decision right: tables of running and requested images,
+//! reports of a choice among them, and the reasons for which a request is refused.
 //!
-//! Promises: a text is read exactly where it spells a table, and a refusal names the first line that no table
-//! goes on from; what is printed is read back; `is_valid` tells whether the running images fit each other;
-//! `check` says yes to a right report and to no other; the set of a right report is the greatest valid set.
-//! Takes no memory. `chooser`, `boot_core` and `boot_cli` call it.
+//! It is for whoever has to trust a choice: a report says why, and can be checked without the
+//! program that made it.
+//!
+//! Promises: a text is read exactly where it spells a table or a report, and a refusal names the
+//! first line that none goes on from; what is printed is read back; `is_valid` tells whether the
+//! running images fit each other; `check` says yes to a right report and to no other. The set of a
+//! right report is the greatest valid set, there is one at most, and image by image no valid set
+//! has a newer version. A report that is right for a table that was read has a text.
+//!
+//! Does not allocate. Any crate above may call it: the choice, whatever boots by a choice, and
+//! programs that read or print tables and reports.
 #![tactic(auto)]
 
 mod checking;

@@ -6,7 +6,8 @@ ghost use Rattle.certificate.specs.DependencyText.{needs_text};
 use std::fmt;
 use version_order::Dependency;
 
-/// A dependency as it is printed, `needs J VERSION`: image J in this version at least. Without a line feed.
+/// A dependency as it is printed, `needs J VERSION`: image J in this version at least. Without a
+/// line feed.
 #[derive(Clone, Copy, Debug, PartialEq, Eq)]
 pub struct Needs(pub Dependency);
 

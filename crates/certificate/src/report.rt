@@ -19,8 +19,8 @@ pub enum Reason {
     Counter,
     /// It depends on this image number, which the device doesn't have.
     NoSuchImage(u8),
-    /// It depends on this image with at least this version, and no version of the image that is still possible
-    /// reaches it.
+    /// It depends on this image with at least this version, and no version of the image that is
+    /// still possible reaches it.
     Needs(u8, Version),
 }
 
@@ -42,7 +42,8 @@ pub struct ReportedImage {
     pub version: Version,
 }
 
-/// The answer to a table: for each image whether its request is taken, and for each other request why not.
+/// The answer to a table: for each image whether its request is taken, and for each other request
+/// why not.
 #[derive(Clone, Debug, Default, Drop, PartialEq, Eq)]
 pub struct Report {
     /// The images, in the order of their numbers from 0; at most 8.

@@ -13,11 +13,11 @@ use common::lines::{TakesLines, read_lines};
 impl Report {
     /// Reads the text of a report.
     ///
-    /// For each image in order `run I VERSION` or `take I VERSION`; then for each refusal in order `refuse I`
-    /// followed by `damaged`, `older`, `counter`, `no-such-image J` or `needs J VERSION`. One to eight images,
-    /// at most eight refusals. Words are separated by one space and numbers are decimal without leading zeros;
-    /// the last line's line feed may be missing. A byte that isn't ASCII breaks the line that it stands in.
-    /// Does not allocate.
+    /// For each image in order `run I VERSION` or `take I VERSION`; then for each refusal in order
+    /// `refuse I` followed by `damaged`, `older`, `counter`, `no-such-image J` or `needs J
+    /// VERSION`. One to eight images, at most eight refusals. Words are separated by one space and
+    /// numbers are decimal without leading zeros; the last line's line feed may be missing. A byte
+    /// that isn't ASCII breaks the line that it stands in. Does not allocate.
     ///
     /// # Errors
     /// [`BadReport`] names the first line, counted from 1, that no report goes on from.
@@ -53,8 +53,8 @@ impl TakesLines for Report {
     }
 }
 
-/// Adds what a line says to the report that the lines before it told; `false` where no report has such a line
-/// there.
+/// Adds what a line says to the report that the lines before it told; `false` where no report has
+/// such a line there.
 #[tactic(auto, unfolding(crate::specs::ReportReading::with_report_line))]
 fn place_line(report: &mut Report, line: ReportLine) -> bool
     ensures { MatchBool result (with_report_line report.old line ≡ Some report.new)

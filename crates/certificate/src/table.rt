@@ -4,7 +4,8 @@ use arrayvec::ArrayVec;
 use common::limits::{MOST_DEPENDENCIES, MOST_IMAGES};
 use version_order::{Dependency, Version};
 
-/// What the decision knows of one image's bytes: MCUboot's image version, security counter and dependencies.
+/// What the decision knows of one image's bytes: MCUboot's image version, security counter and
+/// dependencies.
 #[derive(Clone, Debug, Default, Drop, PartialEq, Eq)]
 pub struct Entry {
     /// The version.
@@ -27,7 +28,8 @@ pub enum Request {
     Entry(Entry),
 }
 
-/// One image of a device: what runs, what is requested in its place, and how low the security counter may be.
+/// One image of a device: what runs, what is requested in its place, and how low the security
+/// counter may be.
 #[derive(Clone, Debug, Default, Drop, PartialEq, Eq)]
 pub struct Image {
     /// The image that runs.
@@ -38,7 +40,8 @@ pub struct Image {
     pub floor: u32,
 }
 
-/// All that a decision depends on: the images of a device, in the order of their numbers from 0; at most 8.
+/// All that a decision depends on: the images of a device, in the order of their numbers from 0; at
+/// most 8.
 #[derive(Clone, Debug, Default, Drop, PartialEq, Eq)]
 pub struct Table {
     /// The images, of which the k-th, from 0, is image number k.

@@ -20,7 +20,8 @@ pub enum TableLine {
         /// The lowest security counter that is accepted.
         floor: u32,
     },
-    /// `needs J VERSION`, a dependency of the running image or, after `request`, of the requested one.
+    /// `needs J VERSION`, a dependency of the running image or, after `request`, of the requested
+    /// one.
     Needs(Dependency),
     /// `request VERSION COUNTER`, an intact request.
     Request {

@@ -9,8 +9,8 @@ use arrayvec::ArrayVec;
 use common::limits::MOST_IMAGES;
 use version_order::{Dependency, Version};
 
-/// Adds what a line says to the images that the lines before it told. `false` where no table has such a line
-/// there; the images are of no use then.
+/// Adds what a line says to the images that the lines before it told. `false` where no table has
+/// such a line there; the images are of no use then.
 #[tactic(auto, unfolding(crate::specs::TableReading::with_line_of_images))]
 pub(crate) fn place_line(images: &mut ArrayVec<Image, MOST_IMAGES>, line: TableLine) -> bool
     ensures { MatchBool result (with_line_of_images images.old.items line ≡ Some images.new.items)

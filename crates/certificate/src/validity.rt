@@ -6,8 +6,9 @@ ghost use Rattle.certificate.specs.Combination.{IsValid, is_met, meets_all, runn
 use crate::table::{Image, Table};
 use version_order::Dependency;
 
-/// Whether the dependencies of the running images are met by the running versions, so that the combination
-/// that takes no request is valid (MCUboot, dependency check). A table of no images is valid.
+/// Whether the dependencies of the running images are met by the running versions, so that the
+/// combination that takes no request is valid (MCUboot, dependency check). A table of no images is
+/// valid.
 #[tactic(auto, using(crate::proofs::RunningSet::running_set_is_valid))]
 pub fn is_valid(table: &Table) -> bool
     ensures { IsTrue result ↔ IsValid table.now running_set }

@@ -12,12 +12,13 @@ use crate::reporting::report_of;
 use arrayvec::ArrayVec;
 use certificate::{MOST_REFUSALS, Refusal, Report, Table, right_reports_are_greatest};
 
-/// Chooses among the requests of a table: takes those of the greatest valid combination, and refuses each
-/// other one with the lowest reason that holds of it, in the standard order.
+/// Chooses among the requests of a table: takes those of the greatest valid combination, and
+/// refuses each other one with the lowest reason that holds of it, in the standard order.
 ///
-/// The running images have to fit each other, which `certificate::is_valid` tells. It does not allocate and
-/// always answers; a table of no images has an empty report. The report of a table that fits its fields, as one
-/// that was read does, has a text: `certificate::right_reports_have_a_text`.
+/// The running images have to fit each other, which `certificate::is_valid` tells. It does not
+/// allocate and always answers; a table of no images has an empty report. The report of a table
+/// that fits its fields, as one that was read does, has a text:
+/// `certificate::right_reports_have_a_text`.
 pub fn choose(table: &Table) -> Report
     requires { IsValid table.now running_set }
     ensures right { IsRight table.now result }
@@ -28,8 +29,9 @@ pub fn choose(table: &Table) -> Report
     report_of(table, all_refusals(table))
 }
 
-/// All refusals of a table. First come those of the requests that are refused by themselves; then, again and
-/// again, the lowest request that needs what can't come any more is refused, until no request is left that does.
+/// All refusals of a table. First come those of the requests that are refused by themselves; then,
+/// again and again, the lowest request that needs what can't come any more is refused, until no
+/// request is left that does.
 fn all_refusals(table: &Table) -> ArrayVec<Refusal, MOST_REFUSALS>
     ensures standard { IsInStandardOrder table.now result.items }
     ensures once { (j : ℕ)

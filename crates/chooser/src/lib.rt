@@ -1,9 +1,10 @@
 //! The choice: which of the requests of a table are taken, and why each other one is refused.
 //!
-//! Promises: where the running images fit each other, the report is right for the table, what it takes is the
-//! greatest valid combination, and it lists the refusals in the standard order. Does not allocate, and never
-//! fails. Whoever has a table calls it: a bootloader for the images of its slots, a program for a table that it
-//! has read. Others can check its report without it, by `certificate::check`.
+//! Promises: where the running images fit each other, the report is right for the table, what it
+//! takes is the greatest valid combination, and it lists the refusals in the standard order. Does
+//! not allocate, and never fails. Whoever has a table calls it: a bootloader for the images of its
+//! slots, a program for a table that it has read. Others can check its report without it, by
+//! `certificate::check`.
 #![tactic(auto)]
 
 mod choice;

@@ -9,8 +9,8 @@ ghost use Rattle.certificate.specs.StandardOrder.{IsNextNeed, needs_reason};
 use certificate::{Entry, Image, Reason, Refusal, Request, Table};
 use version_order::{Dependency, Version};
 
-/// After these refusals comes this one: the lowest request not yet refused of which a dependency is out of
-/// reach. `None` where there is no such request.
+/// After these refusals comes this one: the lowest request not yet refused of which a dependency is
+/// out of reach. `None` where there is no such request.
 pub(crate) fn next_need(table: &Table, before: &[Refusal]) -> Option<Refusal>
     ensures next { IfSome result (IsNextNeed table.now before.now) }
     ensures none_left { IfNone result
@@ -36,8 +36,8 @@ pub(crate) fn is_refused(refusals: &[Refusal], number: u8) -> bool
     refusals.iter().any(|refusal| refusal.image == number)
 }
 
-/// The first dependency of the intact request of an image that is out of reach after these refusals, as a
-/// reason.
+/// The first dependency of the intact request of an image that is out of reach after these
+/// refusals, as a reason.
 fn needs_reason(table: &Table, before: &[Refusal], number: u8) -> Option<Reason>
     ensures { result ≡ needs_reason table.now before.now number }
 {
@@ -59,8 +59,8 @@ fn first_out_of_reach<'a>(
     dependencies.iter().find(|dependency| is_out_of_reach(table, before, own, dependency))
 }
 
-/// Whether a dependency of the request of image `own` names an image that exists and whose best version is
-/// below the minimum.
+/// Whether a dependency of the request of image `own` names an image that exists and whose best
+/// version is below the minimum.
 fn is_out_of_reach(table: &Table, before: &[Refusal], own: u8, dependency: &Dependency) -> bool
     ensures { result ≡ is_out_of_reach table.now before.now own dependency.now }
 {

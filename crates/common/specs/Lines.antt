@@ -34,8 +34,8 @@ abbrev pub IsFirstBeyond : (List ℕ → Type 0) → List (List ℕ) → ℕ →
 IsFirstBeyond IsText lines n =
     (Begins IsText (take n lines) → ⊥) × ((m : ℕ) → m < n → Begins IsText (take m lines))
 
--- The line that a refusal names, counted from 1: the least n of which the first n lines begin no text, and 1
--- where there are no lines.
+-- The line that a refusal names, counted from 1: the least n of which the first n lines begin no
+-- text, and 1 where there are no lines.
 abbrev pub IsFirstBadLine : (List ℕ → Type 0) → List ℕ → ℕ → Type 0
 IsFirstBadLine IsText bytes n =
     ((lines_of bytes ≡ []) × (n ≡ 1)) ⊎ IsFirstBeyond IsText (lines_of bytes) n

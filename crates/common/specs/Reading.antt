@@ -6,8 +6,8 @@ abbrev pub with_text :
     {S L : Type 0} → (List ℕ → Option L) → (S → L → Option S) → S → List ℕ → Option S
 with_text line_of place state line = option_and_then (place state) (line_of line)
 
--- The state after these lines, the first of which has number n, or the number of the first line that the state
--- doesn't take.
+-- The state after these lines, the first of which has number n, or the number of the first line
+-- that the state doesn't take.
 unfoldable pub read_lines :
     {S : Type 0} → (S → List ℕ → Option S) → S → ℕ → List (List ℕ) → Result S ℕ
 read_lines with_line state n [] = Ok state

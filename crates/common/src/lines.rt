@@ -19,11 +19,12 @@ pub trait TakesLines {
             (with_line self.old line.now ≡ None) };
 }
 
-/// Reads a text into a state, line by line. A line ends with a line feed, which may be missing at the end of
-/// the text.
+/// Reads a text into a state, line by line. A line ends with a line feed, which may be missing at
+/// the end of the text.
 ///
 /// # Errors
-/// The number of the first line, counted from 1, that the state doesn't take. The state is of no use then.
+/// The number of the first line, counted from 1, that the state doesn't take. The state is of no
+/// use then.
 pub fn read_lines<S: TakesLines>(state: &mut S, text: &[u8]) -> Result<(), usize>
     ensures { MatchResult result
         (λ done. read_lines S.with_line state.old 1 (lines_of text.now) ≡ Ok state.new)

@@ -26,8 +26,8 @@ fn has_acceptable_members(table: &Table, report: &Report) -> bool
     })
 }
 
-/// Whether a table has an image `number` with an intact request that isn't older than the running image, with a
-/// security counter not below the floor.
+/// Whether a table has an image `number` with an intact request that isn't older than the running
+/// image, with a security counter not below the floor.
 fn is_acceptable(table: &Table, number: usize) -> bool
     ensures { IsTrue result ↔ IsAcceptable table.now number }
 {
@@ -42,7 +42,8 @@ fn is_acceptable(table: &Table, number: usize) -> bool
     }
 }
 
-/// Whether all dependencies of all images, those taken and those that run on, are met by what a report takes.
+/// Whether all dependencies of all images, those taken and those that run on, are met by what a
+/// report takes.
 fn meets_all_dependencies(table: &Table, report: &Report) -> bool
     ensures { IsTrue result
         ↔ ((j : ℕ) → HasMetDependencies table.now (taken_in report.now) j) }

@@ -14,8 +14,8 @@ pub(super) fn has_as_many_images(table: &Table, report: &Report) -> bool
     report.images.len() == table.images.len()
 }
 
-/// Whether each image that a table and a report both have is reported with the version that it names for being
-/// taken or running on.
+/// Whether each image that a table and a report both have is reported with the version that it
+/// names for being taken or running on.
 pub(super) fn has_the_versions(table: &Table, report: &Report) -> bool
     ensures { IsTrue result
         ↔ ((j : ℕ) → HasVersionAt table.now report.now j) }
@@ -27,8 +27,8 @@ pub(super) fn has_the_versions(table: &Table, report: &Report) -> bool
         .all(|(number, image)| has_its_version(report, number, image))
 }
 
-/// Whether a report that has an image `number` has it with the version that it names for being taken or running
-/// on.
+/// Whether a report that has an image `number` has it with the version that it names for being
+/// taken or running on.
 fn has_its_version(report: &Report, number: usize, image: &Image) -> bool
     ensures { IsTrue result ↔ HasVersionOf report.now number image.now }
 {
@@ -38,7 +38,8 @@ fn has_its_version(report: &Report, number: usize, image: &Image) -> bool
     }
 }
 
-/// What an image contributes to a combination: the requested entry if it is a member, else the running one.
+/// What an image contributes to a combination: the requested entry if it is a member, else the
+/// running one.
 pub(super) fn entry_in(image: &Image, is_member: bool) -> &Entry
     ensures { result.now ≡ entry_in image.now is_member }
 {

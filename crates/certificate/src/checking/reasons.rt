@@ -70,8 +70,8 @@ fn is_missing(table: &Table, number: u8) -> bool
     table.images.get(usize::from(number)).is_none()
 }
 
-/// Whether, after these refusals, a dependency of the request of image `own` names an image that exists and
-/// whose best version is below the minimum.
+/// Whether, after these refusals, a dependency of the request of image `own` names an image that
+/// exists and whose best version is below the minimum.
 fn is_out_of_reach(table: &Table, before: &[Refusal], own: u8, dependency: &Dependency) -> bool
     ensures { result ≡ is_out_of_reach table.now before.now own dependency.now }
 {
@@ -81,7 +81,8 @@ fn is_out_of_reach(table: &Table, before: &[Refusal], own: u8, dependency: &Depe
     }
 }
 
-/// The best version that the request of image `own` can hope for at image `number`, after these refusals.
+/// The best version that the request of image `own` can hope for at image `number`, after these
+/// refusals.
 fn best_version(before: &[Refusal], own: u8, number: u8, image: &Image) -> Version
     ensures { result ≡ best_version before.now own number image.now }
 {

@@ -40,7 +40,8 @@ fn decides_each_below(table: &Table, report: &Report, count: usize) -> bool
     true
 }
 
-/// Whether the request of image `number` is taken or refused, once; if there is none, whether it is neither.
+/// Whether the request of image `number` is taken or refused, once; if there is none, whether it is
+/// neither.
 fn is_decided_once(table: &Table, report: &Report, number: usize) -> bool
     ensures { IsTrue result ↔ IsDecidedOnce table.now report.now number }
 {

@@ -1,6 +1,8 @@
+use crate::needs::Needs;
 use crate::report::{Reason, Refusal, Report, ReportedImage};
 use crate::table::{Entry, Image, Request, Table};
 use arrayvec::ArrayVec;
+use std::alloc::Global;
 use std::test::Fail;
 use version_order::{Dependency, Version};
 
@@ -95,5 +97,149 @@ fn a_report_is_printed(rt: HostRuntime) -> Result<(), Fail> {
         refuse 4 no-such-image 255\n\
         refuse 5 needs 0 3.0.0+0\n";
     assert_eq!(rt; text.as_str(), expected);
+    Ok(())
+}
+
+/// The largest version.
+const LARGEST: Version = Version {
+    major: 255,
+    minor: 255,
+    revision: 65535,
+    build: 4294967295,
+};
+
+/// The first line of each image of the full table.
+const IMAGE_LINES: [&str; 8] = [
+    "image 0 255.255.65535+4294967295 4294967295 4294967295\n",
+    "image 1 255.255.65535+4294967295 4294967295 4294967295\n",
+    "image 2 255.255.65535+4294967295 4294967295 4294967295\n",
+    "image 3 255.255.65535+4294967295 4294967295 4294967295\n",
+    "image 4 255.255.65535+4294967295 4294967295 4294967295\n",
+    "image 5 255.255.65535+4294967295 4294967295 4294967295\n",
+    "image 6 255.255.65535+4294967295 4294967295 4294967295\n",
+    "image 7 255.255.65535+4294967295 4294967295 4294967295\n",
+];
+
+const REQUEST_LINE: &str = "request 255.255.65535+4294967295 4294967295\n";
+
+/// What each full entry needs, sixteen times.
+const NEEDS_LINE: &str = "needs 255 255.255.65535+4294967295\n";
+
+/// An entry with the largest number in each field, and as many dependencies as there is room for.
+fn full_entry() -> Entry {
+    let dependency = Dependency {
+        image: 255,
+        minimum: LARGEST,
+    };
+    let mut dependencies = ArrayVec::new();
+    for _ in 0..16 {
+        dependencies.push(dependency);
+    }
+    Entry {
+        version: LARGEST,
+        counter: 4294967295,
+        dependencies,
+    }
+}
+
+/// A table at each of its limits at once.
+fn full_table() -> Table {
+    let mut images = ArrayVec::new();
+    for _ in 0..8 {
+        images.push(Image {
+            running: full_entry(),
+            request: Request::Entry(full_entry()),
+            floor: 4294967295,
+        });
+    }
+    Table { images }
+}
+
+/// The text of the full table, from lines that are written out.
+fn full_table_text(alloc: Global) -> Result<String, Fail> {
+    let mut text = String::new(alloc);
+    for line in IMAGE_LINES {
+        text.push_str(line)?;
+        for _ in 0..16 {
+            text.push_str(NEEDS_LINE)?;
+        }
+        text.push_str(REQUEST_LINE)?;
+        for _ in 0..16 {
+            text.push_str(NEEDS_LINE)?;
+        }
+    }
+    Ok(text)
+}
+
+#[test]
+fn a_full_table_is_printed_and_read_back(rt: HostRuntime) -> Result<(), Fail> {
+    let expected = full_table_text(rt.alloc())?;
+    let text = full_table().to_string(rt.alloc())?;
+    assert_eq!(rt; text.as_str(), expected.as_str());
+    assert_eq!(rt; Table::parse(expected.as_bytes()), Ok(full_table()));
+    Ok(())
+}
+
+/// Eight reasons, each kind among them.
+const REASONS: [Reason; 8] = [
+    Reason::Damaged,
+    Reason::Older,
+    Reason::Counter,
+    Reason::NoSuchImage(255),
+    Reason::Needs(255, LARGEST),
+    Reason::NoSuchImage(0),
+    Reason::Older,
+    Reason::Damaged,
+];
+
+/// A report at each of its limits at once.
+fn full_report() -> Report {
+    let mut images = ArrayVec::new();
+    let mut refusals = ArrayVec::new();
+    for index in 0..8_u8 {
+        images.push(ReportedImage {
+            is_taken: index % 2 == 1,
+            version: LARGEST,
+        });
+        refusals.push(Refusal {
+            image: 255 - index,
+            reason: REASONS[usize::from(index)],
+        });
+    }
+    Report { images, refusals }
+}
+
+#[test]
+fn a_full_report_is_printed_and_read_back(rt: HostRuntime) -> Result<(), Fail> {
+    let expected = "run 0 255.255.65535+4294967295\n\
+        take 1 255.255.65535+4294967295\n\
+        run 2 255.255.65535+4294967295\n\
+        take 3 255.255.65535+4294967295\n\
+        run 4 255.255.65535+4294967295\n\
+        take 5 255.255.65535+4294967295\n\
+        run 6 255.255.65535+4294967295\n\
+        take 7 255.255.65535+4294967295\n\
+        refuse 255 damaged\n\
+        refuse 254 older\n\
+        refuse 253 counter\n\
+        refuse 252 no-such-image 255\n\
+        refuse 251 needs 255 255.255.65535+4294967295\n\
+        refuse 250 no-such-image 0\n\
+        refuse 249 older\n\
+        refuse 248 damaged\n";
+    let text = full_report().to_string(rt.alloc())?;
+    assert_eq!(rt; text.as_str(), expected);
+    assert_eq!(rt; Report::parse(expected.as_bytes()), Ok(full_report()));
+    Ok(())
+}
+
+#[test]
+fn a_dependency_is_printed_as_in_a_table(rt: HostRuntime) -> Result<(), Fail> {
+    let needs = Needs(Dependency {
+        image: 255,
+        minimum: LARGEST,
+    });
+    let text = needs.to_string(rt.alloc())?;
+    assert_eq!(rt; text.as_str(), "needs 255 255.255.65535+4294967295");
     Ok(())
 }
