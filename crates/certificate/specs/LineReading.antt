@@ -66,9 +66,9 @@ table_line_at word fields =
 unfoldable pub table_line_of : List ℕ → Option TableLine
 table_line_of text =
     if bytes_eq text (codes "damaged") then Some table_line.Damaged else (do
-  let words = cut 32 text
-  fields ← words.1
-  table_line_at words.0 fields)
+      let words = cut 32 text
+      fields ← words.1
+      table_line_at words.0 fields)
 
 -- What follows `run`, and `take`: the number of an image, and its version.
 unfoldable pub run_line_of : List ℕ → Option ReportLine

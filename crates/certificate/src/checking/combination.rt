@@ -59,7 +59,7 @@ fn meets_all_dependencies(table: &Table, report: &Report) -> bool
 fn can_run_on(table: &Table, report: &Report, number: usize, image: &Image) -> bool
     ensures { result
         ≡ meets_all table.now (taken_in report.now)
-            (entry_in image.now (taken_in report.now number)) }
+        (entry_in image.now (taken_in report.now number)) }
 {
     entry_in(image, is_taken(report, number))
         .dependencies
