@@ -126,33 +126,29 @@ const REQUEST_LINE: &str = "request 255.255.65535+4294967295 4294967295\n";
 const NEEDS_LINE: &str = "needs 255 255.255.65535+4294967295\n";
 
 /// An entry with the largest number in each field, and as many dependencies as there is room for.
-fn full_entry() -> Entry {
+fn full_entry() -> Result<Entry, Fail> {
     let dependency = Dependency {
         image: 255,
         minimum: LARGEST,
     };
-    let mut dependencies = ArrayVec::new();
-    for _ in 0..16 {
-        dependencies.push(dependency);
-    }
-    Entry {
+    Ok(Entry {
         version: LARGEST,
         counter: 4294967295,
-        dependencies,
-    }
+        dependencies: ArrayVec::try_from([dependency; 16].as_slice())?,
+    })
 }
 
 /// A table at each of its limits at once.
-fn full_table() -> Table {
-    let mut images = ArrayVec::new();
+fn full_table() -> Result<Table, Fail> {
+    let mut table = Table::default();
     for _ in 0..8 {
-        images.push(Image {
-            running: full_entry(),
-            request: Request::Entry(full_entry()),
+        table.images.try_push(Image {
+            running: full_entry()?,
+            request: Request::Entry(full_entry()?),
             floor: 4294967295,
-        });
+        })?;
     }
-    Table { images }
+    Ok(table)
 }
 
 /// The text of the full table, from lines that are written out.
@@ -174,39 +170,40 @@ fn full_table_text(alloc: Global) -> Result<String, Fail> {
 #[test]
 fn a_full_table_is_printed_and_read_back(rt: HostRuntime) -> Result<(), Fail> {
     let expected = full_table_text(rt.alloc())?;
-    let text = full_table().to_string(rt.alloc())?;
+    let text = full_table()?.to_string(rt.alloc())?;
     assert_eq!(rt; text.as_str(), expected.as_str());
-    assert_eq!(rt; Table::parse(expected.as_bytes()), Ok(full_table()));
+    assert_eq!(rt; Table::parse(expected.as_bytes()), Ok(full_table()?));
     Ok(())
 }
 
-/// Eight reasons, each kind among them.
-const REASONS: [Reason; 8] = [
-    Reason::Damaged,
-    Reason::Older,
-    Reason::Counter,
-    Reason::NoSuchImage(255),
-    Reason::Needs(255, LARGEST),
-    Reason::NoSuchImage(0),
-    Reason::Older,
-    Reason::Damaged,
-];
+fn refusal(image: u8, reason: Reason) -> Refusal {
+    Refusal { image, reason }
+}
 
-/// A report at each of its limits at once.
-fn full_report() -> Report {
-    let mut images = ArrayVec::new();
-    let mut refusals = ArrayVec::new();
-    for index in 0..8_u8 {
-        images.push(ReportedImage {
-            is_taken: index % 2 == 1,
-            version: LARGEST,
-        });
-        refusals.push(Refusal {
-            image: 255 - index,
-            reason: REASONS[usize::from(index)],
-        });
-    }
-    Report { images, refusals }
+/// A report at each of its limits at once, with each reason.
+fn full_report() -> Result<Report, Fail> {
+    let run = ReportedImage {
+        is_taken: false,
+        version: LARGEST,
+    };
+    let take = ReportedImage {
+        is_taken: true,
+        version: LARGEST,
+    };
+    let refusals = [
+        refusal(255, Reason::Damaged),
+        refusal(254, Reason::Older),
+        refusal(253, Reason::Counter),
+        refusal(252, Reason::NoSuchImage(255)),
+        refusal(251, Reason::Needs(255, LARGEST)),
+        refusal(250, Reason::NoSuchImage(0)),
+        refusal(249, Reason::Older),
+        refusal(248, Reason::Damaged),
+    ];
+    Ok(Report {
+        images: ArrayVec::try_from([run, take, run, take, run, take, run, take].as_slice())?,
+        refusals: ArrayVec::try_from(refusals.as_slice())?,
+    })
 }
 
 #[test]
@@ -227,9 +224,9 @@ fn a_full_report_is_printed_and_read_back(rt: HostRuntime) -> Result<(), Fail> {
         refuse 250 no-such-image 0\n\
         refuse 249 older\n\
         refuse 248 damaged\n";
-    let text = full_report().to_string(rt.alloc())?;
+    let text = full_report()?.to_string(rt.alloc())?;
     assert_eq!(rt; text.as_str(), expected);
-    assert_eq!(rt; Report::parse(expected.as_bytes()), Ok(full_report()));
+    assert_eq!(rt; Report::parse(expected.as_bytes()), Ok(full_report()?));
     Ok(())
 }
 
