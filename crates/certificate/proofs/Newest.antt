@@ -1,5 +1,5 @@
 -- Image by image, no valid combination has a newer version than the greatest.
-use Rattle.std.proofs.Common.{◌≡◌, ℕ, Bool, true, Some, inl, inr, sym, subst, ◌∙◌}
+use Rattle.std.proofs.Common.{◌≡◌, ℕ, Bool, Some, inl, inr, sym, subst, ◌∙◌}
 use Rattle.std.proofs.lemmas.Bool.{cases_Bool}
 use Rattle.std.proofs.lemmas.Option.{same_Some}
 use Rattle.version_order.specs.Order.{IsAtLeast}

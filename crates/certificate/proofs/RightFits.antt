@@ -4,7 +4,6 @@ use Rattle.std.specs.Prelude.{⊤, slice_get, unwrap_or}
 use Rattle.std.specs.List.{AllByRecursion}
 use Rattle.std.proofs.lemmas.Bool.{eqb-true}
 use Rattle.std.proofs.lemmas.Option.{MatchOption-at_some, none-some, same_Some, slice_get-get_or, slice_get_cases, slice_get_within}
-use Rattle.common.specs.declared.limits.TheConstants.{MOST_IMAGES}
 use Rattle.common.proofs.Lists.{AllByRecursion-append, AllByRecursion-at, AllByRecursion-parts, Passes-from_list_any}
 use Rattle.common.proofs.Options.{cases_option, opened}
 use Rattle.version_order.specs.declared.version.Version.{Version}

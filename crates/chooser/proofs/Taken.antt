@@ -3,9 +3,8 @@ use Rattle.std.proofs.Common.{◌≡◌, ℕ, ◌≤◌, Bool, true, false, cond
 use Rattle.std.specs.Prelude.{⊤, IfSome, find, is_none, is_some, nat_lt, unwrap_or}
 use Rattle.std.specs.List.{list_all}
 use Rattle.std.specs.Option.{option_map_or}
-use Rattle.std.proofs.lemmas.Bool.{false≢true, and_parts, and_right, cases_Bool, cond-true, cond-false, cond_both, eqb-true, ltb-false, not-true, not_from_false, not_from_true}
+use Rattle.std.proofs.lemmas.Bool.{false≢true, and_parts, and_right, cases_Bool, cond-false, cond_both, eqb-true, ltb-false, not-true, not_from_false, not_from_true}
 use Rattle.std.proofs.lemmas.Option.{MatchOption-at_some, none-some, same_Some}
-use Rattle.version_order.specs.declared.version.Version.{Version}
 use Rattle.version_order.specs.declared.dependency.Dependency.{Dependency}
 use Rattle.version_order.specs.Order.{is_older, IsAtLeast}
 use Rattle.certificate.specs.declared.table.Entry.{Entry}
