@@ -14,27 +14,38 @@ version_of_request requested running = option_map_or (λ entry. entry.version) r
 
 -- the newer of the running version and that of the requested entry
 abbrev pub newer_version : Option Entry → Entry → Version
-newer_version requested running = option_map_or (λ entry. cond (is_older running.version entry.version) entry.version running.version) requested running.version
+newer_version requested running = option_map_or (λ entry. cond
+    (is_older running.version entry.version) entry.version running.version) requested running.version
 
 -- the version that is requested is that of the requested entry
-version_of_request-at_least : (requested : Option Entry) (running : Entry) → IsAtLeast (version_of_request requested running) (unwrap_or requested running).version
+version_of_request-at_least : (requested : Option Entry) (running : Entry)
+    → IsAtLeast (version_of_request requested running) (unwrap_or requested running).version
 version_of_request-at_least None running = IsAtLeast_refl running.version
 version_of_request-at_least (Some entry) running = IsAtLeast_refl entry.version
 
 -- the newer version is at least the running one
-newer_version-at_least_running : (requested : Option Entry) (running : Entry) → IsAtLeast (newer_version requested running) running.version
+newer_version-at_least_running : (requested : Option Entry) (running : Entry)
+    → IsAtLeast (newer_version requested running) running.version
 newer_version-at_least_running None running = IsAtLeast_refl running.version
 newer_version-at_least_running (Some entry) running =
-    cond_both (is_older running.version entry.version) entry.version running.version (λ v. IsAtLeast v running.version) (λ older. IsAtLeast-from_older entry.version running.version older) (λ _. IsAtLeast_refl running.version)
+    cond_both (is_older running.version entry.version) entry.version running.version
+    (λ v. IsAtLeast v running.version) (λ older. IsAtLeast-from_older entry.version running.version older)
+    (λ _. IsAtLeast_refl running.version)
 
 -- the newer version is at least the requested one
-newer_version-at_least_requested : (requested : Option Entry) (running : Entry) → IsAtLeast (newer_version requested running) (unwrap_or requested running).version
+newer_version-at_least_requested : (requested : Option Entry) (running : Entry)
+    → IsAtLeast (newer_version requested running) (unwrap_or requested running).version
 newer_version-at_least_requested None running = IsAtLeast_refl running.version
 newer_version-at_least_requested (Some entry) running =
-    cond_both (is_older running.version entry.version) entry.version running.version (λ v. IsAtLeast v entry.version) (λ _. IsAtLeast_refl entry.version) (λ older. not_from_false _ older)
+    cond_both (is_older running.version entry.version) entry.version running.version
+    (λ v. IsAtLeast v entry.version) (λ _. IsAtLeast_refl entry.version) (λ older. not_from_false _ older)
 
 -- whatever is a member, as long as the request's own image is and no other member is refused
-pub best-at_least : (requested : Option Entry) (running : Entry) (is_own is_refused is_member : Bool) → (is_own ≡ true → is_member ≡ true) → (is_member ≡ true → is_refused ≡ false) → IsAtLeast (cond is_own (version_of_request requested running) (cond is_refused running.version (newer_version requested running))) (cond is_member (unwrap_or requested running) running).version
+pub best-at_least : (requested : Option Entry) (running : Entry) (is_own is_refused is_member : Bool)
+    → (is_own ≡ true → is_member ≡ true) → (is_member ≡ true → is_refused ≡ false)
+    → IsAtLeast (cond is_own (version_of_request requested running)
+    (cond is_refused running.version (newer_version requested running)))
+    (cond is_member (unwrap_or requested running) running).version
 best-at_least requested running true is_refused true own member = version_of_request-at_least requested running
 best-at_least requested running true is_refused false own member = absurd (false≢true (own refl))
 best-at_least requested running false true true own member = absurd (true≢false (member refl))

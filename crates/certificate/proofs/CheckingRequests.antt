@@ -11,19 +11,23 @@ use Rattle.certificate.specs.declared.report.Report.{Report}
 use Rattle.certificate.specs.Rightness.{taken_in, is_requested, has_request, once_if, IsDecidedOnce}
 use Rattle.common.proofs.Lists.{Passes-from_count_by}
 
-module _ (table : Table) (report : Report) (count : ℕ) (in_table : length table.images.items ≤ count) (in_report : length report.images.items ≤ count) where
+module _ (table : Table) (report : Report) (count : ℕ) (in_table : length table.images.items ≤ count)
+    (in_report : length report.images.items ≤ count) where
   -- nothing is taken past the last image
   taken_in-past : (j : ℕ) → count ≤ j → taken_in report j ≡ false
   taken_in-past j past =
-      ap (λ found. option_map_or (λ image. image.is_taken) found false) (slice_get_past report.images.items j (omega arith))
+      ap (λ found. option_map_or (λ image. image.is_taken) found false)
+      (slice_get_past report.images.items j (omega arith))
 
   -- nothing is requested past the last image
   has_request-past : (j : ℕ) → count ≤ j → has_request table j ≡ false
   has_request-past j past =
-      ap (λ found. option_map_or (λ image. is_requested image.request) found false) (slice_get_past table.images.items j (omega arith))
+      ap (λ found. option_map_or (λ image. is_requested image.request) found false)
+      (slice_get_past table.images.items j (omega arith))
 
   -- with no refusal past the last image, nothing there is to be decided
-  decided_past : All (λ refusal. refusal.image < count) report.refusals.items → (j : ℕ) → count ≤ j → IsDecidedOnce table report j
+  decided_past : All (λ refusal. refusal.image < count) report.refusals.items → (j : ℕ) → count ≤ j
+      → IsDecidedOnce table report j
   decided_past below j past =
       let refusals = report.refusals.items in
       elim (cases_lt 0 (count_by (λ refusal. refusal.image == j) refusals)) [
@@ -38,7 +42,8 @@ module _ (table : Table) (report : Report) (count : ℕ) (in_table : length tabl
       ]
 
   -- where each request is decided once, no refusal names an image past the last one
-  pub refusals_below : ((j : ℕ) → IsDecidedOnce table report j) → All (λ refusal. refusal.image < count) report.refusals.items
+  pub refusals_below : ((j : ℕ) → IsDecidedOnce table report j)
+      → All (λ refusal. refusal.image < count) report.refusals.items
   refusals_below decided k d within =
       let refusals = report.refusals.items in
       let j = (get_or refusals k d).image in
@@ -46,9 +51,21 @@ module _ (table : Table) (report : Report) (count : ℕ) (in_table : length tabl
         | inl before ↦ before
         | inr past ↦
             let counted = get_or-le-sum_by (λ (refusal : Refusal). once_if (refusal.image == j)) refusals k d within in
-            absurd (omega (arith, counted, ap once_if (eq-eqb j j refl), decided j, ap once_if (has_request-past j past)))
+            absurd (omega (
+              arith,
+              counted,
+              ap once_if (eq-eqb j j refl),
+              decided j,
+              ap once_if
+                  (has_request-past j past),
+            ))
       ]
 
   -- what holds of the first images, with no refusal past them, holds of all
-  pub all_decided : All (λ refusal. refusal.image < count) report.refusals.items → ((j : ℕ) → j < count → IsDecidedOnce table report j) → (j : ℕ) → IsDecidedOnce table report j
-  all_decided below decided j = elim (cases_lt j count) [ inl before ↦ decided j before | inr past ↦ decided_past below j past ]
+  pub all_decided : All (λ refusal. refusal.image < count) report.refusals.items
+      → ((j : ℕ) → j < count → IsDecidedOnce table report j) → (j : ℕ) → IsDecidedOnce table report j
+  all_decided below decided j = elim (cases_lt j count) [
+    | inl before ↦ decided j before
+    | inr past ↦
+        decided_past below j past
+  ]

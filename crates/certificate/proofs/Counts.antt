@@ -34,34 +34,50 @@ abbrev images_of : List Refusal → List ℕ
 images_of refusals = map (λ refusal. refusal.image) refusals
 
 -- a number that no entry refuses isn't among theirs
-apart_from_unrefused : (refusals : List Refusal) (j : ℕ) → is_refused refusals j ≡ false → AllByRecursion (λ i. eqb j i ≡ false) (images_of refusals)
+apart_from_unrefused : (refusals : List Refusal) (j : ℕ) → is_refused refusals j ≡ false
+    → AllByRecursion (λ i. eqb j i ≡ false) (images_of refusals)
 apart_from_unrefused [] j unrefused = tt
 apart_from_unrefused (refusal ∷ refusals) j unrefused =
     let parts = or_parts (refusal.image == j) (is_refused refusals j) unrefused in
     (ne_eqb j refusal.image (λ same. eqb-false _ _ parts.0 (sym same)), apart_from_unrefused refusals j parts.1)
 
 -- numbers that are refused once at most are distinct
-distinct_images : (refusals : List Refusal) → ((j : ℕ) → times_refused refusals j ≤ 1) → IsDistinct eqb (images_of refusals)
+distinct_images : (refusals : List Refusal) → ((j : ℕ) → times_refused refusals j ≤ 1)
+    → IsDistinct eqb (images_of refusals)
 unfolding IsDistinct
 distinct_images [] once = tt
 distinct_images (refusal ∷ refusals) once =
-    let added : (j : ℕ) → times_refused (refusal ∷ refusals) j ≡ once_if (refusal.image == j) + times_refused refusals j =
+    let added : (j : ℕ)
+    → times_refused (refusal ∷ refusals) j ≡ once_if (refusal.image == j) + times_refused refusals j =
     λ j. sum_by-cons (λ (any_refusal : Refusal). once_if (any_refusal.image == j)) refusal refusals
     in
     let here : once_if (refusal.image == refusal.image) ≡ 1 = ap once_if (eq-eqb refusal.image refusal.image refl) in
     let unrefused : is_refused refusals refusal.image ≡ false =
-    false_from_ne_true _ (λ again. absurd (omega (arith, once refusal.image, added refusal.image, here, count_by-some (λ (any_refusal : Refusal). any_refusal.image == refusal.image) refusals again)))
-    in
-    (apart_from_unrefused refusals refusal.image unrefused, distinct_images refusals (λ j. omega (arith, once j, added j)))
+    false_from_ne_true _ (λ again. absurd
+    (omega (
+      arith,
+      once refusal.image,
+      added refusal.image,
+      here,
+      count_by-some
+          (λ (any_refusal : Refusal). any_refusal.image == refusal.image) refusals again,
+    )))
+    in (
+      apart_from_unrefused refusals refusal.image unrefused,
+      distinct_images refusals
+          (λ j. omega (arith, once j, added j)),
+    )
 
 -- a number among those of the refused requests is refused
-is_refused-images_of : (refusals : List Refusal) (j : ℕ) → list_any (eqb j) (images_of refusals) ≡ true → is_refused refusals j ≡ true
+is_refused-images_of : (refusals : List Refusal) (j : ℕ) → list_any (eqb j) (images_of refusals) ≡ true
+    → is_refused refusals j ≡ true
 is_refused-images_of [] j among = among
 is_refused-images_of (refusal ∷ refusals) j among =
     elim (cases_Bool (refusal.image == j)) [
       | inl here ↦ or_left _ (is_refused refusals j) here
       | inr elsewhere ↦
-          let apart : eqb j refusal.image ≡ false = ne_eqb j refusal.image (λ same. eqb-false _ _ elsewhere (sym same)) in
+          let apart : eqb j refusal.image ≡ false =
+          ne_eqb j refusal.image (λ same. eqb-false _ _ elsewhere (sym same)) in
           or_right _ (is_refused refusals j) (is_refused-images_of refusals j (rw apart at among))
     ]
 
@@ -72,26 +88,43 @@ below-has_request table j asked =
     slice_get_within table.images.items j image has_image
 
 -- there are no more refusals than images
-pub length-once : (table : Table) (refusals : List Refusal) → IsOnce table refusals → length refusals ≤ length table.images.items
+pub length-once : (table : Table) (refusals : List Refusal) → IsOnce table refusals
+    → length refusals ≤ length table.images.items
 length-once table refusals is =
     let distinct = distinct_images refusals (λ j. omega (arith, is.once j, once_if-le (has_request table j))) in
     let below : (j : ℕ) → list_any (eqb j) (images_of refusals) ≡ true → j < length table.images.items =
     λ j among.
-    let counted = count_by-some (λ (any_refusal : Refusal). any_refusal.image == j) refusals (is_refused-images_of refusals j among) in
+    let counted = count_by-some (λ (any_refusal : Refusal).
+    any_refusal.image == j) refusals (is_refused-images_of refusals j among) in
     below-has_request table j (once_if-some _ (omega (arith, is.once j, counted)))
     in
-    omega (arith, length-map refusals (λ (any_refusal : Refusal). any_refusal.image), length-le_from_distinct_below (images_of refusals) _ distinct below)
+    omega (
+      arith,
+      length-map refusals (λ (any_refusal : Refusal). any_refusal.image),
+      length-le_from_distinct_below
+          (images_of refusals) _ distinct below,
+    )
 
 -- a request that isn't refused yet can be refused
-pub IsOnce-push : (table : Table) (refusals : List Refusal) (refusal : Refusal) → IsOnce table refusals → is_refused refusals refusal.image ≡ false → has_request table refusal.image ≡ true → IsOnce table (refusals ++ refusal ∷ [])
+pub IsOnce-push : (table : Table) (refusals : List Refusal) (refusal : Refusal) → IsOnce table refusals
+    → is_refused refusals refusal.image ≡ false → has_request table refusal.image ≡ true
+    → IsOnce table (refusals ++ refusal ∷ [])
 IsOnce-push table refusals refusal is unrefused asked = record {
   once = λ j.
       let added = sum_by_push (λ (any_refusal : Refusal). once_if (any_refusal.image == j)) refusals refusal in
       elim (cases_Bool (refusal.image == j)) [
         | inl here ↦
             let same = eqb-true refusal.image j here in
-            omega
-            (arith, added, ap once_if here, count_by-none (λ (any_refusal : Refusal). any_refusal.image == j) refusals (ap (is_refused refusals) (sym same) ∙ unrefused), ap once_if (ap (has_request table) (sym same) ∙ asked))
+            omega (
+              arith,
+              added,
+              ap once_if here,
+              count_by-none
+                  (λ (any_refusal : Refusal). any_refusal.image == j) refusals
+                  (ap (is_refused refusals) (sym same) ∙ unrefused),
+              ap once_if
+                  (ap (has_request table) (sym same) ∙ asked),
+            )
         | inr elsewhere ↦ omega (arith, added, ap once_if elsewhere, is.once j)
       ];
 }

@@ -24,50 +24,70 @@ use Rattle.certificate.proofs.Members.{IsMember, IsMember-from_valid}
 use Rattle.certificate.proofs.Requests.{has_request-intact}
 
 -- a dependency that a list meets, at its place
-passes_where_contained : {X : Type 0} (p : X → Bool) (xs : List X) (x : X) → list_all p xs ≡ true → Contains xs x → p x ≡ true
+passes_where_contained : {X : Type 0} (p : X → Bool) (xs : List X) (x : X) → list_all p xs ≡ true → Contains xs x
+    → p x ≡ true
 passes_where_contained p xs x all (k, within, is) =
     MatchOption-at_some ⊤ _ x (slice_get-get_or xs k x within ∙ ap Some is) (IfSome-from_list_all p xs k all)
 
 module _ (table : Table) (other : ℕ → Bool) (valid : IsValid table other) where
   -- what a member needs is within reach, where no member is refused
-  within_reach : (before : List Refusal) (unrefused : (j : ℕ) → other j ≡ true → is_refused before j ≡ false) (i : ℕ) (member : other i ≡ true) (dependency : Dependency) → is_met table other dependency ≡ true → is_out_of_reach table before i dependency ≡ true → ⊥
+  within_reach : (before : List Refusal) (unrefused : (j : ℕ) → other j ≡ true → is_refused before j ≡ false)
+      (i : ℕ) (member : other i ≡ true) (dependency : Dependency) → is_met table other dependency ≡ true
+      → is_out_of_reach table before i dependency ≡ true → ⊥
   within_reach before unrefused i member dependency met out_of_reach =
       let j = dependency.image in
       let (image, has_image, reaches) = option_map_or-true _ (image_at table j) met in
       let too_old = option_map_or-at _ (image_at table j) image has_image out_of_reach in
-      let best = best-at_least (intact_entry image.request) image.running (eqb j i) (is_refused before j) (other j) (λ own. ap other (eqb-true j i own) ∙ member) (unrefused j) in
-      both_ways _ (not-true _ (IsAtLeast_trans (best_version before i j image) (entry_in image (other j)).version dependency.minimum best reaches)) too_old
+      let best = best-at_least (intact_entry image.request) image.running (eqb j i) (is_refused before j) (other j)
+      (λ own. ap other (eqb-true j i own) ∙ member) (unrefused j) in
+      both_ways _ (not-true _ (IsAtLeast_trans (best_version before i j image)
+      (entry_in image (other j)).version dependency.minimum best reaches)) too_old
 
   -- what a reason says of a member
-  requested_at : (i : ℕ) (image : Image) (entry : Entry) → IsMember table other i image entry → (P : Image → Entry → Type 0) → RequestMeets table i P → P image entry
+  requested_at : (i : ℕ) (image : Image) (entry : Entry) → IsMember table other i image entry
+      → (P : Image → Entry → Type 0) → RequestMeets table i P → P image entry
   requested_at i image entry is P meets =
-      IsSomeAnd-at (intact_entry image.request) (P image) entry is.has_entry (IsSomeAnd-at (image_at table i) _ image is.has_image meets)
+      IsSomeAnd-at (intact_entry image.request) (P image) entry is.has_entry
+      (IsSomeAnd-at (image_at table i) _ image is.has_image meets)
 
   -- no reason holds of a member, where no member is refused before
-  no_reason : (before : List Refusal) (unrefused : (j : ℕ) → other j ≡ true → is_refused before j ≡ false) (i : ℕ) (member : other i ≡ true) (image : Image) (entry : Entry) → IsMember table other i image entry → (reason : Reason) → ReasonHolds table before i reason → ⊥
+  no_reason : (before : List Refusal) (unrefused : (j : ℕ) → other j ≡ true → is_refused before j ≡ false) (i : ℕ)
+      (member : other i ≡ true) (image : Image) (entry : Entry) → IsMember table other i image entry
+      → (reason : Reason) → ReasonHolds table before i reason → ⊥
   no_reason before unrefused i member image entry is Damaged holds =
       let damaged = IsSomeAnd-at (image_at table i) _ image is.has_image holds in
       none-some entry (sym (ap intact_entry damaged) ∙ is.has_entry)
   no_reason before unrefused i member image entry is Older holds =
-      let older = requested_at i image entry is (λ (im : Image) (e : Entry). IsOlder e.version im.running.version) holds in
+      let older = requested_at i image entry is
+      (λ (im : Image) (e : Entry). IsOlder e.version im.running.version) holds in
       both_ways _ (not-true _ is.at_least_running) older
   no_reason before unrefused i member image entry is Counter holds =
       let below = requested_at i image entry is (λ (im : Image) (e : Entry). e.counter < im.floor) holds in
       let accepted = is.counter_accepted in
       omega arith
   no_reason before unrefused i member image entry is (NoSuchImage j) holds =
-      let (names, missing) = requested_at i image entry is (λ (im : Image) (e : Entry). IsTrue (list_any (λ dependency. dependency.image == j) e.dependencies.items) × (image_at table j ≡ None)) holds in
+      let (names, missing) = requested_at i image entry is (λ (im : Image) (e : Entry). IsTrue
+      (list_any (λ dependency. dependency.image == j) e.dependencies.items)
+      × (image_at table j ≡ None)) holds in
       let dependency = Passes-from_list_any _ entry.dependencies.items names in
-      let met = MatchOption-at_some ⊤ _ dependency.element dependency.at (IfSome-from_list_all _ entry.dependencies.items dependency.place is.met) in
+      let met = MatchOption-at_some ⊤ _ dependency.element dependency.at
+      (IfSome-from_list_all _ entry.dependencies.items dependency.place is.met) in
       let (present, has_image, _) = option_map_or-true _ (image_at table dependency.element.image) met in
       none-some present (sym missing ∙ ap (image_at table) (sym (eqb-true _ j dependency.passes)) ∙ has_image)
   no_reason before unrefused i member image entry is (Needs j minimum) holds =
       let dependency : Dependency = record { image = j; minimum = minimum } in
-      let (contained, out_of_reach) = requested_at i image entry is (λ (im : Image) (e : Entry). Contains e.dependencies.items dependency × IsTrue (is_out_of_reach table before i dependency)) holds in
-      within_reach before unrefused i member dependency (passes_where_contained _ entry.dependencies.items dependency is.met contained) out_of_reach
+      let (contained, out_of_reach) =
+      requested_at i image entry is
+      (λ (im : Image) (e : Entry). Contains e.dependencies.items dependency
+      × IsTrue (is_out_of_reach table before i dependency)) holds in
+      within_reach before unrefused i member dependency
+      (passes_where_contained _ entry.dependencies.items dependency is.met contained) out_of_reach
 
   -- no member is refused at a place, where none is refused before
-  no_member_at : (refusals : List Refusal) → IsFounded table refusals → (k : ℕ) (earlier : (i : ℕ) (refusal : Refusal) → i < k → slice_get refusals i ≡ Some refusal → other refusal.image ≡ true → ⊥) (refusal : Refusal) → slice_get refusals k ≡ Some refusal → other refusal.image ≡ true → ⊥
+  no_member_at : (refusals : List Refusal) → IsFounded table refusals
+      → (k : ℕ) (earlier : (i : ℕ) (refusal : Refusal) → i < k → slice_get refusals i ≡ Some refusal
+      → other refusal.image ≡ true → ⊥) (refusal : Refusal) → slice_get refusals k ≡ Some refusal
+      → other refusal.image ≡ true → ⊥
   no_member_at refusals founded k earlier refusal at member =
       let unrefused : (j : ℕ) → other j ≡ true → is_refused (take k refusals) j ≡ false =
       λ j taken. false_from_ne_true _
@@ -77,13 +97,16 @@ module _ (table : Table) (other : ℕ → Bool) (valid : IsValid table other) wh
       earlier before.place before.element below stands (ap other (eqb-true _ j before.passes) ∙ taken))
       in
       let (image, entry, is) = IsMember-from_valid table other valid refusal.image member in
-      no_reason (take k refusals) unrefused refusal.image member image entry is refusal.reason (MatchOption-at_some ⊤ _ refusal at (founded k))
+      no_reason (take k refusals) unrefused refusal.image member image entry is refusal.reason
+      (MatchOption-at_some ⊤ _ refusal at (founded k))
 
   -- no member is refused at the first n places
-  no_member_below : (refusals : List Refusal) → IsFounded table refusals → (n k : ℕ) (refusal : Refusal) → k < n → slice_get refusals k ≡ Some refusal → other refusal.image ≡ true → ⊥
+  no_member_below : (refusals : List Refusal) → IsFounded table refusals → (n k : ℕ) (refusal : Refusal) → k < n
+      → slice_get refusals k ≡ Some refusal → other refusal.image ≡ true → ⊥
   no_member_below refusals founded zero k refusal below at member = absurd (omega arith)
   no_member_below refusals founded (suc n) k refusal below at member =
-      no_member_at refusals founded k (λ i earlier less. no_member_below refusals founded n i earlier (omega arith)) refusal at member
+      no_member_at refusals founded k
+      (λ i earlier less. no_member_below refusals founded n i earlier (omega arith)) refusal at member
 
   -- each member has a request
   has_request-member : (j : ℕ) → other j ≡ true → has_request table j ≡ true
@@ -103,10 +126,12 @@ module _ (table : Table) (other : ℕ → Bool) (valid : IsValid table other) wh
             in
             let refused = Passes-from_count_by _ refusals counted in
             absurd
-            (no_member_below refusals right.founded (suc refused.place) refused.place refused.element (omega arith) refused.at
+            (no_member_below refusals right.founded (suc refused.place) refused.place refused.element
+            (omega arith) refused.at
             (ap other (eqb-true _ j refused.passes) ∙ member))
       ]
 
 -- the combination of a right report is the greatest
 pub right_is_greatest : (table : Table) (report : Report) → IsRight table report → IsGreatest table (taken_in report)
-right_is_greatest table report right = record { valid = right.valid; contains = λ other valid. taken_in-member table other valid report right }
+right_is_greatest table report right =
+    record { valid = right.valid; contains = λ other valid. taken_in-member table other valid report right }

@@ -20,12 +20,14 @@ pub record IsMember (table : Table) (taken : ℕ → Bool) (j : ℕ) (image : Im
   pub met : list_all (is_met table taken) entry.dependencies.items ≡ true
 
 -- what a member contributes is its requested entry
-pub entry_in-member : (image : Image) (entry : Entry) (is_member : Bool) → is_member ≡ true → intact_entry image.request ≡ Some entry → entry_in image is_member ≡ entry
+pub entry_in-member : (image : Image) (entry : Entry) (is_member : Bool) → is_member ≡ true
+    → intact_entry image.request ≡ Some entry → entry_in image is_member ≡ entry
 entry_in-member image entry is_member member has_entry =
     cond-true is_member _ _ member ∙ ap (λ requested. unwrap_or requested image.running) has_entry
 
 -- each member of a valid combination has an image and a requested entry
-pub IsMember-from_valid : (table : Table) (taken : ℕ → Bool) → IsValid table taken → (j : ℕ) → taken j ≡ true → (image : Image) × (entry : Entry) × IsMember table taken j image entry
+pub IsMember-from_valid : (table : Table) (taken : ℕ → Bool) → IsValid table taken → (j : ℕ) → taken j ≡ true
+    → (image : Image) × (entry : Entry) × IsMember table taken j image entry
 IsMember-from_valid table taken valid j member =
     let (image, has_image, intact) = opened (image_at table j) _ (valid.members j member) in
     let (entry, has_entry, accepted) = opened (intact_entry image.request) _ intact in (
@@ -36,6 +38,8 @@ IsMember-from_valid table taken valid j member =
         has_entry = has_entry;
         at_least_running = accepted.0;
         counter_accepted = accepted.1;
-        met = subst (λ (contributed : Entry). list_all (is_met table taken) contributed.dependencies.items ≡ true) (entry_in-member image entry (taken j) member has_entry) (MatchOption-at_some ⊤ _ image has_image (valid.met j));
+        met = subst (λ (contributed : Entry). list_all (is_met table taken) contributed.dependencies.items ≡ true)
+            (entry_in-member image entry (taken j) member has_entry)
+            (MatchOption-at_some ⊤ _ image has_image (valid.met j));
       },
     )

@@ -14,20 +14,30 @@ use Rattle.certificate.proofs.TableLaws.{table_lines-append}
 
 -- One more image is printed after the others.
 pub printed_images_more : (xs : List Image) (i : ℕ) (x : Image) → i < length xs → x ≡ get_or xs i x
-    → printed_lines table_line_text (table_lines 0 (take i xs)) ++ printed_lines table_line_text (image_lines i x) ≡ printed_lines table_line_text (table_lines 0 (take (i + 1) xs))
+    → printed_lines table_line_text (table_lines 0 (take i xs)) ++ printed_lines table_line_text
+    (image_lines i x) ≡ printed_lines table_line_text (table_lines 0 (take (i + 1) xs))
 printed_images_more xs i x below is =
     let lines : table_lines 0 (take (i + 1) xs) ≡ table_lines 0 (take i xs) ++ image_lines i x =
     ap (λ ys. table_lines 0 ys) (take_more xs i x below ∙ ap (λ y. take i xs ++ y ∷ []) (sym is))
-    ∙ table_lines-append 0 (take i xs) (x ∷ []) ∙ ap (λ (ls : List TableLine). table_lines 0 (take i xs) ++ ls) (append-nil (image_lines (0 + length (take i xs)) x) ∙ ap (λ k. image_lines k x) (omega (arith, length-take-le i xs (omega arith)))) in
-    sym (ap (printed_lines table_line_text) lines ∙ flat_map-append (λ said. table_line_text said ++ 10 ∷ []) (table_lines 0 (take i xs)) (image_lines i x))
+    ∙ table_lines-append 0 (take i xs) (x ∷ [])
+    ∙ ap (λ (ls : List TableLine). table_lines 0 (take i xs) ++ ls)
+    (append-nil (image_lines (0 + length (take i xs)) x)
+    ∙ ap (λ k. image_lines k x) (omega (arith, length-take-le i xs (omega arith)))) in
+    sym (ap (printed_lines table_line_text) lines
+    ∙ flat_map-append (λ said. table_line_text said ++ 10 ∷ []) (table_lines 0 (take i xs)) (image_lines i x))
 
 -- One more reported image is printed after the others.
-pub printed_reported_more : (xs : List ReportedImage) (i : ℕ) (d : ReportedImage) (said : ReportLine) → i < length xs → said ≡ reported_line i (get_or xs i d)
-    → printed_lines report_line_text (reported_lines 0 (take i xs)) ++ (report_line_text said ++ 10 ∷ []) ≡ printed_lines report_line_text (reported_lines 0 (take (i + 1) xs))
+pub printed_reported_more : (xs : List ReportedImage) (i : ℕ) (d : ReportedImage) (said : ReportLine)
+    → i < length xs → said ≡ reported_line i (get_or xs i d)
+    → printed_lines report_line_text (reported_lines 0 (take i xs)) ++
+    (report_line_text said ++ 10 ∷ []) ≡ printed_lines report_line_text (reported_lines 0 (take (i + 1) xs))
 printed_reported_more xs i d said below is =
     let x = get_or xs i d in
     let lines : reported_lines 0 (take (i + 1) xs) ≡ reported_lines 0 (take i xs) ++ said ∷ [] =
     ap (λ ys. reported_lines 0 ys) (take_more xs i d below)
-    ∙ reported_lines-append 0 (take i xs) (x ∷ []) ∙ ap (λ (k : ℕ). reported_lines 0 (take i xs) ++ reported_line k x ∷ []) (omega (arith, length-take-le i xs (omega arith)))
+    ∙ reported_lines-append 0 (take i xs) (x ∷ [])
+    ∙ ap (λ (k : ℕ). reported_lines 0 (take i xs) ++ reported_line k x ∷ [])
+    (omega (arith, length-take-le i xs (omega arith)))
     ∙ ap (λ (line : ReportLine). reported_lines 0 (take i xs) ++ line ∷ []) (sym is) in
-    flat_map_more (λ line. report_line_text line ++ 10 ∷ []) [] (reported_lines 0 (take i xs)) said ∙ ap (printed_lines report_line_text) (sym lines)
+    flat_map_more (λ line. report_line_text line ++ 10 ∷ []) [] (reported_lines 0 (take i xs)) said
+    ∙ ap (printed_lines report_line_text) (sym lines)

@@ -12,7 +12,9 @@ printed_table_is_text table fits = record {
   some = fits.some;
   most = fits.most;
   few = fits.few;
-  lines = lines_of-printed table_line_text IsTableLineText FitsTableLine table_line_text-said (λ said fit. LacksByte-table_line (table_line_text said) said (table_line_text-said said fit)) (table_lines 0 table.images.items) fits.fields;
+  lines = lines_of-printed table_line_text IsTableLineText FitsTableLine table_line_text-said
+      (λ said fit. LacksByte-table_line (table_line_text said) said (table_line_text-said said fit))
+      (table_lines 0 table.images.items) fits.fields;
 }
 
 -- A printed report is a text of the report.
@@ -21,5 +23,7 @@ printed_report_is_text report fits = record {
   some = fits.some;
   most = fits.most;
   few = fits.few;
-  lines = lines_of-printed report_line_text IsReportLineText FitsReportLine report_line_text-said (λ said fit. LacksByte-report_line (report_line_text said) said (report_line_text-said said fit)) (report_lines report) fits.fields;
+  lines = lines_of-printed report_line_text IsReportLineText FitsReportLine report_line_text-said
+      (λ said fit. LacksByte-report_line (report_line_text said) said (report_line_text-said said fit))
+      (report_lines report) fits.fields;
 }

@@ -17,6 +17,8 @@ is_requested-intact request.Damaged entry is = absurd (none-some entry is)
 is_requested-intact (request.Entry intact) entry is = refl
 
 -- an image with an intact request has a request
-pub has_request-intact : (table : Table) (i : ℕ) (image : Image) (entry : Entry) → image_at table i ≡ Some image → intact_entry image.request ≡ Some entry → has_request table i ≡ true
+pub has_request-intact : (table : Table) (i : ℕ) (image : Image) (entry : Entry) → image_at table i ≡ Some image
+    → intact_entry image.request ≡ Some entry → has_request table i ≡ true
 has_request-intact table i image entry has_image has_entry =
-    ap (λ found. option_map_or (λ any_image. is_requested any_image.request) found false) has_image ∙ is_requested-intact image.request entry has_entry
+    ap (λ found. option_map_or (λ any_image. is_requested any_image.request) found false) has_image
+    ∙ is_requested-intact image.request entry has_entry

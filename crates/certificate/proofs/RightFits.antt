@@ -40,16 +40,20 @@ record FitsImage (image : Image) : Type 0 where
   pub requested : (entry : Entry) → intact_entry image.request ≡ Some entry → FitsEntry entry
 
 -- dependencies whose lines fit
-fits_needs : (dependencies : List Dependency) → AllByRecursion FitsTableLine (map (λ dependency. table_line.Needs dependency) dependencies) → AllByRecursion FitsDependency dependencies
+fits_needs : (dependencies : List Dependency)
+    → AllByRecursion FitsTableLine (map (λ dependency. table_line.Needs dependency) dependencies)
+    → AllByRecursion FitsDependency dependencies
 fits_needs [] fit = tt
 fits_needs (dependency ∷ dependencies) fit = (fit.0, fits_needs dependencies fit.1)
 
 -- a request whose lines fit
-fits_request : (asked : Request) → AllByRecursion FitsTableLine (request_lines asked) → (entry : Entry) → intact_entry asked ≡ Some entry → FitsEntry entry
+fits_request : (asked : Request) → AllByRecursion FitsTableLine (request_lines asked) → (entry : Entry)
+    → intact_entry asked ≡ Some entry → FitsEntry entry
 fits_request request.None fit entry is = absurd (none-some entry is)
 fits_request request.Damaged fit entry is = absurd (none-some entry is)
 fits_request (request.Entry intact) fit entry is =
-    subst FitsEntry (same_Some intact entry is) (record { version = fit.0.0; dependencies = fits_needs intact.dependencies.items fit.1 })
+    subst FitsEntry (same_Some intact entry is)
+    (record { version = fit.0.0; dependencies = fits_needs intact.dependencies.items fit.1 })
 
 -- an image whose lines fit
 fits_image : (n : ℕ) (image : Image) → AllByRecursion FitsTableLine (image_lines n image) → FitsImage image
@@ -61,12 +65,16 @@ fits_image n image fit =
     }
 
 -- the image at a place of images whose lines fit
-fits_image-at : (n : ℕ) (images : List Image) → AllByRecursion FitsTableLine (table_lines n images) → (k : ℕ) (image : Image) → slice_get images k ≡ Some image → FitsImage image
+fits_image-at : (n : ℕ) (images : List Image) → AllByRecursion FitsTableLine (table_lines n images)
+    → (k : ℕ) (image : Image) → slice_get images k ≡ Some image → FitsImage image
 fits_image-at n [] fit k image at = absurd (none-some image at)
 fits_image-at n (first ∷ images) fit zero image at =
-    subst FitsImage (same_Some first image at) (fits_image n first (AllByRecursion-parts FitsTableLine (image_lines n first) (table_lines (n + 1) images) fit).0)
+    subst FitsImage (same_Some first image at)
+    (fits_image n first (AllByRecursion-parts FitsTableLine (image_lines n first)
+    (table_lines (n + 1) images) fit).0)
 fits_image-at n (first ∷ images) fit (suc k) image at =
-    fits_image-at (n + 1) images (AllByRecursion-parts FitsTableLine (image_lines n first) (table_lines (n + 1) images) fit).1 k image at
+    fits_image-at (n + 1) images (AllByRecursion-parts FitsTableLine (image_lines n first)
+    (table_lines (n + 1) images) fit).1 k image at
 
 -- what an image contributes fits
 fits_entry_in : (image : Image) (is_member : Bool) → FitsImage image → FitsEntry (entry_in image is_member)
@@ -74,22 +82,31 @@ fits_entry_in image false fits = fits.running
 fits_entry_in image true fits =
     elim (cases_option (intact_entry image.request)) [
       | inl none ↦ subst (λ (found : Option Entry). FitsEntry (unwrap_or found image.running)) (sym none) fits.running
-      | inr some ↦ subst (λ (found : Option Entry). FitsEntry (unwrap_or found image.running)) (sym some.1) (fits.requested some.0 some.1)
+      | inr some ↦ subst (λ (found : Option Entry). FitsEntry (unwrap_or found image.running)) (sym some.1)
+          (fits.requested some.0 some.1)
     ]
 
 -- the line of an image
-fits_reported_line : (n : ℕ) (is_taken : Bool) (version : Version) → n < 2 ^ 8 → FitsFields version → FitsReportLine (reported_line n (record { is_taken = is_taken; version = version }))
+fits_reported_line : (n : ℕ) (is_taken : Bool) (version : Version) → n < 2 ^ 8 → FitsFields version
+    → FitsReportLine (reported_line n (record { is_taken = is_taken; version = version }))
 fits_reported_line n true version small fits = (small, fits)
 fits_reported_line n false version small fits = (small, fits)
 
 -- the lines of images
-fits_reported_lines : (n : ℕ) (images : List ReportedImage) → n + length images ≤ 8 → ((k : ℕ) (image : ReportedImage) → slice_get images k ≡ Some image → FitsFields image.version) → AllByRecursion FitsReportLine (reported_lines n images)
+fits_reported_lines : (n : ℕ) (images : List ReportedImage) → n + length images ≤ 8
+    → ((k : ℕ) (image : ReportedImage) → slice_get images k ≡ Some image → FitsFields image.version)
+    → AllByRecursion FitsReportLine (reported_lines n images)
 fits_reported_lines n [] room fits = tt
-fits_reported_lines n (image ∷ images) room fits =
-    (fits_reported_line n image.is_taken image.version (omega arith) (fits 0 image refl), fits_reported_lines (n + 1) images (omega arith) (λ k. fits (suc k)))
+fits_reported_lines n (image ∷ images) room fits = (
+  fits_reported_line n image.is_taken image.version (omega arith) (fits 0 image refl),
+  fits_reported_lines
+      (n + 1) images (omega arith) (λ k. fits (suc k)),
+)
 
 -- the lines of refusals
-fits_refuse_lines : (refusals : List Refusal) → ((k : ℕ) (refusal : Refusal) → slice_get refusals k ≡ Some refusal → (refusal.image < 2 ^ 8) × FitsReason refusal.reason) → AllByRecursion FitsReportLine (refuse_lines refusals)
+fits_refuse_lines : (refusals : List Refusal)
+    → ((k : ℕ) (refusal : Refusal) → slice_get refusals k ≡ Some refusal → (refusal.image < 2 ^ 8)
+    × FitsReason refusal.reason) → AllByRecursion FitsReportLine (refuse_lines refusals)
 fits_refuse_lines [] fits = tt
 fits_refuse_lines (refusal ∷ refusals) fits = (fits 0 refusal refl, fits_refuse_lines refusals (λ k. fits (suc k)))
 
@@ -106,14 +123,20 @@ module _ (table : Table) (table_fits : FitsTable table) where
 
   -- a request that is refused for a reason has an image
   refused_is_small : (before : List Refusal) (i : ℕ) (reason : Reason) → ReasonHolds table before i reason → i < 2 ^ 8
-  refused_is_small before i Damaged holds = let (image, has_image, _) = opened (image_at table i) _ holds in small_number i image has_image
-  refused_is_small before i Older holds = let (image, has_image, _) = opened (image_at table i) _ holds in small_number i image has_image
-  refused_is_small before i Counter holds = let (image, has_image, _) = opened (image_at table i) _ holds in small_number i image has_image
-  refused_is_small before i (NoSuchImage j) holds = let (image, has_image, _) = opened (image_at table i) _ holds in small_number i image has_image
-  refused_is_small before i (Needs j minimum) holds = let (image, has_image, _) = opened (image_at table i) _ holds in small_number i image has_image
+  refused_is_small before i Damaged holds =
+      let (image, has_image, _) = opened (image_at table i) _ holds in small_number i image has_image
+  refused_is_small before i Older holds =
+      let (image, has_image, _) = opened (image_at table i) _ holds in small_number i image has_image
+  refused_is_small before i Counter holds =
+      let (image, has_image, _) = opened (image_at table i) _ holds in small_number i image has_image
+  refused_is_small before i (NoSuchImage j) holds =
+      let (image, has_image, _) = opened (image_at table i) _ holds in small_number i image has_image
+  refused_is_small before i (Needs j minimum) holds =
+      let (image, has_image, _) = opened (image_at table i) _ holds in small_number i image has_image
 
   -- a reason that holds names what a dependency of the table does
-  reason_fits : (before : List Refusal) (i : ℕ) (reason : Reason) → ReasonHolds table before i reason → FitsReason reason
+  reason_fits : (before : List Refusal) (i : ℕ) (reason : Reason) → ReasonHolds table before i reason
+      → FitsReason reason
   reason_fits before i Damaged holds = tt
   reason_fits before i Older holds = tt
   reason_fits before i Counter holds = tt
@@ -130,28 +153,34 @@ module _ (table : Table) (table_fits : FitsTable table) where
       let (entry, has_entry, needs) = opened (intact_entry image.request) _ asked in
       let dependencies = ((image_fits i image has_image).requested entry has_entry).dependencies in
       let (k, within, is) = needs.0 in
-      AllByRecursion-at FitsDependency entry.dependencies.items k dependency (slice_get-get_or entry.dependencies.items k dependency within ∙ ap Some is) dependencies
+      AllByRecursion-at FitsDependency entry.dependencies.items k dependency
+      (slice_get-get_or entry.dependencies.items k dependency within ∙ ap Some is) dependencies
 
   module _ (report : Report) (right : IsRight table report) where
     -- the version of each reported image fits
-    version_fits : (k : ℕ) (reported : ReportedImage) → slice_get report.images.items k ≡ Some reported → FitsFields reported.version
+    version_fits : (k : ℕ) (reported : ReportedImage) → slice_get report.images.items k ≡ Some reported
+        → FitsFields reported.version
     version_fits k reported at =
         let within = slice_get_within report.images.items k reported at in
         elim (slice_get_cases table.images.items k).1 [
           | inl found ↦
               let image = found.0 in
               let has_image : image_at table k ≡ Some image = found.2 in
-              let is = MatchOption-at_some ⊤ _ reported at (MatchOption-at_some ⊤ _ image has_image (right.versions k)) in
+              let is = MatchOption-at_some ⊤ _ reported at
+              (MatchOption-at_some ⊤ _ image has_image (right.versions k)) in
               subst FitsFields (sym is) (fits_entry_in image reported.is_taken (image_fits k image has_image)).version
           | inr past ↦ absurd (omega (arith, within, right.images, past.0))
         ]
 
     -- each refusal fits
-    refusal_fits : (k : ℕ) (refusal : Refusal) → slice_get report.refusals.items k ≡ Some refusal → (refusal.image < 2 ^ 8) × FitsReason refusal.reason
+    refusal_fits : (k : ℕ) (refusal : Refusal) → slice_get report.refusals.items k ≡ Some refusal
+        → (refusal.image < 2 ^ 8) × FitsReason refusal.reason
     refusal_fits k refusal at =
         let before = take k report.refusals.items in
-        let holds = MatchOption-at_some ⊤ _ refusal at (right.founded k) in
-        (refused_is_small before refusal.image refusal.reason holds, reason_fits before refusal.image refusal.reason holds)
+        let holds = MatchOption-at_some ⊤ _ refusal at (right.founded k) in (
+          refused_is_small before refusal.image refusal.reason holds,
+          reason_fits before refusal.image refusal.reason holds,
+        )
 
     -- the report fits
     FitsReport-from_right : FitsReport report
@@ -162,10 +191,14 @@ module _ (table : Table) (table_fits : FitsTable table) where
           some = omega (arith, right.images, table_fits.some);
           most = omega (arith, right.images, most);
           few = omega (arith, fewer, most);
-          fields = AllByRecursion-append FitsReportLine (reported_lines 0 report.images.items) (refuse_lines report.refusals.items)
-              (fits_reported_lines 0 report.images.items (omega (arith, right.images, most)) version_fits) (fits_refuse_lines report.refusals.items refusal_fits);
+          fields = AllByRecursion-append FitsReportLine (reported_lines 0 report.images.items)
+              (refuse_lines report.refusals.items)
+              (fits_reported_lines 0 report.images.items (omega (arith, right.images, most)) version_fits)
+              (fits_refuse_lines report.refusals.items refusal_fits);
         }
 
 -- a report that is right for a table that fits has a text
-pub right_report_has_text : (table : Table) (report : Report) → FitsTable table → IsRight table report → IsReportText (report_text report) report
-right_report_has_text table report fits right = printed_report_is_text report (FitsReport-from_right table fits report right)
+pub right_report_has_text : (table : Table) (report : Report) → FitsTable table → IsRight table report
+    → IsReportText (report_text report) report
+right_report_has_text table report fits right =
+    printed_report_is_text report (FitsReport-from_right table fits report right)

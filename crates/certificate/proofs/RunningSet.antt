@@ -8,11 +8,17 @@ use Rattle.common.proofs.Lists.{IfSome-from_list_all, list_all-from_IfSome}
 
 -- whether all dependencies of all running images are met by what runs
 abbrev pub running_images_fit : Table → Bool
-running_images_fit table = list_all (λ image. list_all (is_met table running_set) image.running.dependencies.items) table.images.items
+running_images_fit table = list_all (λ image. list_all
+    (is_met table running_set) image.running.dependencies.items) table.images.items
 
 -- a combination of no members is valid where the running images fit, and only there
-pub running_set_is_valid : (table : Table) → (running_images_fit table ≡ true → IsValid table running_set) × (IsValid table running_set → running_images_fit table ≡ true)
+pub running_set_is_valid : (table : Table) → (running_images_fit table ≡ true → IsValid table running_set)
+    × (IsValid table running_set → running_images_fit table ≡ true)
 running_set_is_valid table = (
-  λ fit. record { members = λ j taken. absurd (false≢true taken); met = λ j. IfSome-from_list_all _ table.images.items j fit },
+  λ fit. record {
+    members =
+        λ j taken. absurd (false≢true taken);
+    met = λ j. IfSome-from_list_all _ table.images.items j fit;
+  },
   λ valid. list_all-from_IfSome _ table.images.items valid.met,
 )

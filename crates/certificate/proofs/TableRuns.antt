@@ -18,74 +18,134 @@ use Rattle.certificate.specs.TableText.{needs_lines, request_lines, image_lines,
 use Rattle.certificate.specs.TableReading.{with_line, with_line_in_last, with_image, with_line_of_images}
 use Rattle.common.proofs.ReadingLaws.{run}
 
-in_last-cons : (image last : Image) (front : List Image) (said : TableLine) → with_line_in_last (image ∷ (front ++ last ∷ [])) said ≡ option_map (λ more. image ∷ more) (with_line_in_last (front ++ last ∷ []) said)
+in_last-cons : (image last : Image) (front : List Image) (said : TableLine)
+    → with_line_in_last (image ∷ (front ++ last ∷ [])) said ≡ option_map (λ more. image ∷ more)
+    (with_line_in_last (front ++ last ∷ []) said)
 unfolding with_line_in_last
 in_last-cons image last [] said = refl
 in_last-cons image last (next ∷ front) said = refl
 
 -- A line that the last image takes is taken.
-pub in_last-push : (front : List Image) (last more : Image) (said : TableLine) → with_line last said ≡ Some more → with_line_in_last (front ++ last ∷ []) said ≡ Some (front ++ more ∷ [])
+pub in_last-push : (front : List Image) (last more : Image) (said : TableLine) → with_line last said ≡ Some more
+    → with_line_in_last (front ++ last ∷ []) said ≡ Some (front ++ more ∷ [])
 unfolding with_line_in_last
 in_last-push [] last more said taken = rw taken refl
-in_last-push (image ∷ front) last more said taken = in_last-cons image last front said ∙ rw (in_last-push front last more said taken) refl
+in_last-push (image ∷ front) last more said taken =
+    in_last-cons image last front said ∙ rw (in_last-push front last more said taken) refl
 
 -- A line that the last image doesn't take is refused.
-pub in_last-refused : (front : List Image) (last : Image) (said : TableLine) → with_line last said ≡ None → with_line_in_last (front ++ last ∷ []) said ≡ None
+pub in_last-refused : (front : List Image) (last : Image) (said : TableLine) → with_line last said ≡ None
+    → with_line_in_last (front ++ last ∷ []) said ≡ None
 unfolding with_line_in_last
 in_last-refused [] last said refused = rw refused refl
-in_last-refused (image ∷ front) last said refused = in_last-cons image last front said ∙ rw (in_last-refused front last said refused) refl
+in_last-refused (image ∷ front) last said refused =
+    in_last-cons image last front said ∙ rw (in_last-refused front last said refused) refl
 
 -- Dependencies that the last image takes one by one.
-run-needs : (put : List Dependency → Image) → ((before : List Dependency) (dependency : Dependency) → length before < MOST_DEPENDENCIES → with_line (put before) (line.Needs dependency) ≡ Some (put (before ++ dependency ∷ [])))
-    → (front : List Image) (before dependencies : List Dependency) (rest : List TableLine) → length before + length dependencies ≤ MOST_DEPENDENCIES
-    → run with_line_of_images (front ++ put before ∷ []) (map (λ dependency. line.Needs dependency) dependencies ++ rest) ≡ run with_line_of_images (front ++ put (before ++ dependencies) ∷ []) rest
+run-needs : (put : List Dependency → Image)
+    → ((before : List Dependency) (dependency : Dependency) → length before < MOST_DEPENDENCIES
+    → with_line (put before) (line.Needs dependency) ≡ Some (put (before ++ dependency ∷ [])))
+    → (front : List Image) (before dependencies : List Dependency) (rest : List TableLine)
+    → length before + length dependencies ≤ MOST_DEPENDENCIES
+    → run with_line_of_images (front ++ put before ∷ [])
+    (map (λ dependency. line.Needs dependency) dependencies ++ rest) ≡ run with_line_of_images
+    (front ++ put (before ++ dependencies) ∷ []) rest
 unfolding with_line_of_images
-run-needs put takes front before [] rest few = ap (λ (ds : List Dependency). run with_line_of_images (front ++ put ds ∷ []) rest) (sym (append-nil before))
+run-needs put takes front before [] rest few =
+    ap (λ (ds : List Dependency). run with_line_of_images (front ++ put ds ∷ []) rest) (sym (append-nil before))
 run-needs put takes front before (dependency ∷ dependencies) rest few =
-    let first : with_line_in_last (front ++ put before ∷ []) (line.Needs dependency) ≡ Some (front ++ put (before ++ dependency ∷ []) ∷ []) = in_last-push front (put before) (put (before ++ dependency ∷ [])) (line.Needs dependency) (takes before dependency (omega arith)) in
-    let others = run-needs put takes front (before ++ dependency ∷ []) dependencies rest (omega (arith, length-append before (dependency ∷ []))) in
-    rw first (others ∙ ap (λ (ds : List Dependency). run with_line_of_images (front ++ put ds ∷ []) rest) (append_assoc before (dependency ∷ []) dependencies))
+    let first : with_line_in_last (front ++ put before ∷ []) (line.Needs dependency) ≡ Some
+    (front ++ put (before ++ dependency ∷ []) ∷ []) =
+    in_last-push front (put before) (put (before ++ dependency ∷ [])) (line.Needs dependency)
+    (takes before dependency (omega arith)) in
+    let others = run-needs put takes front (before ++ dependency ∷ []) dependencies rest
+    (omega (arith, length-append before (dependency ∷ []))) in
+    rw first (others ∙ ap (λ (ds : List Dependency). run with_line_of_images
+    (front ++ put ds ∷ []) rest) (append_assoc before (dependency ∷ []) dependencies))
 
 -- An image whose running entry has these dependencies so far, and which has no request yet.
 abbrev running_so_far : Version → ℕ → ℕ → List Dependency → Image
-running_so_far version counter floor dependencies = record { running = record { version = version; counter = counter; dependencies = record { items = dependencies } }; request = request.None; floor = floor }
+running_so_far version counter floor dependencies =
+    record {
+      running = record {
+        version = version;
+        counter = counter;
+        dependencies =
+            record { items = dependencies };
+      };
+      request = request.None;
+      floor = floor;
+    }
 
 -- An image whose request has these dependencies so far.
 abbrev request_so_far : Entry → ℕ → Version → ℕ → List Dependency → Image
-request_so_far running floor version counter dependencies = record { running = running; request = request.Entry (record { version = version; counter = counter; dependencies = record { items = dependencies } }); floor = floor }
+request_so_far running floor version counter dependencies =
+    record {
+      running = running;
+      request = request.Entry (record {
+        version = version;
+        counter =
+            counter;
+        dependencies = record { items = dependencies };
+      });
+      floor = floor;
+    }
 
-running-takes : (version : Version) (counter floor : ℕ) (before : List Dependency) (dependency : Dependency) → length before < MOST_DEPENDENCIES → with_line (running_so_far version counter floor before) (line.Needs dependency) ≡ Some (running_so_far version counter floor (before ++ dependency ∷ []))
+running-takes : (version : Version) (counter floor : ℕ) (before : List Dependency) (dependency : Dependency)
+    → length before < MOST_DEPENDENCIES
+    → with_line (running_so_far version counter floor before) (line.Needs dependency) ≡ Some
+    (running_so_far version counter floor (before ++ dependency ∷ []))
 running-takes version counter floor before dependency few = rw (lt-ltb (length before) MOST_DEPENDENCIES few) refl
 
-request-takes : (running : Entry) (floor : ℕ) (version : Version) (counter : ℕ) (before : List Dependency) (dependency : Dependency) → length before < MOST_DEPENDENCIES → with_line (request_so_far running floor version counter before) (line.Needs dependency) ≡ Some (request_so_far running floor version counter (before ++ dependency ∷ []))
-request-takes running floor version counter before dependency few = rw (lt-ltb (length before) MOST_DEPENDENCIES few) refl
+request-takes : (running : Entry) (floor : ℕ) (version : Version) (counter : ℕ) (before : List Dependency)
+    (dependency : Dependency) → length before < MOST_DEPENDENCIES
+    → with_line (request_so_far running floor version counter before) (line.Needs dependency) ≡ Some
+    (request_so_far running floor version counter (before ++ dependency ∷ []))
+request-takes running floor version counter before dependency few =
+    rw (lt-ltb (length before) MOST_DEPENDENCIES few) refl
 
 -- The lines of what is requested, after those of the running image.
-run-request : (front : List Image) (image : Image) (asked : Request) (rest : List TableLine) → image.request ≡ request.None → AsksForFew asked
-    → run with_line_of_images (front ++ image ∷ []) (request_lines asked ++ rest) ≡ run with_line_of_images (front ++ record image { request = asked } ∷ []) rest
+run-request : (front : List Image) (image : Image) (asked : Request) (rest : List TableLine)
+    → image.request ≡ request.None → AsksForFew asked
+    → run with_line_of_images (front ++ image ∷ []) (request_lines asked ++ rest) ≡ run with_line_of_images
+    (front ++ record image { request = asked } ∷ []) rest
 unfolding with_line_of_images
-run-request front image request.None rest none few = let e : record image { request = request.None } ≡ image = ap (λ (r : Request). record image { request = r }) (sym none) in rw e refl
+run-request front image request.None rest none few =
+    let e : record image { request = request.None } ≡ image =
+    ap (λ (r : Request). record image { request = r }) (sym none) in rw e refl
 run-request front image request.Damaged rest none few =
-    let first : with_line_in_last (front ++ image ∷ []) line.Damaged ≡ Some (front ++ record image { request = request.Damaged } ∷ []) = in_last-push front image (record image { request = request.Damaged }) line.Damaged (rw none refl) in
+    let first : with_line_in_last (front ++ image ∷ []) line.Damaged ≡ Some
+    (front ++ record image { request = request.Damaged } ∷ []) =
+    in_last-push front image (record image { request = request.Damaged }) line.Damaged (rw none refl) in
     rw first refl
 run-request front image (request.Entry entry) rest none few =
     let begun = request_so_far image.running image.floor entry.version entry.counter [] in
-    let first : with_line_in_last (front ++ image ∷ []) (line.Request entry.version entry.counter) ≡ Some (front ++ begun ∷ []) = in_last-push front image begun (line.Request entry.version entry.counter) (rw none refl) in
-    rw first (run-needs (request_so_far image.running image.floor entry.version entry.counter) (request-takes image.running image.floor entry.version entry.counter) front [] entry.dependencies.items rest (omega arith))
+    let first : with_line_in_last (front ++ image ∷ []) (line.Request entry.version entry.counter) ≡ Some
+    (front ++ begun ∷ []) =
+    in_last-push front image begun (line.Request entry.version entry.counter) (rw none refl) in
+    rw first (run-needs (request_so_far image.running image.floor entry.version entry.counter)
+    (request-takes image.running image.floor entry.version entry.counter) front [] entry.dependencies.items rest
+    (omega arith))
 
 -- The lines of one image.
-run-image : (front : List Image) (image : Image) (rest : List TableLine) → length front < MOST_IMAGES → HasFewDependencies image.running → AsksForFew image.request
-    → run with_line_of_images front (image_lines (length front) image ++ rest) ≡ run with_line_of_images (front ++ image ∷ []) rest
+run-image : (front : List Image) (image : Image) (rest : List TableLine) → length front < MOST_IMAGES
+    → HasFewDependencies image.running → AsksForFew image.request
+    → run with_line_of_images front (image_lines (length front) image ++ rest) ≡ run with_line_of_images
+    (front ++ image ∷ []) rest
 unfolding with_line_of_images
 run-image front image rest room few_running few_request =
     let begun = running_so_far image.running.version image.running.counter image.floor [] in
-    let first : with_image front (length front) begun ≡ Some (front ++ begun ∷ []) = rw (eq-eqb (length front) (length front) refl, lt-ltb (length front) MOST_IMAGES room) refl in
-    let needs = run-needs (running_so_far image.running.version image.running.counter image.floor) (running-takes image.running.version image.running.counter image.floor) front [] image.running.dependencies.items (request_lines image.request ++ rest) (omega arith) in
+    let first : with_image front (length front) begun ≡ Some (front ++ begun ∷ []) =
+    rw (eq-eqb (length front) (length front) refl, lt-ltb (length front) MOST_IMAGES room) refl in
+    let needs = run-needs (running_so_far image.running.version image.running.counter image.floor)
+    (running-takes image.running.version image.running.counter image.floor) front [] image.running.dependencies.items (request_lines image.request ++ rest) (omega arith) in
     let asked = run-request front (record image { request = request.None }) image.request rest refl few_request in
-    rw first (ap (λ (ls : List TableLine). run with_line_of_images (front ++ begun ∷ []) ls) (append_assoc (needs_lines image.running) (request_lines image.request) rest) ∙ needs ∙ asked)
+    rw first (ap (λ (ls : List TableLine). run with_line_of_images (front ++ begun ∷ []) ls)
+    (append_assoc (needs_lines image.running) (request_lines image.request) rest) ∙ needs ∙ asked)
 
 -- The lines of images, one image after the other.
-pub run-table_lines : (front images : List Image) → AllByRecursion IsSmall images → length front + length images ≤ MOST_IMAGES
+pub run-table_lines : (front images : List Image) → AllByRecursion IsSmall images
+    → length front + length images ≤ MOST_IMAGES
     → run with_line_of_images front (table_lines (length front) images) ≡ Some (front ++ images)
 run-table_lines front [] few room = ap Some (sym (append-nil front))
 run-table_lines front (image ∷ images) few room =
@@ -96,24 +156,33 @@ run-table_lines front (image ∷ images) few room =
 
 -- ---- the last image, by its place
 
-pub in_last-set : (images : List Image) (place : ℕ) (last more : Image) (said : TableLine) → length images ≡ place + 1 → last ≡ get_or images place last → with_line last said ≡ Some more → with_line_in_last images said ≡ Some (set images place more)
+pub in_last-set : (images : List Image) (place : ℕ) (last more : Image) (said : TableLine)
+    → length images ≡ place + 1 → last ≡ get_or images place last → with_line last said ≡ Some more
+    → with_line_in_last images said ≡ Some (set images place more)
 unfolding with_line_in_last
 in_last-set [] place last more said count is taken = absurd (omega arith)
 in_last-set (image ∷ []) zero last more said count is taken = rw (sym is, taken) refl
 in_last-set (image ∷ []) (suc place) last more said count is taken = absurd (omega arith)
 in_last-set (image ∷ next ∷ images) zero last more said count is taken = absurd (omega arith)
-in_last-set (image ∷ next ∷ images) (suc place) last more said count is taken = rw (in_last-set (next ∷ images) place last more said (omega arith) is taken) refl
+in_last-set (image ∷ next ∷ images) (suc place) last more said count is taken =
+    rw (in_last-set (next ∷ images) place last more said (omega arith) is taken) refl
 
-pub in_last-none : (images : List Image) (place : ℕ) (last : Image) (said : TableLine) → length images ≡ place + 1 → last ≡ get_or images place last → with_line last said ≡ None → with_line_in_last images said ≡ None
+pub in_last-none : (images : List Image) (place : ℕ) (last : Image) (said : TableLine) → length images ≡ place + 1
+    → last ≡ get_or images place last → with_line last said ≡ None → with_line_in_last images said ≡ None
 unfolding with_line_in_last
 in_last-none [] place last said count is refused = absurd (omega arith)
 in_last-none (image ∷ []) zero last said count is refused = rw (sym is, refused) refl
 in_last-none (image ∷ []) (suc place) last said count is refused = absurd (omega arith)
 in_last-none (image ∷ next ∷ images) zero last said count is refused = absurd (omega arith)
-in_last-none (image ∷ next ∷ images) (suc place) last said count is refused = rw (in_last-none (next ∷ images) place last said (omega arith) is refused) refl
+in_last-none (image ∷ next ∷ images) (suc place) last said count is refused =
+    rw (in_last-none (next ∷ images) place last said (omega arith) is refused) refl
 
 -- What the last image makes of a line is what the images make of it.
-pub in_last-placed : (is_placed : Bool) (images : List Image) (place : ℕ) (last more : Image) (said : TableLine) → length images ≡ place + 1 → last ≡ get_or images place last
-    → MatchBool is_placed (with_line last said ≡ Some more) (with_line last said ≡ None) → MatchBool is_placed (with_line_in_last images said ≡ Some (set images place more)) (with_line_in_last images said ≡ None)
-in_last-placed true images place last more said count is placed = in_last-set images place last more said count is placed
+pub in_last-placed : (is_placed : Bool) (images : List Image) (place : ℕ) (last more : Image) (said : TableLine)
+    → length images ≡ place + 1 → last ≡ get_or images place last
+    → MatchBool is_placed (with_line last said ≡ Some more) (with_line last said ≡ None)
+    → MatchBool is_placed (with_line_in_last images said ≡ Some (set images place more))
+    (with_line_in_last images said ≡ None)
+in_last-placed true images place last more said count is placed =
+    in_last-set images place last more said count is placed
 in_last-placed false images place last more said count is placed = in_last-none images place last said count is placed

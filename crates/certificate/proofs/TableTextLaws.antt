@@ -27,38 +27,51 @@ abbrev pub no_images : Table
 no_images = table_of []
 
 -- Reading from no image on, where the state that it begins with has none.
-pub from_no_images : (start : Table) (total : Result Table ℕ) (texts : List (List ℕ)) → start.images.items ≡ [] → read_lines with_text_of_table start 1 texts ≡ total → read_lines with_text_of_table no_images 1 texts ≡ total
-from_no_images start total texts none read = subst (λ (t : Table). read_lines with_text_of_table t 1 texts ≡ total) (ap table_of none) read
+pub from_no_images : (start : Table) (total : Result Table ℕ) (texts : List (List ℕ)) → start.images.items ≡ []
+    → read_lines with_text_of_table start 1 texts ≡ total → read_lines with_text_of_table no_images 1 texts ≡ total
+from_no_images start total texts none read =
+    subst (λ (t : Table). read_lines with_text_of_table t 1 texts ≡ total) (ap table_of none) read
 
 -- Lines of text tell lines of a table.
 spells : Spells table_line_of with_table_line IsTableLineText (λ table. table_lines 0 table.images.items)
 spells = record { again = table_line_of-text; spelled = table_line_of-spelled; grows = table_lines-grow }
 
 -- Lines of images give the table of them.
-run-lines : (table : Table) → AreFew table.images.items → run with_table_line no_images (table_lines 0 table.images.items) ≡ Some table
+run-lines : (table : Table) → AreFew table.images.items
+    → run with_table_line no_images (table_lines 0 table.images.items) ≡ Some table
 run-lines table few =
     let images = table.images.items in
     run-wrapped table_of with_line_of_images with_table_line (λ images said. refl) [] (table_lines 0 images)
     ∙ ap (option_map table_of) (run-table_lines [] images few.few (omega (arith, few.most)))
 
 -- Lines that say the lines of a table give it.
-run-text : (texts : List (List ℕ)) (table : Table) → AreFew table.images.items → AllZip IsTableLineText texts (table_lines 0 table.images.items) → run with_text_of_table no_images texts ≡ Some table
-run-text texts table few say = run-with_text table_line_of with_table_line IsTableLineText (λ t. table_lines 0 t.images.items) spells no_images texts (table_lines 0 table.images.items) say ∙ run-lines table few
+run-text : (texts : List (List ℕ)) (table : Table) → AreFew table.images.items
+    → AllZip IsTableLineText texts (table_lines 0 table.images.items)
+    → run with_text_of_table no_images texts ≡ Some table
+run-text texts table few say = run-with_text table_line_of with_table_line IsTableLineText (λ t.
+    table_lines 0 t.images.items) spells no_images texts (table_lines 0 table.images.items) say
+    ∙ run-lines table few
 
-nonempty : (images : List Image) (text : List ℕ) (texts : List (List ℕ)) → AllZip IsTableLineText (text ∷ texts) (table_lines 0 images) → 1 ≤ length images
+nonempty : (images : List Image) (text : List ℕ) (texts : List (List ℕ))
+    → AllZip IsTableLineText (text ∷ texts) (table_lines 0 images) → 1 ≤ length images
 nonempty [] text texts say = absurd say
 nonempty (image ∷ images) text texts say = omega arith
 
 -- What was read is spelled by the lines.
-said_lines : (texts : List (List ℕ)) (table : Table) → run with_text_of_table no_images texts ≡ Some table → AllZip IsTableLineText texts (table_lines 0 table.images.items) × AreFew table.images.items
+said_lines : (texts : List (List ℕ)) (table : Table) → run with_text_of_table no_images texts ≡ Some table
+    → AllZip IsTableLineText texts (table_lines 0 table.images.items) × AreFew table.images.items
 said_lines texts table read =
-    let said = said_by_run table_line_of with_table_line IsTableLineText (λ t. table_lines 0 t.images.items) spells no_images table texts read in
+    let said = said_by_run table_line_of with_table_line IsTableLineText
+    (λ t. table_lines 0 t.images.items) spells no_images table texts read in
     (rw said.1 said.2, AreFew-run table_line_of no_images table texts read (record { most = omega arith; few = tt }))
 
 -- What is read, and isn't empty, is spelled so.
-pub IsTableText-read : (bytes : List ℕ) (table : Table) → read_lines with_text_of_table no_images 1 (lines_of bytes) ≡ Ok table → 1 ≤ length table.images.items → IsTableText bytes table
+pub IsTableText-read : (bytes : List ℕ) (table : Table)
+    → read_lines with_text_of_table no_images 1 (lines_of bytes) ≡ Ok table → 1 ≤ length table.images.items
+    → IsTableText bytes table
 IsTableText-read bytes table read some =
-    let said = said_lines (lines_of bytes) table (read_lines-ok with_text_of_table no_images table 1 (lines_of bytes) read) in
+    let said = said_lines (lines_of bytes) table
+    (read_lines-ok with_text_of_table no_images table 1 (lines_of bytes) read) in
     record { some = some; most = said.1.most; few = said.1.few; lines = said.0 }
 
 -- What is spelled so fits its fields.
@@ -67,22 +80,38 @@ FitsTable-from_text bytes table is = record {
   some = is.some;
   most = is.most;
   few = is.few;
-  fields = AllByRecursion-from_AllZip IsTableLineText FitsTableLine FitsTableLine-from_text (lines_of bytes) (table_lines 0 table.images.items) is.lines;
+  fields = AllByRecursion-from_AllZip IsTableLineText FitsTableLine FitsTableLine-from_text (lines_of bytes)
+      (table_lines 0 table.images.items) is.lines;
 }
 
 -- What is spelled so is read.
-pub read_lines-table : (bytes : List ℕ) (table : Table) → IsTableText bytes table → read_lines with_text_of_table no_images 1 (lines_of bytes) ≡ Ok table
-read_lines-table bytes table spelled = read_lines-run with_text_of_table no_images table 1 (lines_of bytes) (run-text (lines_of bytes) table (record { most = spelled.most; few = spelled.few }) spelled.lines)
+pub read_lines-table : (bytes : List ℕ) (table : Table) → IsTableText bytes table
+    → read_lines with_text_of_table no_images 1 (lines_of bytes) ≡ Ok table
+read_lines-table bytes table spelled =
+    read_lines-run with_text_of_table no_images table 1 (lines_of bytes)
+    (run-text (lines_of bytes) table (record { most = spelled.most; few = spelled.few }) spelled.lines)
 
 -- The smallest table.
 abbrev first_image : Image
-first_image = record { running = new_entry (record { major = 0; minor = 0; revision = 0; build = 0 }) 0; request = request.None; floor = 0 }
+first_image = record {
+  running = new_entry (record { major = 0; minor = 0; revision = 0; build = 0 }) 0;
+  request =
+      request.None;
+  floor = 0;
+}
 
 abbrev first_line : TableLine
 first_line = line.Image 0 (record { major = 0; minor = 0; revision = 0; build = 0 }) 0 0
 
 says_first : IsTableLineText (table_line_text first_line) first_line
-says_first = (lit< tt, lit< tt, lit< tt, version_text (record { major = 0; minor = 0; revision = 0; build = 0 }), (record { major = lit< tt; minor = lit< tt; revision = lit< tt; build = lit< tt }, inl refl), refl)
+says_first = (
+  lit< tt,
+  lit< tt,
+  lit< tt,
+  version_text (record { major = 0; minor = 0; revision = 0; build = 0 }),
+  (record { major = lit< tt; minor = lit< tt; revision = lit< tt; build = lit< tt }, inl refl),
+  refl,
+)
 
 some_table : IsSomeTable (text_of_lines (table_line_text first_line ∷ []) ++ [])
 some_table = (
@@ -91,12 +120,14 @@ some_table = (
     some = omega arith;
     most = omega arith;
     few = ((omega arith, tt), tt);
-    lines = rw (lines_of-text_of_lines (table_line_text first_line ∷ []) [] (LacksByte-table_line (table_line_text first_line) first_line says_first, tt)) (says_first, tt);
+    lines = rw (lines_of-text_of_lines (table_line_text first_line ∷ []) []
+        (LacksByte-table_line (table_line_text first_line) first_line says_first, tt)) (says_first, tt);
   },
 )
 
 -- Lines that were read begin a table.
-goes_on : (texts : List (List ℕ)) (table : Table) → AreLines texts → run with_text_of_table no_images texts ≡ Some table → Begins IsSomeTable texts
+goes_on : (texts : List (List ℕ)) (table : Table) → AreLines texts
+    → run with_text_of_table no_images texts ≡ Some table → Begins IsSomeTable texts
 goes_on [] table lack read = (text_of_lines (table_line_text first_line ∷ []) ++ [], some_table)
 goes_on (text ∷ texts) table lack read =
     let said = said_lines (text ∷ texts) table read in
@@ -114,15 +145,24 @@ goes_on (text ∷ texts) table lack read =
     )
 
 -- The line at which reading stops is the first that no table goes on from.
-pub IsFirstBadLine-table : (bytes : List ℕ) (n : ℕ) → read_lines with_text_of_table no_images 1 (lines_of bytes) ≡ Err n → IsFirstBadLine IsSomeTable bytes n
+pub IsFirstBadLine-table : (bytes : List ℕ) (n : ℕ)
+    → read_lines with_text_of_table no_images 1 (lines_of bytes) ≡ Err n → IsFirstBadLine IsSomeTable bytes n
 IsFirstBadLine-table bytes n failed =
-    IsFirstBadLine-stops IsSomeTable with_text_of_table no_images (λ text is. (is.0, run-text (lines_of text) is.0 (record { most = is.1.most; few = is.1.few }) is.1.lines)) goes_on bytes n failed
+    IsFirstBadLine-stops IsSomeTable with_text_of_table no_images
+    (λ text is. (
+      is.0,
+      run-text (lines_of text) is.0
+          (record { most = is.1.most; few = is.1.few }) is.1.lines,
+    )) goes_on bytes n failed
 
 -- Where no image was read there are no lines.
-pub lines_of-no_images : (bytes : List ℕ) (table : Table) → read_lines with_text_of_table no_images 1 (lines_of bytes) ≡ Ok table → table.images.items ≡ [] → lines_of bytes ≡ []
-lines_of-no_images bytes table read none = no_lines (lines_of bytes) (read_lines-ok with_text_of_table no_images table 1 (lines_of bytes) read) where
-  no_lines : (texts : List (List ℕ)) → run with_text_of_table no_images texts ≡ Some table → texts ≡ []
-  no_lines [] done = refl
-  no_lines (text ∷ texts) done =
-      let some = nonempty table.images.items text texts (said_lines (text ∷ texts) table done).0 in
-      absurd (omega (arith, some, ap length none))
+pub lines_of-no_images : (bytes : List ℕ) (table : Table)
+    → read_lines with_text_of_table no_images 1 (lines_of bytes) ≡ Ok table → table.images.items ≡ []
+    → lines_of bytes ≡ []
+lines_of-no_images bytes table read none =
+    no_lines (lines_of bytes) (read_lines-ok with_text_of_table no_images table 1 (lines_of bytes) read) where
+      no_lines : (texts : List (List ℕ)) → run with_text_of_table no_images texts ≡ Some table → texts ≡ []
+      no_lines [] done = refl
+      no_lines (text ∷ texts) done =
+          let some = nonempty table.images.items text texts (said_lines (text ∷ texts) table done).0 in
+          absurd (omega (arith, some, ap length none))

@@ -26,10 +26,17 @@ pub standard-start : (table : Table) → IsInStandardOrder table (own_refusals t
 standard-start table = ([], sym (append-nil (own_refusals table)), λ k. tt)
 
 -- it goes on with the next need
-pub standard-push : (table : Table) (refusals : List Refusal) (refusal : Refusal) → IsInStandardOrder table refusals → IsNextNeed table refusals refusal → IsInStandardOrder table (refusals ++ refusal ∷ [])
+pub standard-push : (table : Table) (refusals : List Refusal) (refusal : Refusal) → IsInStandardOrder table refusals
+    → IsNextNeed table refusals refusal → IsInStandardOrder table (refusals ++ refusal ∷ [])
 standard-push table refusals refusal (later, is, each) need =
-    let own = own_refusals table in
-    (later ++ refusal ∷ [], ap (λ (before : List Refusal). before ++ refusal ∷ []) is ∙ append_assoc own later (refusal ∷ []), each-push (λ before next. IsNextNeed table (own ++ before) next) later refusal each (subst (λ (before : List Refusal). IsNextNeed table before refusal) is need))
+    let own = own_refusals table in (
+      later ++ refusal ∷ [],
+      ap (λ (before : List Refusal). before ++ refusal ∷ []) is
+          ∙ append_assoc own later (refusal ∷ []),
+      each-push
+          (λ before next. IsNextNeed table (own ++ before) next) later refusal each
+          (subst (λ (before : List Refusal). IsNextNeed table before refusal) is need),
+    )
 
 -- the first dependency of the request of image i that is out of reach
 pub record HasNeed (table : Table) (before : List Refusal) (i : ℕ) (reason : Reason) : Type 0 where
@@ -42,14 +49,27 @@ pub record HasNeed (table : Table) (before : List Refusal) (i : ℕ) (reason : R
   pub names : Needs dependency.image dependency.minimum ≡ reason
 
 -- a need has a dependency
-pub HasNeed-from_reason : (table : Table) (before : List Refusal) (i : ℕ) (reason : Reason) → needs_reason table before i ≡ Some reason → HasNeed table before i reason
+pub HasNeed-from_reason : (table : Table) (before : List Refusal) (i : ℕ) (reason : Reason)
+    → needs_reason table before i ≡ Some reason → HasNeed table before i reason
 HasNeed-from_reason table before i reason is =
     option_and_then_some _ (image_at table i) reason is
     (λ image has_image of_image.
     option_and_then_some _ (intact_entry image.request) reason of_image
     (λ entry has_entry of_entry.
-    let (dependency, found, names) = option_map-Some _ (find (is_out_of_reach table before i) entry.dependencies.items) reason of_entry in
-    record { image = image; entry = entry; dependency = dependency; has_image = has_image; has_entry = has_entry; found = found; names = names }))
+    let (dependency, found, names) =
+    option_map-Some _ (find (is_out_of_reach table before i) entry.dependencies.items) reason of_entry in
+    record {
+      image =
+          image;
+      entry =
+          entry;
+      dependency =
+          dependency;
+      has_image = has_image;
+      has_entry = has_entry;
+      found = found;
+      names = names;
+    }))
 
 -- a list of refusals as the choice makes it: in the standard order, each request once at most
 pub record IsRefusalList (table : Table) (refusals : List Refusal) : Type 0 where
@@ -57,28 +77,44 @@ pub record IsRefusalList (table : Table) (refusals : List Refusal) : Type 0 wher
   pub once : IsOnce table refusals
 
 -- it begins with the requests that are refused by themselves
-pub IsRefusalList-start : (table : Table) (refusals : List Refusal) → refusals ≡ own_refusals table → IsRefusalList table refusals
+pub IsRefusalList-start : (table : Table) (refusals : List Refusal) → refusals ≡ own_refusals table
+    → IsRefusalList table refusals
 IsRefusalList-start table refusals is =
-    subst (λ (listed : List Refusal). IsRefusalList table listed) (sym is) (record { standard = standard-start table; once = IsOnce-own_refusals table })
+    subst (λ (listed : List Refusal). IsRefusalList table listed) (sym is)
+    (record { standard = standard-start table; once = IsOnce-own_refusals table })
 
 -- it goes on with the next need
-pub IsRefusalList-push : (table : Table) (refusals before : List Refusal) (refusal : Refusal) → IsRefusalList table refusals → before ≡ refusals → IsNextNeed table before refusal → IsRefusalList table (refusals ++ refusal ∷ [])
+pub IsRefusalList-push : (table : Table) (refusals before : List Refusal) (refusal : Refusal)
+    → IsRefusalList table refusals → before ≡ refusals → IsNextNeed table before refusal
+    → IsRefusalList table (refusals ++ refusal ∷ [])
 IsRefusalList-push table refusals before refusal listed same need_before =
     let need = subst (λ (listed : List Refusal). IsNextNeed table listed refusal) same need_before in
     let has = HasNeed-from_reason table refusals refusal.image refusal.reason need.reason in
     record {
       standard = standard-push table refusals refusal listed.standard need;
-      once = IsOnce-push table refusals refusal listed.once need.unrefused (has_request-intact table refusal.image has.image has.entry has.has_image has.has_entry);
+      once = IsOnce-push table refusals refusal listed.once need.unrefused
+          (has_request-intact table refusal.image has.image has.entry has.has_image has.has_entry);
     }
 
 -- it goes on as long as an image isn't refused
-pub length-refusal_list : (table : Table) (refusals before : List Refusal) (refusal : Refusal) → IsRefusalList table refusals → before ≡ refusals → IsNextNeed table before refusal → length refusals < length table.images.items
+pub length-refusal_list : (table : Table) (refusals before : List Refusal) (refusal : Refusal)
+    → IsRefusalList table refusals → before ≡ refusals → IsNextNeed table before refusal
+    → length refusals < length table.images.items
 length-refusal_list table refusals before refusal listed same need =
-    omega (arith, length_push refusals refusal, length-once table (refusals ++ refusal ∷ []) (IsRefusalList-push table refusals before refusal listed same need).once)
+    omega (
+      arith,
+      length_push refusals refusal,
+      length-once table (refusals ++ refusal ∷ [])
+          (IsRefusalList-push table refusals before refusal listed same need).once,
+    )
 
 -- a request that isn't refused in a list in the standard order isn't refused by itself
-pub own_reason-unrefused : (table : Table) (refusals : List Refusal) → IsInStandardOrder table refusals → (j : ℕ) (image : Image) → image_at table j ≡ Some image → is_refused refusals j ≡ false → own_reason table image image.request ≡ None
+pub own_reason-unrefused : (table : Table) (refusals : List Refusal) → IsInStandardOrder table refusals
+    → (j : ℕ) (image : Image) → image_at table j ≡ Some image → is_refused refusals j ≡ false
+    → own_reason table image image.request ≡ None
 own_reason-unrefused table refusals (later, is, each) j image has_image unrefused =
     let own = own_refusals table in
-    let parts = or_parts (is_refused own j) (is_refused later j) (sym (list_any-append (λ (any_refusal : Refusal). eqb any_refusal.image j) own later) ∙ ap (λ (listed : List Refusal). is_refused listed j) (sym is) ∙ unrefused) in
+    let parts = or_parts (is_refused own j) (is_refused later j)
+    (sym (list_any-append (λ (any_refusal : Refusal). eqb any_refusal.image j) own later)
+    ∙ ap (λ (listed : List Refusal). is_refused listed j) (sym is) ∙ unrefused) in
     own_reason-unlisted table j image has_image parts.0

@@ -26,26 +26,37 @@ use Rattle.certificate.proofs.BestVersion.{version_of_request, newer_version}
 use Rattle.version_order.proofs.OrderLaws.{IsAtLeast_refl, IsAtLeast_trans}
 
 -- the requested entry has the requested version
-version_of_request-reached : (requested : Option Entry) (running : Entry) → IsAtLeast (unwrap_or requested running).version (version_of_request requested running)
+version_of_request-reached : (requested : Option Entry) (running : Entry)
+    → IsAtLeast (unwrap_or requested running).version (version_of_request requested running)
 version_of_request-reached None running = IsAtLeast_refl running.version
 version_of_request-reached (Some entry) running = IsAtLeast_refl entry.version
 
 -- a requested entry that isn't older has the newer version
-newer_version-reached : (requested : Option Entry) (running : Entry) → IfSome requested (λ entry. IsAtLeast entry.version running.version) → IsAtLeast (unwrap_or requested running).version (newer_version requested running)
+newer_version-reached : (requested : Option Entry) (running : Entry)
+    → IfSome requested (λ entry. IsAtLeast entry.version running.version)
+    → IsAtLeast (unwrap_or requested running).version (newer_version requested running)
 newer_version-reached None running newer = IsAtLeast_refl running.version
 newer_version-reached (Some entry) running newer =
-    cond_both (is_older running.version entry.version) entry.version running.version (λ v. IsAtLeast entry.version v) (λ _. IsAtLeast_refl entry.version) (λ _. newer)
+    cond_both (is_older running.version entry.version) entry.version running.version
+    (λ v. IsAtLeast entry.version v) (λ _. IsAtLeast_refl entry.version) (λ _. newer)
 
 -- the best version is reached where all that isn't refused is taken
-best-reached : (requested : Option Entry) (running : Entry) (is_own is_refused is_member : Bool) → (is_own ≡ true → is_member ≡ true) → is_member ≡ (is_some requested && not is_refused) → IfSome requested (λ entry. is_refused ≡ false → IsAtLeast entry.version running.version) → IsAtLeast (cond is_member (unwrap_or requested running) running).version (cond is_own (version_of_request requested running) (cond is_refused running.version (newer_version requested running)))
+best-reached : (requested : Option Entry) (running : Entry) (is_own is_refused is_member : Bool)
+    → (is_own ≡ true → is_member ≡ true) → is_member ≡ (is_some requested && not is_refused)
+    → IfSome requested (λ entry. is_refused ≡ false → IsAtLeast entry.version running.version)
+    → IsAtLeast (cond is_member (unwrap_or requested running) running).version
+    (cond is_own (version_of_request requested running)
+    (cond is_refused running.version (newer_version requested running)))
 best-reached requested running true is_refused true own member newer = version_of_request-reached requested running
 best-reached requested running true is_refused false own member newer = absurd (false≢true (own refl))
 best-reached requested running false true true own member newer =
     absurd (false≢true (and_parts (is_some requested) false (sym member)).1)
 best-reached requested running false true false own member newer = IsAtLeast_refl running.version
 best-reached None running false false is_member own member newer =
-    cond_both is_member running running (λ (entry : Entry). IsAtLeast entry.version running.version) (λ _. IsAtLeast_refl running.version) (λ _. IsAtLeast_refl running.version)
-best-reached (Some entry) running false false true own member newer = newer_version-reached (Some entry) running (newer refl)
+    cond_both is_member running running (λ (entry : Entry). IsAtLeast entry.version running.version)
+    (λ _. IsAtLeast_refl running.version) (λ _. IsAtLeast_refl running.version)
+best-reached (Some entry) running false false true own member newer =
+    newer_version-reached (Some entry) running (newer refl)
 best-reached (Some entry) running false false false own member newer = absurd (false≢true member)
 
 -- what a requested entry is like that isn't refused by itself
@@ -55,27 +66,33 @@ record IsAccepted (table : Table) (image : Image) (entry : Entry) : Type 0 where
   pub none_missing : find (λ dependency. is_none (image_at table dependency.image)) entry.dependencies.items ≡ None
 
 -- a test that chose nothing failed
-fails_for_none : {X : Type 0} (test : Bool) (x : X) (other : Option X) → cond test (Some x) other ≡ None → (test ≡ false) × (other ≡ None)
+fails_for_none : {X : Type 0} (test : Bool) (x : X) (other : Option X) → cond test (Some x) other ≡ None
+    → (test ≡ false) × (other ≡ None)
 fails_for_none true x other none = absurd (none-some x (sym none))
 fails_for_none false x other none = (refl, none)
 
 -- an intact request with no reason of its own
-IsAccepted-from_none : (table : Table) (image : Image) (asked : Request) (entry : Entry) → intact_entry asked ≡ Some entry → own_reason table image asked ≡ None → IsAccepted table image entry
+IsAccepted-from_none : (table : Table) (image : Image) (asked : Request) (entry : Entry)
+    → intact_entry asked ≡ Some entry → own_reason table image asked ≡ None → IsAccepted table image entry
 IsAccepted-from_none table image request.None entry has_entry none = absurd (none-some entry has_entry)
 IsAccepted-from_none table image request.Damaged entry has_entry none = absurd (none-some Damaged (sym none))
 IsAccepted-from_none table image (request.Entry intact) entry has_entry none =
-    let none' : own_reason_of_entry table image entry ≡ None = subst (λ (any_entry : Entry). own_reason_of_entry table image any_entry ≡ None) (same_Some intact entry has_entry) none in
+    let none' : own_reason_of_entry table image entry ≡ None =
+    subst (λ (any_entry : Entry). own_reason_of_entry table image any_entry ≡ None)
+    (same_Some intact entry has_entry) none in
     let not_older = fails_for_none (is_older entry.version image.running.version) Older _ none' in
     let not_low = fails_for_none (nat_lt entry.counter image.floor) Counter _ not_older.1 in
     record {
       at_least_running = not_from_false _ not_older.0;
       counter_accepted = ltb-false entry.counter image.floor not_low.0;
-      none_missing = option_map-None _ (find (λ dependency. is_none (image_at table dependency.image)) entry.dependencies.items) not_low.1;
+      none_missing = option_map-None _ (find
+          (λ dependency. is_none (image_at table dependency.image)) entry.dependencies.items) not_low.1;
     }
 
 -- all requests that are left have no reason
 pub record IsSettled (table : Table) (refusals : List Refusal) : Type 0 where
-  pub own : (j : ℕ) (image : Image) → image_at table j ≡ Some image → is_refused refusals j ≡ false → own_reason table image image.request ≡ None
+  pub own : (j : ℕ) (image : Image) → image_at table j ≡ Some image → is_refused refusals j ≡ false
+      → own_reason table image image.request ≡ None
   pub needs : (j : ℕ) → is_refused refusals j ≡ false → needs_reason table refusals j ≡ None
 
 -- an image whose intact request isn't refused
@@ -85,85 +102,125 @@ record IsTaken (table : Table) (refusals : List Refusal) (j : ℕ) (image : Imag
   pub unrefused : is_refused refusals j ≡ false
 
 -- nothing is taken that is refused
-none_if_refused : (refusals : List Refusal) (j : ℕ) → is_refused refusals j ≡ true → (found : Option Image) → option_map_or (is_taken_unless_refused refusals j) found false ≡ false
+none_if_refused : (refusals : List Refusal) (j : ℕ) → is_refused refusals j ≡ true → (found : Option Image)
+    → option_map_or (is_taken_unless_refused refusals j) found false ≡ false
 none_if_refused refusals j refused None = refl
 none_if_refused refusals j refused (Some image) = and_right _ (not (is_refused refusals j)) (not_from_true _ refused)
 
 -- a request with no reason is intact
-intact_if_no_reason : (table : Table) (image : Image) (unrefused : Bool) → unrefused ≡ true → (asked : Request) → own_reason table image asked ≡ None → (is_some (intact_entry asked) && unrefused) ≡ is_requested asked
+intact_if_no_reason : (table : Table) (image : Image) (unrefused : Bool) → unrefused ≡ true → (asked : Request)
+    → own_reason table image asked ≡ None → (is_some (intact_entry asked) && unrefused) ≡ is_requested asked
 intact_if_no_reason table image unrefused is request.None none = refl
 intact_if_no_reason table image unrefused is request.Damaged none = absurd (none-some Damaged (sym none))
 intact_if_no_reason table image unrefused is (request.Entry entry) none = is
 
 -- all requests are taken that aren't refused
-all_if_unrefused : (table : Table) (refusals : List Refusal) (j : ℕ) → ((image : Image) → image_at table j ≡ Some image → own_reason table image image.request ≡ None) → is_refused refusals j ≡ false → (found : Option Image) → image_at table j ≡ found → option_map_or (is_taken_unless_refused refusals j) found false ≡ option_map_or (λ image. is_requested image.request) found false
+all_if_unrefused : (table : Table) (refusals : List Refusal) (j : ℕ)
+    → ((image : Image) → image_at table j ≡ Some image → own_reason table image image.request ≡ None)
+    → is_refused refusals j ≡ false → (found : Option Image) → image_at table j ≡ found
+    → option_map_or (is_taken_unless_refused refusals j) found false ≡ option_map_or
+    (λ image. is_requested image.request) found false
 all_if_unrefused table refusals j own unrefused None is = refl
 all_if_unrefused table refusals j own unrefused (Some image) is =
-    intact_if_no_reason table image (not (is_refused refusals j)) (not_from_false _ unrefused) image.request (own image is)
+    intact_if_no_reason table image (not (is_refused refusals j)) (not_from_false _ unrefused) image.request
+    (own image is)
 
-module _ (table : Table) (refusals : List Refusal) (taken : ℕ → Bool) (takes : (j : ℕ) → taken j ≡ option_map_or (is_taken_unless_refused refusals j) (image_at table j) false) (settled : IsSettled table refusals) where
+module _ (table : Table) (refusals : List Refusal) (taken : ℕ → Bool)
+    (takes : (j : ℕ) → taken j ≡ option_map_or (is_taken_unless_refused refusals j) (image_at table j) false)
+    (settled : IsSettled table refusals) where
   -- what is taken at an image
-  taken-at : (j : ℕ) (image : Image) → image_at table j ≡ Some image → taken j ≡ is_taken_unless_refused refusals j image
-  taken-at j image has_image = takes j ∙ ap (λ found. option_map_or (is_taken_unless_refused refusals j) found false) has_image
+  taken-at : (j : ℕ) (image : Image) → image_at table j ≡ Some image
+      → taken j ≡ is_taken_unless_refused refusals j image
+  taken-at j image has_image = takes j ∙ ap (λ found. option_map_or
+      (is_taken_unless_refused refusals j) found false) has_image
 
   -- what is taken has an intact request that isn't refused
-  IsTaken-at : (j : ℕ) (image : Image) → image_at table j ≡ Some image → taken j ≡ true → (entry : Entry) × IsTaken table refusals j image entry
+  IsTaken-at : (j : ℕ) (image : Image) → image_at table j ≡ Some image → taken j ≡ true → (entry : Entry)
+      × IsTaken table refusals j image entry
   IsTaken-at j image has_image is =
-      let parts = and_parts (is_some (intact_entry image.request)) (not (is_refused refusals j)) (sym (taken-at j image has_image) ∙ is) in
+      let parts = and_parts (is_some (intact_entry image.request)) (not (is_refused refusals j))
+      (sym (taken-at j image has_image) ∙ is) in
       let (entry, has_entry) = is_some_value (intact_entry image.request) parts.0 in
       (entry, record { has_image = has_image; has_entry = has_entry; unrefused = not-true _ parts.1 })
 
   -- what is taken has an image
-  IsTaken-from_taken : (j : ℕ) → taken j ≡ true → (image : Image) × (entry : Entry) × IsTaken table refusals j image entry
+  IsTaken-from_taken : (j : ℕ) → taken j ≡ true → (image : Image) × (entry : Entry)
+      × IsTaken table refusals j image entry
   IsTaken-from_taken j is =
-      let (image, has_image, _) = option_map_or-true (is_taken_unless_refused refusals j) (image_at table j) (sym (takes j) ∙ is) in
+      let (image, has_image, _) = option_map_or-true (is_taken_unless_refused refusals j) (image_at table j) (sym
+      (takes j) ∙ is) in
       let (entry, is_taken) = IsTaken-at j image has_image is in
       (image, entry, is_taken)
 
   -- and isn't refused by itself
-  accepted : (j : ℕ) (image : Image) (entry : Entry) → image_at table j ≡ Some image → intact_entry image.request ≡ Some entry → is_refused refusals j ≡ false → IsAccepted table image entry
+  accepted : (j : ℕ) (image : Image) (entry : Entry) → image_at table j ≡ Some image
+      → intact_entry image.request ≡ Some entry → is_refused refusals j ≡ false → IsAccepted table image entry
   accepted j image entry has_image has_entry unrefused =
       IsAccepted-from_none table image image.request entry has_entry (settled.own j image has_image unrefused)
 
   -- a dependency on an image that exists is met where it isn't out of reach
-  is_met-within_reach : (own : ℕ) → taken own ≡ true → (dependency : Dependency) → is_none (image_at table dependency.image) ≡ false → is_out_of_reach table refusals own dependency ≡ false → is_met table taken dependency ≡ true
+  is_met-within_reach : (own : ℕ) → taken own ≡ true → (dependency : Dependency)
+      → is_none (image_at table dependency.image) ≡ false → is_out_of_reach table refusals own dependency ≡ false
+      → is_met table taken dependency ≡ true
   is_met-within_reach own is dependency exists within =
       let j = dependency.image in
       let (image, has_image) = some_value (image_at table j) exists in
       let best = best_version refusals own j image in
-      let reached = best-reached (intact_entry image.request) image.running (eqb j own) (is_refused refusals j) (taken j) (λ same. ap taken (eqb-true j own same) ∙ is) (taken-at j image has_image) (IfSome-from (intact_entry image.request) _ (λ entry has_entry unrefused. (accepted j image entry has_image has_entry unrefused).at_least_running)) in
-      let enough : IsAtLeast best dependency.minimum = not_from_false _ (sym (ap (λ found. option_map_or (λ any_image. is_older (best_version refusals own j any_image) dependency.minimum) found false) has_image) ∙ within) in
-      ap (λ found. option_map_or (λ any_image. not (is_older (entry_in any_image (taken j)).version dependency.minimum)) found false) has_image ∙ IsAtLeast_trans (entry_in image (taken j)).version best dependency.minimum reached enough
+      let reached =
+      best-reached (intact_entry image.request) image.running (eqb j own) (is_refused refusals j) (taken j)
+      (λ same. ap taken (eqb-true j own same) ∙ is) (taken-at j image has_image)
+      (IfSome-from (intact_entry image.request) _
+      (λ entry has_entry unrefused. (accepted j image entry has_image has_entry unrefused).at_least_running)) in
+      let enough : IsAtLeast best dependency.minimum =
+      not_from_false _ (sym (ap (λ found. option_map_or
+      (λ any_image. is_older (best_version refusals own j any_image) dependency.minimum) found false) has_image)
+      ∙ within) in
+      ap (λ found. option_map_or (λ any_image. not
+      (is_older (entry_in any_image (taken j)).version dependency.minimum)) found false) has_image
+      ∙ IsAtLeast_trans (entry_in image (taken j)).version best dependency.minimum reached enough
 
   -- no dependency of an unrefused request is out of reach
-  none_out_of_reach : (j : ℕ) (image : Image) (entry : Entry) → IsTaken table refusals j image entry → find (is_out_of_reach table refusals j) entry.dependencies.items ≡ None
+  none_out_of_reach : (j : ℕ) (image : Image) (entry : Entry) → IsTaken table refusals j image entry
+      → find (is_out_of_reach table refusals j) entry.dependencies.items ≡ None
   none_out_of_reach j image entry is =
-      let none = option_and_then-None _ (intact_entry image.request) entry is.has_entry (option_and_then-None _ (image_at table j) image is.has_image (settled.needs j is.unrefused)) in
+      let none = option_and_then-None _ (intact_entry image.request) entry is.has_entry
+      (option_and_then-None _ (image_at table j) image is.has_image (settled.needs j is.unrefused)) in
       option_map-None _ (find (is_out_of_reach table refusals j) entry.dependencies.items) none
 
   -- the dependencies of what is taken are met
-  met-taken : (j : ℕ) (image : Image) (entry : Entry) → taken j ≡ true → IsTaken table refusals j image entry → list_all (is_met table taken) entry.dependencies.items ≡ true
+  met-taken : (j : ℕ) (image : Image) (entry : Entry) → taken j ≡ true → IsTaken table refusals j image entry
+      → list_all (is_met table taken) entry.dependencies.items ≡ true
   met-taken j image entry is_taken is =
-      list_all-from_finds (λ (any_dependency : Dependency). is_none (image_at table any_dependency.image)) (is_out_of_reach table refusals j) (is_met table taken) (is_met-within_reach j is_taken) entry.dependencies.items (accepted j image entry is.has_image is.has_entry is.unrefused).none_missing
+      list_all-from_finds (λ (any_dependency : Dependency). is_none (image_at table any_dependency.image))
+      (is_out_of_reach table refusals j) (is_met table taken)
+      (is_met-within_reach j is_taken) entry.dependencies.items
+      (accepted j image entry is.has_image is.has_entry is.unrefused).none_missing
       (none_out_of_reach j image entry is)
 
   -- what runs then is at least what ran
-  entry_in-at_least_running : (j : ℕ) (image : Image) → image_at table j ≡ Some image → IsAtLeast (entry_in image (taken j)).version image.running.version
+  entry_in-at_least_running : (j : ℕ) (image : Image) → image_at table j ≡ Some image
+      → IsAtLeast (entry_in image (taken j)).version image.running.version
   entry_in-at_least_running j image has_image =
       let P : Entry → Type 0 = λ entry. IsAtLeast entry.version image.running.version in
       elim (cases_Bool (taken j)) [
         | inl is ↦
             let (entry, is_taken) = IsTaken-at j image has_image is in
-            subst P (sym (entry_in-member image entry (taken j) is is_taken.has_entry)) (accepted j image entry has_image is_taken.has_entry is_taken.unrefused).at_least_running
-        | inr runs_on ↦ subst P (sym (cond-false (taken j) _ image.running runs_on)) (IsAtLeast_refl image.running.version)
+            subst P (sym (entry_in-member image entry (taken j) is is_taken.has_entry))
+            (accepted j image entry has_image is_taken.has_entry is_taken.unrefused).at_least_running
+        | inr runs_on ↦ subst P (sym (cond-false (taken j) _ image.running runs_on))
+            (IsAtLeast_refl image.running.version)
       ]
 
   -- a dependency that the running images meet stays met
-  is_met-running : (dependency : Dependency) → is_met table running_set dependency ≡ true → is_met table taken dependency ≡ true
+  is_met-running : (dependency : Dependency) → is_met table running_set dependency ≡ true
+      → is_met table taken dependency ≡ true
   is_met-running dependency met =
       let j = dependency.image in
       let (image, has_image, enough) = option_map_or-true _ (image_at table j) met in
-      ap (λ found. option_map_or (λ any_image. not (is_older (entry_in any_image (taken j)).version dependency.minimum)) found false) has_image ∙ IsAtLeast_trans (entry_in image (taken j)).version image.running.version dependency.minimum (entry_in-at_least_running j image has_image) enough
+      ap (λ found. option_map_or (λ any_image. not
+      (is_older (entry_in any_image (taken j)).version dependency.minimum)) found false) has_image
+      ∙ IsAtLeast_trans (entry_in image (taken j)).version image.running.version dependency.minimum
+      (entry_in-at_least_running j image has_image) enough
 
   -- the combination is valid
   pub IsValid-taken : IsValid table running_set → IsValid table taken
@@ -172,7 +229,8 @@ module _ (table : Table) (refusals : List Refusal) (taken : ℕ → Bool) (takes
         let (image, entry, is_taken) = IsTaken-from_taken j is in
         let is_accepted = accepted j image entry is_taken.has_image is_taken.has_entry is_taken.unrefused in
         IsSomeAnd-from (image_at table j) _ image is_taken.has_image
-        (IsSomeAnd-from (intact_entry image.request) _ entry is_taken.has_entry (is_accepted.at_least_running, is_accepted.counter_accepted));
+        (IsSomeAnd-from (intact_entry image.request) _ entry is_taken.has_entry
+        (is_accepted.at_least_running, is_accepted.counter_accepted));
     met = λ j.
         IfSome-from (image_at table j) _
         (λ image has_image.
@@ -180,10 +238,13 @@ module _ (table : Table) (refusals : List Refusal) (taken : ℕ → Bool) (takes
         elim (cases_Bool (taken j)) [
           | inl is ↦
               let (entry, is_taken) = IsTaken-at j image has_image is in
-              subst P (sym (entry_in-member image entry (taken j) is is_taken.has_entry)) (met-taken j image entry is is_taken)
+              subst P (sym (entry_in-member image entry (taken j) is is_taken.has_entry))
+              (met-taken j image entry is is_taken)
           | inr runs_on ↦
               subst P (sym (cond-false (taken j) _ image.running runs_on))
-              (list_all-weaker (is_met table running_set) (is_met table taken) is_met-running image.running.dependencies.items (MatchOption-at_some ⊤ _ image has_image (running.met j)))
+              (list_all-weaker (is_met table running_set)
+              (is_met table taken) is_met-running image.running.dependencies.items
+              (MatchOption-at_some ⊤ _ image has_image (running.met j)))
         ]);
   }
 
@@ -193,4 +254,5 @@ module _ (table : Table) (refusals : List Refusal) (taken : ℕ → Bool) (takes
 
   -- a request that isn't refused is taken
   pub taken-unrefused : (j : ℕ) → is_refused refusals j ≡ false → taken j ≡ has_request table j
-  taken-unrefused j unrefused = takes j ∙ all_if_unrefused table refusals j (λ image has_image. settled.own j image has_image unrefused) unrefused (image_at table j) refl
+  taken-unrefused j unrefused = takes j ∙ all_if_unrefused table refusals j (λ image has_image.
+      settled.own j image has_image unrefused) unrefused (image_at table j) refl

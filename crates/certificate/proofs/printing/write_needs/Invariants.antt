@@ -8,4 +8,5 @@ use Rattle.certificate.proofs.printing.write_needs.Given as goal
 abbrev pub invariant-loop-dependency : goal.invariant-loop-dependency
 invariant-loop-dependency g l =
     IsPlainFormatter l.initial.f → HasWritten g.W.Write.write_str_gives l.initial.f
-    (printed_lines table_line_text (map (λ dependency. line.Needs dependency) (take l.dependency-index l.dependency-items))) l.f
+    (printed_lines table_line_text (map (λ dependency. line.Needs dependency)
+    (take l.dependency-index l.dependency-items))) l.f

@@ -5,4 +5,5 @@ use Rattle.chooser.proofs.needs.next_need.Given as goal
 
 -- no lower request needs what can't come
 abbrev pub invariant-loop-number : goal.invariant-loop-number
-invariant-loop-number l = (i : ℕ) → i < l.number → is_refused l.before i ≡ false → needs_reason l.table l.before i ≡ None
+invariant-loop-number l = (i : ℕ) → i < l.number → is_refused l.before i ≡ false
+    → needs_reason l.table l.before i ≡ None

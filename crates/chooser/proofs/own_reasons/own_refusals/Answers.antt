@@ -10,13 +10,17 @@ loop-number-preserved c =
     let more = own_refusals_below-more c.args.table.now c.deref-image-items.result.now c.loop-number.number c.image-item.result in
     elim c.match-own_refusal.branch [
       | in-Some w ↦
-          let added = more (Some w.in-Some.refusal) c.deref-image-items.ensures.0 c.loop-number-test.true c.image-item.is (sym w.in-Some.is ∙ c.own_refusal.ensures) in
+          let added = more
+          (Some w.in-Some.refusal) c.deref-image-items.ensures.0 c.loop-number-test.true c.image-item.is
+          (sym w.in-Some.is ∙ c.own_refusal.ensures) in
           record { listed = cc; count = omega (arith, ap array_vec_len w.refusals-is) }
       | in_default w ↦
-          let added = more None c.deref-image-items.ensures.0 c.loop-number-test.true c.image-item.is (sym w.in_default.is ∙ c.own_refusal.ensures) in
+          let added = more None c.deref-image-items.ensures.0 c.loop-number-test.true c.image-item.is
+          (sym w.in_default.is ∙ c.own_refusal.ensures) in
           let same = append-nil (own_refusals_below c.args.table.now c.loop-number.number) in
           record { listed = cc; count = omega (arith, ap array_vec_len w.refusals-is) }
     ]
 
 pub returns : goal.returns
-returns c = c.loop-number.invariant.listed ∙ own_refusals_below-all c.args.table.now c.deref-image-items.result.now c.loop-number.number c.deref-image-items.ensures.0 c.loop-number-test.false
+returns c = c.loop-number.invariant.listed
+    ∙ own_refusals_below-all c.args.table.now c.deref-image-items.result.now c.loop-number.number c.deref-image-items.ensures.0 c.loop-number-test.false

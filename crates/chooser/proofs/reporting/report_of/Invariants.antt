@@ -7,6 +7,7 @@ use Rattle.chooser.proofs.reporting.report_of.Given as goal
 -- the images so far are reported
 abbrev pub invariant-loop-number : goal.invariant-loop-number
 invariant-loop-number l = record {
-  images : l.images.items ≡ map (reported_image l.refusals.items) (enumerate_from 0 (take l.number l.table.images.items));
+  images : l.images.items ≡ map (reported_image l.refusals.items)
+      (enumerate_from 0 (take l.number l.table.images.items));
   count : array_vec_len l.images ≡ l.number;
 }

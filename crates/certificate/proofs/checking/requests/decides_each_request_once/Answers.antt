@@ -4,12 +4,14 @@ use Rattle.certificate.proofs.checking.requests.decides_each_request_once.Goals 
 
 pub returns-then-refuses_only_below : goal.returns-then-refuses_only_below
 returns-then-refuses_only_below c = (
-  λ decided. all_decided c.args.table.now c.args.report.now c.max-count.result (omega arith) (omega arith) (c.refuses_only_below.ensures.0 c.if-refuses_only_below.true) (c.decides_each_below.ensures.0 decided),
+  λ decided. all_decided c.args.table.now c.args.report.now c.max-count.result (omega arith) (omega arith)
+      (c.refuses_only_below.ensures.0 c.if-refuses_only_below.true) (c.decides_each_below.ensures.0 decided),
   λ each. c.decides_each_below.ensures.1 (λ j below. each j),
 )
 
 pub returns-else-refuses_only_below : goal.returns-else-refuses_only_below
 returns-else-refuses_only_below c = (
   λ refused. absurd cc,
-  λ each. c.refuses_only_below.ensures.1 (refusals_below c.args.table.now c.args.report.now c.max-count.result (omega arith) (omega arith) each),
+  λ each. c.refuses_only_below.ensures.1
+      (refusals_below c.args.table.now c.args.report.now c.max-count.result (omega arith) (omega arith) each),
 )
