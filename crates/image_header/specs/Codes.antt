@@ -1,7 +1,7 @@
 -- The number and the name of each kind of refused header.
 use Rattle.std.specs.Prelude.{ℕ, List, codes}
-use Rattle.image_header.specs.declared.header.HeaderError.{HeaderError}
-use Rattle.image_header.specs.declared.header.HeaderError.TheVariants.{Short, BadMagic, BadHeaderSize, UnsupportedFlags}
+use Rattle.image_header.specs.declared.error.HeaderError.{HeaderError}
+use Rattle.image_header.specs.declared.error.HeaderError.TheVariants.{Short, BadMagic, BadHeaderSize, UnsupportedFlags}
 
 -- The number of a kind.
 abbrev pub code_of : HeaderError → ℕ

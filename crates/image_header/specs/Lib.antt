@@ -1,4 +1,3 @@
 pub mod Header
 pub mod Codes
-pub mod Laws
-pub mod Faults
+pub mod Checks

@@ -4,9 +4,10 @@ ghost use Rattle.std.specs.Prelude.{◌≡◌, ◌≤◌, Err, IfErr, IfOk, Ok, 
 ghost use Rattle.byteorder.specs.Endian.{little_number};
 ghost use Rattle.image_header.specs.Header.{BeginsWith, IsAccepted, IsHeaderFault, header_magic};
 ghost use Rattle.image_header.specs.declared.header.Header.{Header};
-ghost use Rattle.image_header.specs.declared.header.HeaderError.{HeaderError};
+ghost use Rattle.image_header.specs.declared.error.HeaderError.{HeaderError};
 
-use crate::header::{ACCEPTED_FLAGS, HEADER_LENGTH, Header, HeaderError, MAGIC};
+use crate::error::HeaderError;
+use crate::header::{ACCEPTED_FLAGS, HEADER_LENGTH, Header, MAGIC};
 use byteorder::{ByteOrder, LittleEndian};
 use version_order::Version;
 
@@ -39,11 +40,15 @@ impl Header {
         // What is read is accepted, and the bytes begin with it.
         ensures read { IfOk result (λ header. BeginsWith bytes.now header × IsAccepted header) }
         // Each header that is accepted is read.
-        ensures only { (header : Header) → BeginsWith bytes.now header → IsAccepted header → result ≡ Ok header }
+        ensures only {
+            (header : Header) → BeginsWith bytes.now header → IsAccepted header → result ≡ Ok header
+        }
         // The error is the first check that fails ..
         ensures fault { IfErr result (IsHeaderFault bytes.now) }
         // .. and where one fails first, that is the error.
-        ensures refused { (fault : HeaderError) → IsHeaderFault bytes.now fault → result ≡ Err fault }
+        ensures refused {
+            (fault : HeaderError) → IsHeaderFault bytes.now fault → result ≡ Err fault
+        }
     {
         if bytes.len() < HEADER_LENGTH {
             return Err(HeaderError::Short);

@@ -1,4 +1,5 @@
 use crate::{Header, HeaderError};
+use std::test::Fail;
 use version_order::Version;
 
 /// The header of version 1.0.0+0, with a body of four bytes and no protected entries.
@@ -80,8 +81,11 @@ fn the_first_check_that_fails_is_the_error(rt: HostRuntime) {
 }
 
 #[test]
-fn kinds_have_numbers_and_names(rt: HostRuntime) {
+fn kinds_have_numbers_names_and_texts(rt: HostRuntime) -> Result<(), Fail> {
     assert_eq!(rt; HeaderError::Short.code(), 1);
     assert_eq!(rt; HeaderError::UnsupportedFlags.code(), 4);
     assert_eq!(rt; HeaderError::BadMagic.name(), "BadMagic");
+    let text = HeaderError::BadHeaderSize.to_string(rt.alloc())?;
+    assert_eq!(rt; text.as_str(), "a header length below 32");
+    Ok(())
 }
