@@ -1,9 +1,7 @@
 pub mod AsciiLaws
+pub mod Bytes
 pub mod Cuts
 pub mod LinesLaws
 pub mod Lists
-pub mod Numbered
 pub mod Numbers
-pub mod Options
-pub mod Printed
-pub mod ReadingLaws
+pub mod Results

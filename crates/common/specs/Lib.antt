@@ -1,4 +1,5 @@
 pub mod Ascii
+pub mod Bytes
 pub mod Checks
 pub mod Lines
 pub mod Reading

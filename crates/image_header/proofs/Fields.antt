@@ -1,11 +1,12 @@
 -- The fields of a header, written and read one by one.
-use Rattle.std.proofs.Common.{◌≡◌, ℕ, ◌+◌, ◌<◌, ◌≤◌, List, [], ◌++◌, length, get_or, take, drop, drop-cons, slice_index, add-one, ◌%◌, refl, sym, ap, ◌∙◌, arith, inl, inr}
+use Rattle.std.proofs.Common.{◌≡◌, ℕ, ◌+◌, ◌≤◌, List, [], ◌++◌, length, take, drop, drop-cons, slice_index, add-one, ◌%◌, refl, sym, ap, ◌∙◌, arith}
 use Rattle.std.proofs.Math.Nat.{mod-eq_of_lt}
-use Rattle.std.proofs.lemmas.Bool.{cases_lt}
-use Rattle.std.proofs.lemmas.List.{drop_all, length-take, length-drop, take-append-drop, get_or-drop, get_or-take, get_or_past, drop-drop}
+use Rattle.std.proofs.lemmas.List.{drop_all, length-take, length-drop, take-append-drop, drop-drop}
 use Rattle.std.proofs.lemmas.Nat.{le_bytes_2, le_bytes_4}
 use Rattle.byteorder.specs.Endian.{little_bytes, little_number}
 use Rattle.byteorder.specs.Numbers.{little_from-take}
+use Rattle.common.specs.Bytes.{IsBytes}
+use Rattle.common.proofs.Bytes.{IsBytes-drop, IsBytes-take}
 use Rattle.image_header.specs.declared.header.Header.{Header}
 use Rattle.image_header.specs.Header.{BeginsWith, FitsHeader, field_bytes, header_magic}
 
@@ -13,43 +14,43 @@ use Rattle.image_header.specs.Header.{BeginsWith, FitsHeader, field_bytes, heade
 pub drop-take_same : (n : ℕ) (bytes : List ℕ) → drop n (take n bytes) ≡ []
 drop-take_same n bytes = drop_all n (take n bytes) (omega (arith, length-take n bytes))
 
--- Each item is a byte.
-abbrev pub IsBytes : List ℕ → Type 0
-IsBytes bytes = (i : ℕ) → get_or bytes i 0 < 256
-
--- The bytes of a part are bytes.
-IsBytes-part : (k n : ℕ) (bytes : List ℕ) → IsBytes bytes → IsBytes (take n (drop k bytes))
-IsBytes-part k n bytes fits i =
-    elim (cases_lt i n) [
-      | inl below ↦ rw (get_or-take n (drop k bytes) i 0 below, get_or-drop) (fits (k + i))
-      | inr past ↦ rw (get_or_past (take n (drop k bytes)) i 0 (omega (arith, length-take n (drop k bytes)))) (omega arith)
-    ]
-
 -- Bytes from place k are n bytes, and those after them.
 drop-part : (k n : ℕ) (bytes part : List ℕ) → part ≡ take n (drop k bytes) → drop k bytes ≡ part ++ drop (k + n) bytes
 drop-part k n bytes part e =
     sym (take-append-drop n (drop k bytes)) ∙ rw (e, drop-drop n k bytes) refl
 
 -- One byte, and what follows it.
-pub drop-number_1 : (k : ℕ) (bytes : List ℕ) → k + 1 ≤ length bytes → IsBytes bytes → drop k bytes ≡ little_bytes 1 (slice_index bytes k) ++ drop (k + 1) bytes
+pub drop-number_1 : (k : ℕ) (bytes : List ℕ) → k + 1 ≤ length bytes → IsBytes bytes
+    → drop k bytes ≡ little_bytes 1 (slice_index bytes k) ++ drop (k + 1) bytes
 drop-number_1 k bytes within fits =
     let byte : slice_index bytes k % 256 ≡ slice_index bytes k = mod-eq_of_lt (fits k) in
     rw (byte, add-one) (drop-cons bytes k 0 (omega arith))
 
 -- A number of two bytes, and what follows it.
-pub drop-number_2 : (k x : ℕ) (bytes : List ℕ) → k + 2 ≤ length bytes → IsBytes bytes → x ≡ little_number 2 (take 2 (drop k bytes)) → drop k bytes ≡ little_bytes 2 x ++ drop (k + 2) bytes
+pub drop-number_2 : (k x : ℕ) (bytes : List ℕ) → k + 2 ≤ length bytes → IsBytes bytes
+    → x ≡ little_number 2 (take 2 (drop k bytes)) → drop k bytes ≡ little_bytes 2 x ++ drop (k + 2) bytes
 drop-number_2 k x bytes within fits e =
-    drop-part k 2 bytes (little_bytes 2 x) (le_bytes_2 (take 2 (drop k bytes)) x (omega (arith, length-take 2 (drop k bytes), length-drop k bytes)) (IsBytes-part k 2 bytes fits) (omega arith))
+    let part = take 2 (drop k bytes) in
+    let whole : length part ≡ 2 = omega (arith, length-take 2 (drop k bytes), length-drop k bytes) in
+    let bounded = IsBytes-take 2 (drop k bytes) (IsBytes-drop k bytes fits) in
+    drop-part k 2 bytes (little_bytes 2 x) (le_bytes_2 part x whole bounded (omega arith))
 
 -- A number of four bytes, and what follows it.
-pub drop-number_4 : (k x : ℕ) (bytes : List ℕ) → k + 4 ≤ length bytes → IsBytes bytes → x ≡ little_number 4 (take 4 (drop k bytes)) → drop k bytes ≡ little_bytes 4 x ++ drop (k + 4) bytes
+pub drop-number_4 : (k x : ℕ) (bytes : List ℕ) → k + 4 ≤ length bytes → IsBytes bytes
+    → x ≡ little_number 4 (take 4 (drop k bytes)) → drop k bytes ≡ little_bytes 4 x ++ drop (k + 4) bytes
 drop-number_4 k x bytes within fits e =
-    drop-part k 4 bytes (little_bytes 4 x) (le_bytes_4 (take 4 (drop k bytes)) x (omega (arith, length-take 4 (drop k bytes), length-drop k bytes)) (IsBytes-part k 4 bytes fits) (omega arith))
+    let part = take 4 (drop k bytes) in
+    let whole : length part ≡ 4 = omega (arith, length-take 4 (drop k bytes), length-drop k bytes) in
+    let bounded = IsBytes-take 4 (drop k bytes) (IsBytes-drop k bytes fits) in
+    drop-part k 4 bytes (little_bytes 4 x) (le_bytes_4 part x whole bounded (omega arith))
 
 -- Bytes that begin with the magic number and go on with the fields of a header begin with that header.
-pub BeginsWith-fields : (bytes : List ℕ) (header : Header) → 32 ≤ length bytes → IsBytes bytes → little_number 4 bytes ≡ header_magic → FitsHeader header → drop 4 bytes ≡ field_bytes header ++ drop 32 bytes → BeginsWith bytes header
+pub BeginsWith-fields : (bytes : List ℕ) (header : Header) → 32 ≤ length bytes → IsBytes bytes
+    → little_number 4 bytes ≡ header_magic → FitsHeader header → drop 4 bytes ≡ field_bytes header ++ drop 32 bytes
+    → BeginsWith bytes header
 BeginsWith-fields bytes header long bounded magic fits fields =
-    let first = drop-number_4 0 header_magic bytes (omega arith) bounded (sym magic ∙ sym (little_from-take 0 4 4 bytes (omega arith))) in
+    let read = sym magic ∙ sym (little_from-take 0 4 4 bytes (omega arith)) in
+    let first = drop-number_4 0 header_magic bytes (omega arith) bounded read in
     record {
       fits = fits;
       rest = drop 32 bytes;

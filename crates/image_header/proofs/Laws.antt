@@ -11,7 +11,8 @@ pub length-header_bytes : (header : Header) → length (header_bytes header) ≡
 length-header_bytes header = refl
 
 -- What follows may grow.
-pub BeginsWith-append : (bytes more : List ℕ) (header : Header) → BeginsWith bytes header → BeginsWith (bytes ++ more) header
+pub BeginsWith-append : (bytes more : List ℕ) (header : Header) → BeginsWith bytes header
+    → BeginsWith (bytes ++ more) header
 BeginsWith-append bytes more header h = record {
   fits = h.fits;
   rest = h.rest ++ more;
@@ -46,7 +47,8 @@ header_at bytes = record {
 }
 
 -- A number that stands in bytes is what is read there.
-little_number-drop : (n k x : ℕ) (bytes rest : List ℕ) → x < 256 ^ n → drop k bytes ≡ little_bytes n x ++ rest → little_number n (drop k bytes) ≡ x
+little_number-drop : (n k x : ℕ) (bytes rest : List ℕ) → x < 256 ^ n → drop k bytes ≡ little_bytes n x ++ rest
+    → little_number n (drop k bytes) ≡ x
 little_number-drop n k x bytes rest fits e = ap (little_number n) e ∙ little_number-reads_back n x rest fits
 
 -- The one header that bytes may begin with.
@@ -66,7 +68,8 @@ header_at-BeginsWith bytes header h =
     ) refl
 
 -- Bytes begin with one header at most.
-pub header-unique : (bytes : List ℕ) (first second : Header) → BeginsWith bytes first → BeginsWith bytes second → first ≡ second
+pub header-unique : (bytes : List ℕ) (first second : Header) → BeginsWith bytes first → BeginsWith bytes second
+    → first ≡ second
 header-unique bytes first second a b = sym (header_at-BeginsWith bytes first a) ∙ header_at-BeginsWith bytes second b
 
 -- Bytes that begin with a header begin with the magic number.

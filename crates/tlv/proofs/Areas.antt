@@ -1,12 +1,15 @@
 -- An area at a place: what its head and its bytes say, and the bytes that it is spelled by.
-use Rattle.std.proofs.Common.{◌≡◌, ℕ, ◌+◌, ◌-◌, ◌^◌, ◌<◌, ◌≤◌, List, ◌++◌, length, take, drop, refl, sym, ap, subst, ◌∙◌, arith}
+use Rattle.std.proofs.Common.{◌≡◌, ℕ, ◌+◌, ◌-◌, ◌^◌, ◌<◌, ◌≤◌, List, ◌++◌, length, take, drop, Option, refl, sym, ap, subst, ◌∙◌, arith}
 use Rattle.std.proofs.lemmas.List.{take_at, drop-drop, take-append-drop, length-append, length-drop, length-take-le, take_rest}
 use Rattle.byteorder.specs.Endian.{little_bytes, little_number}
 use Rattle.byteorder.specs.Numbers.{little_number-reads_back}
+use Rattle.common.proofs.Lists.{drop-from}
 use Rattle.tlv.specs.declared.error.ImageError.{ImageError}
-use Rattle.tlv.specs.Area.{Entry, FitsArea, area_bytes, entries_bytes}
-use Rattle.tlv.specs.AreaLaws.{IsBytes, IsBytes-drop, little_bytes-little_number_2}
-use Rattle.tlv.specs.Fault.{HasAreaHead, IsArea, IsAreaFault, magic_at, total_at, entries_at}
+use Rattle.tlv.specs.Area.{Entry, FitsArea, area_bytes, area_size, entries_bytes}
+use Rattle.common.specs.Bytes.{IsBytes}
+use Rattle.common.proofs.Bytes.{IsBytes-drop}
+use Rattle.tlv.proofs.AreaLaws.{little_bytes-little_number_2}
+use Rattle.tlv.specs.Fault.{HasAreaHead, IsArea, IsAreaFault, IsTotal, magic_at, total_at, entries_at}
 
 -- These entries' area lies at a place.
 pub record IsAreaOf (bytes : List ℕ) (place magic : ℕ) (entries : List Entry) : Type 0 where
@@ -19,10 +22,6 @@ pub record IsAreaOf (bytes : List ℕ) (place magic : ℕ) (entries : List Entry
 -- The first two bytes spell the number in them.
 first_number : (bytes : List ℕ) → IsBytes bytes → 2 ≤ length bytes → bytes ≡ little_bytes 2 (little_number 2 bytes) ++ drop 2 bytes
 first_number bytes fits long = sym (ap (λ (x : List ℕ). x ++ drop 2 bytes) (little_bytes-little_number_2 bytes long fits) ∙ take-append-drop 2 bytes)
-
--- What lies behind a place, from another place on.
-pub drop-from : (n place other : ℕ) (bytes : List ℕ) → place + n ≡ other → drop n (drop place bytes) ≡ drop other bytes
-drop-from n place other bytes e = drop-drop n place bytes ∙ ap (λ (k : ℕ). drop k bytes) e
 
 -- An area's bytes and what follows them.
 area_bytes-append : (magic total : ℕ) (entries : List Entry) (rest : List ℕ) → total ≡ 4 + length (entries_bytes entries)
@@ -68,37 +67,41 @@ area_from_bytes bytes rest place magic entries small fits near e =
     }
 
 -- An area that passes its checks is that of its entries.
-pub area_of_entries : (bytes : List ℕ) (place magic : ℕ) (Allowed : ℕ → Type 0) (entries : List Entry) → IsArea bytes place magic Allowed → 4 ≤ total_at bytes place
-    → entries_at bytes place ≡ entries_bytes entries → IsAreaOf bytes place magic entries
-area_of_entries bytes place magic Allowed entries area long e =
-    let len : length (entries_at bytes place) ≡ total_at bytes place - 4 = length-take-le (total_at bytes place - 4) (drop (place + 4) bytes) (omega (arith, area.within, area.head, length-drop (place + 4) bytes)) in
+pub area_of_entries : (bytes : List ℕ) (place magic : ℕ) (expected : Option ℕ) (entries : List Entry)
+    → IsArea bytes place magic expected → 4 ≤ total_at bytes place → entries_at bytes place ≡ entries_bytes entries
+    → IsAreaOf bytes place magic entries
+area_of_entries bytes place magic expected entries area long e =
+    let head : place + 4 ≤ length bytes = area.0.0.0.0 in
+    let within : place + total_at bytes place ≤ length bytes = area.0.1 in
+    let behind = drop (place + 4) bytes in
+    let len : length (entries_at bytes place) ≡ total_at bytes place - 4 =
+    length-take-le (total_at bytes place - 4) behind (omega (arith, within, head, length-drop (place + 4) bytes)) in
     record {
-      head = area.head;
-      magic_is = area.magic_is;
+      head = head;
+      magic_is = area.0.0.0.1;
       total = omega (arith, len, ap length e, long);
-      within = area.within;
+      within = within;
       entries_are = e;
     }
 
 -- An area of entries passes the checks.
-pub area_passes : (bytes : List ℕ) (place magic : ℕ) (Allowed : ℕ → Type 0) (entries : List Entry) → IsAreaOf bytes place magic entries → FitsArea entries → Allowed (4 + length (entries_bytes entries)) → IsArea bytes place magic Allowed
-area_passes bytes place magic Allowed entries area fits allowed = record {
-  head = area.head;
-  magic_is = area.magic_is;
-  total = subst Allowed (sym area.total) allowed;
-  within = area.within;
-  filled = (entries, fits, area.entries_are);
-}
+pub area_passes : (bytes : List ℕ) (place magic : ℕ) (expected : Option ℕ) (entries : List Entry)
+    → IsAreaOf bytes place magic entries → FitsArea entries → IsTotal expected (area_size entries)
+    → IsArea bytes place magic expected
+area_passes bytes place magic expected entries area fits allowed =
+    let total = subst (IsTotal expected) (sym area.total) allowed in
+    ((((area.head, area.magic_is), total), area.within), (entries, fits, area.entries_are))
 
 -- No check fails of an area that passes them.
-pub area_has_no_fault : (bytes : List ℕ) (place magic : ℕ) (Allowed : ℕ → Type 0) (fault : ImageError) → IsArea bytes place magic Allowed → IsAreaFault bytes place magic Allowed fault → ⊥
-area_has_no_fault bytes place magic Allowed fault area failed =
+pub area_has_no_fault : (bytes : List ℕ) (place magic : ℕ) (expected : Option ℕ) (fault : ImageError)
+    → IsArea bytes place magic expected → IsAreaFault bytes place magic expected fault → ⊥
+area_has_no_fault bytes place magic expected fault area failed =
     elim failed [
-      | IsAreaFault.no_head no_head is ↦ no_head area.head
-      | IsAreaFault.other_magic head other is ↦ other area.magic_is
-      | IsAreaFault.bad_total head magic_is bad is ↦ bad area.total
-      | IsAreaFault.cut_off head magic_is total short is ↦ omega (arith, short, area.within)
-      | IsAreaFault.not_filled head magic_is total within not_filled is ↦ not_filled area.filled
+      | IsAreaFault.no_head no_head is ↦ no_head area.0.0.0.0
+      | IsAreaFault.other_magic head other is ↦ other area.0.0.0.1
+      | IsAreaFault.bad_total before bad is ↦ bad area.0.0.1
+      | IsAreaFault.cut_off before short is ↦ omega (arith, short, area.0.1)
+      | IsAreaFault.not_filled before not_filled is ↦ not_filled area.1
     ]
 
 -- A number in what lies behind a place, cut off where the bytes end.

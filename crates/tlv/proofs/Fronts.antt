@@ -1,21 +1,18 @@
 -- The image that lies where a header and areas pass their checks, and that no image lies where a check fails.
-use Rattle.std.proofs.Common.{◌≡◌, ℕ, ◌+◌, ◌-◌, ◌<◌, ◌≤◌, ◌⊎◌, inl, inr, List, [], ◌++◌, length, take, drop, Option, None, Some, Result, Ok, Err, refl, sym, ap, subst, ◌∙◌, append_assoc, arith}
-use Rattle.std.specs.Result.{IsErrAnd, IfErr}
+use Rattle.std.proofs.Common.{◌≡◌, ℕ, ◌+◌, ◌-◌, ◌<◌, ◌≤◌, ◌⊎◌, inl, inr, List, [], ◌++◌, length, take, drop, Option, None, Some, refl, sym, ap, subst, ◌∙◌, append_assoc, arith}
 use Rattle.std.proofs.lemmas.List.{length-append, length-drop, length-take-le, take-append-drop}
 use Rattle.image_header.specs.declared.header.Header.{Header}
-use Rattle.image_header.specs.declared.header.HeaderError.{HeaderError}
-use Rattle.image_header.specs.declared.header.HeaderError.TheVariants as header_fault
-use Rattle.image_header.specs.Header.{BeginsWith, IsAccepted, IsHeaderFault, header_bytes}
-use Rattle.image_header.specs.Laws.{header-unique, header_bytes-rest}
+use Rattle.image_header.specs.Header.{BeginsWith, IsAccepted, header_bytes}
+use Rattle.image_header.proofs.Laws.{header-unique, header_bytes-rest}
 use Rattle.tlv.specs.declared.error.ImageError.{ImageError}
-use Rattle.tlv.specs.declared.error.ImageError.TheVariants.{Truncated, BadTlvMagic, BadTlvSize}
 use Rattle.tlv.specs.declared.front.Front.{Front}
 use Rattle.tlv.specs.Area.{Entry, FitsArea, area_bytes, entries_bytes, protected_magic, unprotected_magic}
-use Rattle.tlv.specs.AreaLaws.{IsBytes}
-use Rattle.tlv.specs.Fault.{IsArea, IsAreaFault, IsFrontFault, IsFirstFault, HasProtectedArea, IsProtectedTotal, IsUnprotectedTotal, protected_place, unprotected_place, total_at, entries_at}
-use Rattle.tlv.specs.Front.{IsFront, IsProtected, IsTotal, image_fault}
+use Rattle.common.specs.Bytes.{IsBytes}
+use Rattle.tlv.specs.Fault.{HasProtectedArea, HasUnprotectedArea, IsProtectedFault, IsTotal, IsUnprotectedFault, protected_place, unprotected_place, total_at, entries_at}
+use Rattle.tlv.specs.Front.{IsFront, IsProtected}
 use Rattle.tlv.specs.Image.{Image, BeginsWithImage, protected_bytes, hashed_bytes, image_bytes}
-use Rattle.tlv.proofs.Areas.{IsAreaOf, drop-from, drop-area, area_of_entries, area_has_no_fault}
+use Rattle.common.proofs.Lists.{drop-from}
+use Rattle.tlv.proofs.Areas.{IsAreaOf, drop-area, area_of_entries, area_has_no_fault}
 use Rattle.tlv.proofs.ImageLaws.{parts_of_image, protected_bytes-absent, protected_bytes-there, image_has_protected_area, image_has_unprotected_area}
 use Rattle.tlv.proofs.Parts.{whole_of}
 
@@ -106,9 +103,12 @@ FoundProtected bytes header found = (protected : List Entry) × IsProtectedOf by
 found_protected : (bytes found : List ℕ) (header : Header) → IsProtected bytes (protected_place header) header.protected_size found → FoundProtected bytes header found
 found_protected bytes found header (inl absent) = ([], inl (absent.0, refl), record { each = tt; whole = omega arith }, absent.1)
 found_protected bytes found header (inr there) =
-    let area = there.1 in
-    let filled = area.filled in
-    (filled.0, inr (there.0, area_of_entries bytes (protected_place header) protected_magic (IsTotal (Some header.protected_size)) filled.0 area area.total.1 filled.2, area.total.0), filled.1, there.2 ∙ filled.2)
+    let size = Some header.protected_size in
+    let filled = there.1.1 in
+    let total : (total_at bytes (protected_place header) ≡ header.protected_size)
+    × (4 ≤ total_at bytes (protected_place header)) = there.1.0.0.1 in
+    let area = area_of_entries bytes (protected_place header) protected_magic size filled.0 there.1 total.1 filled.2 in
+    (filled.0, inr (there.0, area, total.0), filled.1, there.2 ∙ filled.2)
 
 -- The length of an image is the place of what follows it.
 length-image : (bytes : List ℕ) (image : Image) (place : ℕ) → place ≤ length bytes → BeginsWithImage bytes image (drop place bytes) → place ≡ length (image_bytes image)
@@ -120,7 +120,7 @@ length-image bytes image place near begins =
 -- What was found is an image, by its parts.
 pub is_front : (bytes : List ℕ) (front : Front) → IsBytes bytes → BeginsWith bytes front.header → IsAccepted front.header
     → IsProtected bytes (protected_place front.header) front.header.protected_size front.protected.now
-    → IsArea bytes (unprotected_place front.header) unprotected_magic IsUnprotectedTotal
+    → HasUnprotectedArea bytes front.header
     → front.unprotected.now ≡ entries_at bytes (unprotected_place front.header)
     → front.hashed.now ≡ take (unprotected_place front.header) bytes
     → front.length ≡ unprotected_place front.header + 4 + length front.unprotected.now
@@ -128,13 +128,17 @@ pub is_front : (bytes : List ℕ) (front : Front) → IsBytes bytes → BeginsWi
 is_front bytes front fits begins accepted protected_is area unprotected_is hashed_is length_is =
     let header = front.header in
     let protected = found_protected bytes front.protected.now header protected_is in
-    let unprotected = area.filled in
-    let last = area_of_entries bytes (unprotected_place header) unprotected_magic IsUnprotectedTotal unprotected.0 area area.total unprotected.2 in
+    let unprotected = area.1 in
+    let place = unprotected_place header in
+    let last = area_of_entries bytes place unprotected_magic None unprotected.0 area area.0.0.1 unprotected.2 in
     let image = front_image header bytes protected.0 unprotected.0 in
     let entries : front.unprotected.now ≡ entries_bytes unprotected.0 = unprotected_is ∙ unprotected.2 in
-    let end : unprotected_place header + total_at bytes (unprotected_place header) ≡ front.length = omega (arith, length_is, last.total, ap length entries) in
-    let lies = image_from_areas bytes header protected.0 unprotected.0 fits begins accepted protected.1 protected.2 last unprotected.1 in
-    let lies_there : BeginsWithImage bytes image (drop front.length bytes) = subst (λ (k : ℕ). BeginsWithImage bytes image (drop k bytes)) end lies in
+    let end : unprotected_place header + total_at bytes (unprotected_place header) ≡ front.length =
+    omega (arith, length_is, last.total, ap length entries) in
+    let lies = image_from_areas bytes header protected.0 unprotected.0 fits begins accepted protected.1 protected.2
+    last unprotected.1 in
+    let lies_there : BeginsWithImage bytes image (drop front.length bytes) =
+    subst (λ (k : ℕ). BeginsWithImage bytes image (drop k bytes)) end lies in
     let near : front.length ≤ length bytes = omega (arith, end, last.within) in (
       image,
       record {
@@ -150,69 +154,33 @@ is_front bytes front fits begins accepted protected_is area unprotected_is hashe
 
 -- ---- where a check fails
 
--- An area's fault is one of three.
-area_fault_is : (bytes : List ℕ) (place magic : ℕ) (Allowed : ℕ → Type 0) (fault : ImageError) → IsAreaFault bytes place magic Allowed fault → (fault ≡ Truncated) ⊎ ((fault ≡ BadTlvMagic) ⊎ (fault ≡ BadTlvSize))
-area_fault_is bytes place magic Allowed fault failed =
-    elim failed [
-      | IsAreaFault.no_head no_head is ↦ inl is
-      | IsAreaFault.other_magic head other is ↦ inr (inl is)
-      | IsAreaFault.bad_total head magic_is bad is ↦ inr (inr is)
-      | IsAreaFault.cut_off head magic_is total short is ↦ inl is
-      | IsAreaFault.not_filled head magic_is total within not_filled is ↦ inr (inr is)
-    ]
-
--- The first fault of areas is the first of all.
-first_of_front : (bytes : List ℕ) (fault : ImageError) → (fault ≡ Truncated) ⊎ ((fault ≡ BadTlvMagic) ⊎ (fault ≡ BadTlvSize)) → IsFrontFault bytes fault → IsFirstFault bytes fault
-first_of_front bytes fault (inl is) failed = subst (IsFirstFault bytes) (sym is) (subst (IsFrontFault bytes) is failed)
-first_of_front bytes fault (inr (inl is)) failed = subst (IsFirstFault bytes) (sym is) (subst (IsFrontFault bytes) is failed)
-first_of_front bytes fault (inr (inr is)) failed = subst (IsFirstFault bytes) (sym is) (subst (IsFrontFault bytes) is failed)
-
--- A header's fault is the first of all.
-pub first_of_header : (bytes : List ℕ) (fault : HeaderError) → IsHeaderFault bytes fault → IsFirstFault bytes (image_fault fault)
-first_of_header bytes header_fault.Short failed = failed
-first_of_header bytes header_fault.BadMagic failed = failed
-first_of_header bytes header_fault.BadHeaderSize failed = failed
-first_of_header bytes header_fault.UnsupportedFlags failed = failed
-
--- What fails of the protected area ..
-pub first_in_protected : (bytes : List ℕ) (header : Header) (fault : ImageError) → BeginsWith bytes header → IsAccepted header → 0 < header.protected_size
-    → IsAreaFault bytes (protected_place header) protected_magic (IsProtectedTotal header) fault → IsFirstFault bytes fault
-first_in_protected bytes header fault begins accepted some failed =
-    first_of_front bytes fault (area_fault_is bytes (protected_place header) protected_magic (IsProtectedTotal header) fault failed) (IsFrontFault.in_protected header begins accepted some failed)
-
--- .. and of the unprotected one is the first of all.
-pub first_in_unprotected : (bytes : List ℕ) (header : Header) (fault : ImageError) → BeginsWith bytes header → IsAccepted header → HasProtectedArea bytes header
-    → IsAreaFault bytes (unprotected_place header) unprotected_magic IsUnprotectedTotal fault → IsFirstFault bytes fault
-first_in_unprotected bytes header fault begins accepted protected failed =
-    first_of_front bytes fault (area_fault_is bytes (unprotected_place header) unprotected_magic IsUnprotectedTotal fault failed) (IsFrontFault.in_unprotected header begins accepted protected failed)
-
 -- A protected area that was found passes its checks.
-pub found_passes : (bytes found : List ℕ) (header : Header) → IsProtected bytes (protected_place header) header.protected_size found → HasProtectedArea bytes header
+pub found_passes : (bytes found : List ℕ) (header : Header)
+    → IsProtected bytes (protected_place header) header.protected_size found → HasProtectedArea bytes header
 found_passes bytes found header (inl absent) = inl absent.0
 found_passes bytes found header (inr there) = inr (there.0, there.1)
 
 -- Bytes whose protected area fails begin with no image ..
-pub no_image_in_protected : (bytes : List ℕ) (header : Header) (fault : ImageError) → BeginsWith bytes header → 0 < header.protected_size
-    → IsAreaFault bytes (protected_place header) protected_magic (IsProtectedTotal header) fault
+pub no_image_in_protected : (bytes : List ℕ) (header : Header) (fault : ImageError) → BeginsWith bytes header
+    → 0 < header.protected_size → IsProtectedFault bytes header fault
     → (image : Image) (trailing : List ℕ) → BeginsWithImage bytes image trailing → ⊥
 no_image_in_protected bytes header fault begins some failed image trailing is =
-    let same : image.header ≡ header = header-unique bytes image.header header (parts_of_image bytes image trailing is).header begins in
-    let passes : HasProtectedArea bytes header = subst (HasProtectedArea bytes) same (image_has_protected_area bytes image trailing is) in
+    let own = (parts_of_image bytes image trailing is).header in
+    let same : image.header ≡ header = header-unique bytes image.header header own begins in
+    let passes : HasProtectedArea bytes header =
+    subst (HasProtectedArea bytes) same (image_has_protected_area bytes image trailing is) in
+    let size = Some header.protected_size in
     elim passes [
       | inl none ↦ omega (arith, none, some)
-      | inr there ↦ area_has_no_fault bytes (protected_place header) protected_magic (IsProtectedTotal header) fault there.1 failed
+      | inr there ↦ area_has_no_fault bytes (protected_place header) protected_magic size fault there.1 failed
     ]
 
 -- .. and those whose unprotected area fails.
 pub no_image_in_unprotected : (bytes : List ℕ) (header : Header) (fault : ImageError) → BeginsWith bytes header
-    → IsAreaFault bytes (unprotected_place header) unprotected_magic IsUnprotectedTotal fault
+    → IsUnprotectedFault bytes header fault
     → (image : Image) (trailing : List ℕ) → BeginsWithImage bytes image trailing → ⊥
 no_image_in_unprotected bytes header fault begins failed image trailing is =
-    let same : image.header ≡ header = header-unique bytes image.header header (parts_of_image bytes image trailing is).header begins in
-    let passes = subst (λ (h : Header). IsArea bytes (unprotected_place h) unprotected_magic IsUnprotectedTotal) same (image_has_unprotected_area bytes image trailing is) in
-    area_has_no_fault bytes (unprotected_place header) unprotected_magic IsUnprotectedTotal fault passes failed
-
--- What holds of an error that a call gave holds of the error that is passed on.
-pub err_is : {T : Type 0} (result : Result T ImageError) (fault : ImageError) (Holds : ImageError → Type 0) → IsErrAnd result (λ passed. passed ≡ fault) → Holds fault → IfErr result Holds
-err_is (Ok found) fault Holds is holds = tt
-err_is (Err passed) fault Holds is holds = subst Holds (sym is) holds
+    let own = (parts_of_image bytes image trailing is).header in
+    let same : image.header ≡ header = header-unique bytes image.header header own begins in
+    let passes = subst (HasUnprotectedArea bytes) same (image_has_unprotected_area bytes image trailing is) in
+    area_has_no_fault bytes (unprotected_place header) unprotected_magic None fault passes failed

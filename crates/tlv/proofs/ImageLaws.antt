@@ -1,13 +1,13 @@
 -- Bytes that begin with an image: its parts lie where the header says, and there is one such image.
-use Rattle.std.proofs.Common.{◌≡◌, ℕ, ◌+◌, ◌-◌, ◌<◌, ◌≤◌, inl, inr, cond, eqb, List, [], ◌++◌, length, take, drop, refl, sym, ap, ◌∙◌, append_assoc, arith}
+use Rattle.std.proofs.Common.{◌≡◌, ℕ, ◌+◌, ◌-◌, ◌<◌, ◌≤◌, inl, inr, cond, eqb, None, Some, List, [], ◌++◌, length, take, drop, refl, sym, ap, ◌∙◌, append_assoc, arith}
 use Rattle.std.proofs.lemmas.Bool.{cases_lt, eq-eqb, ne_eqb, cond-true, cond-false}
 use Rattle.std.proofs.lemmas.List.{append-nil, append_cancel_left, length-append, length-drop, take_at}
 use Rattle.image_header.specs.declared.header.Header.{Header}
 use Rattle.image_header.specs.Header.{BeginsWith, header_bytes}
-use Rattle.image_header.specs.Laws.{length-header_bytes, header-unique}
+use Rattle.image_header.proofs.Laws.{length-header_bytes, header-unique}
 use Rattle.tlv.specs.Area.{Entry, FitsArea, area_bytes, entries_bytes, protected_magic, unprotected_magic}
-use Rattle.tlv.specs.AreaLaws.{entries_of-entries_bytes}
-use Rattle.tlv.specs.Fault.{IsArea, HasProtectedArea, IsProtectedTotal, IsUnprotectedTotal, protected_place, unprotected_place, entries_at}
+use Rattle.tlv.proofs.AreaLaws.{entries_of-entries_bytes}
+use Rattle.tlv.specs.Fault.{HasProtectedArea, HasUnprotectedArea, protected_place, unprotected_place, entries_at}
 use Rattle.tlv.specs.Image.{Image, IsWellFormed, BeginsWithImage, protected_bytes, hashed_bytes, image_bytes}
 use Rattle.tlv.specs.Reading.{entries_of}
 use Rattle.tlv.proofs.Areas.{IsAreaOf, area_from_bytes, area_passes}
@@ -110,17 +110,21 @@ image_has_protected_area bytes image trailing begins =
     elim (cases_lt 0 image.header.protected_size) [
       | inl some ↦
           let total = protected_total bytes image trailing begins some in
+          let area = protected_of_image bytes image trailing begins some in
+          let size = Some image.header.protected_size in
           inr (
             some,
-            area_passes bytes (protected_place image.header) protected_magic (IsProtectedTotal image.header) image.protected
-                (protected_of_image bytes image trailing begins some) begins.formed.protected (total, omega arith),
+            area_passes bytes (protected_place image.header) protected_magic size image.protected
+                area begins.formed.protected (total, omega arith),
           )
       | inr none ↦ inl (omega arith)
     ]
 
-pub image_has_unprotected_area : (bytes : List ℕ) (image : Image) (trailing : List ℕ) → BeginsWithImage bytes image trailing → IsArea bytes (unprotected_place image.header) unprotected_magic IsUnprotectedTotal
+pub image_has_unprotected_area : (bytes : List ℕ) (image : Image) (trailing : List ℕ)
+    → BeginsWithImage bytes image trailing → HasUnprotectedArea bytes image.header
 image_has_unprotected_area bytes image trailing begins =
-    area_passes bytes (unprotected_place image.header) unprotected_magic IsUnprotectedTotal image.unprotected (unprotected_of_image bytes image trailing begins) begins.formed.unprotected (omega arith)
+    area_passes bytes (unprotected_place image.header) unprotected_magic None image.unprotected
+    (unprotected_of_image bytes image trailing begins) begins.formed.unprotected (omega arith)
 
 -- ---- one image
 

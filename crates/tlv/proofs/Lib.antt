@@ -1,6 +1,8 @@
+pub mod AreaLaws
 pub mod Areas
 pub mod Dependencies
 pub mod Descriptions
+pub mod FieldLaws
 pub mod FirstFaults
 pub mod Fronts
 pub mod ImageLaws

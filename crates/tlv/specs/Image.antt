@@ -1,14 +1,13 @@
--- Images: header, body, protected area and unprotected area, one after the other (MCUboot, image format).
-use Rattle.std.specs.Prelude.{◌≡◌, ℕ, ◌+◌, ◌^◌, ◌<◌, ◌≤◌, ◌==◌, ◌⊎◌, List, [], ◌∷◌, ◌++◌, length, map, if◌then◌else◌}
-use Rattle.std.specs.List.{AllByRecursion}
-use Rattle.byteorder.specs.Endian.{little_bytes}
+-- Images: header, body, protected area and unprotected area, one after the other (MCUboot, design
+-- document, "Image format").
+use Rattle.std.specs.Prelude.{◌≡◌, ℕ, ◌+◌, ◌≤◌, ◌==◌, List, [], ◌++◌, length, if◌then◌else◌}
 use Rattle.sha2.specs.Sha256.{sha256}
-use Rattle.version_order.specs.declared.dependency.Dependency.{Dependency}
-use Rattle.version_order.specs.VersionText.{FitsFields}
+use Rattle.common.specs.declared.limits.TheConstants.{MOST_DEPENDENCIES}
 use Rattle.image_header.specs.declared.header.Header.{Header}
-use Rattle.image_header.specs.Header.{FitsHeader, IsAccepted, header_bytes, version_bytes}
+use Rattle.image_header.specs.Header.{FitsHeader, IsAccepted, header_bytes}
 use Rattle.tlv.specs.declared.desc.Desc.{Desc}
 use Rattle.tlv.specs.Area.{Entry, FitsArea, area_bytes, protected_magic, unprotected_magic, values_of}
+use Rattle.tlv.specs.Fields.{HasBadCounter, HasBadDependency, SpellCounter, SpellDependencies, SpellDigest, counter_kind, dependency_kind, digest_kind}
 
 -- The parts of an image.
 pub record Image : Type 0 where
@@ -21,11 +20,13 @@ pub record Image : Type 0 where
 
 -- The protected area, which is absent where its length is 0.
 abbrev pub protected_bytes : Image → List ℕ
-protected_bytes image = if image.header.protected_size == 0 then [] else area_bytes protected_magic image.protected
+protected_bytes image =
+    if image.header.protected_size == 0 then [] else area_bytes protected_magic image.protected
 
 -- What the digest is taken of: header, body and protected area.
 abbrev pub hashed_bytes : Image → List ℕ
-hashed_bytes image = header_bytes image.header ++ (image.filler ++ (image.body ++ protected_bytes image))
+hashed_bytes image =
+    header_bytes image.header ++ (image.filler ++ (image.body ++ protected_bytes image))
 
 -- The bytes of an image.
 abbrev pub image_bytes : Image → List ℕ
@@ -48,50 +49,49 @@ pub record BeginsWithImage (bytes : List ℕ) (image : Image) (trailing : List �
   pub formed : IsWellFormed image
   pub parts : bytes ≡ image_bytes image ++ trailing
 
--- The types of the entries that are read: the digest in the unprotected area, dependencies and security counter
--- in the protected one. All others are skipped.
-abbrev pub digest_kind : ℕ
-digest_kind = 0x10
+-- The values of the entries that are read: the digest in the unprotected area, dependencies and
+-- security counter in the protected one. In the other area, and of other types, entries are skipped.
+abbrev pub digest_values : Image → List (List ℕ)
+digest_values image = values_of digest_kind image.unprotected
 
-abbrev pub dependency_kind : ℕ
-dependency_kind = 0x40
+abbrev pub dependency_values : Image → List (List ℕ)
+dependency_values image = values_of dependency_kind image.protected
 
-abbrev pub counter_kind : ℕ
-counter_kind = 0x50
+abbrev pub counter_values : Image → List (List ℕ)
+counter_values image = values_of counter_kind image.protected
 
--- The one digest entry is the SHA-256 of header, body and protected area (FIPS 180-4).
-abbrev pub HasDigest : Image → Type 0
-HasDigest image = values_of digest_kind image.unprotected ≡ sha256 (hashed_bytes image) ∷ []
+-- The checks of an image's entries in their order. Each name says that its own check passes, and
+-- all before it: the digest is that of header, body and protected area ..
+abbrev pub PassesDigest : Image → Type 0
+PassesDigest image = SpellDigest (digest_values image) (hashed_bytes image)
 
--- A dependency's twelve bytes: the image's number, three zero bytes, the minimum version.
-abbrev pub dependency_bytes : Dependency → List ℕ
-dependency_bytes dependency = dependency.image ∷ 0 ∷ 0 ∷ 0 ∷ version_bytes dependency.minimum
+-- .. each dependency has its form ..
+abbrev pub PassesDependencies : Image → Type 0
+PassesDependencies image = PassesDigest image × (HasBadDependency (dependency_values image) → ⊥)
 
--- A dependency's numbers fit their fields.
-pub record FitsDependency (dependency : Dependency) : Type 0 where
-  pub image : dependency.image < 2 ^ 8
-  pub minimum : FitsFields dependency.minimum
+-- .. there are not too many of them ..
+abbrev pub PassesDependencyCount : Image → Type 0
+PassesDependencyCount image =
+    PassesDependencies image × (length (dependency_values image) ≤ MOST_DEPENDENCIES)
 
--- The dependency entries spell these dependencies.
-pub record HasDependencies (image : Image) (dependencies : List Dependency) : Type 0 where
-  pub fit : AllByRecursion FitsDependency dependencies
-  pub spelled : values_of dependency_kind image.protected ≡ map dependency_bytes dependencies
+-- .. and the security counter is one of four bytes, or there is none.
+abbrev pub PassesCounter : Image → Type 0
+PassesCounter image = PassesDependencyCount image × (HasBadCounter (counter_values image) → ⊥)
 
--- There is one counter entry, of this number, or none and the number is 0.
-abbrev pub HasCounter : Image → ℕ → Type 0
-HasCounter image counter = (counter < 2 ^ 32) × (((values_of counter_kind image.protected ≡ []) × (counter ≡ 0)) ⊎ (values_of counter_kind image.protected ≡ little_bytes 4 counter ∷ []))
+-- All checks of an image's entries pass.
+abbrev pub PassesEntries : Image → Type 0
+PassesEntries image = PassesCounter image
 
--- A description lists the fields of an image, of which the digest entry is the digest.
+-- A description says what an image says of itself.
 pub record Describes (image : Image) (description : Desc) : Type 0 where
   pub version : description.version ≡ image.header.version
   pub flags : description.flags ≡ image.header.flags
   pub length_of : description.length ≡ length (image_bytes image)
-  pub digest_of : description.digest ≡ sha256 (hashed_bytes image)
-  pub digest : HasDigest image
-  pub dependencies : HasDependencies image description.dependencies.items
-  pub few : length description.dependencies.items ≤ 16
-  pub counter : HasCounter image description.counter
+  pub digest : description.digest ≡ sha256 (hashed_bytes image)
+  pub dependencies : SpellDependencies (dependency_values image) description.dependencies.items
+  pub counter : SpellCounter (counter_values image) description.counter
 
--- Whole bytes are an intact image with this description.
+-- Whole bytes are an intact image, of which this is the description.
 abbrev pub IsIntact : List ℕ → Desc → Type 0
-IsIntact bytes description = (image : Image) × BeginsWithImage bytes image [] × Describes image description
+IsIntact bytes description = (image : Image)
+    × BeginsWithImage bytes image [] × Describes image description × PassesEntries image

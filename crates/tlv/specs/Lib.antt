@@ -3,10 +3,8 @@ pub mod Image
 pub mod Fault
 pub mod Codes
 pub mod Reading
-pub mod AreaLaws
+pub mod Walk
 pub mod Tlv
 pub mod Fields
-pub mod FieldLaws
 pub mod Front
-pub mod Describing
 pub mod Making

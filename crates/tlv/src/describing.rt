@@ -1,12 +1,11 @@
 //! What a whole file says of itself, where it is an intact image.
 
-ghost use Rattle.std.specs.Prelude.{◌≡◌, ◌∷◌, [], Err, IfErr, IfOk, Ok};
+ghost use Rattle.std.specs.Prelude.{◌≡◌, Err, IfErr, IfOk, Ok, OnOk};
 ghost use Rattle.sha2.specs.Sha256.{sha256};
-ghost use Rattle.tlv.specs.Area.{values_of};
-ghost use Rattle.tlv.specs.Describing.{IsOwnDigestFault};
 ghost use Rattle.tlv.specs.Fault.{IsFirstFault};
-ghost use Rattle.tlv.specs.Image.{IsIntact, digest_kind};
-ghost use Rattle.tlv.specs.Reading.{entries_of};
+ghost use Rattle.tlv.specs.Fields.{IsDigestFault, SpellDigest, digest_kind};
+ghost use Rattle.tlv.specs.Image.{IsIntact};
+ghost use Rattle.tlv.specs.Reading.{values_read};
 ghost use Rattle.tlv.specs.declared.desc.Desc.{Desc};
 ghost use Rattle.tlv.specs.declared.error.ImageError.{ImageError};
 
@@ -16,7 +15,7 @@ use crate::fields::{counter, dependencies, digest_value};
 use crate::front::Front;
 use sha2::{Digest, Sha256};
 
-/// What the image says of itself that these bytes are, all of them. Takes no memory.
+/// What the image says of itself that these bytes are, all of them. Does not allocate.
 ///
 /// # Errors
 ///
@@ -52,8 +51,9 @@ pub fn describe(bytes: &[u8]) -> Result<Desc, ImageError>
 
 // The SHA-256 of the hashed bytes, where the one digest entry among the entries is that.
 fn own_digest(hashed: &[u8], entries: &[u8]) -> Result<[u8; 32], ImageError>
-    ensures own { IfOk result (λ digest. (digest ≡ sha256 hashed.now) × (values_of digest_kind (entries_of entries.now) ≡ sha256 hashed.now ∷ [])) }
-    ensures fault { IfErr result (IsOwnDigestFault (values_of digest_kind (entries_of entries.now)) hashed.now) }
+    ensures own { IfOk result (λ digest. digest ≡ sha256 hashed.now) }
+    ensures entry { OnOk result (SpellDigest (values_read digest_kind entries.now) hashed.now) }
+    ensures fault { IfErr result (IsDigestFault (values_read digest_kind entries.now) hashed.now) }
 {
     let entry = digest_value(entries)?;
     let digest = Sha256::digest(hashed);

@@ -1,12 +1,9 @@
 //! The fields that entries hold: digest, dependencies and security counter.
 
-ghost use Rattle.std.specs.Prelude.{◌≡◌, ℕ, ◌≤◌, ◌∷◌, [], length, IfOk, IfErr, IfSome, IfNone};
-ghost use Rattle.byteorder.specs.Endian.{little_bytes};
-ghost use Rattle.tlv.specs.Area.{values_of};
-ghost use Rattle.tlv.specs.Image.{FitsDependency, counter_kind, dependency_bytes, dependency_kind, digest_kind};
-ghost use Rattle.tlv.specs.Reading.{entries_of};
-ghost use Rattle.version_order.specs.declared.dependency.Dependency.{Dependency};
-ghost use Rattle.tlv.specs.Fields.{IsCounterFault, IsDependencyFault, IsDigestFault, SpellCounter, SpellDependencies, values_left};
+ghost use Rattle.std.specs.Prelude.{◌≡◌, ◌≢◌, ℕ, ◌≤◌, ◌∷◌, [], List, length, IfOk, IfErr, IfSome, IfNone};
+ghost use Rattle.tlv.specs.Fields.{FitsDependency, IsCounterFault, IsDependencyFault, IsDependencyForm, IsDigestFault, SpellCounter, SpellDependencies, counter_bytes, counter_kind, dependency_bytes, dependency_kind, digest_kind};
+ghost use Rattle.tlv.specs.Reading.{values_read};
+ghost use Rattle.tlv.specs.Tlv.{values_left};
 
 use crate::error::ImageError;
 use crate::format::{
@@ -15,6 +12,7 @@ use crate::format::{
 use crate::tlvs::Tlvs;
 use arrayvec::ArrayVec;
 use byteorder::{ByteOrder, LittleEndian};
+use common::limits::MOST_DEPENDENCIES;
 use version_order::{Dependency, Version};
 
 // The values of the entries of one type, in order.
@@ -26,7 +24,7 @@ struct Values<'a> {
 
 impl<'a> Iterator for Values<'a> {
     ghost use Rattle.std.specs.Iterator.{YieldsFirstRef, item_count};
-    ghost use Rattle.tlv.specs.Fields.{values_left};
+    ghost use Rattle.tlv.specs.Tlv.{values_left};
 
     type Item = &'a [u8];
 
@@ -45,7 +43,7 @@ impl<'a> Iterator for Values<'a> {
 }
 
 fn values_in(entries: &[u8], kind: u16) -> Values<'_>
-    ensures { values_left result ≡ values_of kind (entries_of entries.now) }
+    ensures { values_left result ≡ values_read kind entries.now }
 {
     Values {
         entries: Tlvs::new(entries),
@@ -57,8 +55,12 @@ fn values_in(entries: &[u8], kind: u16) -> Values<'_>
 ///
 /// `NoDigest` where there is none, `TwoDigests` where there are two or more.
 pub(crate) fn digest_value(entries: &[u8]) -> Result<&[u8], ImageError>
-    ensures ok { IfOk result (λ value. values_of digest_kind (entries_of entries.now) ≡ value.now ∷ []) }
-    ensures err { IfErr result (IsDigestFault (values_of digest_kind (entries_of entries.now))) }
+    ensures ok { IfOk result (λ value. values_read digest_kind entries.now ≡ value.now ∷ []) }
+    // These two faults come whatever the digest is to be.
+    ensures err {
+        (hashed : List ℕ)
+            → IfErr result (IsDigestFault (values_read digest_kind entries.now) hashed)
+    }
 {
     let mut digests = values_in(entries, DIGEST_KIND);
     match (digests.next(), digests.next()) {
@@ -72,8 +74,8 @@ pub(crate) fn digest_value(entries: &[u8]) -> Result<&[u8], ImageError>
 ///
 /// `BadCounter` where there are two or more, or its value isn't four bytes long.
 pub(crate) fn counter(entries: &[u8]) -> Result<u32, ImageError>
-    ensures ok { IfOk result (SpellCounter (values_of counter_kind (entries_of entries.now))) }
-    ensures err { IfErr result (IsCounterFault (values_of counter_kind (entries_of entries.now))) }
+    ensures ok { IfOk result (SpellCounter (values_read counter_kind entries.now)) }
+    ensures err { IfErr result (IsCounterFault (values_read counter_kind entries.now)) }
 {
     let mut counters = values_in(entries, COUNTER_KIND);
     match (counters.next(), counters.next()) {
@@ -83,10 +85,10 @@ pub(crate) fn counter(entries: &[u8]) -> Result<u32, ImageError>
     }
 }
 
-// The counter that a value spells, if it spells one.
+// The counter that a value spells, if it has the length of one.
 fn counter_of(value: &[u8]) -> Option<u32>
-    ensures spelled { IfSome result (λ counter. value.now ≡ little_bytes 4 counter) }
-    ensures none { IfNone result ((counter : ℕ) → value.now ≡ little_bytes 4 counter → ⊥) }
+    ensures spelled { IfSome result (λ counter. value.now ≡ counter_bytes counter) }
+    ensures none { IfNone result (length value.now ≢ 4) }
 {
     if value.len() != COUNTER_LENGTH {
         return None;
@@ -94,10 +96,11 @@ fn counter_of(value: &[u8]) -> Option<u32>
     Some(LittleEndian::read_u32(value))
 }
 
-// The dependency that a value spells, if it spells one.
+// The dependency that a value spells, if it has the form of one.
 fn dependency_of(value: &[u8]) -> Option<Dependency>
-    ensures spelled { IfSome result (λ dependency. FitsDependency dependency × (value.now ≡ dependency_bytes dependency)) }
-    ensures none { IfNone result ((dependency : Dependency) → value.now ≡ dependency_bytes dependency → ⊥) }
+    ensures fits { IfSome result FitsDependency }
+    ensures spelled { IfSome result (λ dependency. value.now ≡ dependency_bytes dependency) }
+    ensures none { IfNone result (IsDependencyForm value.now → ⊥) }
 {
     if value.len() != DEPENDENCY_LENGTH || value[1] != 0 || value[2] != 0 || value[3] != 0 {
         return None;
@@ -117,11 +120,16 @@ fn dependency_of(value: &[u8]) -> Option<Dependency>
 /// The dependencies among the entries that these bytes spell, in their order.
 ///
 /// `BadDependency` where the value of one isn't 12 bytes long, or its three bytes after the image number aren't
-/// zero; `TooManyDependencies` where none is so, but there are more than 16.
-pub(crate) fn dependencies(entries: &[u8]) -> Result<ArrayVec<Dependency, 16>, ImageError>
-    ensures ok { IfOk result (λ dependencies. SpellDependencies (values_of dependency_kind (entries_of entries.now)) dependencies.items) }
-    ensures few { IfOk result (λ dependencies. length dependencies.items ≤ 16) }
-    ensures err { IfErr result (IsDependencyFault (values_of dependency_kind (entries_of entries.now))) }
+/// zero; `TooManyDependencies` where none is so, but there are more than [`MOST_DEPENDENCIES`].
+pub(crate) fn dependencies(
+    entries: &[u8],
+) -> Result<ArrayVec<Dependency, MOST_DEPENDENCIES>, ImageError>
+    ensures ok {
+        IfOk result (λ dependencies.
+            SpellDependencies (values_read dependency_kind entries.now) dependencies.items)
+    }
+    ensures few { IfOk result (λ dependencies. length dependencies.items ≤ MOST_DEPENDENCIES) }
+    ensures err { IfErr result (IsDependencyFault (values_read dependency_kind entries.now)) }
 {
     let mut dependencies = ArrayVec::new();
     let mut too_many = false;

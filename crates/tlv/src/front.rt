@@ -1,9 +1,9 @@
 //! The front of bytes: the image that they begin with.
 
-ghost use Rattle.std.specs.Prelude.{◌≡◌, ◌↔◌, ℕ, ◌^◌, ◌<◌, List, Some, IfOk, IfErr, IsOk, IsTrue};
+ghost use Rattle.std.specs.Prelude.{◌≡◌, ◌↔◌, ℕ, ◌^◌, ◌<◌, List, Some, IfOk, IfErr, IsOk, IsTrue, OnErr, OnOk};
 ghost use Rattle.tlv.specs.Area.{protected_magic};
-ghost use Rattle.tlv.specs.Fault.{IsArea, IsAreaFault, IsFirstFault, entries_at};
-ghost use Rattle.tlv.specs.Front.{IsFront, IsProtected, IsTotal};
+ghost use Rattle.tlv.specs.Fault.{IsArea, IsAreaFault, IsFirstFault, IsTotal, entries_at};
+ghost use Rattle.tlv.specs.Front.{IsFront, IsProtected};
 ghost use Rattle.tlv.specs.Image.{Image, BeginsWithImage};
 
 use crate::error::ImageError;
@@ -37,7 +37,10 @@ impl<'a> Front<'a> {
         // What is found is an image, by its parts.
         ensures found { IfOk result (IsFront bytes.now) }
         // An image is found, whatever follows it.
-        ensures only { (image : Image) (trailing : List ℕ) → BeginsWithImage bytes.now image trailing → IsOk result }
+        ensures only {
+            (image : Image) (trailing : List ℕ) → BeginsWithImage bytes.now image trailing
+                → IsOk result
+        }
         // Which check fails.
         ensures fault { IfErr result (IsFirstFault bytes.now) }
     {
@@ -60,7 +63,8 @@ impl<'a> Front<'a> {
 fn protected_entries(bytes: &[u8], place: usize, size: u16) -> Result<&[u8], ImageError>
     requires { place < 2 ^ 63 }
     ensures found { IfOk result (λ entries. IsProtected bytes.now place size entries.now) }
-    ensures fault { IfErr result (λ fault. (0 < size) × IsAreaFault bytes.now place protected_magic (IsTotal (Some size)) fault) }
+    ensures some { OnErr result (0 < size) }
+    ensures fault { IfErr result (IsAreaFault bytes.now place protected_magic (Some size)) }
 {
     if size == 0 {
         return Ok(&[]);
@@ -77,8 +81,9 @@ fn area_entries(
     expected: Option<u16>,
 ) -> Result<&[u8], ImageError>
     requires { place < 2 ^ 63 }
-    ensures found { IfOk result (λ entries. IsArea bytes.now place magic (IsTotal expected) × (entries.now ≡ entries_at bytes.now place)) }
-    ensures fault { IfErr result (IsAreaFault bytes.now place magic (IsTotal expected)) }
+    ensures found { OnOk result (IsArea bytes.now place magic expected) }
+    ensures entries { IfOk result (λ entries. entries.now ≡ entries_at bytes.now place) }
+    ensures fault { IfErr result (IsAreaFault bytes.now place magic expected) }
 {
     if bytes.len() < place + HEAD_LENGTH {
         return Err(ImageError::Truncated);

@@ -1,11 +1,26 @@
-//! Laws of images, for the crates above.
+//! Laws of areas and images, for the crates above. Each function does nothing: its contract is the law.
 
 ghost use Rattle.std.specs.Prelude.{◌≡◌, ◌++◌, ℕ, List, []};
+ghost use Rattle.common.specs.Bytes.{IsBytes};
+ghost use Rattle.tlv.specs.Area.{Entry};
 ghost use Rattle.tlv.specs.Image.{Image, IsWellFormed, image_bytes};
+ghost use Rattle.tlv.specs.Reading.{entries_of, rest_of};
+ghost use Rattle.tlv.specs.Walk.{IsWalk};
+
+/// What a walk by [`Tlvs`](crate::Tlvs) gives: the area is the bytes of the entries given and of the rest, each
+/// entry fits its fields, and no further entry begins the rest. No other entries and rest are so.
+pub fn a_walk_gives_the_entries_of_its_area()
+    ensures walk { (area : List ℕ) → IsBytes area → IsWalk area (entries_of area) (rest_of area) }
+    ensures only {
+        (area : List ℕ) (entries : List Entry) (rest : List ℕ) → IsBytes area
+            → IsWalk area entries rest → (entries ≡ entries_of area) × (rest ≡ rest_of area)
+    }
+{}
 
 /// No image begins another: where the bytes of one begin those of another, the two are the same.
-///
-/// It does nothing: its contract is the law.
 pub fn no_image_begins_another()
-    ensures { (first second : Image) (more : List ℕ) → IsWellFormed first → IsWellFormed second → image_bytes second ≡ image_bytes first ++ more → (first ≡ second) × (more ≡ []) }
+    ensures {
+        (first second : Image) (more : List ℕ) → IsWellFormed first → IsWellFormed second
+            → image_bytes second ≡ image_bytes first ++ more → (first ≡ second) × (more ≡ [])
+    }
 {}

@@ -1,8 +1,10 @@
-//! Images, second part: the entries of MCUboot's image format, and what a whole image says of itself.
+//! Images, second part: the entries of MCUboot's image format, and what a whole image says of itself (MCUboot,
+//! design document, "Image format").
 //!
-//! Promises: an area of entries is read entry by entry; a file is described exactly where its bytes are an
-//! intact image, by that image, and each refusal is the first check that fails; what is made of a description
-//! is an intact image. Takes no memory but to make an image. `upload`, `boot_core` and `boot_cli` call it.
+//! Promises: an area is walked entry by entry; a file is described exactly where its bytes are an intact image,
+//! and its description ([`Desc`]) lists what that image says of itself; each refusal is the first check that
+//! fails; of the values that an image is to have ([`ImageSpec`]) the intact image is made that has them. Does not
+//! allocate but to make an image. `boot_cli` and `bootswap_c` call it.
 #![tactic(auto)]
 
 mod desc;
@@ -18,6 +20,6 @@ mod tlvs;
 pub use desc::Desc;
 pub use describing::describe;
 pub use error::ImageError;
-pub use laws::no_image_begins_another;
+pub use laws::{a_walk_gives_the_entries_of_its_area, no_image_begins_another};
 pub use make::{ImageSpec, MakeError, make_image};
 pub use tlvs::{Tlv, Tlvs};

@@ -9,7 +9,7 @@ ghost use Rattle.tlv.specs.Tlv.{tlv_view, tlvs_rest};
 use crate::format::HEAD_LENGTH;
 use byteorder::{ByteOrder, LittleEndian};
 
-/// An entry of an area.
+/// An entry of an area (MCUboot's `struct image_tlv`, and the bytes behind it).
 #[derive(Clone, Copy, Debug)]
 pub struct Tlv<'a> {
     /// The type, which says what the value means.
@@ -18,7 +18,8 @@ pub struct Tlv<'a> {
     pub value: &'a [u8],
 }
 
-/// The entries of an area from its first on, up to the first that doesn't fit. It borrows the area.
+/// The entries of an area from its first on, up to the first that doesn't fit. It borrows the area. What a walk
+/// comes to is said by [`a_walk_gives_the_entries_of_its_area`](crate::a_walk_gives_the_entries_of_its_area).
 #[derive(Clone, Debug, Drop)]
 pub struct Tlvs<'a> {
     rest: &'a [u8],

@@ -1,8 +1,9 @@
 -- Field by field, the bytes are the header's.
 use Rattle.std.proofs.Common.{◌≡◌, ◌++◌, drop, ◌∙◌, slice_index, arith, rules}
+use Rattle.common.specs.Bytes.{IsBytes}
 use Rattle.image_header.specs.declared.header.Header.{Header}
 use Rattle.image_header.specs.Header.{field_bytes}
-use Rattle.image_header.proofs.Fields.{IsBytes, BeginsWith-fields, drop-number_1, drop-number_2, drop-number_4}
+use Rattle.image_header.proofs.Fields.{BeginsWith-fields, drop-number_1, drop-number_2, drop-number_4}
 use Rattle.image_header.proofs.reading.fields.Goals as goal
 
 pub returns : goal.returns
@@ -14,7 +15,12 @@ returns c =
       protected_size = c.read_u16-2.result;
       body_size = c.read_u32-2.result;
       flags = c.read_u32-3.result;
-      version = record { major = slice_index bytes 20; minor = slice_index bytes 21; revision = c.read_u16-3.result; build = c.read_u32-4.result };
+      version = record {
+        major = slice_index bytes 20;
+        minor = slice_index bytes 21;
+        revision = c.read_u16-3.result;
+        build = c.read_u32-4.result;
+      };
       pad = c.read_u32-5.result;
     } in
     let bounded : IsBytes bytes = λ i. omega (arith, c.type_inv.bytes i) in
@@ -28,5 +34,6 @@ returns c =
     let revision = drop-number_2 22 c.read_u16-3.result bytes (omega arith) bounded c.read_u16-3.ensures in
     let build = drop-number_4 24 c.read_u32-4.result bytes (omega arith) bounded c.read_u32-4.ensures in
     let pad = drop-number_4 28 c.read_u32-5.result bytes (omega arith) bounded c.read_u32-5.ensures in
-    let parts : drop 4 bytes ≡ field_bytes header ++ drop 32 bytes = load_address ∙ rw (header_size, protected_size, body_size, flags, major, minor, revision, build, pad) in
+    let parts : drop 4 bytes ≡ field_bytes header ++ drop 32 bytes =
+    load_address ∙ rw (header_size, protected_size, body_size, flags, major, minor, revision, build, pad) in
     λ magic. BeginsWith-fields bytes header (omega arith) bounded magic (search rules) parts

@@ -1,5 +1,5 @@
 use Rattle.std.proofs.Common.{sym, ◌∙◌, arith}
-use Rattle.tlv.specs.AreaLaws.{first_entry-shorter, rest_of-first}
+use Rattle.tlv.proofs.AreaLaws.{first_entry-shorter, rest_of-first}
 use Rattle.tlv.proofs.Walks.{IsFilled-from_walk}
 use Rattle.tlv.proofs.tlvs.is_filled.Goals as goal
 

@@ -1,6 +1,5 @@
 use Rattle.std.proofs.Common.{◌≡◌, length}
-use Rattle.tlv.specs.Tlv.{tlvs_left}
-use Rattle.tlv.specs.Fields.{values_left}
+use Rattle.tlv.specs.Tlv.{tlvs_left, values_left}
 use Rattle.tlv.proofs.fields.ValuesIterator.next.Given as goal
 
 abbrev pub invariant-loop-entry : goal.invariant-loop-entry
