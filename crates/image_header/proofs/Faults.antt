@@ -50,10 +50,12 @@ header_fault-unique bytes first second a b =
 -- .. and none where they begin with a header that is accepted.
 pub accepted_has_no_fault : (bytes : List ℕ) (header : Header) (fault : HeaderError)
     → BeginsWith bytes header → IsAccepted header → IsHeaderFault bytes fault → ⊥
-accepted_has_no_fault bytes header Short begins accepted failed = omega (arith, failed, BeginsWith-length bytes header begins)
+accepted_has_no_fault bytes header Short begins accepted failed = omega
+    (arith, failed, BeginsWith-length bytes header begins)
 accepted_has_no_fault bytes header BadMagic begins accepted failed = failed.1 (BeginsWith-magic bytes header begins)
 accepted_has_no_fault bytes header BadHeaderSize begins accepted failed =
-    let short = subst (λ (h : Header). h.header_size < 32) (header-unique bytes failed.0 header failed.1 begins) failed.2 in
+    let short =
+    subst (λ (h : Header). h.header_size < 32) (header-unique bytes failed.0 header failed.1 begins) failed.2 in
     omega (arith, short, accepted.long)
 accepted_has_no_fault bytes header UnsupportedFlags begins accepted failed =
     let same = header-unique bytes failed.0 header failed.1 begins in

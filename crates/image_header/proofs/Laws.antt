@@ -73,5 +73,6 @@ pub header-unique : (bytes : List ℕ) (first second : Header) → BeginsWith by
 header-unique bytes first second a b = sym (header_at-BeginsWith bytes first a) ∙ header_at-BeginsWith bytes second b
 
 -- Bytes that begin with a header begin with the magic number.
-pub BeginsWith-magic : (bytes : List ℕ) (header : Header) → BeginsWith bytes header → little_number 4 bytes ≡ header_magic
+pub BeginsWith-magic : (bytes : List ℕ) (header : Header) → BeginsWith bytes header
+    → little_number 4 bytes ≡ header_magic
 BeginsWith-magic bytes header h = ap (little_number 4) h.parts

@@ -40,15 +40,13 @@ impl Header {
         // What is read is accepted, and the bytes begin with it.
         ensures read { IfOk result (λ header. BeginsWith bytes.now header × IsAccepted header) }
         // Each header that is accepted is read.
-        ensures only {
-            (header : Header) → BeginsWith bytes.now header → IsAccepted header → result ≡ Ok header
-        }
+        ensures only { (header : Header) → BeginsWith bytes.now header → IsAccepted header
+            → result ≡ Ok header }
         // The error is the first check that fails ..
         ensures fault { IfErr result (IsHeaderFault bytes.now) }
         // .. and where one fails first, that is the error.
-        ensures refused {
-            (fault : HeaderError) → IsHeaderFault bytes.now fault → result ≡ Err fault
-        }
+        ensures refused { (fault : HeaderError) → IsHeaderFault bytes.now fault
+            → result ≡ Err fault }
     {
         if bytes.len() < HEADER_LENGTH {
             return Err(HeaderError::Short);

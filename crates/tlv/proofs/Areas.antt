@@ -20,50 +20,73 @@ pub record IsAreaOf (bytes : List ℕ) (place magic : ℕ) (entries : List Entry
   pub entries_are : entries_at bytes place ≡ entries_bytes entries
 
 -- The first two bytes spell the number in them.
-first_number : (bytes : List ℕ) → IsBytes bytes → 2 ≤ length bytes → bytes ≡ little_bytes 2 (little_number 2 bytes) ++ drop 2 bytes
-first_number bytes fits long = sym (ap (λ (x : List ℕ). x ++ drop 2 bytes) (little_bytes-little_number_2 bytes long fits) ∙ take-append-drop 2 bytes)
+first_number : (bytes : List ℕ) → IsBytes bytes → 2 ≤ length bytes
+    → bytes ≡ little_bytes 2 (little_number 2 bytes) ++ drop 2 bytes
+first_number bytes fits long = sym
+    (ap (λ (x : List ℕ). x ++ drop 2 bytes) (little_bytes-little_number_2 bytes long fits) ∙ take-append-drop 2 bytes)
 
 -- An area's bytes and what follows them.
-area_bytes-append : (magic total : ℕ) (entries : List Entry) (rest : List ℕ) → total ≡ 4 + length (entries_bytes entries)
-    → little_bytes 2 magic ++ (little_bytes 2 total ++ (entries_bytes entries ++ rest)) ≡ area_bytes magic entries ++ rest
-area_bytes-append magic total entries rest e = ap (λ (k : ℕ). little_bytes 2 magic ++ (little_bytes 2 k ++ (entries_bytes entries ++ rest))) e
+area_bytes-append : (magic total : ℕ) (entries : List Entry) (rest : List ℕ)
+    → total ≡ 4 + length (entries_bytes entries)
+    → little_bytes 2 magic ++ (little_bytes 2 total ++ (entries_bytes entries ++ rest)) ≡ area_bytes magic entries ++
+    rest
+area_bytes-append magic total entries rest e = ap
+    (λ (k : ℕ). little_bytes 2 magic ++ (little_bytes 2 k ++ (entries_bytes entries ++ rest))) e
 
 -- Bytes at the place of an area are the area's bytes and what follows them.
-pub drop-area : (bytes : List ℕ) (place magic : ℕ) (entries : List Entry) → IsBytes bytes → IsAreaOf bytes place magic entries
+pub drop-area : (bytes : List ℕ) (place magic : ℕ) (entries : List Entry) → IsBytes bytes
+    → IsAreaOf bytes place magic entries
     → drop place bytes ≡ area_bytes magic entries ++ drop (place + total_at bytes place) bytes
 drop-area bytes place magic entries fits area =
     let head : drop place bytes ≡ little_bytes 2 (magic_at bytes place) ++ drop (place + 2) bytes =
     first_number (drop place bytes) (IsBytes-drop place bytes fits) (omega (arith, area.head, length-drop place bytes))
     ∙ ap (λ (x : List ℕ). little_bytes 2 (magic_at bytes place) ++ x) (drop-from 2 place (place + 2) bytes refl) in
     let size : drop (place + 2) bytes ≡ little_bytes 2 (total_at bytes place) ++ drop (place + 4) bytes =
-    first_number (drop (place + 2) bytes) (IsBytes-drop (place + 2) bytes fits) (omega (arith, area.head, length-drop (place + 2) bytes))
-    ∙ ap (λ (x : List ℕ). little_bytes 2 (total_at bytes place) ++ x) (drop-from 2 (place + 2) (place + 4) bytes (omega arith)) in
+    first_number (drop (place + 2) bytes) (IsBytes-drop (place + 2) bytes fits)
+    (omega (arith, area.head, length-drop (place + 2) bytes))
+    ∙ ap (λ (x : List ℕ). little_bytes 2 (total_at bytes place) ++ x)
+    (drop-from 2 (place + 2) (place + 4) bytes (omega arith)) in
     let rest : drop (place + 4) bytes ≡ entries_bytes entries ++ drop (place + total_at bytes place) bytes =
     sym (take-append-drop (total_at bytes place - 4) (drop (place + 4) bytes))
     ∙ ap (λ (x : List ℕ). x ++ drop (total_at bytes place - 4) (drop (place + 4) bytes)) area.entries_are
-    ∙ ap (λ (x : List ℕ). entries_bytes entries ++ x) (drop-from (total_at bytes place - 4) (place + 4) (place + total_at bytes place) bytes (omega (arith, area.total))) in
+    ∙ ap (λ (x : List ℕ). entries_bytes entries ++ x)
+    (drop-from (total_at bytes place - 4) (place + 4) (place + total_at bytes place) bytes
+    (omega (arith, area.total))) in
     head
-    ∙ ap (λ (x : List ℕ). little_bytes 2 (magic_at bytes place) ++ x) (size ∙ ap (λ (x : List ℕ). little_bytes 2 (total_at bytes place) ++ x) rest)
-    ∙ area_bytes-append (magic_at bytes place) (total_at bytes place) entries (drop (place + total_at bytes place) bytes) area.total
+    ∙ ap (λ (x : List ℕ). little_bytes 2 (magic_at bytes place) ++ x)
+    (size ∙ ap (λ (x : List ℕ). little_bytes 2 (total_at bytes place) ++ x) rest)
+    ∙ area_bytes-append (magic_at bytes place) (total_at bytes place) entries
+    (drop (place + total_at bytes place) bytes) area.total
     ∙ ap (λ (k : ℕ). area_bytes k entries ++ drop (place + total_at bytes place) bytes) area.magic_is
 
 -- An area lies where its bytes do.
-pub area_from_bytes : (bytes rest : List ℕ) (place magic : ℕ) (entries : List Entry) → magic < 2 ^ 16 → FitsArea entries → place ≤ length bytes
+pub area_from_bytes : (bytes rest : List ℕ) (place magic : ℕ) (entries : List Entry) → magic < 2 ^ 16
+    → FitsArea entries → place ≤ length bytes
     → drop place bytes ≡ area_bytes magic entries ++ rest → IsAreaOf bytes place magic entries
 area_from_bytes bytes rest place magic entries small fits near e =
     let size = 4 + length (entries_bytes entries) in
-    let magic_is : magic_at bytes place ≡ magic = ap (little_number 2) e ∙ little_number-reads_back 2 magic (little_bytes 2 size ++ (entries_bytes entries ++ rest)) (omega (arith, small)) in
-    let behind : drop (place + 2) bytes ≡ little_bytes 2 size ++ (entries_bytes entries ++ rest) = sym (drop-from 2 place (place + 2) bytes refl) ∙ ap (drop 2) e in
-    let total : total_at bytes place ≡ size = ap (little_number 2) behind ∙ little_number-reads_back 2 size (entries_bytes entries ++ rest) (omega (arith, fits.whole)) in
-    let after : drop (place + 4) bytes ≡ entries_bytes entries ++ rest = sym (drop-from 4 place (place + 4) bytes refl) ∙ ap (drop 4) e in
-    let len : length bytes - (place + 4) ≡ length (entries_bytes entries) + length rest = sym (length-drop (place + 4) bytes) ∙ ap length after ∙ length-append (entries_bytes entries) rest in
-    let whole : length bytes - place ≡ 4 + (length (entries_bytes entries) + length rest) = sym (length-drop place bytes) ∙ ap length e ∙ omega (arith, length-append (entries_bytes entries) rest) in
+    let magic_is : magic_at bytes place ≡ magic =
+    ap (little_number 2) e
+    ∙ little_number-reads_back 2 magic (little_bytes 2 size ++ (entries_bytes entries ++ rest))
+    (omega (arith, small)) in
+    let behind : drop (place + 2) bytes ≡ little_bytes 2 size ++ (entries_bytes entries ++ rest) =
+    sym (drop-from 2 place (place + 2) bytes refl) ∙ ap (drop 2) e in
+    let total : total_at bytes place ≡ size =
+    ap (little_number 2) behind
+    ∙ little_number-reads_back 2 size (entries_bytes entries ++ rest) (omega (arith, fits.whole)) in
+    let after : drop (place + 4) bytes ≡ entries_bytes entries ++ rest =
+    sym (drop-from 4 place (place + 4) bytes refl) ∙ ap (drop 4) e in
+    let len : length bytes - (place + 4) ≡ length (entries_bytes entries) + length rest =
+    sym (length-drop (place + 4) bytes) ∙ ap length after ∙ length-append (entries_bytes entries) rest in
+    let whole : length bytes - place ≡ 4 + (length (entries_bytes entries) + length rest) =
+    sym (length-drop place bytes) ∙ ap length e ∙ omega (arith, length-append (entries_bytes entries) rest) in
     record {
       head = omega (arith, whole, near);
       magic_is = magic_is;
       total = total;
       within = omega (arith, whole, near, total);
-      entries_are = ap (take (total_at bytes place - 4)) after ∙ take_at (entries_bytes entries) rest (total_at bytes place - 4) (omega (arith, total));
+      entries_are = ap (take (total_at bytes place - 4)) after
+          ∙ take_at (entries_bytes entries) rest (total_at bytes place - 4) (omega (arith, total));
     }
 
 -- An area that passes its checks is that of its entries.
@@ -105,5 +128,6 @@ area_has_no_fault bytes place magic expected fault area failed =
     ]
 
 -- A number in what lies behind a place, cut off where the bytes end.
-pub number_behind : (bytes : List ℕ) (place : ℕ) → little_number 2 (take (length bytes - place) (drop place bytes)) ≡ little_number 2 (drop place bytes)
+pub number_behind : (bytes : List ℕ) (place : ℕ)
+    → little_number 2 (take (length bytes - place) (drop place bytes)) ≡ little_number 2 (drop place bytes)
 number_behind bytes place = ap (little_number 2) (take_rest bytes place)

@@ -195,7 +195,8 @@ has_counter bytes front image counter is spelled =
     subst (λ (values : List (List ℕ)). SpellCounter values counter) same spelled
 
 -- What fails of the digest entry is the first fault ..
-pub first_in_digest : (bytes : List ℕ) (front : Front) (image : Image) (fault : ImageError) → IsFrontOf bytes front image
+pub first_in_digest : (bytes : List ℕ) (front : Front) (image : Image) (fault : ImageError)
+    → IsFrontOf bytes front image
     → IsDigestFault (values_read digest_kind front.unprotected.now) front.hashed.now fault → IsFirstFault bytes fault
 first_in_digest bytes front image fault is failed =
     let read = values_read digest_kind front.unprotected.now in

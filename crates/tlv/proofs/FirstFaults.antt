@@ -58,7 +58,8 @@ area_fault-unique : (bytes : List ℕ) (place magic : ℕ) (expected : Option �
 area_fault-unique bytes place magic expected first second a b =
     let at = area_fails_at bytes place magic expected first a in
     let too = area_fails_at bytes place magic expected second b in
-    at.2 ∙ ap area_fault_at (FailsFirst-unique (area_check bytes place magic expected) at.0 too.0 at.1 too.1) ∙ sym too.2
+    at.2 ∙ ap area_fault_at (FailsFirst-unique (area_check bytes place magic expected) at.0 too.0 at.1 too.1)
+    ∙ sym too.2
 
 -- The two areas of one header have one fault each.
 protected_fault-unique : (bytes : List ℕ) (header own : Header) (first second : ImageError)

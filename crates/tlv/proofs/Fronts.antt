@@ -36,14 +36,18 @@ front_image header bytes protected unprotected = record {
 -- The entries of the protected area, which is absent or lies at its place.
 abbrev pub IsProtectedOf : List ℕ → Header → List Entry → Type 0
 IsProtectedOf bytes header protected = ((header.protected_size ≡ 0) × (protected ≡ []))
-    ⊎ ((0 < header.protected_size) × IsAreaOf bytes (protected_place header) protected_magic protected × (total_at bytes (protected_place header) ≡ header.protected_size))
+    ⊎ ((0 < header.protected_size) × IsAreaOf bytes (protected_place header) protected_magic protected
+    × (total_at bytes (protected_place header) ≡ header.protected_size))
 
 -- The bytes of the protected area lie before the unprotected one.
-drop-protected : (bytes : List ℕ) (header : Header) (protected unprotected : List Entry) → IsBytes bytes → IsProtectedOf bytes header protected
-    → drop (protected_place header) bytes ≡ protected_bytes (front_image header bytes protected unprotected) ++ drop (unprotected_place header) bytes
+drop-protected : (bytes : List ℕ) (header : Header) (protected unprotected : List Entry) → IsBytes bytes
+    → IsProtectedOf bytes header protected
+    → drop (protected_place header) bytes ≡ protected_bytes (front_image header bytes protected unprotected) ++ drop
+    (unprotected_place header) bytes
 drop-protected bytes header protected unprotected fits (inl absent) =
     let image = front_image header bytes protected unprotected in
-    ap (λ (k : ℕ). drop k bytes) (omega (arith, absent.0)) ∙ sym (ap (λ (x : List ℕ). x ++ drop (unprotected_place header) bytes) (protected_bytes-absent image absent.0))
+    ap (λ (k : ℕ). drop k bytes) (omega (arith, absent.0))
+    ∙ sym (ap (λ (x : List ℕ). x ++ drop (unprotected_place header) bytes) (protected_bytes-absent image absent.0))
 drop-protected bytes header protected unprotected fits (inr there) =
     let image = front_image header bytes protected unprotected in
     drop-area bytes (protected_place header) protected_magic protected fits there.1
@@ -51,57 +55,84 @@ drop-protected bytes header protected unprotected fits (inr there) =
     ∙ sym (ap (λ (x : List ℕ). x ++ drop (unprotected_place header) bytes) (protected_bytes-there image there.0))
 
 -- The length of the protected area.
-length-protected : (bytes : List ℕ) (header : Header) (protected unprotected : List Entry) → IsProtectedOf bytes header protected
+length-protected : (bytes : List ℕ) (header : Header) (protected unprotected : List Entry)
+    → IsProtectedOf bytes header protected
     → length (protected_bytes (front_image header bytes protected unprotected)) ≡ header.protected_size
 length-protected bytes header protected unprotected (inl absent) =
     ap length (protected_bytes-absent (front_image header bytes protected unprotected) absent.0) ∙ sym absent.0
 length-protected bytes header protected unprotected (inr there) =
     let long : length (area_bytes protected_magic protected) ≡ 4 + length (entries_bytes protected) = omega arith in
-    ap length (protected_bytes-there (front_image header bytes protected unprotected) there.0) ∙ omega (arith, long, there.1.total, there.2)
+    ap length (protected_bytes-there (front_image header bytes protected unprotected) there.0)
+    ∙ omega (arith, long, there.1.total, there.2)
 
-absent_entries : (bytes : List ℕ) (header : Header) (protected : List Entry) → IsProtectedOf bytes header protected → header.protected_size ≡ 0 → protected ≡ []
+absent_entries : (bytes : List ℕ) (header : Header) (protected : List Entry) → IsProtectedOf bytes header protected
+    → header.protected_size ≡ 0 → protected ≡ []
 absent_entries bytes header protected (inl absent) none = absent.1
 absent_entries bytes header protected (inr there) none = absurd (omega (arith, there.0))
 
 -- An image lies where its header and its areas do.
-pub image_from_areas : (bytes : List ℕ) (header : Header) (protected unprotected : List Entry) → IsBytes bytes → BeginsWith bytes header → IsAccepted header
-    → IsProtectedOf bytes header protected → FitsArea protected → IsAreaOf bytes (unprotected_place header) unprotected_magic unprotected → FitsArea unprotected
-    → BeginsWithImage bytes (front_image header bytes protected unprotected) (drop (unprotected_place header + total_at bytes (unprotected_place header)) bytes)
-image_from_areas bytes header protected unprotected fits begins accepted protected_is protected_fits area unprotected_fits =
+pub image_from_areas : (bytes : List ℕ) (header : Header) (protected unprotected : List Entry) → IsBytes bytes
+    → BeginsWith bytes header → IsAccepted header
+    → IsProtectedOf bytes header protected → FitsArea protected
+    → IsAreaOf bytes (unprotected_place header) unprotected_magic unprotected → FitsArea unprotected
+    → BeginsWithImage bytes (front_image header bytes protected unprotected)
+    (drop (unprotected_place header + total_at bytes (unprotected_place header)) bytes)
+image_from_areas bytes header protected unprotected fits begins accepted protected_is protected_fits area
+    unprotected_fits =
     let image = front_image header bytes protected unprotected in
     let trailing = drop (unprotected_place header + total_at bytes (unprotected_place header)) bytes in
     let long = accepted.long in
     let near = area.head in
     let filler : drop 32 bytes ≡ image.filler ++ drop header.header_size bytes =
-    sym (take-append-drop (header.header_size - 32) (drop 32 bytes)) ∙ ap (λ (x : List ℕ). image.filler ++ x) (drop-from (header.header_size - 32) 32 header.header_size bytes (omega (arith, long))) in
+    sym (take-append-drop (header.header_size - 32) (drop 32 bytes))
+    ∙ ap (λ (x : List ℕ). image.filler ++ x)
+    (drop-from (header.header_size - 32) 32 header.header_size bytes (omega (arith, long))) in
     let body : drop header.header_size bytes ≡ image.body ++ drop (protected_place header) bytes =
-    sym (take-append-drop header.body_size (drop header.header_size bytes)) ∙ ap (λ (x : List ℕ). image.body ++ x) (drop-from header.body_size header.header_size (protected_place header) bytes refl) in
-    let head : bytes ≡ header_bytes header ++ drop 32 bytes = begins.parts ∙ ap (λ (x : List ℕ). header_bytes header ++ x) (header_bytes-rest bytes header begins) in
-    let whole = whole_of bytes (header_bytes header) image.filler image.body (protected_bytes image) (drop (unprotected_place header) bytes) (drop 32 bytes) (drop header.header_size bytes) (drop (protected_place header) bytes)
+    sym (take-append-drop header.body_size (drop header.header_size bytes))
+    ∙ ap (λ (x : List ℕ). image.body ++ x)
+    (drop-from header.body_size header.header_size (protected_place header) bytes refl) in
+    let head : bytes ≡ header_bytes header ++ drop 32 bytes =
+    begins.parts ∙ ap (λ (x : List ℕ). header_bytes header ++ x) (header_bytes-rest bytes header begins) in
+    let whole =
+    whole_of bytes (header_bytes header) image.filler image.body (protected_bytes image)
+    (drop (unprotected_place header) bytes) (drop 32 bytes) (drop header.header_size bytes)
+    (drop (protected_place header) bytes)
     head filler body (drop-protected bytes header protected unprotected fits protected_is) in
-    let last : drop (unprotected_place header) bytes ≡ area_bytes unprotected_magic unprotected ++ trailing = drop-area bytes (unprotected_place header) unprotected_magic unprotected fits area in
+    let last : drop (unprotected_place header) bytes ≡ area_bytes unprotected_magic unprotected ++ trailing =
+    drop-area bytes (unprotected_place header) unprotected_magic unprotected fits area in
     record {
       formed = record {
         fits = begins.fits;
         accepted = accepted;
-        header_size = omega (arith, long, near, length-take-le (header.header_size - 32) (drop 32 bytes) (omega (arith, near, length-drop 32 bytes)));
-        body_size = length-take-le header.body_size (drop header.header_size bytes) (omega (arith, near, length-drop header.header_size bytes));
+        header_size = omega (
+          arith,
+          long,
+          near,
+          length-take-le (header.header_size - 32) (drop 32 bytes)
+              (omega (arith, near, length-drop 32 bytes)),
+        );
+        body_size = length-take-le header.body_size (drop header.header_size bytes)
+            (omega (arith, near, length-drop header.header_size bytes));
         protected_size = length-protected bytes header protected unprotected protected_is;
         protected = protected_fits;
         unprotected = unprotected_fits;
         absent = absent_entries bytes header protected protected_is;
       };
-      parts = whole ∙ ap (λ (x : List ℕ). hashed_bytes image ++ x) last ∙ sym (append_assoc (hashed_bytes image) (area_bytes unprotected_magic unprotected) trailing);
+      parts = whole ∙ ap (λ (x : List ℕ). hashed_bytes image ++ x) last
+          ∙ sym (append_assoc (hashed_bytes image) (area_bytes unprotected_magic unprotected) trailing);
     }
 
 -- ---- what a front is
 
 -- The entries of a protected area that was found.
 abbrev FoundProtected : List ℕ → Header → List ℕ → Type 0
-FoundProtected bytes header found = (protected : List Entry) × IsProtectedOf bytes header protected × FitsArea protected × (found ≡ entries_bytes protected)
+FoundProtected bytes header found = (protected : List Entry) × IsProtectedOf bytes header protected
+    × FitsArea protected × (found ≡ entries_bytes protected)
 
-found_protected : (bytes found : List ℕ) (header : Header) → IsProtected bytes (protected_place header) header.protected_size found → FoundProtected bytes header found
-found_protected bytes found header (inl absent) = ([], inl (absent.0, refl), record { each = tt; whole = omega arith }, absent.1)
+found_protected : (bytes found : List ℕ) (header : Header)
+    → IsProtected bytes (protected_place header) header.protected_size found → FoundProtected bytes header found
+found_protected bytes found header (inl absent) =
+    ([], inl (absent.0, refl), record { each = tt; whole = omega arith }, absent.1)
 found_protected bytes found header (inr there) =
     let size = Some header.protected_size in
     let filled = there.1.1 in
@@ -111,14 +142,17 @@ found_protected bytes found header (inr there) =
     (filled.0, inr (there.0, area, total.0), filled.1, there.2 ∙ filled.2)
 
 -- The length of an image is the place of what follows it.
-length-image : (bytes : List ℕ) (image : Image) (place : ℕ) → place ≤ length bytes → BeginsWithImage bytes image (drop place bytes) → place ≡ length (image_bytes image)
+length-image : (bytes : List ℕ) (image : Image) (place : ℕ) → place ≤ length bytes
+    → BeginsWithImage bytes image (drop place bytes) → place ≡ length (image_bytes image)
 length-image bytes image place near begins =
     let len : length bytes ≡ length (image_bytes image) + (length bytes - place) =
-    ap length begins.parts ∙ length-append (image_bytes image) (drop place bytes) ∙ ap (λ (k : ℕ). length (image_bytes image) + k) (length-drop place bytes) in
+    ap length begins.parts ∙ length-append (image_bytes image) (drop place bytes)
+    ∙ ap (λ (k : ℕ). length (image_bytes image) + k) (length-drop place bytes) in
     omega (arith, len, near)
 
 -- What was found is an image, by its parts.
-pub is_front : (bytes : List ℕ) (front : Front) → IsBytes bytes → BeginsWith bytes front.header → IsAccepted front.header
+pub is_front : (bytes : List ℕ) (front : Front) → IsBytes bytes → BeginsWith bytes front.header
+    → IsAccepted front.header
     → IsProtected bytes (protected_place front.header) front.header.protected_size front.protected.now
     → HasUnprotectedArea bytes front.header
     → front.unprotected.now ≡ entries_at bytes (unprotected_place front.header)

@@ -42,8 +42,8 @@ abbrev pub IsTotal : Option ℕ → ℕ → Type 0
 IsTotal None total = 4 ≤ total
 IsTotal (Some size) total = (total ≡ size) × (4 ≤ total)
 
--- The checks of an area at a place in their order. Each name says that its own check passes, and all
--- before it: the area's head is there ..
+-- The checks of an area at a place in their order. Each name says that its own check passes, and
+-- all before it: the area's head is there ..
 abbrev pub HasAreaHead : List ℕ → ℕ → Type 0
 HasAreaHead bytes place = place + 4 ≤ length bytes
 
@@ -67,7 +67,8 @@ IsArea bytes place magic expected =
     HasWholeArea bytes place magic expected × IsFilled (entries_at bytes place)
 
 -- The first of these checks that fails.
-pub data IsAreaFault (bytes : List ℕ) (place magic : ℕ) (expected : Option ℕ) (fault : ImageError) : Type 0 where
+pub data IsAreaFault (bytes : List ℕ) (place magic : ℕ) (expected : Option ℕ)
+    (fault : ImageError) : Type 0 where
   no_head : (HasAreaHead bytes place → ⊥)
       → fault ≡ Truncated → IsAreaFault bytes place magic expected fault
   other_magic : HasAreaHead bytes place → magic_at bytes place ≢ magic

@@ -46,7 +46,8 @@ pub record FitsDependency (dependency : Dependency) : Type 0 where
   pub minimum : FitsFields dependency.minimum
 
 -- Values spell these dependencies, in order.
-pub record SpellDependencies (values : List (List ℕ)) (dependencies : List Dependency) : Type 0 where
+pub record SpellDependencies (values : List (List ℕ)) (dependencies : List Dependency)
+    : Type 0 where
   pub fit : AllByRecursion FitsDependency dependencies
   pub spelled : values ≡ map dependency_bytes dependencies
 

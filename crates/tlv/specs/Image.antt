@@ -50,7 +50,7 @@ pub record BeginsWithImage (bytes : List ℕ) (image : Image) (trailing : List �
   pub parts : bytes ≡ image_bytes image ++ trailing
 
 -- The values of the entries that are read: the digest in the unprotected area, dependencies and
--- security counter in the protected one. In the other area, and of other types, entries are skipped.
+-- security counter in the protected one. They are skipped in the other area, as other types are.
 abbrev pub digest_values : Image → List (List ℕ)
 digest_values image = values_of digest_kind image.unprotected
 

@@ -57,10 +57,8 @@ fn values_in(entries: &[u8], kind: u16) -> Values<'_>
 pub(crate) fn digest_value(entries: &[u8]) -> Result<&[u8], ImageError>
     ensures ok { IfOk result (λ value. values_read digest_kind entries.now ≡ value.now ∷ []) }
     // These two faults come whatever the digest is to be.
-    ensures err {
-        (hashed : List ℕ)
-            → IfErr result (IsDigestFault (values_read digest_kind entries.now) hashed)
-    }
+    ensures err { (hashed : List ℕ)
+        → IfErr result (IsDigestFault (values_read digest_kind entries.now) hashed) }
 {
     let mut digests = values_in(entries, DIGEST_KIND);
     match (digests.next(), digests.next()) {
@@ -124,10 +122,8 @@ fn dependency_of(value: &[u8]) -> Option<Dependency>
 pub(crate) fn dependencies(
     entries: &[u8],
 ) -> Result<ArrayVec<Dependency, MOST_DEPENDENCIES>, ImageError>
-    ensures ok {
-        IfOk result (λ dependencies.
-            SpellDependencies (values_read dependency_kind entries.now) dependencies.items)
-    }
+    ensures ok { IfOk result (λ dependencies.
+        SpellDependencies (values_read dependency_kind entries.now) dependencies.items) }
     ensures few { IfOk result (λ dependencies. length dependencies.items ≤ MOST_DEPENDENCIES) }
     ensures err { IfErr result (IsDependencyFault (values_read dependency_kind entries.now)) }
 {

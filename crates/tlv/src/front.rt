@@ -37,10 +37,8 @@ impl<'a> Front<'a> {
         // What is found is an image, by its parts.
         ensures found { IfOk result (IsFront bytes.now) }
         // An image is found, whatever follows it.
-        ensures only {
-            (image : Image) (trailing : List ℕ) → BeginsWithImage bytes.now image trailing
-                → IsOk result
-        }
+        ensures only { (image : Image) (trailing : List ℕ)
+            → BeginsWithImage bytes.now image trailing → IsOk result }
         // Which check fails.
         ensures fault { IfErr result (IsFirstFault bytes.now) }
     {

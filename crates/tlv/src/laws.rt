@@ -11,16 +11,12 @@ ghost use Rattle.tlv.specs.Walk.{IsWalk};
 /// entry fits its fields, and no further entry begins the rest. No other entries and rest are so.
 pub fn a_walk_gives_the_entries_of_its_area()
     ensures walk { (area : List ℕ) → IsBytes area → IsWalk area (entries_of area) (rest_of area) }
-    ensures only {
-        (area : List ℕ) (entries : List Entry) (rest : List ℕ) → IsBytes area
-            → IsWalk area entries rest → (entries ≡ entries_of area) × (rest ≡ rest_of area)
-    }
+    ensures only { (area : List ℕ) (entries : List Entry) (rest : List ℕ) → IsBytes area
+        → IsWalk area entries rest → (entries ≡ entries_of area) × (rest ≡ rest_of area) }
 {}
 
 /// No image begins another: where the bytes of one begin those of another, the two are the same.
 pub fn no_image_begins_another()
-    ensures {
-        (first second : Image) (more : List ℕ) → IsWellFormed first → IsWellFormed second
-            → image_bytes second ≡ image_bytes first ++ more → (first ≡ second) × (more ≡ [])
-    }
+    ensures { (first second : Image) (more : List ℕ) → IsWellFormed first → IsWellFormed second
+        → image_bytes second ≡ image_bytes first ++ more → (first ≡ second) × (more ≡ []) }
 {}

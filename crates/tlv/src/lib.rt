@@ -15,6 +15,8 @@ mod format;
 mod front;
 mod laws;
 mod make;
+#[cfg(test)]
+mod tests;
 mod tlvs;
 
 pub use desc::Desc;

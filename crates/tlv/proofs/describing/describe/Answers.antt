@@ -87,7 +87,8 @@ returns-clause-only c = λ description intact.
 
 pub returns-in_err-front-clause-refused : goal.returns-in_err-front-clause-refused
 returns-in_err-front-clause-refused c =
-    only_refusal _ _ _ c.from_residual.ensures.1 (IfErr-passed _ _ _ c.from_residual.ensures.1 c.in_err-front.ensures.fault)
+    only_refusal _ _ _ c.from_residual.ensures.1
+    (IfErr-passed _ _ _ c.from_residual.ensures.1 c.in_err-front.ensures.fault)
 
 pub returns-in_err-digest-clause-refused : goal.returns-in_err-digest-clause-refused
 returns-in_err-digest-clause-refused c =

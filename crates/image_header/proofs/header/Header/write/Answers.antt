@@ -9,14 +9,21 @@ pub returns : goal.returns
 returns c =
     let header = c.args.self.now in
     let magic : c.write_u32.new.buf ≡ little_bytes 4 header_magic = c.write_u32.ensures in
-    let load_address : c.write_u32-2.new.buf ≡ little_bytes 4 header.load_address = rw drop-take_same at c.write_u32-2.ensures in
-    let header_size : c.write_u16.new.buf ≡ little_bytes 2 header.header_size = rw drop-take_same at c.write_u16.ensures in
-    let protected_size : c.write_u16-2.new.buf ≡ little_bytes 2 header.protected_size = rw drop-take_same at c.write_u16-2.ensures in
-    let body_size : c.write_u32-3.new.buf ≡ little_bytes 4 header.body_size = rw drop-take_same at c.write_u32-3.ensures in
+    let load_address : c.write_u32-2.new.buf ≡ little_bytes 4 header.load_address =
+    rw drop-take_same at c.write_u32-2.ensures in
+    let header_size : c.write_u16.new.buf ≡ little_bytes 2 header.header_size =
+    rw drop-take_same at c.write_u16.ensures in
+    let protected_size : c.write_u16-2.new.buf ≡ little_bytes 2 header.protected_size =
+    rw drop-take_same at c.write_u16-2.ensures in
+    let body_size : c.write_u32-3.new.buf ≡ little_bytes 4 header.body_size =
+    rw drop-take_same at c.write_u32-3.ensures in
     let flags : c.write_u32-4.new.buf ≡ little_bytes 4 header.flags = rw drop-take_same at c.write_u32-4.ensures in
     let major : c.write_u8.new.buffer ≡ little_bytes 1 header.version.major = rw drop-take_same at c.write_u8.ensures in
-    let minor : c.write_u8-2.new.buffer ≡ little_bytes 1 header.version.minor = rw drop-take_same at c.write_u8-2.ensures in
-    let revision : c.write_u16-3.new.buf ≡ little_bytes 2 header.version.revision = rw drop-take_same at c.write_u16-3.ensures in
-    let build : c.write_u32-5.new.buf ≡ little_bytes 4 header.version.build = rw drop-take_same at c.write_u32-5.ensures in
+    let minor : c.write_u8-2.new.buffer ≡ little_bytes 1 header.version.minor =
+    rw drop-take_same at c.write_u8-2.ensures in
+    let revision : c.write_u16-3.new.buf ≡ little_bytes 2 header.version.revision =
+    rw drop-take_same at c.write_u16-3.ensures in
+    let build : c.write_u32-5.new.buf ≡ little_bytes 4 header.version.build =
+    rw drop-take_same at c.write_u32-5.ensures in
     let pad : c.write_u32-6.new.buf ≡ little_bytes 4 header.pad = rw drop-take_same at c.write_u32-6.ensures in
     rw (magic, load_address, header_size, protected_size, body_size, flags, major, minor, revision, build, pad)
