@@ -1,6 +1,6 @@
 -- Laws of headers, for the crates above.
 use Rattle.std.specs.Prelude.{◌≡◌, ℕ, ◌^◌, ◌<◌, ◌≤◌, List, ◌++◌, length, drop, refl}
-use Rattle.std.proofs.Common.{sym, ap, ◌∙◌, append_assoc, arith}
+use Rattle.std.proofs.Common.{sym, ap, ◌∙◌, arith}
 use Rattle.byteorder.specs.Endian.{little_bytes, little_number}
 use Rattle.byteorder.specs.Numbers.{little_number-reads_back}
 use Rattle.image_header.specs.declared.header.Header.{Header}
@@ -9,15 +9,6 @@ use Rattle.image_header.specs.Header.{header_magic, header_bytes, BeginsWith}
 -- A header has 32 bytes.
 pub length-header_bytes : (header : Header) → length (header_bytes header) ≡ 32
 length-header_bytes header = refl
-
--- What follows may grow.
-pub BeginsWith-append : (bytes more : List ℕ) (header : Header) → BeginsWith bytes header
-    → BeginsWith (bytes ++ more) header
-BeginsWith-append bytes more header h = record {
-  fits = h.fits;
-  rest = h.rest ++ more;
-  parts = ap (λ (b : List ℕ). b ++ more) h.parts ∙ append_assoc (header_bytes header) h.rest more;
-}
 
 -- What follows is what stands from byte 32 on.
 pub header_bytes-rest : (bytes : List ℕ) (header : Header) (h : BeginsWith bytes header) → h.rest ≡ drop 32 bytes
