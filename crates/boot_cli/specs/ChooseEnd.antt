@@ -9,8 +9,8 @@ use Rattle.certificate.specs.Combination.{IsValid, running_set}
 use Rattle.certificate.specs.Rightness.{IsRight}
 use Rattle.certificate.specs.StandardOrder.{IsInStandardOrder}
 use Rattle.certificate.specs.ReportText.{report_text}
-use Rattle.boot_cli.specs.declared.choosing.ChooseEnd.{ChooseEnd}
-use Rattle.boot_cli.specs.declared.choosing.ChooseEnd.TheVariants.{Done, BadLine, NotValid, NoMemory, ReadFailed, WriteFailed}
+use Rattle.boot_cli.specs.declared.commands.choose.ChooseEnd.{ChooseEnd}
+use Rattle.boot_cli.specs.declared.commands.choose.ChooseEnd.TheVariants.{Done, BadLine, NotValid, NoMemory, ReadFailed, WriteFailed}
 
 -- The bytes spell a table whose running images fit each other, and the report is right for it, with its
 -- refusals in standard order.
@@ -19,6 +19,11 @@ pub record IsChoice (bytes : List ℕ) (table : Table) (report : Report) : Type 
   pub valid : IsValid table running_set
   pub right : IsRight table report
   pub standard : IsInStandardOrder table report.refusals.items
+
+-- The bytes spell a table whose running images don't fit each other.
+abbrev pub IsUnfitTable : List ℕ → Type 0
+IsUnfitTable bytes =
+    (table : Table) × IsTableText bytes table × (IsValid table running_set → ⊥)
 
 -- A reader gave these bytes, and is at its end.
 abbrev pub GivesAll : Option (List ℕ) → Option (List ℕ) → List ℕ → Type 0
@@ -36,9 +41,13 @@ Reads WriteFailed old new bytes = GivesAll old new bytes
 -- What a writer took, by how the choice over these bytes ended: the report, a beginning of it where a write
 -- failed, and else nothing.
 abbrev pub Writes : ChooseEnd → List ℕ → Option (List ℕ) → Option (List ℕ) → Type 0
-Writes Done bytes old new = (table : Table) × (report : Report) × IsChoice bytes table report × Appends old new (report_text report)
+Writes Done bytes old new =
+    (table : Table) × (report : Report) × IsChoice bytes table report
+    × Appends old new (report_text report)
 Writes (BadLine n) bytes old new = IsFirstBadLine IsSomeTable bytes n × Keeps old new
-Writes NotValid bytes old new = ((table : Table) × IsTableText bytes table × (IsValid table running_set → ⊥)) × Keeps old new
+Writes NotValid bytes old new = IsUnfitTable bytes × Keeps old new
 Writes NoMemory bytes old new = Keeps old new
 Writes ReadFailed bytes old new = Keeps old new
-Writes WriteFailed bytes old new = (table : Table) × (report : Report) × IsChoice bytes table report × (count : ℕ) × Appends old new (take count (report_text report))
+Writes WriteFailed bytes old new =
+    (table : Table) × (report : Report) × IsChoice bytes table report
+    × (count : ℕ) × Appends old new (take count (report_text report))

@@ -1,4 +1,4 @@
--- What is printed of an image. A line feed is 10, a space 32.
+-- What is printed of an image. A space is 32.
 use Rattle.std.specs.Prelude.{ℕ, List, [], ◌∷◌, ◌++◌, codes, decimal}
 use Rattle.std.specs.List.{flat_map}
 use Rattle.hex.specs.Hex.{encode_lower}
@@ -7,19 +7,18 @@ use Rattle.version_order.specs.VersionText.{version_text}
 use Rattle.tlv.specs.declared.desc.Desc.{Desc}
 use Rattle.tlv.specs.declared.error.ImageError.{ImageError}
 use Rattle.tlv.specs.Codes.{code_of, name_of}
-use Rattle.boot_cli.specs.declared.imaging.Described.{Described}
-
--- A line: a word, a space and what it says.
-abbrev pub line_text : List ℕ → List ℕ → List ℕ
-line_text word said = word ++ 32 ∷ (said ++ 10 ∷ [])
+use Rattle.boot_cli.specs.AnswerText.{line_text, refused_text}
+use Rattle.boot_cli.specs.declared.commands.image.Described.{Described}
 
 -- The line of a dependency: the number of the image, and the least version of it.
 abbrev pub needs_text : Dependency → List ℕ
-needs_text dependency = line_text (codes "needs") (decimal dependency.image ++ 32 ∷ version_text dependency.minimum)
+needs_text dependency =
+    line_text (codes "needs") (decimal dependency.image ++ 32 ∷ version_text dependency.minimum)
 
 -- The lines of a description whose digest has these digits.
 abbrev pub lines_of : Desc → List ℕ → List ℕ
-lines_of description digits = line_text (codes "version") (version_text description.version)
+lines_of description digits =
+    line_text (codes "version") (version_text description.version)
     ++ (line_text (codes "length") (decimal description.length)
     ++ (line_text (codes "counter") (decimal description.counter)
     ++ (line_text (codes "digest") digits ++ flat_map needs_text description.dependencies.items)))
@@ -27,10 +26,11 @@ lines_of description digits = line_text (codes "version") (version_text descript
 abbrev pub described_text : Described → List ℕ
 described_text described = lines_of described.description.now described.digest.now
 
--- What an image says of itself: a line for each field, the digest in lower case digits, and one for each dependency.
+-- What an image says of itself: a line for each field, the digest in lower case digits, and one for each
+-- dependency.
 abbrev pub description_text : Desc → List ℕ
 description_text description = lines_of description (encode_lower description.digest)
 
 -- The first check that fails: its number and its name.
 abbrev pub refusal_text : ImageError → List ℕ
-refusal_text fault = line_text (codes "refused") (decimal (code_of fault) ++ 32 ∷ name_of fault)
+refusal_text fault = refused_text (code_of fault) (name_of fault)

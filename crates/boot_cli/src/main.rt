@@ -1,13 +1,17 @@
 //! `bootswap`: which of the images that a device is asked to boot may run together, decided from a table.
 #![tactic(auto)]
 
-mod choosing;
+mod answer;
 mod cli;
+mod commands;
+mod error;
+mod escaped;
 mod host;
-mod imaging;
+mod source;
 mod streams;
 #[cfg(test)]
 mod tests;
+mod words;
 
 use host::SystemHost;
 use std::process::ExitCode;
@@ -16,9 +20,9 @@ use std::{env, io};
 
 fn main(rt: HostRuntime) -> ExitCode {
     let alloc = rt.alloc();
-    let status = match words(&rt) {
+    let status = match words_of(&rt) {
         Ok(words) => {
-            let mut host = SystemHost::new(&rt);
+            let mut host = SystemHost::new(&rt, rt.reader());
             let (mut out, mut err) = (rt.stdout(), rt.stderr());
             cli::cli(
                 alloc,
@@ -35,6 +39,6 @@ fn main(rt: HostRuntime) -> ExitCode {
 }
 
 /// The words of the command, the program's own name first.
-fn words(rt: &(impl Env + AllocGlobal)) -> io::Result<Vec<String>> {
+fn words_of(rt: &(impl Env + AllocGlobal)) -> io::Result<Vec<String>> {
     Ok(env::args(rt)?.collect(rt.alloc())?)
 }

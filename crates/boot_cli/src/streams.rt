@@ -2,21 +2,10 @@
 ghost use Rattle.std.specs.Prelude.{ℕ, List, take, IfOk, OnOk, OnErr};
 ghost use Rattle.std.specs.Io.KnownBytes.{Appends, Consumes, IsAtEnd};
 
+use crate::error::ReadError;
 use std::alloc::Allocator;
 use std::io;
 use std::io::{ErrorKind, Read, Write};
-use thiserror::Error;
-
-/// Why a reader was not read to its end.
-#[derive(Clone, Copy, Debug, PartialEq, Eq, Error)]
-pub enum ReadError {
-    /// There is no memory for what it gives.
-    #[error("memory")]
-    NoMemory,
-    /// A read failed for another reason.
-    #[error("read failed")]
-    Failed,
-}
 
 /// Reads `input` to its end, and returns all that it gave.
 ///

@@ -1,7 +1,6 @@
 //! `check`: worked examples, tables with reports of which each is right or isn't.
-use super::host::{MemoryHost, run};
+use super::host::{Case, MemoryHost, expect_each, run};
 use std::process::Abort;
-use std::test::Fail;
 
 const PAIR: &str = "image 0 1.0.0+0 0 0\nrequest 2.0.0+0 0\nneeds 1 2.0.0+0\n\
     image 1 1.0.0+0 0 0\nrequest 2.0.0+0 0\nneeds 0 2.0.0+0\n";
@@ -27,122 +26,119 @@ fn expect_check(
     status: u8,
     out: &str,
     err: &str,
-) -> Result<(), Fail> {
+) {
     let files = [
         ("table.txt", table.as_bytes()),
         ("report.txt", report.as_bytes()),
     ];
-    let mut host = MemoryHost::with_files(files.as_slice());
+    let mut host = MemoryHost::new(files.as_slice(), b"");
     let words = ["bootswap", "check", "table.txt", "report.txt"];
     let outcome = run(rt.alloc(), &mut host, &words);
-    assert_eq!(rt; outcome.status, status, "at {report:?}");
-    assert_eq!(rt; outcome.out.text()?, out, "at {report:?}");
-    assert_eq!(rt; outcome.err.text()?, err, "at {report:?}");
-    Ok(())
+    assert!(rt; outcome.is(status, out, err), "{report:?} {outcome:?}");
 }
 
 /// Asserts that the report is right for the table.
-fn expect_yes(rt: &(impl Abort + AllocGlobal), table: &str, report: &str) -> Result<(), Fail> {
-    expect_check(rt, table, report, 0, "yes\n", "")
+fn expect_yes(rt: &(impl Abort + AllocGlobal), table: &str, report: &str) {
+    expect_check(rt, table, report, 0, "yes\n", "");
 }
 
 /// Asserts that the report isn't right for the table.
-fn expect_no(rt: &(impl Abort + AllocGlobal), table: &str, report: &str) -> Result<(), Fail> {
-    expect_check(rt, table, report, 1, "no\n", "")
+fn expect_no(rt: &(impl Abort + AllocGlobal), table: &str, report: &str) {
+    expect_check(rt, table, report, 1, "no\n", "");
 }
 
 #[test]
-fn a_pair_that_is_taken_is_right_and_circular_reasons_are_not(rt: HostRuntime) -> Result<(), Fail> {
-    expect_yes(&rt, PAIR, PAIR_TAKEN)?;
+fn a_pair_that_is_taken_is_right_and_circular_reasons_are_not(rt: HostRuntime) {
+    expect_yes(&rt, PAIR, PAIR_TAKEN);
     expect_no(
         &rt,
         PAIR,
         "run 0 1.0.0+0\nrun 1 1.0.0+0\nrefuse 0 needs 1 2.0.0+0\nrefuse 1 needs 0 2.0.0+0\n",
-    )
+    );
 }
 
 #[test]
-fn a_reason_has_to_hold_at_its_place(rt: HostRuntime) -> Result<(), Fail> {
+fn a_reason_has_to_hold_at_its_place(rt: HostRuntime) {
     expect_yes(
         &rt,
         CHAIN,
         "run 0 1.0.0+0\nrun 1 1.0.0+0\nrun 2 1.0.0+0\nrefuse 1 needs 0 2.0.0+0\nrefuse 2 needs 1 2.0.0+0\n",
-    )?;
+    );
     expect_no(
         &rt,
         CHAIN,
         "run 0 1.0.0+0\nrun 1 1.0.0+0\nrun 2 1.0.0+0\nrefuse 2 needs 1 2.0.0+0\nrefuse 1 needs 0 2.0.0+0\n",
-    )
+    );
 }
 
 #[test]
-fn a_request_that_needs_itself_cannot_be_refused_for_it(rt: HostRuntime) -> Result<(), Fail> {
-    expect_yes(&rt, ITSELF, "take 0 2.0.0+0\n")?;
-    expect_no(&rt, ITSELF, "run 0 1.0.0+0\nrefuse 0 needs 0 2.0.0+0\n")
+fn a_request_that_needs_itself_cannot_be_refused_for_it(rt: HostRuntime) {
+    expect_yes(&rt, ITSELF, "take 0 2.0.0+0\n");
+    expect_no(&rt, ITSELF, "run 0 1.0.0+0\nrefuse 0 needs 0 2.0.0+0\n");
 }
 
 #[test]
-fn another_order_of_refusals_is_right(rt: HostRuntime) -> Result<(), Fail> {
+fn another_order_of_refusals_is_right(rt: HostRuntime) {
     expect_yes(
         &rt,
         OLDER,
         "run 0 1.0.0+0\nrun 1 1.0.0+0\nrefuse 0 older\nrefuse 1 older\n",
-    )?;
+    );
     expect_yes(
         &rt,
         OLDER,
         "run 0 1.0.0+0\nrun 1 1.0.0+0\nrefuse 1 older\nrefuse 0 older\n",
-    )
+    );
 }
 
 #[test]
-fn each_request_is_refused_once(rt: HostRuntime) -> Result<(), Fail> {
+fn each_request_is_refused_once(rt: HostRuntime) {
     expect_no(
         &rt,
         OLDER,
         "run 0 1.0.0+0\nrun 1 1.0.0+0\nrefuse 0 older\nrefuse 1 older\nrefuse 1 older\n",
-    )?;
-    expect_no(&rt, OLDER, "run 0 1.0.0+0\nrun 1 1.0.0+0\nrefuse 0 older\n")
+    );
+    expect_no(&rt, OLDER, "run 0 1.0.0+0\nrun 1 1.0.0+0\nrefuse 0 older\n");
 }
 
 #[test]
-fn a_missing_image_is_no_such_image(rt: HostRuntime) -> Result<(), Fail> {
+fn a_missing_image_is_no_such_image(rt: HostRuntime) {
     expect_yes(
         &rt,
         MISSING,
         "run 0 1.0.0+0\nrun 1 1.0.0+0\nrefuse 0 no-such-image 7\n",
-    )?;
+    );
     expect_no(
         &rt,
         MISSING,
         "run 0 1.0.0+0\nrun 1 1.0.0+0\nrefuse 0 needs 7 1.0.0+0\n",
-    )
+    );
 }
 
 #[test]
-fn an_image_that_the_table_lacks_is_not_right(rt: HostRuntime) -> Result<(), Fail> {
-    expect_no(&rt, PAIR, "take 0 2.0.0+0\ntake 1 2.0.0+0\nrun 2 1.0.0+0\n")?;
+fn an_image_that_the_table_lacks_is_not_right(rt: HostRuntime) {
+    expect_no(&rt, PAIR, "take 0 2.0.0+0\ntake 1 2.0.0+0\nrun 2 1.0.0+0\n");
     expect_no(
         &rt,
         PAIR,
         "take 0 2.0.0+0\ntake 1 2.0.0+0\nrefuse 200 damaged\n",
-    )?;
-    expect_no(&rt, PAIR, "take 0 2.0.0+0\n")
+    );
+    expect_no(&rt, PAIR, "take 0 2.0.0+0\n");
 }
 
 #[test]
-fn versions_are_those_of_what_runs_then(rt: HostRuntime) -> Result<(), Fail> {
-    expect_yes(&rt, PAIR, "take 0 2\ntake 1 2.0")?;
-    expect_no(&rt, PAIR, "take 0 2.0.0+1\ntake 1 2.0.0+0\n")?;
+fn versions_are_those_of_what_runs_then(rt: HostRuntime) {
+    expect_yes(&rt, PAIR, "take 0 2\ntake 1 2.0");
+    expect_no(&rt, PAIR, "take 0 2.0.0+1\ntake 1 2.0.0+0\n");
     expect_no(
         &rt,
         OLDER,
         "run 0 0.9.0+0\nrun 1 1.0.0+0\nrefuse 0 older\nrefuse 1 older\n",
-    )
+    );
 }
 
 #[test]
-fn a_text_that_is_no_report_is_refused_by_line(rt: HostRuntime) -> Result<(), Fail> {
+fn a_text_that_is_no_report_is_refused_by_line(rt: HostRuntime) {
     for (report, err) in [
         ("", "error: report line 1\n"),
         ("\n", "error: report line 1\n"),
@@ -175,25 +171,78 @@ fn a_text_that_is_no_report_is_refused_by_line(rt: HostRuntime) -> Result<(), Fa
             "error: report line 10\n",
         ),
     ] {
-        expect_check(&rt, PAIR, report, 1, "", err)?;
+        expect_check(&rt, PAIR, report, 1, "", err);
     }
-    Ok(())
 }
 
 #[test]
-fn the_table_is_read_and_judged_first(rt: HostRuntime) -> Result<(), Fail> {
-    expect_check(&rt, "", "", 1, "", "error: table line 1\n")?;
+fn the_table_is_read_and_judged_first(rt: HostRuntime) {
     let files = [("table.txt", PAIR.as_bytes()), ("bad.txt", b"x".as_slice())];
-    for (table, report, err) in [
-        ("table.txt", "absent", "error: cannot read absent\n"),
-        ("absent", "gone", "error: cannot read absent\n"),
-        ("bad.txt", "absent", "error: table line 1\n"),
-    ] {
-        let mut host = MemoryHost::with_files(files.as_slice());
-        let outcome = run(rt.alloc(), &mut host, &["bootswap", "check", table, report]);
-        assert_eq!(rt; outcome.status, 1, "at {table} {report}");
-        assert_eq!(rt; outcome.out.text()?, "", "at {table} {report}");
-        assert_eq!(rt; outcome.err.text()?, err, "at {table} {report}");
-    }
-    Ok(())
+    let refused = Case {
+        words: &[],
+        input: "",
+        status: 1,
+        out: "",
+        err: "error: table line 1\n",
+    };
+    expect_each(
+        &rt,
+        files.as_slice(),
+        &[
+            Case {
+                words: &["bootswap", "check", "bad.txt", "bad.txt"],
+                ..refused
+            },
+            Case {
+                words: &["bootswap", "check", "bad.txt", "absent"],
+                ..refused
+            },
+            Case {
+                words: &["bootswap", "check", "absent", "gone"],
+                err: "error: cannot read absent\n",
+                ..refused
+            },
+            Case {
+                words: &["bootswap", "check", "table.txt", "absent"],
+                err: "error: cannot read absent\n",
+                ..refused
+            },
+        ],
+    );
+}
+
+#[test]
+fn one_of_the_two_is_standard_input(rt: HostRuntime) {
+    let files = [
+        ("table.txt", PAIR.as_bytes()),
+        ("report.txt", PAIR_TAKEN.as_bytes()),
+    ];
+    let right = Case {
+        words: &["bootswap", "check", "table.txt", "-"],
+        input: PAIR_TAKEN,
+        status: 0,
+        out: "yes\n",
+        err: "",
+    };
+    expect_each(
+        &rt,
+        files.as_slice(),
+        &[
+            right,
+            Case {
+                words: &["bootswap", "check", "-", "report.txt"],
+                input: PAIR,
+                ..right
+            },
+            Case {
+                words: &["bootswap", "check", "-", "-"],
+                status: 2,
+                out: "",
+                err: "error: standard input, `-`, can be read for one file only\n\n\
+                    Usage: bootswap check <TABLE> <REPORT>\n\n\
+                    For more information, try '--help'.\n",
+                ..right
+            },
+        ],
+    );
 }

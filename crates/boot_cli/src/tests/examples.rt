@@ -1,25 +1,24 @@
 //! Worked examples of tables, from standard input and from a file, with the reports that they have to give.
 use super::host::expect_outcome;
-use std::test::Fail;
 
 #[test]
-fn images_with_no_requests_run_on(rt: HostRuntime) -> Result<(), Fail> {
+fn images_with_no_requests_run_on(rt: HostRuntime) {
     let table = "image 0 1.0.0+0 0 0\n\
         image 1 1.0.0+0 0 0\n";
     let report = "run 0 1.0.0+0\n\
         run 1 1.0.0+0\n";
-    expect_outcome(&rt, table.as_bytes(), 0, report, "")
+    expect_outcome(&rt, table.as_bytes(), 0, report, "");
 }
 
 #[test]
-fn a_plain_request_is_taken(rt: HostRuntime) -> Result<(), Fail> {
+fn a_plain_request_is_taken(rt: HostRuntime) {
     let table = "image 0 1.0.0+0 0 0\n\
         request 1.1.0+0 0\n";
-    expect_outcome(&rt, table.as_bytes(), 0, "take 0 1.1.0+0\n", "")
+    expect_outcome(&rt, table.as_bytes(), 0, "take 0 1.1.0+0\n", "");
 }
 
 #[test]
-fn a_pair_that_needs_each_other_is_taken(rt: HostRuntime) -> Result<(), Fail> {
+fn a_pair_that_needs_each_other_is_taken(rt: HostRuntime) {
     let table = "image 0 1.0.0+0 0 0\n\
         request 2.0.0+0 0\n\
         needs 1 2.0.0+0\n\
@@ -28,11 +27,11 @@ fn a_pair_that_needs_each_other_is_taken(rt: HostRuntime) -> Result<(), Fail> {
         needs 0 2.0.0+0\n";
     let report = "take 0 2.0.0+0\n\
         take 1 2.0.0+0\n";
-    expect_outcome(&rt, table.as_bytes(), 0, report, "")
+    expect_outcome(&rt, table.as_bytes(), 0, report, "");
 }
 
 #[test]
-fn a_chain_whose_end_cannot_come_is_refused_along_its_length(rt: HostRuntime) -> Result<(), Fail> {
+fn a_chain_whose_end_cannot_come_is_refused_along_its_length(rt: HostRuntime) {
     let table = "image 0 1.0.0+0 0 0\n\
         image 1 1.0.0+0 0 0\n\
         request 2.0.0+0 0\n\
@@ -45,52 +44,52 @@ fn a_chain_whose_end_cannot_come_is_refused_along_its_length(rt: HostRuntime) ->
         run 2 1.0.0+0\n\
         refuse 1 needs 0 2.0.0+0\n\
         refuse 2 needs 1 2.0.0+0\n";
-    expect_outcome(&rt, table.as_bytes(), 0, report, "")
+    expect_outcome(&rt, table.as_bytes(), 0, report, "");
 }
 
 #[test]
-fn an_equal_version_is_taken(rt: HostRuntime) -> Result<(), Fail> {
+fn an_equal_version_is_taken(rt: HostRuntime) {
     let table = "image 0 1.2.3+4 0 0\n\
         request 1.2.3+4 0\n";
-    expect_outcome(&rt, table.as_bytes(), 0, "take 0 1.2.3+4\n", "")
+    expect_outcome(&rt, table.as_bytes(), 0, "take 0 1.2.3+4\n", "");
 }
 
 #[test]
-fn a_lower_build_number_is_older(rt: HostRuntime) -> Result<(), Fail> {
+fn a_lower_build_number_is_older(rt: HostRuntime) {
     let table = "image 0 1.2.3+4 0 0\n\
         request 1.2.3+3 0\n";
     let report = "run 0 1.2.3+4\n\
         refuse 0 older\n";
-    expect_outcome(&rt, table.as_bytes(), 0, report, "")
+    expect_outcome(&rt, table.as_bytes(), 0, report, "");
 }
 
 #[test]
-fn a_counter_at_the_floor_is_taken(rt: HostRuntime) -> Result<(), Fail> {
+fn a_counter_at_the_floor_is_taken(rt: HostRuntime) {
     let table = "image 0 1.0.0+0 5 5\n\
         request 1.1.0+0 5\n";
-    expect_outcome(&rt, table.as_bytes(), 0, "take 0 1.1.0+0\n", "")
+    expect_outcome(&rt, table.as_bytes(), 0, "take 0 1.1.0+0\n", "");
 }
 
 #[test]
-fn a_counter_below_the_floor_is_refused(rt: HostRuntime) -> Result<(), Fail> {
+fn a_counter_below_the_floor_is_refused(rt: HostRuntime) {
     let table = "image 0 1.0.0+0 5 5\n\
         request 1.1.0+0 4\n";
     let report = "run 0 1.0.0+0\n\
         refuse 0 counter\n";
-    expect_outcome(&rt, table.as_bytes(), 0, report, "")
+    expect_outcome(&rt, table.as_bytes(), 0, report, "");
 }
 
 #[test]
-fn a_damaged_request_is_refused(rt: HostRuntime) -> Result<(), Fail> {
+fn a_damaged_request_is_refused(rt: HostRuntime) {
     let table = "image 0 1.0.0+0 0 0\n\
         damaged\n";
     let report = "run 0 1.0.0+0\n\
         refuse 0 damaged\n";
-    expect_outcome(&rt, table.as_bytes(), 0, report, "")
+    expect_outcome(&rt, table.as_bytes(), 0, report, "");
 }
 
 #[test]
-fn a_request_that_needs_a_missing_image_is_refused(rt: HostRuntime) -> Result<(), Fail> {
+fn a_request_that_needs_a_missing_image_is_refused(rt: HostRuntime) {
     let table = "image 0 1.0.0+0 0 0\n\
         request 2.0.0+0 0\n\
         needs 7 1.0.0+0\n\
@@ -98,11 +97,11 @@ fn a_request_that_needs_a_missing_image_is_refused(rt: HostRuntime) -> Result<()
     let report = "run 0 1.0.0+0\n\
         run 1 1.0.0+0\n\
         refuse 0 no-such-image 7\n";
-    expect_outcome(&rt, table.as_bytes(), 0, report, "")
+    expect_outcome(&rt, table.as_bytes(), 0, report, "");
 }
 
 #[test]
-fn one_unmet_dependency_leaves_the_others(rt: HostRuntime) -> Result<(), Fail> {
+fn one_unmet_dependency_leaves_the_others(rt: HostRuntime) {
     let table = "image 0 1.0.0+0 0 0\n\
         request 0.9.0+0 0\n\
         image 1 1.0.0+0 0 0\n\
@@ -116,11 +115,24 @@ fn one_unmet_dependency_leaves_the_others(rt: HostRuntime) -> Result<(), Fail> {
         run 2 1.0.0+0\n\
         refuse 0 older\n\
         refuse 2 needs 0 1.0.0+1\n";
-    expect_outcome(&rt, table.as_bytes(), 0, report, "")
+    expect_outcome(&rt, table.as_bytes(), 0, report, "");
 }
 
 #[test]
-fn running_images_that_do_not_fit_are_told(rt: HostRuntime) -> Result<(), Fail> {
+fn refusals_for_the_same_reason_are_in_the_order_of_the_images(rt: HostRuntime) {
+    let table = "image 0 1.0.0+0 0 0\n\
+        request 0.9.0+0 0\n\
+        image 1 1.0.0+0 0 0\n\
+        request 0.9.0+0 0\n";
+    let report = "run 0 1.0.0+0\n\
+        run 1 1.0.0+0\n\
+        refuse 0 older\n\
+        refuse 1 older\n";
+    expect_outcome(&rt, table.as_bytes(), 0, report, "");
+}
+
+#[test]
+fn running_images_that_do_not_fit_are_told(rt: HostRuntime) {
     let table = "image 0 1.0.0+0 0 0\n\
         needs 0 2.0.0+0\n";
     expect_outcome(
@@ -129,29 +141,29 @@ fn running_images_that_do_not_fit_are_told(rt: HostRuntime) -> Result<(), Fail> 
         1,
         "",
         "error: running set not valid\n",
-    )
+    );
 }
 
 #[test]
-fn an_empty_table_is_bad_in_line_1(rt: HostRuntime) -> Result<(), Fail> {
-    expect_outcome(&rt, b"", 1, "", "error: table line 1\n")
+fn an_empty_table_is_bad_in_line_1(rt: HostRuntime) {
+    expect_outcome(&rt, b"", 1, "", "error: table line 1\n");
 }
 
 #[test]
-fn a_table_that_begins_with_image_1_is_bad_in_line_1(rt: HostRuntime) -> Result<(), Fail> {
+fn a_table_that_begins_with_image_1_is_bad_in_line_1(rt: HostRuntime) {
     expect_outcome(
         &rt,
         b"image 1 1.0.0+0 0 0\n",
         1,
         "",
         "error: table line 1\n",
-    )
+    );
 }
 
 #[test]
-fn a_request_that_needs_itself_is_taken(rt: HostRuntime) -> Result<(), Fail> {
+fn a_request_that_needs_itself_is_taken(rt: HostRuntime) {
     let table = "image 0 1.0.0+0 0 0\n\
         request 2.0.0+0 0\n\
         needs 0 2.0.0+0\n";
-    expect_outcome(&rt, table.as_bytes(), 0, "take 0 2.0.0+0\n", "")
+    expect_outcome(&rt, table.as_bytes(), 0, "take 0 2.0.0+0\n", "");
 }

@@ -1,23 +1,18 @@
 //! Files, standard input and output in memory.
-ghost use Rattle.std.specs.Io.{ReadsAtMost};
+ghost use Rattle.std.specs.Prelude.{Some};
 
 use crate::cli::cli;
 use crate::host::Host;
 use std::alloc::{Allocator, Global};
 use std::io::{ErrorKind, Read, Write};
+use std::io;
 use std::process::Abort;
-use std::str::Utf8Error;
-use std::test::Fail;
-use std::{io, str};
 
 /// A table of one image, for which nothing is requested.
 pub const ONE_IMAGE: &str = "image 0 1.0.0 0 0\n";
 
 /// The report of the choice over that table.
 pub const ONE_IMAGE_RUNS: &str = "run 0 1.0.0+0\n";
-
-/// How many bytes one read or write takes at most, so that each text needs several.
-const SHARE: usize = 5;
 
 /// A host with its files and its standard input in memory. Every other read is interrupted.
 #[derive(Drop)]
@@ -33,43 +28,20 @@ pub struct MemoryHost<'a> {
 }
 
 impl<'a> MemoryHost<'a> {
-    /// These files, and a standard input that is empty.
-    pub fn with_files(files: &'a [(&'a str, &'a [u8])]) -> Self {
+    /// These files, and a standard input of these bytes.
+    pub fn new(files: &'a [(&'a str, &'a [u8])], input: &'a [u8]) -> Self {
         MemoryHost {
             files,
-            input: b"".as_slice(),
-            failure: None,
-            was_interrupted: false,
-        }
-    }
-
-    /// This standard input, and no file.
-    pub fn with_input(input: &'a str) -> Self {
-        Self::with_input_bytes(input.as_bytes())
-    }
-
-    /// A standard input of these bytes, and no file.
-    pub fn with_input_bytes(input: &'a [u8]) -> Self {
-        MemoryHost {
-            files: &[],
             input,
             failure: None,
-            was_interrupted: false,
-        }
-    }
-
-    /// A standard input that gives these bytes and then fails, and no file.
-    pub fn with_failing_input(input: &'a [u8], failure: ErrorKind) -> Self {
-        MemoryHost {
-            files: &[],
-            input,
-            failure: Some(failure),
             was_interrupted: false,
         }
     }
 }
 
 impl Host for MemoryHost<'_> {
+    ghost input = { λ host. Some host.input.now };
+
     fn read_file<A: Allocator>(&mut self, alloc: A, name: &str) -> io::Result<Vec<u8, A>> {
         match self.files.iter().find(|file| file.0 == name) {
             Some(file) => Ok(Vec::from_slice(alloc, file.1)?),
@@ -84,38 +56,60 @@ impl Host for MemoryHost<'_> {
         }
         match self.failure {
             Some(failure) if self.input.is_empty() => Err(io::Error::from(failure)),
-            _ => {
-                let most = buffer.len().min(SHARE);
-                self.input.read(&mut buffer[..most])
-            }
+            _ => self.input.read(buffer),
         }
     }
 }
 
-/// A writer that takes only so many bytes, and then fails. Every other write is interrupted.
-#[derive(Drop)]
+/// What a writer takes.
+#[derive(Clone, Copy, Debug)]
+pub struct Limits {
+    /// How many bytes in all.
+    pub room: usize,
+    /// How many bytes in one write.
+    pub share: usize,
+    /// Whether a write without room takes 0 bytes; else it fails.
+    pub takes_nothing: bool,
+    /// Whether a flush fails.
+    pub fails_to_flush: bool,
+}
+
+/// A writer that takes all, some bytes at a time.
+pub const AMPLE: Limits = Limits {
+    room: usize::MAX,
+    share: 5,
+    takes_nothing: false,
+    fails_to_flush: false,
+};
+
+/// A writer with limits. Every other write is interrupted.
+#[derive(Debug, Drop)]
 pub struct LimitedWriter {
     /// What it has taken.
     pub taken: Vec<u8>,
-    /// How many bytes it still takes.
-    pub room: usize,
+    /// How many bytes were flushed.
+    pub flushed: usize,
+    /// What it still takes.
+    pub limits: Limits,
     /// Whether the write before was interrupted.
     pub was_interrupted: bool,
 }
 
 impl LimitedWriter {
-    /// A writer that takes `room` bytes.
-    pub fn new(alloc: Global, room: usize) -> Self {
+    /// A writer with these limits.
+    pub fn new(alloc: Global, limits: Limits) -> Self {
         LimitedWriter {
             taken: Vec::new(alloc),
-            room,
+            flushed: 0,
+            limits,
             was_interrupted: false,
         }
     }
 
-    /// What it has taken, as text.
-    pub fn text(&self) -> Result<&str, Utf8Error> {
-        str::from_utf8(self.taken.as_slice())
+    /// Whether this was taken, and flushed unless a flush fails.
+    pub fn has(&self, text: &[u8]) -> bool {
+        self.taken.as_slice() == text
+            && (self.limits.fails_to_flush || self.flushed == self.taken.len())
     }
 }
 
@@ -125,22 +119,26 @@ impl Write for LimitedWriter {
         if self.was_interrupted {
             return Err(io::Error::from(ErrorKind::Interrupted));
         }
-        if self.room == 0 {
+        let count = bytes.len().min(self.limits.share).min(self.limits.room);
+        if count == 0 && !self.limits.takes_nothing {
             return Err(io::Error::from(ErrorKind::StorageFull));
         }
-        let count = bytes.len().min(SHARE).min(self.room);
         self.taken.extend_from_slice(&bytes[..count])?;
-        self.room -= count;
+        self.limits.room -= count;
         Ok(count)
     }
 
     fn flush(&mut self) -> io::Result<()> {
+        if self.limits.fails_to_flush {
+            return Err(io::Error::from(ErrorKind::StorageFull));
+        }
+        self.flushed = self.taken.len();
         Ok(())
     }
 }
 
 /// What a run of the program left.
-#[derive(Drop)]
+#[derive(Debug, Drop)]
 pub struct Outcome {
     /// The exit status.
     pub status: u8,
@@ -150,23 +148,58 @@ pub struct Outcome {
     pub err: LimitedWriter,
 }
 
-/// Runs the program with these words, the program's own name first, where output has room.
-pub fn run(alloc: Global, host: &mut MemoryHost<'_>, words: &[&str]) -> Outcome {
-    run_within(alloc, &alloc, host, words, usize::MAX)
+impl Outcome {
+    /// Whether this is the status, and these are the outputs, which were flushed.
+    pub fn is(&self, status: u8, out: &str, err: &str) -> bool {
+        self.status == status && self.out.has(out.as_bytes()) && self.err.has(err.as_bytes())
+    }
 }
 
-/// Runs the program with its tables in memory of `heap`, where each output takes `room` bytes.
+/// Runs the program with these words, the program's own name first, where memory and room are ample.
+pub fn run(alloc: Global, host: &mut MemoryHost<'_>, words: &[&str]) -> Outcome {
+    run_within(alloc, &alloc, host, words, AMPLE)
+}
+
+/// Runs the program with these words and outputs of these limits, and with its tables in memory of `heap`.
 pub fn run_within<A: Allocator>(
     alloc: Global,
     heap: &A,
     host: &mut MemoryHost<'_>,
     words: &[&str],
-    room: usize,
+    limits: Limits,
 ) -> Outcome {
-    let mut out = LimitedWriter::new(alloc, room);
-    let mut err = LimitedWriter::new(alloc, room);
+    let mut out = LimitedWriter::new(alloc, limits);
+    let mut err = LimitedWriter::new(alloc, limits);
     let status = cli(alloc, heap, words, host, &mut out, &mut err);
     Outcome { status, out, err }
+}
+
+/// A run of the program, and what it has to leave.
+#[derive(Clone, Copy, Debug)]
+pub struct Case<'a> {
+    /// The words, the program's own name first.
+    pub words: &'a [&'a str],
+    /// Standard input.
+    pub input: &'a str,
+    /// The exit status.
+    pub status: u8,
+    /// Standard output.
+    pub out: &'a str,
+    /// Standard error.
+    pub err: &'a str,
+}
+
+/// Asserts that each of these runs over these files leaves what it has to.
+pub fn expect_each(
+    rt: &(impl Abort + AllocGlobal),
+    files: &[(&str, &[u8])],
+    cases: &[Case<'_>],
+) {
+    for case in cases {
+        let mut host = MemoryHost::new(files, case.input.as_bytes());
+        let outcome = run(rt.alloc(), &mut host, case.words);
+        assert!(rt; outcome.is(case.status, case.out, case.err), "{case:?} {outcome:?}");
+    }
 }
 
 /// Asserts that the choice over this table, from standard input and from a file, leaves this status, this
@@ -177,20 +210,14 @@ pub fn expect_outcome(
     status: u8,
     out: &str,
     err: &str,
-) -> Result<(), Fail> {
-    let mut input = MemoryHost::with_input_bytes(table);
-    let from_input = run(rt.alloc(), &mut input, &["bootswap"]);
+) {
     let files = [("table.txt", table)];
-    let mut folder = MemoryHost::with_files(files.as_slice());
-    let from_file = run(
-        rt.alloc(),
-        &mut folder,
-        &["bootswap", "choose", "table.txt"],
-    );
-    for outcome in [&from_input, &from_file] {
-        assert_eq!(rt; outcome.status, status, "at {table:?}");
-        assert_eq!(rt; outcome.out.text()?, out, "at {table:?}");
-        assert_eq!(rt; outcome.err.text()?, err, "at {table:?}");
+    for words in [
+        ["bootswap"].as_slice(),
+        ["bootswap", "choose", "table.txt"].as_slice(),
+    ] {
+        let mut host = MemoryHost::new(files.as_slice(), table);
+        let outcome = run(rt.alloc(), &mut host, words);
+        assert!(rt; outcome.is(status, out, err), "{table:?} {outcome:?}");
     }
-    Ok(())
 }

@@ -12,23 +12,15 @@ const ONE_DIGEST: &str = "a3e71cf40711fbfbade5131cd38ef12419ade325218beabf515b5f
 
 /// Asserts that `image` over a file of these bytes leaves this status and this standard output, and no
 /// standard error.
-fn expect_image(
-    rt: &(impl Abort + AllocGlobal),
-    bytes: &[u8],
-    status: u8,
-    out: &str,
-) -> Result<(), Fail> {
+fn expect_image(rt: &(impl Abort + AllocGlobal), bytes: &[u8], status: u8, out: &str) {
     let files = [("firmware.img", bytes)];
-    let mut host = MemoryHost::with_files(files.as_slice());
+    let mut host = MemoryHost::new(files.as_slice(), b"");
     let outcome = run(
         rt.alloc(),
         &mut host,
         &["bootswap", "image", "firmware.img"],
     );
-    assert_eq!(rt; outcome.status, status, "at {bytes:?}");
-    assert_eq!(rt; outcome.out.text()?, out, "at {bytes:?}");
-    assert_eq!(rt; outcome.err.text()?, "", "at {bytes:?}");
-    Ok(())
+    assert!(rt; outcome.is(status, out, ""), "{bytes:?} {outcome:?}");
 }
 
 #[test]
@@ -37,7 +29,8 @@ fn an_image_with_neither_counter_nor_dependency(rt: HostRuntime) -> Result<(), F
     let out = format!(in rt.alloc();
         "version 1.0.0+0\nlength 76\ncounter 0\ndigest {ONE_DIGEST}\n"
     )?;
-    expect_image(&rt, bytes.as_slice(), 0, &out)
+    expect_image(&rt, bytes.as_slice(), 0, &out);
+    Ok(())
 }
 
 #[test]
@@ -48,7 +41,8 @@ fn an_image_with_a_dependency(rt: HostRuntime) -> Result<(), Fail> {
         counter 0\n\
         digest 1851089276b7cee21d7f160194dc9637932d856e317bd2c3a56dadb12de4801c\n\
         needs 1 2.0.0+0\n";
-    expect_image(&rt, bytes.as_slice(), 0, out)
+    expect_image(&rt, bytes.as_slice(), 0, out);
+    Ok(())
 }
 
 #[test]
@@ -59,7 +53,8 @@ fn an_image_with_counter_and_dependency(rt: HostRuntime) -> Result<(), Fail> {
         counter 5\n\
         digest d972280151bc22f533247969edbfb7596c1b97815061e90b65f3d2641146fc05\n\
         needs 1 2.0.0+0\n";
-    expect_image(&rt, bytes.as_slice(), 0, out)
+    expect_image(&rt, bytes.as_slice(), 0, out);
+    Ok(())
 }
 
 #[test]
@@ -68,7 +63,8 @@ fn a_signature_belongs_to_the_image(rt: HostRuntime) -> Result<(), Fail> {
     let out = format!(in rt.alloc();
         "version 1.0.0+0\nlength 186\ncounter 0\ndigest {ONE_DIGEST}\n"
     )?;
-    expect_image(&rt, bytes.as_slice(), 0, &out)
+    expect_image(&rt, bytes.as_slice(), 0, &out);
+    Ok(())
 }
 
 #[test]
@@ -78,7 +74,8 @@ fn entries_of_a_vendor_are_skipped(rt: HostRuntime) -> Result<(), Fail> {
         length 104\n\
         counter 7\n\
         digest 679db1266140e6129b424ef7aa84467f1b7e7c43ab92c2ae016bf0f6006dfceb\n";
-    expect_image(&rt, bytes.as_slice(), 0, out)
+    expect_image(&rt, bytes.as_slice(), 0, out);
+    Ok(())
 }
 
 #[test]
@@ -87,7 +84,8 @@ fn a_counter_outside_the_hashed_bytes_is_none(rt: HostRuntime) -> Result<(), Fai
     let out = format!(in rt.alloc();
         "version 1.0.0+0\nlength 84\ncounter 0\ndigest {ONE_DIGEST}\n"
     )?;
-    expect_image(&rt, bytes.as_slice(), 0, &out)
+    expect_image(&rt, bytes.as_slice(), 0, &out);
+    Ok(())
 }
 
 #[test]
@@ -100,28 +98,31 @@ fn sixteen_dependencies_are_told_and_seventeen_too_many(rt: HostRuntime) -> Resu
         let line = format!(in rt.alloc(); "needs {image} 2.0.0+0\n")?;
         out.push_str(&line)?;
     }
-    expect_image(&rt, bytes.as_slice(), 0, &out)?;
+    expect_image(&rt, bytes.as_slice(), 0, &out);
     let bytes = hex::decode(rt.alloc(), SEVENTEEN)?;
-    expect_image(&rt, bytes.as_slice(), 1, "refused 12 TooManyDependencies\n")
+    expect_image(&rt, bytes.as_slice(), 1, "refused 12 TooManyDependencies\n");
+    Ok(())
 }
 
 #[test]
 fn two_counters_are_refused(rt: HostRuntime) -> Result<(), Fail> {
     let bytes = hex::decode(rt.alloc(), COUNTED_TWICE)?;
-    expect_image(&rt, bytes.as_slice(), 1, "refused 14 BadCounter\n")
+    expect_image(&rt, bytes.as_slice(), 1, "refused 14 BadCounter\n");
+    Ok(())
 }
 
 #[test]
 fn a_missing_byte_and_one_too_many_are_refused(rt: HostRuntime) -> Result<(), Fail> {
     let mut bytes = hex::decode(rt.alloc(), ONE)?;
     bytes.push(0)?;
-    expect_image(&rt, bytes.as_slice(), 1, "refused 13 TrailingBytes\n")?;
+    expect_image(&rt, bytes.as_slice(), 1, "refused 13 TrailingBytes\n");
     bytes.truncate(75);
-    expect_image(&rt, bytes.as_slice(), 1, "refused 5 Truncated\n")?;
+    expect_image(&rt, bytes.as_slice(), 1, "refused 5 Truncated\n");
     bytes.truncate(31);
-    expect_image(&rt, bytes.as_slice(), 1, "refused 1 Short\n")?;
+    expect_image(&rt, bytes.as_slice(), 1, "refused 1 Short\n");
     bytes.clear();
-    expect_image(&rt, bytes.as_slice(), 1, "refused 1 Short\n")
+    expect_image(&rt, bytes.as_slice(), 1, "refused 1 Short\n");
+    Ok(())
 }
 
 /// Asserts that an image, with these bytes written over its own at a place, is refused so.
@@ -136,7 +137,8 @@ fn expect_changed(
     for (byte, new) in bytes.iter_mut().skip(place).zip(change) {
         *byte = *new;
     }
-    expect_image(rt, bytes.as_slice(), 1, out)
+    expect_image(rt, bytes.as_slice(), 1, out);
+    Ok(())
 }
 
 #[test]
@@ -154,19 +156,5 @@ fn a_changed_image_is_refused_by_the_first_check_that_fails(rt: HostRuntime) -> 
     ] {
         expect_changed(&rt, image, place, change, out)?;
     }
-    Ok(())
-}
-
-#[test]
-fn an_image_that_cannot_be_read(rt: HostRuntime) -> Result<(), Fail> {
-    let mut host = MemoryHost::with_files(&[]);
-    let outcome = run(
-        rt.alloc(),
-        &mut host,
-        &["bootswap", "image", "firmware.img"],
-    );
-    assert_eq!(rt; outcome.status, 1);
-    assert_eq!(rt; outcome.out.text()?, "");
-    assert_eq!(rt; outcome.err.text()?, "error: cannot read firmware.img\n");
     Ok(())
 }

@@ -40,7 +40,7 @@ impl Random {
     }
 
     /// A number below `bound`.
-    fn below(&mut self, bound: u8) -> u8
+    pub fn below(&mut self, bound: u8) -> u8
         requires { 0 < bound }
         ensures { result < bound }
     {

@@ -99,7 +99,7 @@ fn entry_in(image: &Image, is_taken: bool) -> Option<&Entry> {
 }
 
 /// Whether a version is at least the other: its numbers are compared one after the other.
-fn reaches(version: Version, other: Version) -> bool {
+pub fn reaches(version: Version, other: Version) -> bool {
     if version.major != other.major {
         return version.major > other.major;
     }

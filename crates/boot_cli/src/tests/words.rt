@@ -1,75 +1,82 @@
 //! What the program says of itself, and of words that it does not know.
-use super::host::{LimitedWriter, MemoryHost, run};
+use super::host::{AMPLE, Case, LimitedWriter, MemoryHost, expect_each, run};
 use crate::cli::refuse_words;
 use std::io;
 use std::io::ErrorKind;
+use std::str;
 use std::test::Fail;
 
+/// A usage fault.
+const FAULT: Case<'static> = Case {
+    words: &["bootswap", "frob"],
+    input: "",
+    status: 2,
+    out: "",
+    err: "error: unrecognized subcommand 'frob'\n\nUsage: bootswap [COMMAND]\n\nFor more information, try '--help'.\n",
+};
+
 #[test]
-fn tells_its_version(rt: HostRuntime) -> Result<(), Fail> {
-    for word in ["--version", "-V"] {
-        let outcome = run(
-            rt.alloc(),
-            &mut MemoryHost::with_input(""),
-            &["bootswap", word],
-        );
-        assert_eq!(rt; outcome.status, 0);
-        assert_eq!(rt; outcome.out.text()?, "bootswap 0.1.0\n");
-        assert_eq!(rt; outcome.err.text()?, "");
-    }
-    Ok(())
+fn a_wrong_usage_is_told_by_the_parser_of_words(rt: HostRuntime) {
+    let version = Case {
+        words: &["bootswap", "--version"],
+        status: 0,
+        out: "bootswap 0.1.0\n",
+        err: "",
+        ..FAULT
+    };
+    expect_each(
+        &rt,
+        &[],
+        &[
+            version,
+            Case {
+                words: &["bootswap", "-V"],
+                ..version
+            },
+            FAULT,
+            Case {
+                words: &["bootswap", "choose"],
+                err: "error: the following required arguments were not provided:\n  <TABLE>\n\nUsage: bootswap choose <TABLE>\n\nFor more information, try '--help'.\n",
+                ..FAULT
+            },
+            Case {
+                words: &["bootswap", "choose", "a", "b"],
+                err: "error: unexpected argument 'b' found\n\nUsage: bootswap choose <TABLE>\n\nFor more information, try '--help'.\n",
+                ..FAULT
+            },
+        ],
+    );
 }
 
 #[test]
-fn help_teaches_the_program(rt: HostRuntime) -> Result<(), Fail> {
-    for word in ["--help", "-h", "help"] {
-        let outcome = run(
-            rt.alloc(),
-            &mut MemoryHost::with_input(""),
-            &["bootswap", word],
-        );
-        assert_eq!(rt; outcome.status, 0);
-        assert_eq!(rt; outcome.err.text()?, "");
-        let text = outcome.out.text()?;
-        for part in [
-            "Usage: bootswap [COMMAND]\n",
-            "  choose  Reads a table",
-            "Exit status:\n",
-            "  bootswap choose table.txt\n",
-            "  image IMAGE VERSION COUNTER FLOOR ",
-        ] {
-            assert!(rt; text.contains(part), "{part:?} in {text}");
-        }
-    }
-    Ok(())
+fn control_characters_of_a_name_are_escaped(rt: HostRuntime) {
+    let absent = Case {
+        words: &["bootswap", "choose", "a\nerror: \u{1b}[2J\t\u{7f}\u{85}é'\\"],
+        status: 1,
+        err: "error: cannot read a\\nerror: \\u{1b}[2J\\t\\u{7f}\\u{85}é'\\\n",
+        ..FAULT
+    };
+    expect_each(
+        &rt,
+        &[],
+        &[
+            absent,
+            Case {
+                words: &["bootswap", "image", "\r"],
+                err: "error: cannot read \\r\n",
+                ..absent
+            },
+            Case {
+                words: &["bootswap", "fr\nob\u{1b}"],
+                err: "error: unrecognized subcommand 'fr\\nob\\u{1b}'\n\nUsage: bootswap [COMMAND]\n\nFor more information, try '--help'.\n",
+                ..FAULT
+            },
+        ],
+    );
 }
 
 #[test]
-fn a_wrong_usage_is_told_by_the_parser_of_words(rt: HostRuntime) -> Result<(), Fail> {
-    for (words, err) in [
-        (
-            ["bootswap", "frob"].as_slice(),
-            "error: unrecognized subcommand 'frob'\n\nUsage: bootswap [COMMAND]\n\nFor more information, try '--help'.\n",
-        ),
-        (
-            ["bootswap", "choose"].as_slice(),
-            "error: the following required arguments were not provided:\n  <TABLE>\n\nUsage: bootswap choose <TABLE>\n\nFor more information, try '--help'.\n",
-        ),
-        (
-            ["bootswap", "choose", "a", "b"].as_slice(),
-            "error: unexpected argument 'b' found\n\nUsage: bootswap choose <TABLE>\n\nFor more information, try '--help'.\n",
-        ),
-    ] {
-        let outcome = run(rt.alloc(), &mut MemoryHost::with_input(""), words);
-        assert_eq!(rt; outcome.status, 2, "at {words:?}");
-        assert_eq!(rt; outcome.out.text()?, "", "at {words:?}");
-        assert_eq!(rt; outcome.err.text()?, err, "at {words:?}");
-    }
-    Ok(())
-}
-
-#[test]
-fn words_that_cannot_be_had_are_refused(rt: HostRuntime) -> Result<(), Fail> {
+fn words_that_cannot_be_had_are_refused(rt: HostRuntime) {
     for (kind, status, text) in [
         (ErrorKind::OutOfMemory, 1, "error: memory\n"),
         (
@@ -78,10 +85,111 @@ fn words_that_cannot_be_had_are_refused(rt: HostRuntime) -> Result<(), Fail> {
             "error: invalid UTF-8 was detected in one or more arguments\n\nUsage: bootswap [COMMAND]\n\nFor more information, try '--help'.\n",
         ),
     ] {
-        let mut err = LimitedWriter::new(rt.alloc(), usize::MAX);
+        let mut err = LimitedWriter::new(rt.alloc(), AMPLE);
         let told = refuse_words(rt.alloc(), &io::Error::from(kind), &mut err);
-        assert_eq!(rt; told, status);
-        assert_eq!(rt; err.text()?, text);
+        assert!(rt; told == status && err.has(text.as_bytes()), "{told} {err:?}");
+    }
+}
+
+/// What a help has to say, in short and in full.
+struct Help {
+    /// The words that ask for it.
+    words: &'static [&'static str],
+    /// What it has to contain.
+    parts: &'static [&'static str],
+}
+
+/// Every help. The short ones name the exit statuses and an example, the long ones what is read and printed.
+const HELPS: [Help; 10] = [
+    Help {
+        words: &["bootswap", "-h"],
+        parts: &[
+            "Usage: bootswap [COMMAND]\n",
+            "  choose  Reads a table",
+            "Exit status: 0 done, 1 refused, 2",
+        ],
+    },
+    Help {
+        words: &["bootswap", "--help"],
+        parts: &[
+            "Usage: bootswap [COMMAND]\n",
+            "  2  the words",
+            "  bootswap choose table.txt\n",
+        ],
+    },
+    Help {
+        words: &["bootswap", "help"],
+        parts: &["  2  the words"],
+    },
+    Help {
+        words: &["bootswap", "choose", "-h"],
+        parts: &[
+            "Usage: bootswap choose <TABLE>\n",
+            "Exit status: 0 ",
+            "Example: bootswap choose ",
+        ],
+    },
+    Help {
+        words: &["bootswap", "choose", "--help"],
+        parts: &[
+            "  image IMAGE VERSION COUNTER FLOOR\n",
+            "  image 0 1.0.0+0 0 0\n  request 2.0.0+0 0\n  needs 1 2.0.0+0\n",
+            "  take 0 2.0.0+0\n",
+            "  2  the words",
+            "  bootswap choose table.txt\n",
+        ],
+    },
+    Help {
+        words: &["bootswap", "help", "choose"],
+        parts: &[
+            "  image IMAGE VERSION COUNTER FLOOR\n",
+            "  needs 0 2.0.0+0\n",
+            "  2  the words",
+        ],
+    },
+    Help {
+        words: &["bootswap", "check", "-h"],
+        parts: &[
+            "Usage: bootswap check <TABLE> <REPORT>\n",
+            "Exit status: 0 ",
+            "Example: bootswap check ",
+        ],
+    },
+    Help {
+        words: &["bootswap", "help", "check"],
+        parts: &[
+            "  refuse 0 older\n",
+            "  2  the words",
+            "  bootswap check table.txt report.txt\n",
+        ],
+    },
+    Help {
+        words: &["bootswap", "image", "-h"],
+        parts: &[
+            "Usage: bootswap image <FILE>\n",
+            "Exit status: 0 ",
+            "Example: bootswap image ",
+        ],
+    },
+    Help {
+        words: &["bootswap", "help", "image"],
+        parts: &[
+            "refused 10 BadDigest",
+            "  2  the words",
+            "  bootswap image firmware.img\n",
+        ],
+    },
+];
+
+#[test]
+fn every_help_teaches_its_command(rt: HostRuntime) -> Result<(), Fail> {
+    for help in HELPS {
+        let mut host = MemoryHost::new(&[], b"");
+        let outcome = run(rt.alloc(), &mut host, help.words);
+        let text = str::from_utf8(outcome.out.taken.as_slice())?;
+        assert!(rt; outcome.is(0, text, ""), "{outcome:?}");
+        assert!(rt; help.parts.iter().all(|part| text.contains(*part)), "{text}");
+        assert!(rt; text.lines().all(|line| line.len() <= 80), "{text}");
     }
     Ok(())
 }

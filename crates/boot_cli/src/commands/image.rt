@@ -1,10 +1,14 @@
-//! What an image says of itself, or the check that it fails, as text for a writer.
+//! `bootswap image`: what an image says of itself, or the check that it fails.
 ghost use Rattle.std.specs.Fmt.{WritesOnOk};
 ghost use Rattle.std.specs.Prelude.{◌≡◌, IfOk, Some, string_bytes};
 ghost use Rattle.std.specs.List.{flat_map};
 ghost use Rattle.boot_cli.specs.DescribeEnd.{Tells};
 ghost use Rattle.boot_cli.specs.ImageText.{described_text, description_text, needs_text, refusal_text};
 
+use crate::answer::{Answer, refused_text};
+use crate::error::Refusal;
+use crate::host::Host;
+use crate::source::Source;
 use crate::streams::write_all;
 use std::alloc::{AllocError, Allocator};
 use std::fmt;
@@ -23,6 +27,23 @@ pub enum DescribeEnd {
     NoMemory,
     /// The text could not be written: the writer has taken a beginning of it.
     WriteFailed,
+}
+
+/// Reads an image from `host` into memory of `heap`, and writes to `out` what it says of itself, or the first
+/// check that fails.
+pub fn perform<'a, A: Allocator, H: Host, O: Write>(
+    heap: &A,
+    image: Source<'a>,
+    host: &mut H,
+    out: &mut O,
+) -> Result<Answer, Refusal<'a>> {
+    let bytes = image.read(heap, host)?;
+    match describe_over(heap, &bytes, out) {
+        DescribeEnd::Done => Ok(Answer::Done),
+        DescribeEnd::Refused => Ok(Answer::Refused),
+        DescribeEnd::NoMemory => Err(Refusal::NoMemory),
+        DescribeEnd::WriteFailed => Err(Refusal::CannotWrite),
+    }
 }
 
 /// Writes to `out` what the image says of itself that `bytes` are, or the first check that fails.
@@ -63,9 +84,7 @@ fn description_text<'a, A: Allocator>(
 fn refusal_text<A: Allocator>(alloc: &A, fault: ImageError) -> Result<String<&A>, AllocError>
     ensures { IfOk result (λ text. string_bytes text ≡ refusal_text fault) }
 {
-    let code = fault.code();
-    let name = fault.name();
-    format!(in alloc; "refused {code} {name}\n")
+    refused_text(alloc, fault.code(), fault.name())
 }
 
 /// A description to print, with the digits of its digest.

@@ -2,7 +2,7 @@ use Rattle.std.proofs.Common.{take}
 use Rattle.std.specs.Fmt.{IsPlainFormatter, HasWritten}
 use Rattle.std.specs.List.{flat_map}
 use Rattle.boot_cli.specs.ImageText.{needs_text}
-use Rattle.boot_cli.proofs.imaging.write_needs.Given as goal
+use Rattle.boot_cli.proofs.commands.image.write_needs.Given as goal
 
 abbrev pub invariant-loop-dependency : goal.invariant-loop-dependency
 invariant-loop-dependency g l =

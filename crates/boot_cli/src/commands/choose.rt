@@ -1,8 +1,13 @@
-//! The choice over a table that a reader gives, whose report goes to a writer.
-ghost use Rattle.std.specs.Prelude.{◌≢◌, ℕ, List};
+//! `bootswap choose`: the choice over a table, whose report is written.
+ghost use Rattle.std.specs.Prelude.{◌≢◌, ℕ, List, OnOk};
 ghost use Rattle.boot_cli.specs.ChooseEnd.{Reads, Writes};
+ghost use Rattle.boot_cli.specs.Input.{Gives};
 
-use crate::streams::{ReadError, read_all, write_all};
+use crate::answer::Answer;
+use crate::error::{ReadError, Refusal};
+use crate::host::{Host, StandardInput};
+use crate::source::Source;
+use crate::streams::{read_all, write_all};
 use certificate::{Table, is_valid};
 use chooser::choose;
 use std::alloc::Allocator;
@@ -15,7 +20,7 @@ pub enum ChooseEnd {
     Done,
     /// The input is no table. The number, from 1, is that of the first line that no table goes on from.
     BadLine(usize),
-    /// The input is a table whose running images do not fit each other.
+    /// The input is a table whose running images don't fit each other.
     NotValid,
     /// There was no memory for the input or the report.
     NoMemory,
@@ -23,6 +28,34 @@ pub enum ChooseEnd {
     ReadFailed,
     /// The report could not be written: the writer has taken a beginning of it.
     WriteFailed,
+}
+
+/// Reads a table from `host` into memory of `heap`, and writes the report of the choice over it to `out`.
+pub fn perform<'a, A: Allocator, H: Host, O: Write>(
+    heap: &A,
+    table: Source<'a>,
+    host: &mut H,
+    out: &mut O,
+) -> Result<Answer, Refusal<'a>>
+    ensures { OnOk result ((bytes : List ℕ)
+        × Gives table.entry (H.input host.old) (H.file host.old) bytes
+        × Writes ChooseEnd.Done bytes (O.contents out.old) (O.contents out.new)) }
+{
+    let end = match table {
+        Source::StandardInput => choose_over(heap, &mut StandardInput(host), out),
+        Source::File(_) => {
+            let bytes = table.read(heap, host)?;
+            choose_over(heap, &mut bytes.as_slice(), out)
+        }
+    };
+    match end {
+        ChooseEnd::Done => Ok(Answer::Done),
+        ChooseEnd::BadLine(line) => Err(Refusal::TableLine(line)),
+        ChooseEnd::NotValid => Err(Refusal::NotValid),
+        ChooseEnd::NoMemory => Err(Refusal::NoMemory),
+        ChooseEnd::ReadFailed => Err(Refusal::CannotRead(table)),
+        ChooseEnd::WriteFailed => Err(Refusal::CannotWrite),
+    }
 }
 
 /// Reads a table from `input`, to its end, and writes to `out` the report of the choice over it.

@@ -1,6 +1,6 @@
 use Rattle.std.proofs.Common.{rules, inl, inr, string_bytes}
-use Rattle.boot_cli.proofs.imaging.describe_over.Goals as goal
-use Rattle.boot_cli.proofs.imaging.describe_over.Goals.{in-Ok, in-Err}
+use Rattle.boot_cli.proofs.commands.image.describe_over.Goals as goal
+use Rattle.boot_cli.proofs.commands.image.describe_over.Goals.{in-Ok, in-Err}
 
 -- The text whose beginning was taken is what was to be said.
 pub returns : goal.returns

@@ -1,0 +1,10 @@
+-- Lines that answers are made of. A line feed is 10, a space 32.
+use Rattle.std.specs.Prelude.{ℕ, List, [], ◌∷◌, ◌++◌, codes, decimal}
+
+-- A line: a word, a space and what it says.
+abbrev pub line_text : List ℕ → List ℕ → List ℕ
+line_text word said = word ++ 32 ∷ (said ++ 10 ∷ [])
+
+-- A refusal: its number and its name.
+abbrev pub refused_text : ℕ → List ℕ → List ℕ
+refused_text code name = line_text (codes "refused") (decimal code ++ 32 ∷ name)

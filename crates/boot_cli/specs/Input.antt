@@ -1,0 +1,18 @@
+-- What a host is known to hold: what is left of its standard input, and what each of its files holds.
+use Rattle.std.specs.Prelude.{◌≡◌, ℕ, List, Option, IfSome}
+use Rattle.std.specs.Io.KnownBytes.{Keeps}
+use Rattle.boot_cli.specs.declared.source.Source.{Source}
+use Rattle.boot_cli.specs.declared.source.Source.TheVariants.{StandardInput, File}
+
+-- These bytes are the known ones, where any are known.
+abbrev pub IsKnownAs : Option (List ℕ) → List ℕ → Type 0
+IsKnownAs known bytes = IfSome known (λ held. bytes ≡ held)
+
+-- Each file whose bytes are known keeps them.
+abbrev pub KeepsFiles : (List ℕ → Option (List ℕ)) → (List ℕ → Option (List ℕ)) → Type 0
+KeepsFiles old new = (name : List ℕ) → Keeps (old name) (new name)
+
+-- These bytes are all that a source holds: what is left of standard input, or the file of its name.
+abbrev pub Gives : Source → Option (List ℕ) → (List ℕ → Option (List ℕ)) → List ℕ → Type 0
+Gives StandardInput input file bytes = IsKnownAs input bytes
+Gives (File name) input file bytes = IsKnownAs (file name.now) bytes

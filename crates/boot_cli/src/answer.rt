@@ -1,0 +1,76 @@
+//! What comes of a command: its answer or its refusal, and the exit status.
+ghost use Rattle.std.specs.Prelude.{◌≡◌, IfOk, Ok, is_ok, if◌then◌else◌, string_bytes};
+ghost use Rattle.boot_cli.specs.AnswerText.{refused_text};
+
+use crate::error::Refusal;
+use std::alloc::{AllocError, Allocator};
+use std::io;
+use std::io::Write;
+
+/// What was asked for is done.
+const DONE: u8 = 0;
+
+/// The program refused, or could not write what it had to say.
+const REFUSED: u8 = 1;
+
+/// A command wrote its answer to standard output.
+#[derive(Clone, Copy, Debug, PartialEq, Eq)]
+pub enum Answer {
+    /// What was asked for is done.
+    Done,
+    /// The answer is a refusal, or a no.
+    Refused,
+}
+
+/// The text `refused CODE NAME`, for standard output: the number and the name of what was wrong.
+pub fn refused_text<'a, A: Allocator>(
+    alloc: &'a A,
+    code: u8,
+    name: &str,
+) -> Result<String<&'a A>, AllocError>
+    ensures { IfOk result (λ text. string_bytes text ≡ refused_text code name.now) }
+{
+    format!(in alloc; "refused {code} {name}\n")
+}
+
+/// Brings a command to its end, and returns the exit status: an answer is flushed, and a refusal is an error
+/// line.
+///
+/// The status is 0 only where the answer is `Done` and was flushed. After a write that failed nothing more is
+/// written.
+pub fn finish<O: Write, E: Write>(
+    outcome: Result<Answer, Refusal<'_>>,
+    out: &mut O,
+    err: &mut E,
+) -> u8
+    ensures { result ≡ 0 → outcome.entry ≡ Ok Answer.Done }
+{
+    match outcome {
+        Ok(Answer::Done) => status_after(out.flush(), DONE),
+        Ok(Answer::Refused) => status_after(out.flush(), REFUSED),
+        Err(Refusal::CannotWrite) => REFUSED,
+        Err(refusal) => refuse(refusal, err),
+    }
+}
+
+/// Writes the error line of a refusal, and returns the exit status.
+pub fn refuse<E: Write>(refusal: Refusal<'_>, err: &mut E) -> u8
+    ensures { result ≡ 1 }
+{
+    status_after(write_line(refusal, err), REFUSED)
+}
+
+fn write_line<E: Write>(refusal: Refusal<'_>, err: &mut E) -> io::Result<()> {
+    writeln!(err, "error: {refusal}")?;
+    err.flush()
+}
+
+/// The exit status where `written` is what came of the last writes: `status`, unless one failed.
+pub fn status_after(written: io::Result<()>, status: u8) -> u8
+    ensures { result ≡ (if is_ok written then status else 1) }
+{
+    match written {
+        Ok(()) => status,
+        Err(_) => REFUSED,
+    }
+}

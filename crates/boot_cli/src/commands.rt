@@ -1,0 +1,5 @@
+//! The commands, one in each module: each reads what its words name, and writes its answer.
+
+pub mod check;
+pub mod choose;
+pub mod image;

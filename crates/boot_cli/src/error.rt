@@ -1,0 +1,38 @@
+//! Why a command doesn't do what was asked.
+
+use crate::source::Source;
+use thiserror::Error;
+
+/// Why a command refuses. What is printed follows `error: ` on standard error.
+#[derive(Clone, Copy, Debug, Error)]
+pub enum Refusal<'a> {
+    /// The text is no table: the first line, counted from 1, that no table goes on from.
+    #[error("table line {0}")]
+    TableLine(usize),
+    /// The text is no report: the first line, counted from 1, that no report goes on from.
+    #[error("report line {0}")]
+    ReportLine(usize),
+    /// The running images of a table don't fit each other.
+    #[error("running set not valid")]
+    NotValid,
+    /// A file or standard input could not be read to its end.
+    #[error("cannot read {0}")]
+    CannotRead(Source<'a>),
+    /// Memory ran out.
+    #[error("memory")]
+    NoMemory,
+    /// The answer could not be written to its end. It is never printed: after a write that failed nothing is.
+    #[error("cannot write")]
+    CannotWrite,
+}
+
+/// Why a reader was not read to its end.
+#[derive(Clone, Copy, Debug, PartialEq, Eq, Error)]
+pub enum ReadError {
+    /// There is no memory for what it gives.
+    #[error("memory")]
+    NoMemory,
+    /// A read failed for another reason.
+    #[error("read failed")]
+    Failed,
+}
