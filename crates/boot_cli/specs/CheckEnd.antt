@@ -12,7 +12,7 @@ use Rattle.boot_cli.specs.declared.commands.check.CheckEnd.TheVariants.{Yes, No,
 
 -- The texts spell a table and a report that is right for it.
 pub record IsRightText (table_text report_text : List ℕ) (table : Table) (report : Report)
-  : Type 0 where
+    : Type 0 where
   pub table_spelled : IsTableText table_text table
   pub report_spelled : IsReportText report_text report
   pub right : IsRight table report
@@ -43,7 +43,7 @@ IsVerdict table_text report_text verdict =
 -- What a writer took, by how the check of these texts ended: the verdict, a beginning of it where a write
 -- failed, and else nothing.
 abbrev pub Judges :
-  CheckEnd → List ℕ → List ℕ → Option (List ℕ) → Option (List ℕ) → Type 0
+    CheckEnd → List ℕ → List ℕ → Option (List ℕ) → Option (List ℕ) → Type 0
 Judges Yes table report old new = AreRight table report × Appends old new yes_text
 Judges No table report old new = AreWrong table report × Appends old new no_text
 Judges (BadTable n) table report old new = IsFirstBadLine IsSomeTable table n × Keeps old new

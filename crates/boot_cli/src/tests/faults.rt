@@ -14,7 +14,8 @@ digest a3e71cf40711fbfbade5131cd38ef12419ade325218beabf515b5fa1df6d5c8c
 ";
 
 /// The usage fault of a command that isn't there.
-const UNKNOWN_COMMAND: &str = "error: unrecognized subcommand 'frob'\n\nUsage: bootswap [COMMAND]\n\nFor more information, try '--help'.\n";
+const UNKNOWN_COMMAND: &str =
+    "error: unrecognized subcommand 'frob'\n\nUsage: bootswap [COMMAND]\n\nFor more information, try '--help'.\n";
 
 /// Every command, with each way to end that reads all its input.
 const COMMANDS: [Case<'static>; 6] = [
@@ -120,10 +121,7 @@ fn expect_beginning(
 
 /// Asserts that each of these runs exits with status 1 where a write or a flush fails, at every place, and writes
 /// nothing more.
-fn expect_each_beginning(
-    rt: &(impl Abort + AllocGlobal),
-    cases: &[Case<'_>],
-) -> Result<(), Fail> {
+fn expect_each_beginning(rt: &(impl Abort + AllocGlobal), cases: &[Case<'_>]) -> Result<(), Fail> {
     let image = hex::decode(rt.alloc(), ONE)?;
     let files = files_with(image.as_slice());
     for case in cases {
@@ -173,7 +171,10 @@ fn a_heap_of_each_size_gives_the_whole_answer_or_none(rt: HostRuntime) -> Result
             let outcome = run_within(rt.alloc(), &heap, &mut host, case.words, AMPLE);
             is_answered = outcome.is(case.status, case.out, case.err);
             if !is_answered {
-                assert!(rt; outcome.is(1, "", "error: memory\n"), "{size} {case:?} {outcome:?}");
+                assert!(rt;
+                    outcome.is(1, "", "error: memory\n"),
+                    "{size} {case:?} {outcome:?}"
+                );
                 refused = refused.saturating_add(1);
             }
         }

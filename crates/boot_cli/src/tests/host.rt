@@ -4,8 +4,8 @@ ghost use Rattle.std.specs.Prelude.{Some};
 use crate::cli::cli;
 use crate::host::Host;
 use std::alloc::{Allocator, Global};
-use std::io::{ErrorKind, Read, Write};
 use std::io;
+use std::io::{ErrorKind, Read, Write};
 use std::process::Abort;
 
 /// A table of one image, for which nothing is requested.
@@ -190,15 +190,14 @@ pub struct Case<'a> {
 }
 
 /// Asserts that each of these runs over these files leaves what it has to.
-pub fn expect_each(
-    rt: &(impl Abort + AllocGlobal),
-    files: &[(&str, &[u8])],
-    cases: &[Case<'_>],
-) {
+pub fn expect_each(rt: &(impl Abort + AllocGlobal), files: &[(&str, &[u8])], cases: &[Case<'_>]) {
     for case in cases {
         let mut host = MemoryHost::new(files, case.input.as_bytes());
         let outcome = run(rt.alloc(), &mut host, case.words);
-        assert!(rt; outcome.is(case.status, case.out, case.err), "{case:?} {outcome:?}");
+        assert!(rt;
+            outcome.is(case.status, case.out, case.err),
+            "{case:?} {outcome:?}"
+        );
     }
 }
 

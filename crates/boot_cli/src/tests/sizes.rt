@@ -9,6 +9,7 @@ const BYTE_BY_BYTE: Limits = Limits { share: 1, ..AMPLE };
 
 /// The greatest version, and the one before it.
 const GREATEST: &str = "255.255.65535+4294967295";
+
 const ALMOST: &str = "255.255.65535+4294967294";
 
 /// Asserts that this run gives this answer, with status 0, to a writer that takes some bytes at a time and to
@@ -151,7 +152,8 @@ fn eight_refusals_of_every_reason(rt: HostRuntime) {
 
 /// The header of version 7.8.9+10 with a body of 4194307 bytes, and what follows the body of as many bytes `Z`.
 const LONG_HEAD: &str = "3db8f39600000000200000000300400000000000070809000a00000000000000";
-const LONG_TAIL: &str = 
+
+const LONG_TAIL: &str =
     "0769280010002000959b351f24e328aeda152a1f7cb19d2cc7e78d5dd8e5afdabc6b55d63dee11e8";
 
 #[test]

@@ -63,13 +63,18 @@ fn holds_at(table: &Table, refusals: &[Refusal], place: usize) -> bool {
         (Request::Entry(entry), Reason::Counter) => entry.counter < image.floor,
         (Request::Entry(entry), Reason::NoSuchImage(other)) => {
             table.images.get(other as usize).is_none()
-                && entry.dependencies.iter().any(|needed| needed.image == other)
+                && entry
+                    .dependencies
+                    .iter()
+                    .any(|needed| needed.image == other)
         }
         (Request::Entry(entry), Reason::Needs(other, minimum)) => {
-            let is_needed = |needed: &Dependency| needed.image == other && needed.minimum == minimum;
+            let is_needed = |needed: &Dependency| needed.image == other
+                && needed.minimum == minimum;
             entry.dependencies.iter().any(is_needed)
-                && best_version(table, refusals, place, other)
-                    .is_some_and(|best| !reaches(best, minimum))
+                && best_version(table, refusals, place, other).is_some_and(|best| !reaches(
+                    best, minimum,
+                ))
         }
         _ => false,
     }
@@ -77,12 +82,7 @@ fn holds_at(table: &Table, refusals: &[Refusal], place: usize) -> bool {
 
 /// The best version of an image that is still possible at a place of the refusals: of the refused request's own
 /// image the requested one, of any other the newer of what runs and of an intact request that isn't yet refused.
-fn best_version(
-    table: &Table,
-    refusals: &[Refusal],
-    place: usize,
-    number: u8,
-) -> Option<Version> {
+fn best_version(table: &Table, refusals: &[Refusal], place: usize, number: u8) -> Option<Version> {
     let image = table.images.get(number as usize)?;
     let running = image.running.version;
     let Request::Entry(entry) = &image.request else {

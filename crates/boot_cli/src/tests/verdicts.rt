@@ -10,6 +10,7 @@ use std::test::Fail;
 
 /// How many tables are made, and how many reports of each.
 const TABLES: u32 = 150;
+
 const REPORTS: u32 = 12;
 
 /// A report that takes this set, with a reason at random for each request that it leaves, in an order at random.
@@ -49,8 +50,10 @@ fn shuffled(random: &mut Random, refusals: ArrayVec<Refusal, 8>) -> ArrayVec<Ref
 fn reason_at_random(random: &mut Random, image: &Image) -> Reason {
     let kind = random.below(8);
     match &image.request {
-        Request::Entry(entry) => match (kind, entry.dependencies.get(usize::from(random.below(2))))
-        {
+        Request::Entry(entry) => match (
+            kind,
+            entry.dependencies.get(usize::from(random.below(2))),
+        ) {
             (0 | 1, _) => Reason::Older,
             (2, _) => Reason::Counter,
             (3 | 4, Some(needed)) => Reason::NoSuchImage(needed.image),
@@ -87,6 +90,9 @@ fn a_report_is_right_by_the_definition_alone(rt: HostRuntime) -> Result<(), Fail
             }
         }
     }
-    assert!(rt; valid >= 50 && right >= 50 && wrong >= 200, "{valid} {right} {wrong}");
+    assert!(rt;
+        valid >= 50 && right >= 50 && wrong >= 200,
+        "{valid} {right} {wrong}"
+    );
     Ok(())
 }

@@ -1,10 +1,9 @@
 //! What the program says of itself, and of words that it does not know.
 use super::host::{AMPLE, Case, LimitedWriter, MemoryHost, expect_each, run};
 use crate::cli::refuse_words;
-use std::io;
 use std::io::ErrorKind;
-use std::str;
 use std::test::Fail;
+use std::{io, str};
 
 /// A usage fault.
 const FAULT: Case<'static> = Case {
@@ -51,7 +50,11 @@ fn a_wrong_usage_is_told_by_the_parser_of_words(rt: HostRuntime) {
 #[test]
 fn control_characters_of_a_name_are_escaped(rt: HostRuntime) {
     let absent = Case {
-        words: &["bootswap", "choose", "a\nerror: \u{1b}[2J\t\u{7f}\u{85}é'\\"],
+        words: &[
+            "bootswap",
+            "choose",
+            "a\nerror: \u{1b}[2J\t\u{7f}\u{85}é'\\",
+        ],
         status: 1,
         err: "error: cannot read a\\nerror: \\u{1b}[2J\\t\\u{7f}\\u{85}é'\\\n",
         ..FAULT
@@ -87,11 +90,15 @@ fn words_that_cannot_be_had_are_refused(rt: HostRuntime) {
     ] {
         let mut err = LimitedWriter::new(rt.alloc(), AMPLE);
         let told = refuse_words(rt.alloc(), &io::Error::from(kind), &mut err);
-        assert!(rt; told == status && err.has(text.as_bytes()), "{told} {err:?}");
+        assert!(rt;
+            told == status && err.has(text.as_bytes()),
+            "{told} {err:?}"
+        );
     }
 }
 
 /// What a help has to say, in short and in full.
+#[derive(Clone, Copy)]
 struct Help {
     /// The words that ask for it.
     words: &'static [&'static str],
@@ -188,7 +195,10 @@ fn every_help_teaches_its_command(rt: HostRuntime) -> Result<(), Fail> {
         let outcome = run(rt.alloc(), &mut host, help.words);
         let text = str::from_utf8(outcome.out.taken.as_slice())?;
         assert!(rt; outcome.is(0, text, ""), "{outcome:?}");
-        assert!(rt; help.parts.iter().all(|part| text.contains(*part)), "{text}");
+        assert!(rt;
+            help.parts.iter().all(|part| text.contains(*part)),
+            "{text}"
+        );
         assert!(rt; text.lines().all(|line| line.len() <= 80), "{text}");
     }
     Ok(())

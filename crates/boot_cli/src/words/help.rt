@@ -1,6 +1,7 @@
 //! What the program says of itself. No line is longer than 80 columns.
 
-pub const ABOUT: &str = "Decides which requested images of a device may run together, and checks it";
+pub const ABOUT: &str =
+    "Decides which requested images of a device may run together, and checks it";
 
 pub const LONG_ABOUT: &str =
     "Decides which of the images that a device is asked to boot may run together.
@@ -125,10 +126,11 @@ Examples:
 
 pub const IMAGE_ABOUT: &str = "Checks an image and prints what it says of itself";
 
-pub const IMAGE_LONG_ABOUT: &str = "Reads an image of MCUboot's format, checks it, and prints what it says of itself:
-its version, length, security counter, digest and the images that it needs. The
-digest is checked; signatures aren't. What is printed of an image that needs
-another one:
+pub const IMAGE_LONG_ABOUT: &str =
+    "Reads an image of MCUboot's format, checks it, and prints what it says of
+itself: its version, length, security counter, digest and the images that it
+needs. The digest is checked; signatures aren't. What is printed of an image
+that needs another one:
   version 1.0.0+0
   length 104
   counter 5
