@@ -16,3 +16,19 @@ KeepsFiles old new = (name : List ℕ) → Keeps (old name) (new name)
 abbrev pub Gives : Source → Option (List ℕ) → (List ℕ → Option (List ℕ)) → List ℕ → Type 0
 Gives StandardInput input file bytes = IsKnownAs input bytes
 Gives (File name) input file bytes = IsKnownAs (file name.now) bytes
+
+-- These are the bytes of two sources that are read one after the other. What a file holds once standard input was
+-- read is not said.
+abbrev pub GiveBoth : Source → Source → Option (List ℕ) → (List ℕ → Option (List ℕ))
+    → List ℕ → List ℕ → Type 0
+GiveBoth StandardInput second input file first_bytes second_bytes =
+    Gives StandardInput input file first_bytes
+GiveBoth (File name) second input file first_bytes second_bytes =
+    Gives (File name) input file first_bytes × Gives second input file second_bytes
+
+-- What stays of a host where a source was read: all of it, where the source is a file.
+abbrev pub KeepsOthers : Source → Option (List ℕ) → (List ℕ → Option (List ℕ))
+    → Option (List ℕ) → (List ℕ → Option (List ℕ)) → Type 0
+KeepsOthers StandardInput input file new_input new_file = Unit {0}
+KeepsOthers (File name) input file new_input new_file =
+    Keeps input new_input × KeepsFiles file new_file

@@ -1,3 +1,4 @@
+pub mod AnswerEnd
 pub mod AnswerText
 pub mod CheckEnd
 pub mod ChooseEnd

@@ -1,5 +1,6 @@
 //! What comes of a command: its answer or its refusal, and the exit status.
 ghost use Rattle.std.specs.Prelude.{◌≡◌, IfOk, Ok, is_ok, if◌then◌else◌, string_bytes};
+ghost use Rattle.std.specs.Io.KnownBytes.{Keeps};
 ghost use Rattle.boot_cli.specs.AnswerText.{refused_text};
 
 use crate::error::Refusal;
@@ -34,7 +35,7 @@ pub fn refused_text<'a, A: Allocator>(
 }
 
 /// Brings a command to its end, and returns the exit status: an answer is flushed, and a refusal is an error
-/// line.
+/// line. Standard output holds what it held.
 ///
 /// The status is 0 only where the answer is `Done` and was flushed. After a write that failed nothing more is
 /// written.
@@ -43,7 +44,8 @@ pub fn finish<O: Write, E: Write>(
     out: &mut O,
     err: &mut E,
 ) -> u8
-    ensures { result ≡ 0 → outcome.entry ≡ Ok Answer.Done }
+    ensures status { result ≡ 0 → outcome.entry ≡ Ok Answer.Done }
+    ensures kept { Keeps (O.contents out.old) (O.contents out.new) }
 {
     match outcome {
         Ok(Answer::Done) => status_after(out.flush(), DONE),

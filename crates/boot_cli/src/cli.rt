@@ -1,4 +1,6 @@
 //! The command line: what the words ask for is done, and comes to an exit status.
+ghost use Rattle.std.specs.Prelude.{◌≡◌, IfOk};
+ghost use Rattle.boot_cli.specs.AnswerEnd.{AnswersTask};
 
 use crate::answer::{Answer, finish, refuse, status_after};
 use crate::commands::{check, choose, image};
@@ -31,10 +33,24 @@ pub fn cli<S: AsStr, A: Allocator, H: Host, O: Write, E: Write>(
     err: &mut E,
 ) -> u8 {
     match task_of(alloc, words) {
-        Ok(task) => finish(perform(heap, task, host, out), out, err),
+        Ok(task) => run_task(heap, task, host, out, err),
         Err(error) if error.use_stderr() => tell_fault(&fault_of(alloc, words, error), err),
         Err(error) => status_after(write_text(&error, out), HELPED),
     }
+}
+
+/// Runs the command of a task to its exit status: 0 only where the whole answer is written, and is a yes.
+pub fn run_task<A: Allocator, H: Host, O: Write, E: Write>(
+    heap: &A,
+    task: Task<'_>,
+    host: &mut H,
+    out: &mut O,
+    err: &mut E,
+) -> u8
+    ensures { result ≡ 0 → AnswersTask Answer.Done task.entry (H.input host.old) (H.file host.old)
+        (O.contents out.old) (O.contents out.new) }
+{
+    finish(perform(heap, task, host, out), out, err)
 }
 
 /// Runs the command of a task.
@@ -43,7 +59,10 @@ fn perform<'a, A: Allocator, H: Host, O: Write>(
     task: Task<'a>,
     host: &mut H,
     out: &mut O,
-) -> Result<Answer, Refusal<'a>> {
+) -> Result<Answer, Refusal<'a>>
+    ensures { IfOk result (λ answer. AnswersTask answer task.entry
+        (H.input host.old) (H.file host.old) (O.contents out.old) (O.contents out.new)) }
+{
     match task {
         Task::Choose(table) => choose::perform(heap, table, host, out),
         Task::Check { table, report } => check::perform(heap, table, report, host, out),

@@ -1,6 +1,6 @@
 //! Where a command's input comes from, as its words name it.
 ghost use Rattle.std.specs.Prelude.{IfOk};
-ghost use Rattle.boot_cli.specs.Input.{Gives};
+ghost use Rattle.boot_cli.specs.Input.{Gives, KeepsOthers};
 
 use crate::error::{ReadError, Refusal};
 use crate::escaped::Escaped;
@@ -43,8 +43,10 @@ impl<'a> Source<'a> {
         heap: &'h A,
         host: &mut H,
     ) -> Result<Vec<u8, &'h A>, Refusal<'a>>
-        ensures { IfOk result (λ bytes.
+        ensures bytes { IfOk result (λ bytes.
             Gives self.entry (H.input host.old) (H.file host.old) bytes.items) }
+        ensures others { KeepsOthers self.entry (H.input host.old) (H.file host.old)
+            (H.input host.new) (H.file host.new) }
     {
         match self {
             Source::StandardInput => {

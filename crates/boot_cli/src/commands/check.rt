@@ -1,5 +1,6 @@
 //! `bootswap check`: whether a report is right for a table.
-ghost use Rattle.std.specs.Prelude.{ℕ, List, OnOk};
+ghost use Rattle.std.specs.Prelude.{IfOk};
+ghost use Rattle.boot_cli.specs.AnswerEnd.{AnswersCheck};
 ghost use Rattle.boot_cli.specs.CheckEnd.{Judges};
 
 use crate::answer::Answer;
@@ -35,7 +36,10 @@ pub fn perform<'a, A: Allocator, H: Host, O: Write>(
     report: Source<'a>,
     host: &mut H,
     out: &mut O,
-) -> Result<Answer, Refusal<'a>> {
+) -> Result<Answer, Refusal<'a>>
+    ensures { IfOk result (λ answer. AnswersCheck answer table.entry report.entry
+        (H.input host.old) (H.file host.old) (O.contents out.old) (O.contents out.new)) }
+{
     let table = table.read(heap, host)?;
     if let Err(bad) = Table::parse(&table) {
         return Err(Refusal::TableLine(bad.0));

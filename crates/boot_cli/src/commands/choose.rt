@@ -1,7 +1,7 @@
 //! `bootswap choose`: the choice over a table, whose report is written.
-ghost use Rattle.std.specs.Prelude.{◌≢◌, ℕ, List, OnOk};
+ghost use Rattle.std.specs.Prelude.{◌≢◌, ℕ, List, IfOk};
+ghost use Rattle.boot_cli.specs.AnswerEnd.{AnswersChoice};
 ghost use Rattle.boot_cli.specs.ChooseEnd.{Reads, Writes};
-ghost use Rattle.boot_cli.specs.Input.{Gives};
 
 use crate::answer::Answer;
 use crate::error::{ReadError, Refusal};
@@ -37,9 +37,8 @@ pub fn perform<'a, A: Allocator, H: Host, O: Write>(
     host: &mut H,
     out: &mut O,
 ) -> Result<Answer, Refusal<'a>>
-    ensures { OnOk result ((bytes : List ℕ)
-        × Gives table.entry (H.input host.old) (H.file host.old) bytes
-        × Writes ChooseEnd.Done bytes (O.contents out.old) (O.contents out.new)) }
+    ensures { IfOk result (λ answer. AnswersChoice answer table.entry
+        (H.input host.old) (H.file host.old) (O.contents out.old) (O.contents out.new)) }
 {
     let end = match table {
         Source::StandardInput => choose_over(heap, &mut StandardInput(host), out),

@@ -2,6 +2,7 @@
 ghost use Rattle.std.specs.Fmt.{WritesOnOk};
 ghost use Rattle.std.specs.Prelude.{◌≡◌, IfOk, Some, string_bytes};
 ghost use Rattle.std.specs.List.{flat_map};
+ghost use Rattle.boot_cli.specs.AnswerEnd.{AnswersDescription};
 ghost use Rattle.boot_cli.specs.DescribeEnd.{Tells};
 ghost use Rattle.boot_cli.specs.ImageText.{described_text, description_text, needs_text, refusal_text};
 
@@ -36,7 +37,10 @@ pub fn perform<'a, A: Allocator, H: Host, O: Write>(
     image: Source<'a>,
     host: &mut H,
     out: &mut O,
-) -> Result<Answer, Refusal<'a>> {
+) -> Result<Answer, Refusal<'a>>
+    ensures { IfOk result (λ answer. AnswersDescription answer image.entry
+        (H.input host.old) (H.file host.old) (O.contents out.old) (O.contents out.new)) }
+{
     let bytes = image.read(heap, host)?;
     match describe_over(heap, &bytes, out) {
         DescribeEnd::Done => Ok(Answer::Done),

@@ -1,5 +1,5 @@
 //! Memory that runs out, and reads, writes and flushes that fail, for every command.
-use super::host::{AMPLE, Case, Limits, MemoryHost, ONE_IMAGE, ONE_IMAGE_RUNS, run_within};
+use super::host::{AMPLE, Case, Files, Limits, MemoryHost, ONE_IMAGE, ONE_IMAGE_RUNS, run_within};
 use super::image_bytes::ONE;
 use linked_list_allocator::LocalHeap;
 use std::io::ErrorKind;
@@ -105,7 +105,7 @@ fn front(text: &str, count: usize) -> &[u8] {
 /// to write as there is room for, and nothing else.
 fn expect_beginning(
     rt: &(impl Abort + AllocGlobal),
-    files: &[(&str, &[u8])],
+    files: Files<'_>,
     case: &Case<'_>,
     limits: Limits,
 ) {
@@ -144,7 +144,7 @@ fn expect_each_beginning(rt: &(impl Abort + AllocGlobal), cases: &[Case<'_>]) ->
 }
 
 /// The files that the commands name.
-fn files_with<'a>(image: &'a [u8]) -> [(&'a str, &'a [u8]); 3] {
+fn files_with(image: &[u8]) -> [(&str, &[u8]); 3] {
     [
         ("table.txt", ONE_IMAGE.as_bytes()),
         ("other.txt", b"run 0 1.0.0+1\n".as_slice()),

@@ -14,22 +14,25 @@ pub const ONE_IMAGE: &str = "image 0 1.0.0 0 0\n";
 /// The report of the choice over that table.
 pub const ONE_IMAGE_RUNS: &str = "run 0 1.0.0+0\n";
 
+/// The names and bytes of files.
+pub type Files<'f> = &'f [(&'f str, &'f [u8])];
+
 /// A host with its files and its standard input in memory. Every other read is interrupted.
 #[derive(Drop)]
-pub struct MemoryHost<'a> {
-    /// The names and bytes of the files.
-    pub files: &'a [(&'a str, &'a [u8])],
+pub struct MemoryHost<'f, 'i> {
+    /// The files.
+    pub files: Files<'f>,
     /// What standard input has left to give.
-    pub input: &'a [u8],
+    pub input: &'i [u8],
     /// The error that comes when standard input has nothing left, in place of its end.
     pub failure: Option<ErrorKind>,
     /// Whether the read before was interrupted.
     pub was_interrupted: bool,
 }
 
-impl<'a> MemoryHost<'a> {
+impl<'f, 'i> MemoryHost<'f, 'i> {
     /// These files, and a standard input of these bytes.
-    pub fn new(files: &'a [(&'a str, &'a [u8])], input: &'a [u8]) -> Self {
+    pub fn new(files: Files<'f>, input: &'i [u8]) -> Self {
         MemoryHost {
             files,
             input,
@@ -39,7 +42,7 @@ impl<'a> MemoryHost<'a> {
     }
 }
 
-impl Host for MemoryHost<'_> {
+impl Host for MemoryHost<'_, '_> {
     ghost input = { λ host. Some host.input.now };
 
     fn read_file<A: Allocator>(&mut self, alloc: A, name: &str) -> io::Result<Vec<u8, A>> {
@@ -156,7 +159,7 @@ impl Outcome {
 }
 
 /// Runs the program with these words, the program's own name first, where memory and room are ample.
-pub fn run(alloc: Global, host: &mut MemoryHost<'_>, words: &[&str]) -> Outcome {
+pub fn run(alloc: Global, host: &mut MemoryHost<'_, '_>, words: &[&str]) -> Outcome {
     run_within(alloc, &alloc, host, words, AMPLE)
 }
 
@@ -164,7 +167,7 @@ pub fn run(alloc: Global, host: &mut MemoryHost<'_>, words: &[&str]) -> Outcome 
 pub fn run_within<A: Allocator>(
     alloc: Global,
     heap: &A,
-    host: &mut MemoryHost<'_>,
+    host: &mut MemoryHost<'_, '_>,
     words: &[&str],
     limits: Limits,
 ) -> Outcome {
@@ -190,7 +193,7 @@ pub struct Case<'a> {
 }
 
 /// Asserts that each of these runs over these files leaves what it has to.
-pub fn expect_each(rt: &(impl Abort + AllocGlobal), files: &[(&str, &[u8])], cases: &[Case<'_>]) {
+pub fn expect_each(rt: &(impl Abort + AllocGlobal), files: Files<'_>, cases: &[Case<'_>]) {
     for case in cases {
         let mut host = MemoryHost::new(files, case.input.as_bytes());
         let outcome = run(rt.alloc(), &mut host, case.words);

@@ -1,5 +1,5 @@
 //! Answers of the greatest size: every limit of a table at once, and an image of several megabytes.
-use super::host::{AMPLE, Limits, MemoryHost, run_within};
+use super::host::{AMPLE, Files, Limits, MemoryHost, run_within};
 use std::alloc::{AllocError, Global};
 use std::process::Abort;
 use std::test::Fail;
@@ -14,12 +14,7 @@ const ALMOST: &str = "255.255.65535+4294967294";
 
 /// Asserts that this run gives this answer, with status 0, to a writer that takes some bytes at a time and to
 /// one that takes one.
-fn expect_answer(
-    rt: &(impl Abort + AllocGlobal),
-    files: &[(&str, &[u8])],
-    words: &[&str],
-    answer: &str,
-) {
+fn expect_answer(rt: &(impl Abort + AllocGlobal), files: Files<'_>, words: &[&str], answer: &str) {
     for limits in [AMPLE, BYTE_BY_BYTE] {
         let mut host = MemoryHost::new(files, b"");
         let outcome = run_within(rt.alloc(), &rt.alloc(), &mut host, words, limits);

@@ -39,8 +39,9 @@ fn shuffled(random: &mut Random, refusals: ArrayVec<Refusal, 8>) -> ArrayVec<Ref
     let mut refusals = refusals;
     for place in 0..refusals.len() {
         let other = usize::from(random.below(8));
-        if other < refusals.len() {
-            refusals.as_mut_slice().swap(place, other);
+        let listed = refusals.as_mut_slice();
+        if place < listed.len() && other < listed.len() {
+            listed.swap(place, other);
         }
     }
     refusals
