@@ -3,7 +3,7 @@ use Rattle.std.specs.Prelude.{◌≡◌, ◌⊎◌, ℕ, List, [], ◌∷◌, �
 use Rattle.std.specs.Io.KnownBytes.{Keeps, Appends}
 use Rattle.certificate.specs.declared.table.Table.{Table}
 use Rattle.certificate.specs.declared.report.Report.{Report}
-use Rattle.certificate.specs.Lines.{IsFirstBadLine}
+use Rattle.common.specs.Lines.{IsFirstBadLine}
 use Rattle.certificate.specs.TableText.{IsTableText, IsSomeTable}
 use Rattle.certificate.specs.ReportText.{IsReportText, IsSomeReport}
 use Rattle.certificate.specs.Rightness.{IsRight}
