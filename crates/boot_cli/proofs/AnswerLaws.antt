@@ -14,8 +14,10 @@ use Rattle.boot_cli.specs.DescribeEnd.{Tells}
 use Rattle.boot_cli.specs.Input.{Gives, GiveBoth, IsKnownAs, KeepsFiles, KeepsOthers}
 
 -- a flush after the answer changes nothing
-pub AnswersTask-kept : (asked : Task) (input : Option (List ℕ)) (file : FileBytes) (old mid new : Option (List ℕ))
-    → AnswersTask Done asked input file old mid → Keeps mid new → AnswersTask Done asked input file old new
+pub AnswersTask-kept : (asked : Task) (input : Option (List ℕ)) (file : FileBytes)
+    (old mid new : Option (List ℕ))
+    → AnswersTask Done asked input file old mid → Keeps mid new
+    → AnswersTask Done asked input file old new
 AnswersTask-kept (task.Choose table) input file old mid new answered kept =
     let written = answered.2 in
     (answered.0, answered.1, (written.0, written.1, written.2, Appends-kept old mid new _ written.3 kept))
@@ -27,21 +29,24 @@ AnswersTask-kept (task.Image image) input file old mid new answered kept =
     (answered.0, answered.1, (told.0, told.1, Appends-kept old mid new _ told.2 kept))
 
 -- known bytes that were kept are those that were known before
-pub IsKnownAs-kept : (old new : Option (List ℕ)) (bytes : List ℕ) → Keeps old new → IsKnownAs new bytes → IsKnownAs old bytes
+pub IsKnownAs-kept : (old new : Option (List ℕ)) (bytes : List ℕ)
+    → Keeps old new → IsKnownAs new bytes → IsKnownAs old bytes
 IsKnownAs-kept None new bytes kept known = tt
 IsKnownAs-kept (Some xs) None bytes kept known = absurd kept
 IsKnownAs-kept (Some xs) (Some ys) bytes kept known = known ∙ kept
 
 -- what a source gives after a read that kept it, it gave before
-pub Gives-kept : (source : Source) (input new_input : Option (List ℕ)) (file new_file : FileBytes) (bytes : List ℕ)
-    → Keeps input new_input → KeepsFiles file new_file → Gives source new_input new_file bytes → Gives source input file bytes
+pub Gives-kept : (source : Source) (input new_input : Option (List ℕ)) (file new_file : FileBytes)
+    (bytes : List ℕ) → Keeps input new_input → KeepsFiles file new_file
+    → Gives source new_input new_file bytes → Gives source input file bytes
 Gives-kept StandardInput input new_input file new_file bytes input_kept files_kept given =
     IsKnownAs-kept input new_input bytes input_kept given
 Gives-kept (File name) input new_input file new_file bytes input_kept files_kept given =
     IsKnownAs-kept (file name.now) (new_file name.now) bytes (files_kept name.now) given
 
 -- two sources, read one after the other
-pub GiveBoth-read : (first second : Source) (input mid_input : Option (List ℕ)) (file mid_file : FileBytes) (bytes more : List ℕ)
+pub GiveBoth-read : (first second : Source) (input mid_input : Option (List ℕ))
+    (file mid_file : FileBytes) (bytes more : List ℕ)
     → Gives first input file bytes → KeepsOthers first input file mid_input mid_file
     → Gives second mid_input mid_file more → GiveBoth first second input file bytes more
 GiveBoth-read StandardInput second input mid_input file mid_file bytes more given kept then = given
@@ -49,7 +54,8 @@ GiveBoth-read (File name) second input mid_input file mid_file bytes more given 
     (given, Gives-kept second input mid_input file mid_file more kept.0 kept.1 then)
 
 -- the end of a description is that of the answer
-pub Tells-answer : (answer : Answer) (end : DescribeEnd) (shown bytes : List ℕ) (old new : Option (List ℕ))
-    → end ≡ description_end answer → shown ≡ bytes → Tells end shown old new → Tells (description_end answer) bytes old new
+pub Tells-answer : (answer : Answer) (end : DescribeEnd) (shown bytes : List ℕ)
+    (old new : Option (List ℕ)) → end ≡ description_end answer → shown ≡ bytes
+    → Tells end shown old new → Tells (description_end answer) bytes old new
 Tells-answer answer end shown bytes old new ends same told =
     subst (λ e. Tells e bytes old new) ends (subst (λ b. Tells end b old new) same told)

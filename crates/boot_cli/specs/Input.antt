@@ -17,8 +17,8 @@ abbrev pub Gives : Source → Option (List ℕ) → (List ℕ → Option (List �
 Gives StandardInput input file bytes = IsKnownAs input bytes
 Gives (File name) input file bytes = IsKnownAs (file name.now) bytes
 
--- These are the bytes of two sources that are read one after the other. What a file holds once standard input was
--- read is not said.
+-- These are the bytes of two sources that are read one after the other. What a file holds once standard
+-- input was read is not said.
 abbrev pub GiveBoth : Source → Source → Option (List ℕ) → (List ℕ → Option (List ℕ))
     → List ℕ → List ℕ → Type 0
 GiveBoth StandardInput second input file first_bytes second_bytes =

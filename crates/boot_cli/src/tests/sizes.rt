@@ -4,7 +4,7 @@ use std::alloc::{AllocError, Global};
 use std::process::Abort;
 use std::test::Fail;
 
-/// An outcome's writer that takes one byte at a time.
+/// A writer that takes one byte at a time.
 const BYTE_BY_BYTE: Limits = Limits { share: 1, ..AMPLE };
 
 /// The greatest version, and the one before it.
@@ -14,9 +14,15 @@ const ALMOST: &str = "255.255.65535+4294967294";
 
 /// Asserts that this run gives this answer, with status 0, to a writer that takes some bytes at a time and to
 /// one that takes one.
-fn expect_answer(rt: &(impl Abort + AllocGlobal), files: Files<'_>, words: &[&str], answer: &str) {
+fn expect_answer(
+    rt: &(impl Abort + AllocGlobal),
+    files: Files<'_>,
+    input: &str,
+    words: &[&str],
+    answer: &str,
+) {
     for limits in [AMPLE, BYTE_BY_BYTE] {
-        let mut host = MemoryHost::new(files, b"");
+        let mut host = MemoryHost::new(files, input.as_bytes());
         let outcome = run_within(rt.alloc(), &rt.alloc(), &mut host, words, limits);
         assert!(rt; outcome.is(0, answer, ""), "{outcome:?}");
     }
@@ -84,10 +90,14 @@ fn every_limit_of_a_table_at_once(rt: HostRuntime) -> Result<(), Fail> {
             ("table.txt", table.as_bytes()),
             ("report.txt", report.as_bytes()),
         ];
-        let choose = ["bootswap", "choose", "table.txt"];
-        expect_answer(&rt, files.as_slice(), &choose, report);
-        let check = ["bootswap", "check", "table.txt", "report.txt"];
-        expect_answer(&rt, files.as_slice(), &check, "yes\n");
+        for words in [
+            ["bootswap"].as_slice(),
+            ["bootswap", "choose", "table.txt"].as_slice(),
+        ] {
+            expect_answer(&rt, files.as_slice(), &table, words, report);
+        }
+        let check = ["bootswap", "check", "-", "report.txt"];
+        expect_answer(&rt, files.as_slice(), &table, &check, "yes\n");
     }
     Ok(())
 }
@@ -140,9 +150,9 @@ fn eight_refusals_of_every_reason(rt: HostRuntime) {
         ("report.txt", EVERY_REASON_REPORTED.as_bytes()),
     ];
     let choose = ["bootswap", "choose", "table.txt"];
-    expect_answer(&rt, files.as_slice(), &choose, EVERY_REASON_REPORTED);
+    expect_answer(&rt, files.as_slice(), "", &choose, EVERY_REASON_REPORTED);
     let check = ["bootswap", "check", "table.txt", "report.txt"];
-    expect_answer(&rt, files.as_slice(), &check, "yes\n");
+    expect_answer(&rt, files.as_slice(), "", &check, "yes\n");
 }
 
 /// The header of version 7.8.9+10 with a body of 4194307 bytes, and what follows the body of as many bytes `Z`.
