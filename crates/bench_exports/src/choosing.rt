@@ -1,12 +1,7 @@
 //! Tables: which requests are taken, and whether a report is right.
 
 ghost use Rattle.std.specs.Prelude.{◌≡◌, ◌↔◌, ◌<◌, ◌≤◌, ◌^◌, IsTrue, length};
-ghost use Rattle.certificate.specs.Rightness.{IsRight};
-ghost use Rattle.certificate.specs.TableText.{IsTableText};
-ghost use Rattle.certificate.specs.ReportText.{IsReportText};
-ghost use Rattle.certificate.specs.declared.table.Table.{Table};
-ghost use Rattle.certificate.specs.declared.report.Report.{Report};
-ghost use Rattle.bootswap_c.specs.Answers.{IsChooseAnswer, taken_mask};
+ghost use Rattle.bench_exports.specs.Answers.{IsChooseAnswer, IsRightText, taken_mask};
 
 use certificate::{Report, ReportedImage, Table, check, is_valid};
 use chooser::choose;
@@ -19,9 +14,9 @@ const NOT_VALID: u64 = (1 << 63) + 1;
 
 /// The choice among the requests of the table that a text spells: in the lowest eight bits, from the lowest on,
 /// which images' requests are taken, and above them the number of refusals; below 2^12. It is 2^63 where the
-/// text spells no table, and 2^63 + 1 where the running images don't fit each other. Takes no memory.
+/// text spells no table, and 2^63 + 1 where the running images don't fit each other. Does not allocate.
 #[unsafe(no_mangle)]
-pub extern "C" fn bootswap_choose(text: &[u8]) -> u64
+pub extern "C" fn bench_choose(text: &[u8]) -> u64
     ensures { IsChooseAnswer text.now result }
 {
     let Ok(table) = Table::parse(text) else {
@@ -37,10 +32,10 @@ pub extern "C" fn bootswap_choose(text: &[u8]) -> u64
 }
 
 /// Whether the texts spell a table and a report that is right for it; no also where either spells nothing.
-/// Takes no memory.
+/// Does not allocate.
 #[unsafe(no_mangle)]
-pub extern "C" fn bootswap_check(table: &[u8], report: &[u8]) -> bool
-    ensures { IsTrue result ↔ ((told : Table) × (answered : Report) × IsTableText table.now told × IsReportText report.now answered × IsRight told answered) }
+pub extern "C" fn bench_check(table: &[u8], report: &[u8]) -> bool
+    ensures { IsTrue result ↔ IsRightText table.now report.now }
 {
     match (Table::parse(table), Report::parse(report)) {
         (Ok(table), Ok(report)) => check(&table, &report),

@@ -1,7 +1,7 @@
 use Rattle.std.proofs.Common.{◌+◌, ◌∙◌, ap, rules}
-use Rattle.bootswap_c.specs.Answers.{IsDescribeAnswer}
-use Rattle.bootswap_c.proofs.Lengths.{length-intact}
-use Rattle.bootswap_c.proofs.describing.bootswap_describe.Goals as goal
+use Rattle.bench_exports.specs.Answers.{IsDescribeAnswer}
+use Rattle.bench_exports.proofs.Lengths.{length-intact}
+use Rattle.bench_exports.proofs.describing.bench_describe.Goals as goal
 
 pub returns-in-Ok-clause-answer : goal.returns-in-Ok-clause-answer
 returns-in-Ok-clause-answer c = IsDescribeAnswer.intact c.in-Ok.field-0 c.in-Ok.ensures.described (length-intact c.args.bytes.now c.in-Ok.field-0 c.in-Ok.ensures.described) (search (rules, c.well_formed))

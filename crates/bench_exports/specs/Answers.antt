@@ -12,11 +12,14 @@ use Rattle.certificate.specs.Combination.{IsValid, running_set}
 use Rattle.certificate.specs.Rightness.{IsRight, once_if}
 use Rattle.certificate.specs.StandardOrder.{IsInStandardOrder}
 use Rattle.certificate.specs.TableText.{IsTableText, IsSomeTable}
+use Rattle.certificate.specs.ReportText.{IsReportText}
 
 -- What the answer to bytes says: the length of the intact image that they are, or the first check that fails.
 pub data IsDescribeAnswer (bytes : List ℕ) (answer : ℕ) : Type 0 where
-  intact : (description : Desc) → IsIntact bytes description → answer ≡ description.length → answer < 2 ^ 63 → IsDescribeAnswer bytes answer
-  refused : (fault : ImageError) → IsFirstFault bytes fault → answer ≡ 2 ^ 63 + code_of fault → IsDescribeAnswer bytes answer
+  intact : (description : Desc) → IsIntact bytes description
+      → answer ≡ description.length → answer < 2 ^ 63 → IsDescribeAnswer bytes answer
+  refused : (fault : ImageError) → IsFirstFault bytes fault
+      → answer ≡ 2 ^ 63 + code_of fault → IsDescribeAnswer bytes answer
 
 -- The number whose bit j says whether the request of the j-th image is taken.
 abbrev pub taken_mask : List ReportedImage → ℕ
@@ -30,7 +33,15 @@ report_number report = taken_mask report.images.items + 256 * length report.refu
 -- What the answer to a text says: the right report for the table that it spells, that it spells none, or that
 -- the running images of the table don't fit each other.
 pub data IsChooseAnswer (text : List ℕ) (answer : ℕ) : Type 0 where
-  chosen : (table : Table) (report : Report) → IsTableText text table → IsValid table running_set → IsRight table report → IsInStandardOrder table report.refusals.items
+  chosen : (table : Table) (report : Report) → IsTableText text table → IsValid table running_set
+      → IsRight table report → IsInStandardOrder table report.refusals.items
       → answer ≡ report_number report → answer < 2 ^ 12 → IsChooseAnswer text answer
   no_table : (IsSomeTable text → ⊥) → answer ≡ 2 ^ 63 → IsChooseAnswer text answer
-  not_valid : (table : Table) → IsTableText text table → (IsValid table running_set → ⊥) → answer ≡ 2 ^ 63 + 1 → IsChooseAnswer text answer
+  not_valid : (table : Table) → IsTableText text table → (IsValid table running_set → ⊥)
+      → answer ≡ 2 ^ 63 + 1 → IsChooseAnswer text answer
+
+-- The texts spell a table and a report that is right for it.
+abbrev pub IsRightText : List ℕ → List ℕ → Type 0
+IsRightText table report =
+    (told : Table) × (answered : Report)
+    × IsTableText table told × IsReportText report answered × IsRight told answered

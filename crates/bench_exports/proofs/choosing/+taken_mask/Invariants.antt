@@ -1,5 +1,5 @@
 use Rattle.std.proofs.Common.{length}
-use Rattle.bootswap_c.proofs.choosing.+taken_mask.Given as goal
+use Rattle.bench_exports.proofs.choosing.+taken_mask.Given as goal
 
 abbrev pub decreases-taken_mask : goal.decreases-taken_mask
 decreases-taken_mask l = length l.images.now

@@ -5,7 +5,7 @@ ghost use Rattle.byteorder.specs.Endian.{big_number};
 ghost use Rattle.sha2.specs.Sha256.{sha256};
 ghost use Rattle.tlv.specs.Image.{IsIntact};
 ghost use Rattle.tlv.specs.declared.desc.Desc.{Desc};
-ghost use Rattle.bootswap_c.specs.Answers.{IsDescribeAnswer};
+ghost use Rattle.bench_exports.specs.Answers.{IsDescribeAnswer};
 
 use byteorder::{BigEndian, ByteOrder};
 use sha2::{Digest, Sha256};
@@ -15,9 +15,9 @@ use tlv::describe;
 const REFUSED: u64 = 1 << 63;
 
 /// Whether bytes are an intact image: its length in bytes, which is below 2^63, where they are one, else 2^63 and
-/// the number, 1 to 14, of the first check that fails. Takes no memory.
+/// the number, 1 to 14, of the first check that fails. Does not allocate.
 #[unsafe(no_mangle)]
-pub extern "C" fn bootswap_describe(bytes: &[u8]) -> u64
+pub extern "C" fn bench_describe(bytes: &[u8]) -> u64
     // What the answer says of the bytes.
     ensures answer { IsDescribeAnswer bytes.now result }
     // Each intact image is answered by its length.
@@ -30,9 +30,9 @@ pub extern "C" fn bootswap_describe(bytes: &[u8]) -> u64
     }
 }
 
-/// The first eight bytes of the SHA-256 of bytes, as a number, the highest byte first. Takes no memory.
+/// The first eight bytes of the SHA-256 of bytes, as a number, the highest byte first. Does not allocate.
 #[unsafe(no_mangle)]
-pub extern "C" fn bootswap_digest(bytes: &[u8]) -> u64
+pub extern "C" fn bench_digest(bytes: &[u8]) -> u64
     ensures { result ≡ big_number 8 (sha256 bytes.now) }
 {
     BigEndian::read_u64(&Sha256::digest(bytes))

@@ -1,7 +1,7 @@
 use Rattle.std.proofs.Common.{◌≡◌, ◌+◌, ◌*◌, ◌∙◌, length, ap, rules, true, false}
-use Rattle.bootswap_c.specs.Answers.{IsChooseAnswer, taken_mask}
-use Rattle.bootswap_c.proofs.Numbers.{mask_and_count_fit}
-use Rattle.bootswap_c.proofs.choosing.bootswap_choose.Goals as goal
+use Rattle.bench_exports.specs.Answers.{IsChooseAnswer, taken_mask}
+use Rattle.bench_exports.proofs.Numbers.{mask_and_count_fit}
+use Rattle.bench_exports.proofs.choosing.bench_choose.Goals as goal
 
 pub returns-then-not-is_valid : goal.returns-then-not-is_valid
 returns-then-not-is_valid c = IsChooseAnswer.not_valid c.in-Ok.table c.in-Ok.ensures.spelled (λ valid. let is : false ≡ true = c.if-not-is_valid.ensures.1 valid in absurd cc) (λ i. 9223372036854775809)
