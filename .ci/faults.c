@@ -1,0 +1,67 @@
+/* Loaded before a program, makes one of its calls go wrong: of the reads and writes (FAULT=fail, or FAULT=short, after
+   which the call moves one byte at most) or of the allocations (FAULT=memory) the one whose number is FAULT_AT. When the
+   program ends, the number of those calls is written to the file FAULT_COUNT. `./gate --faults` compiles and uses it. */
+#define _GNU_SOURCE
+#include <errno.h>
+#include <stdio.h>
+#include <stdlib.h>
+#include <string.h>
+#include <sys/syscall.h>
+#include <unistd.h>
+
+extern void *__libc_malloc(size_t size);
+extern void *__libc_realloc(void *old, size_t size);
+
+static long calls;
+
+static int is_asked(const char *fault) {
+    const char *asked = getenv("FAULT");
+    return asked && strcmp(asked, fault) == 0;
+}
+
+/* Counts a call, and says whether it is the one that is to go wrong. */
+static int is_now(void) {
+    const char *at = getenv("FAULT_AT");
+    calls++;
+    return at && atol(at) == calls;
+}
+
+static ssize_t moved(long call, int file, const void *bytes, size_t length) {
+    if ((is_asked("fail") || is_asked("short")) && is_now()) {
+        if (is_asked("fail")) {
+            errno = EIO;
+            return -1;
+        }
+        length = length ? 1 : 0;
+    }
+    return syscall(call, file, bytes, length);
+}
+
+ssize_t read(int file, void *bytes, size_t length) { return moved(SYS_read, file, bytes, length); }
+
+ssize_t write(int file, const void *bytes, size_t length) { return moved(SYS_write, file, bytes, length); }
+
+ssize_t __write(int file, const void *bytes, size_t length) { return moved(SYS_write, file, bytes, length); }
+
+static int has_no_memory(void) {
+    if (is_asked("memory") && is_now()) {
+        errno = ENOMEM;
+        return 1;
+    }
+    return 0;
+}
+
+void *malloc(size_t size) { return has_no_memory() ? NULL : __libc_malloc(size); }
+
+void *realloc(void *old, size_t size) { return has_no_memory() ? NULL : __libc_realloc(old, size); }
+
+__attribute__((destructor)) static void tell(void) {
+    const char *name = getenv("FAULT_COUNT");
+    long counted = calls;
+    FILE *file;
+    unsetenv("FAULT");
+    if (name && (file = fopen(name, "w"))) {
+        fprintf(file, "%ld\n", counted);
+        fclose(file);
+    }
+}
