@@ -5,6 +5,7 @@ ghost use Rattle.bench_exports.specs.Answers.{IsChooseAnswer, IsRightText, taken
 
 use certificate::{Report, ReportedImage, Table, check, is_valid};
 use chooser::choose;
+use common::limits::MOST_IMAGES;
 
 /// The answer to a text that is no table.
 const NO_TABLE: u64 = 1 << 63;
@@ -26,8 +27,8 @@ pub extern "C" fn bench_choose(text: &[u8]) -> u64
         return NOT_VALID;
     }
     let report = choose(&table);
-    prove!(report.images.len() <= 8);
-    prove!(report.refusals.len() <= 8);
+    prove!(report.images.len() <= MOST_IMAGES);
+    prove!(report.refusals.len() <= MOST_IMAGES);
     taken_mask(&report.images) + 256 * report.refusals.len() as u64
 }
 
@@ -45,7 +46,7 @@ pub extern "C" fn bench_check(table: &[u8], report: &[u8]) -> bool
 
 // The number whose bit j says whether the request of the j-th of these images is taken.
 fn taken_mask(images: &[ReportedImage]) -> u64
-    requires { length images.now ≤ 8 }
+    requires { length images.now ≤ MOST_IMAGES }
     ensures mask { result ≡ taken_mask images.now }
     ensures fits { result < 2 ^ length images.now }
 {
