@@ -4,7 +4,7 @@
 //! Promises: an area is walked entry by entry; a file is described exactly where its bytes are an intact image,
 //! and its description ([`Desc`]) lists what that image says of itself; each refusal is the first check that
 //! fails; of the values that an image is to have ([`ImageSpec`]) the intact image is made that has them. Does not
-//! allocate but to make an image. `boot_cli` and `bootswap_c` call it.
+//! allocate but to make an image. `boot_cli` and `bench_exports` call it.
 #![tactic(auto)]
 
 mod desc;
