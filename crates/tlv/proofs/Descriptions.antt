@@ -19,9 +19,9 @@ use Rattle.tlv.specs.declared.desc.Desc.{Desc}
 use Rattle.tlv.specs.declared.error.ImageError.{ImageError}
 use Rattle.tlv.specs.declared.error.ImageError.TheVariants.{NoDigest, TwoDigests, BadDigest, BadDependency, TooManyDependencies, TrailingBytes, BadCounter}
 use Rattle.tlv.specs.declared.front.Front.{Front}
-use Rattle.tlv.specs.Area.{Entry, values_of}
+use Rattle.tlv.specs.Area.{values_of}
 use Rattle.tlv.specs.Fault.{IsEntryFault, IsFirstFault}
-use Rattle.tlv.specs.Fields.{FitsDependency, HasBadCounter, IsCounterFault, IsDependencyFault, IsDigestFault, SpellCounter, SpellDependencies, SpellDigest, counter_bytes, counter_kind, dependency_bytes, dependency_kind, digest_kind}
+use Rattle.tlv.specs.Fields.{FitsDependency, IsCounterFault, IsDependencyFault, IsDigestFault, SpellCounter, SpellDependencies, SpellDigest, counter_bytes, counter_kind, dependency_bytes, dependency_kind, digest_kind}
 use Rattle.tlv.specs.Front.{IsFrontOf}
 use Rattle.tlv.specs.Image.{BeginsWithImage, Describes, Image, IsIntact, PassesCounter, PassesDependencyCount, PassesDigest, PassesEntries, counter_values, dependency_values, digest_values, hashed_bytes}
 use Rattle.tlv.specs.Reading.{entries_of, values_read}

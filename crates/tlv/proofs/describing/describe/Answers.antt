@@ -1,4 +1,4 @@
-use Rattle.std.proofs.Common.{◌≤◌, length, Err, Ok, ap}
+use Rattle.std.proofs.Common.{Err, Ok, ap}
 use Rattle.common.proofs.Results.{IfErr-passed}
 use Rattle.tlv.specs.declared.desc.Desc.{Desc}
 use Rattle.tlv.specs.declared.error.ImageError.{ImageError}
