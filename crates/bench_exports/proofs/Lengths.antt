@@ -7,5 +7,5 @@ use Rattle.tlv.specs.Image.{IsIntact, image_bytes}
 pub length-intact : (bytes : List ℕ) (description : Desc) → IsIntact bytes description → length bytes ≡ description.length
 length-intact bytes description intact =
     let whole : length bytes ≡ length (image_bytes intact.0 ++ []) = ap length intact.1.parts in
-    let described = intact.2.0.length_of in
+    let described = intact.2.length_of in
     search rules
