@@ -8,17 +8,18 @@ use Rattle.certificate.specs.TableText.{IsTableText, IsSomeTable}
 use Rattle.certificate.specs.Combination.{IsValid, running_set}
 use Rattle.certificate.specs.Rightness.{IsRight}
 use Rattle.certificate.specs.StandardOrder.{IsInStandardOrder}
-use Rattle.certificate.specs.ReportText.{report_text}
+use Rattle.certificate.specs.ReportText.{report_text, IsReportText}
 use Rattle.boot_cli.specs.declared.commands.choose.ChooseEnd.{ChooseEnd}
 use Rattle.boot_cli.specs.declared.commands.choose.ChooseEnd.TheVariants.{Done, BadLine, NotValid, NoMemory, ReadFailed, WriteFailed}
 
 -- The bytes spell a table whose running images fit each other, and the report is right for it, with its
--- refusals in standard order.
+-- refusals in standard order. What is printed of the report is a text of it.
 pub record IsChoice (bytes : List ℕ) (table : Table) (report : Report) : Type 0 where
   pub spelled : IsTableText bytes table
   pub valid : IsValid table running_set
   pub right : IsRight table report
   pub standard : IsInStandardOrder table report.refusals.items
+  pub text : IsReportText (report_text report) report
 
 -- The bytes spell a table whose running images don't fit each other.
 abbrev pub IsUnfitTable : List ℕ → Type 0

@@ -1,19 +1,14 @@
--- What is printed of an image. A space is 32.
-use Rattle.std.specs.Prelude.{ℕ, List, ◌∷◌, ◌++◌, codes, decimal}
-use Rattle.std.specs.List.{flat_map}
+-- What is printed of an image.
+use Rattle.std.specs.Prelude.{ℕ, List, ◌++◌, codes, decimal}
 use Rattle.hex.specs.Hex.{encode_lower}
-use Rattle.version_order.specs.declared.dependency.Dependency.{Dependency}
+use Rattle.common.specs.Lines.{printed_lines}
 use Rattle.version_order.specs.VersionText.{version_text}
+use Rattle.certificate.specs.DependencyText.{needs_text}
 use Rattle.tlv.specs.declared.desc.Desc.{Desc}
 use Rattle.tlv.specs.declared.error.ImageError.{ImageError}
 use Rattle.tlv.specs.Codes.{code_of, name_of}
 use Rattle.boot_cli.specs.AnswerText.{line_text, refused_text}
 use Rattle.boot_cli.specs.declared.commands.image.Described.{Described}
-
--- The line of a dependency: the number of the image, and the least version of it.
-abbrev pub needs_text : Dependency → List ℕ
-needs_text dependency =
-    line_text (codes "needs") (decimal dependency.image ++ 32 ∷ version_text dependency.minimum)
 
 -- The lines of a description whose digest has these digits.
 abbrev pub lines_of : Desc → List ℕ → List ℕ
@@ -21,7 +16,8 @@ lines_of description digits =
     line_text (codes "version") (version_text description.version)
     ++ (line_text (codes "length") (decimal description.length)
     ++ (line_text (codes "counter") (decimal description.counter)
-    ++ (line_text (codes "digest") digits ++ flat_map needs_text description.dependencies.items)))
+    ++ (line_text (codes "digest") digits
+    ++ printed_lines needs_text description.dependencies.items)))
 
 abbrev pub described_text : Described → List ℕ
 described_text described = lines_of described.description.now described.digest.now

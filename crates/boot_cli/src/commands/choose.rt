@@ -8,7 +8,7 @@ use crate::error::{ReadError, Refusal};
 use crate::host::{Host, StandardInput};
 use crate::source::Source;
 use crate::streams::{read_all, write_all};
-use certificate::{Table, is_valid};
+use certificate::{Table, is_valid, right_reports_have_a_text};
 use chooser::choose;
 use std::alloc::Allocator;
 use std::io::{Read, Write};
@@ -91,6 +91,7 @@ fn write_choice<A: Allocator, W: Write>(alloc: &A, bytes: &[u8], out: &mut W) ->
         return ChooseEnd::NotValid;
     }
     let report = choose(&table);
+    right_reports_have_a_text();
     let Ok(text) = format!(in alloc; "{report}") else {
         return ChooseEnd::NoMemory;
     };

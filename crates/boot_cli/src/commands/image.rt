@@ -1,16 +1,18 @@
 //! `bootswap image`: what an image says of itself, or the check that it fails.
 ghost use Rattle.std.specs.Fmt.{WritesOnOk};
 ghost use Rattle.std.specs.Prelude.{◌≡◌, IfOk, Some, string_bytes};
-ghost use Rattle.std.specs.List.{flat_map};
 ghost use Rattle.boot_cli.specs.AnswerEnd.{AnswersDescription};
 ghost use Rattle.boot_cli.specs.DescribeEnd.{Tells};
-ghost use Rattle.boot_cli.specs.ImageText.{described_text, description_text, needs_text, refusal_text};
+ghost use Rattle.boot_cli.specs.ImageText.{described_text, description_text, refusal_text};
+ghost use Rattle.certificate.specs.DependencyText.{needs_text};
+ghost use Rattle.common.specs.Lines.{printed_lines};
 
 use crate::answer::{Answer, refused_text};
 use crate::error::Refusal;
 use crate::host::Host;
 use crate::source::Source;
 use crate::streams::write_all;
+use certificate::Needs;
 use std::alloc::{AllocError, Allocator};
 use std::fmt;
 use std::io::Write;
@@ -116,12 +118,12 @@ impl fmt::Display for Described<'_, '_> {
 
 // A line for each dependency.
 fn write_needs<W: fmt::Write>(f: &mut fmt::Formatter<W>, dependencies: &[Dependency]) -> fmt::Result
-    ensures { WritesOnOk W.write_str_gives f.old result (flat_map needs_text dependencies.now) f.new }
+    ensures { WritesOnOk W.write_str_gives f.old result
+        (printed_lines needs_text dependencies.now) f.new }
 {
     for dependency in dependencies {
-        let image = dependency.image;
-        let minimum = dependency.minimum;
-        writeln!(f, "needs {image} {minimum}")?;
+        let needs = Needs(*dependency);
+        writeln!(f, "{needs}")?;
     }
     Ok(())
 }
