@@ -1,0 +1,69 @@
+-- What a contract sees of a flash, and what its calls do to it, said by address.
+use Rattle.std.specs.Prelude.{◌≡◌, ℕ, ◌+◌, ◌*◌, ◌<◌, ◌≤◌, Bool, false, List, length}
+use Rattle.std.specs.Prelude.{slice_index, Result, OnOk, IsErrOf}
+use Rattle.flash_model.specs.declared.error.FlashError.{FlashError}
+use Rattle.flash_model.specs.declared.error.FlashError.TheVariants.{Cut, Off}
+
+-- A flash: so many sectors of so many bytes each, the bytes in the order of their addresses, whether it has
+-- power, how often a write of it was cut, and how many erases it completed.
+pub record Chip : Type 0 where
+  pub sector_size : ℕ
+  pub sectors : ℕ
+  pub bytes : List ℕ
+  pub is_on : Bool
+  pub cuts : ℕ
+  pub erases : ℕ
+
+-- How many bytes it has.
+abbrev pub size_of : Chip → ℕ
+size_of chip = chip.sectors * chip.sector_size
+
+-- From an address on it has these bytes.
+pub record Reads (chip : Chip) (at : ℕ) (bytes : List ℕ) : Type 0 where
+  pub each : (k i : ℕ) → k ≡ at + i → i < length bytes
+      → slice_index chip.bytes k ≡ slice_index bytes i
+
+-- So many bytes from an address on are erased: each is 0xFF.
+pub record IsErased (chip : Chip) (at n : ℕ) : Type 0 where
+  pub each : (k : ℕ) → at ≤ k → k < at + n → slice_index chip.bytes k ≡ 0xff
+
+-- The sectors are the same, and so is each byte outside a range. Of power and counts it says nothing.
+pub record SameOutside (at n : ℕ) (old new : Chip) : Type 0 where
+  pub sector_size : new.sector_size ≡ old.sector_size
+  pub sectors : new.sectors ≡ old.sectors
+  pub size : length new.bytes ≡ length old.bytes
+  pub before : (k : ℕ) → k < at → slice_index new.bytes k ≡ slice_index old.bytes k
+  pub after : (k : ℕ) → at + n ≤ k → slice_index new.bytes k ≡ slice_index old.bytes k
+
+-- So many bytes stand at `to` as they stood at `from`.
+pub record IsCopy (from to n : ℕ) (old new : Chip) : Type 0 where
+  pub each : (k j : ℕ) → to ≤ k → k < to + n → k + from ≡ j + to
+      → slice_index new.bytes k ≡ slice_index old.bytes j
+
+-- One sector has the bytes that it had.
+pub record SameSector (sector : ℕ) (old new : Chip) : Type 0 where
+  pub each : (k o : ℕ) → k ≡ sector * old.sector_size + o → o < old.sector_size
+      → slice_index new.bytes k ≡ slice_index old.bytes k
+
+-- One sector has these bytes, by offset.
+pub record SectorIs (chip : Chip) (sector : ℕ) (contents : ℕ → ℕ) : Type 0 where
+  pub each : (k o : ℕ) → k ≡ sector * chip.sector_size + o → o < chip.sector_size
+      → slice_index chip.bytes k ≡ contents o
+
+-- No write was cut, and the power is as it was.
+pub record IsUncut (old new : Chip) : Type 0 where
+  pub on : new.is_on ≡ old.is_on
+  pub cuts : new.cuts ≡ old.cuts
+
+-- One write was cut, the last one: the flash is off.
+pub record IsCut (old new : Chip) : Type 0 where
+  pub cuts : new.cuts ≡ old.cuts + 1
+  pub off : new.is_on ≡ false
+
+-- How a call on a flash ends: without a cut, with one, or not at all since the flash was off.
+pub record Ends {T : Type 0} (result : Result T FlashError) (old new : Chip) : Type 0 where
+  -- A flash that is off stays as it is.
+  pub asleep : old.is_on ≡ false → new ≡ old
+  pub uncut : OnOk result (IsUncut old new)
+  pub cut : IsErrOf result Cut → IsCut old new
+  pub off : IsErrOf result Off → old.is_on ≡ false

@@ -1,0 +1,85 @@
+//! What a driver of a flash has to do.
+
+ghost use Rattle.std.specs.Prelude.{◌≡◌, ◌^◌, ◌+◌, ◌*◌, ◌%◌, ◌<◌, ◌≤◌, ℕ, length, slice_index, true, OnOk, OnErr};
+ghost use Rattle.flash_model.specs.Chip.{Chip, size_of, Reads, IsErased, SameOutside, Ends};
+
+use crate::error::FlashError;
+
+/// A flash: sectors of the same size, which are erased whole, and units of 8 bytes, which are programmed
+/// after they were erased.
+///
+/// What a call leaves is said of the chip that contracts see: its bytes, whether it has power, how many
+/// writes were cut, and how many erases were completed. A write that is cut leaves its range with any bytes
+/// and all else as it was. A unit that reads erased is erased, and what is read doesn't drift: that a real
+/// flash is so is what its driver's author promises.
+pub trait Flash {
+    ghost chip: { Self → Chip };
+
+    /// The length of a sector in bytes, always the same.
+    fn sector_size(&self) -> u32
+        ensures { result ≡ (chip self.now).sector_size };
+
+    /// How many sectors there are, always as many.
+    fn sectors(&self) -> u32
+        ensures { result ≡ (chip self.now).sectors };
+
+    /// Reads the bytes from address `at` on, as many as `out` has, which lie in the flash.
+    ///
+    /// # Errors
+    /// `Off` where the flash was off.
+    fn read(&mut self, at: u32, out: &mut [u8]) -> Result<(), FlashError>
+        requires { at + length out.old ≤ size_of (chip self.old) }
+        ensures same { chip self.new ≡ chip self.old }
+        ensures ok { OnOk result (Reads (chip self.old) at out.new) }
+        ensures on { OnOk result ((chip self.old).is_on ≡ true) }
+        ensures erases { OnOk result ((chip self.new).erases ≡ (chip self.old).erases) }
+        ensures ends { Ends result (chip self.old) (chip self.new) };
+
+    /// Writes whole units, one at least, into a range that is erased throughout. Address and length, in bytes,
+    /// are multiples of 8.
+    ///
+    /// # Errors
+    /// `Cut` where power failed: the range holds any bytes, all else is as it was, and the flash is off. `Off`
+    /// where it was off before: nothing changed.
+    fn program(&mut self, at: u32, bytes: &[u8]) -> Result<(), FlashError>
+        requires inside { at + length bytes.now ≤ size_of (chip self.old) }
+        requires erased { IsErased (chip self.old) at (length bytes.now) }
+        requires place { at % 8 ≡ 0 }
+        requires units { length bytes.now % 8 ≡ 0 }
+        requires some { 8 ≤ length bytes.now }
+        ensures outside { SameOutside at (length bytes.now) (chip self.old) (chip self.new) }
+        ensures ok { OnOk result (Reads (chip self.new) at bytes.now) }
+        ensures on { OnOk result ((chip self.old).is_on ≡ true) }
+        ensures erases { (chip self.new).erases ≡ (chip self.old).erases }
+        ensures ends { Ends result (chip self.old) (chip self.new) };
+
+    /// Erases a sector, given by its number from 0: each of its bytes is 0xFF then.
+    ///
+    /// # Errors
+    /// `Cut` where power failed: the sector holds any bytes, all else is as it was, and the flash is off; such
+    /// an erase isn't completed, also where it left the sector erased. `Off` where it was off before: nothing
+    /// changed.
+    fn erase(&mut self, sector: u32) -> Result<(), FlashError>
+        requires { sector < (chip self.old).sectors }
+        ensures outside { SameOutside (sector * (chip self.old).sector_size)
+            (chip self.old).sector_size (chip self.old) (chip self.new) }
+        ensures ok { OnOk result (IsErased (chip self.new)
+            (sector * (chip self.old).sector_size) (chip self.old).sector_size) }
+        ensures on { OnOk result ((chip self.old).is_on ≡ true) }
+        ensures erases { OnOk result ((chip self.new).erases ≡ (chip self.old).erases + 1) }
+        ensures uncounted { OnErr result ((chip self.new).erases ≡ (chip self.old).erases) }
+        ensures ends { Ends result (chip self.old) (chip self.new) };
+
+    /// Gives the flash power again. No byte changes.
+    fn restart(&mut self)
+        ensures { chip self.new ≡ record (chip self.old) { is_on = true } };
+
+    /// The bytes are those of the sectors.
+    ghost whole: { (f : Self) → length (chip f).bytes ≡ size_of (chip f) };
+
+    /// Each byte has an address of 32 bits.
+    ghost addressed: { (f : Self) → size_of (chip f) < 2 ^ 32 };
+
+    /// A byte is below 256.
+    ghost bytes: { (f : Self) (k : ℕ) → slice_index (chip f).bytes k < 256 };
+}
