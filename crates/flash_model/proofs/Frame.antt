@@ -1,53 +1,106 @@
--- What is left of ranges when others are written.
-use Rattle.std.proofs.Common.{◌≡◌, ◌⊎◌, ◌+◌, ◌-◌, ◌*◌, ◌/◌, ◌%◌, ◌<◌, ◌≤◌, ◌≢◌, ℕ, List, length, ◌∙◌, ap, arith, sym, inl, inr, ⊎_elim, subst}
+-- What a write leaves of all else, and of what stood beside its range.
+use Rattle.std.proofs.Common.{◌≡◌, ◌≢◌, ◌⊎◌, ℕ, ◌+◌, ◌*◌, ◌<◌, ◌≤◌, List, length, ◌++◌}
+use Rattle.std.proofs.Common.{slice_index, refl, sym, ◌∙◌, ap, arith, inl, inr, ⊎_elim}
 use Rattle.std.proofs.lemmas.Bool.{cases_lt}
-use Rattle.flash_model.specs.Chip.{Chip, Reads, IsErased, IsCopy, SameOutside}
+use Rattle.flash_model.specs.Chip.{Chip, Reads, SameOutside, SameSector, SectorIs}
 
--- what was read there and stands here is a copy
-pub copy_of_reads : (from to n : ℕ) (old new : Chip) (bytes : List ℕ)
-    → Reads old from bytes → Reads new to bytes → n ≡ length bytes → IsCopy from to n old new
-copy_of_reads from to n old new bytes read written is = record {
-  each = λ k j low high e.
-      written.each k (k - to) (omega arith) (omega arith) ∙ sym (read.each j (k - to) (omega arith) (omega arith));
+-- Nothing was written.
+pub same_outside_refl : (at n : ℕ) (chip : Chip) → SameOutside at n chip chip
+same_outside_refl at n chip = record {
+  sector_size = refl;
+  sectors = refl;
+  size = refl;
+  before = λ k low. refl;
+  after = λ k high. refl;
 }
 
--- a copy goes on by n bytes
-pub copied_more : (from to done n all : ℕ) (first mid last : Chip)
-    → IsCopy from to done first mid → IsCopy (from + done) (to + done) n mid last
-    → SameOutside to done first mid → SameOutside (to + done) n mid last
-    → (from + done + n ≤ to) ⊎ (to + done ≤ from) ⊎ (to + done ≤ from + done) → all ≡ done + n → IsCopy from to all first last
-copied_more from to done n all first mid last so_far here kept same apart is = record {
-  each = λ k j low high e.
-      grind (arith, so_far.each, here.each, kept.before, kept.after, same.before, same.after);
+-- Each of the two chips is as the other outside the range.
+pub same_outside_sym : (at n : ℕ) (old new : Chip) → SameOutside at n old new → SameOutside at n new old
+same_outside_sym at n old new same = record {
+  sector_size = sym same.sector_size;
+  sectors = sym same.sectors;
+  size = sym same.size;
+  before = λ k low. sym (same.before k low);
+  after = λ k high. sym (same.after k high);
 }
 
--- what is behind a write is erased as before
-pub erased_after : (at n all : ℕ) (at' done : ℕ) (old new : Chip)
-    → IsErased old at' all → SameOutside at' done old new → at' + done ≤ at → at + n ≤ at' + all → IsErased new at n
-erased_after at n all at' done old new erased same low high = record { each = λ k l h. grind (arith, erased.each, same.after) }
+-- The range was written twice.
+pub same_outside_trans : (at n : ℕ) (old mid new : Chip)
+    → SameOutside at n old mid → SameOutside at n mid new → SameOutside at n old new
+same_outside_trans at n old mid new first second = record {
+  sector_size = second.sector_size ∙ first.sector_size;
+  sectors = second.sectors ∙ first.sectors;
+  size = second.size ∙ first.size;
+  before = λ k low. second.before k low ∙ first.before k low;
+  after = λ k high. second.after k high ∙ first.after k high;
+}
 
+-- The write was in a wider range.
+pub same_outside_wider : (at n from m : ℕ) (old new : Chip)
+    → SameOutside at n old new → from ≤ at → at + n ≤ from + m → SameOutside from m old new
+same_outside_wider at n from m old new same low high = record {
+  sector_size = same.sector_size;
+  sectors = same.sectors;
+  size = same.size;
+  before = λ k below. same.before k (omega arith);
+  after = λ k above. same.after k (omega arith);
+}
+
+-- Two ranges were written, one behind the other.
+pub same_outside_joined : (at n m : ℕ) (old mid new : Chip)
+    → SameOutside at n old mid → SameOutside (at + n) m mid new → SameOutside at (n + m) old new
+same_outside_joined at n m old mid new first second = same_outside_trans at (n + m) old mid new
+    (same_outside_wider at n at (n + m) old mid first (omega arith) (omega arith))
+    (same_outside_wider (at + n) m at (n + m) mid new second (omega arith) (omega arith))
+
+-- What reads as it did, beside the range that was written.
+pub reads_kept : (at from m : ℕ) (bytes : List ℕ) (old new : Chip)
+    → Reads old at bytes → SameOutside from m old new
+    → (at + length bytes ≤ from) ⊎ (from + m ≤ at) → Reads new at bytes
+reads_kept at from m bytes old new reads same apart = record {
+  each = λ k i is below. ⊎_elim
+      (λ (low : at + length bytes ≤ from). same.before k (omega arith) ∙ reads.each k i is below)
+      (λ (high : from + m ≤ at). same.after k (omega arith) ∙ reads.each k i is below)
+      apart;
+}
+
+-- A sector ends before a later one begins.
 pub product_le : (a b e : ℕ) → a < b → a * e + e ≤ b * e
 product_le a b e lt = grind arith
 
+-- Two sectors lie apart.
 pub products_apart : (a b e : ℕ) → a ≢ b → (a * e + e ≤ b * e) ⊎ (b * e + e ≤ a * e)
-products_apart a b e ne = ⊎_elim (λ lt. inl (product_le a b e lt)) (λ le. inr (product_le b a e (omega arith))) (cases_lt a b)
+products_apart a b e other = ⊎_elim
+    (λ lt. inl (product_le a b e lt)) (λ le. inr (product_le b a e (omega arith))) (cases_lt a b)
 
--- a copy of what stood there before another range was written
-pub copy_after : (from to n m at size : ℕ) (old mid new : Chip)
-    → IsCopy from to n mid new → SameOutside at size old mid → (from + n ≤ at) ⊎ (at + size ≤ from) → m ≡ n → IsCopy from to m old new
-copy_after from to n m at size old mid new copied same apart is = record { each = λ k j low high e. grind (arith, copied.each, same.before, same.after) }
+pub same_sector_refl : (sector : ℕ) (chip : Chip) → SameSector sector chip chip
+same_sector_refl sector chip = record { each = λ k o is below. refl }
 
--- the same, of sectors
-pub copy_after_erase : (a b e size m : ℕ) (old mid new : Chip)
-    → IsCopy (a * size) (b * size) m mid new → SameOutside (b * e) e old mid → a ≢ b → size ≡ e → m ≡ size → IsCopy (a * e) (b * e) e old new
-copy_after_erase a b e size m old mid new copied same ne is all =
-    let from_is : a * size ≡ a * e = ap (λ x. a * x) is in
-    let to_is : b * size ≡ b * e = ap (λ x. b * x) is in
-    copy_after (a * e) (b * e) m e (b * e) e old mid new (subst (λ x. IsCopy (a * x) (b * x) m mid new) is copied) same
-    (grind (arith, products_apart a b e ne)) (omega arith)
+pub same_sector_trans : (sector : ℕ) (old mid new : Chip) → SameSector sector old mid
+    → SameSector sector mid new → mid.sector_size ≡ old.sector_size → SameSector sector old new
+same_sector_trans sector old mid new first second size =
+    let place : sector * mid.sector_size ≡ sector * old.sector_size = ap (λ e. sector * e) size in
+    record {
+      each = λ k o is below.
+          second.each k o (omega (arith, place)) (omega (arith, size)) ∙ first.each k o is below;
+    }
 
--- a sector begins at a unit
-pub aligned : (a e : ℕ) → 8 * (e / 8) ≡ e → a * e % 8 ≡ 0
-aligned a e units =
-    let is : a * e ≡ 8 * (a * (e / 8)) = ap (λ x. a * x) (sym units) ∙ omega arith in
-    omega (arith, is)
+-- A sector beside the one that was written.
+pub same_sector : (s t e n : ℕ) (old new : Chip) → SameOutside (t * e) n old new
+    → e ≡ old.sector_size → n ≡ old.sector_size → s ≢ t → SameSector s old new
+same_sector s t e n old new same size whole other =
+    let place : t * e ≡ t * old.sector_size = ap (λ x. t * x) size in
+    record {
+      each = λ k o is below. grind (arith, same.before, same.after, products_apart s t old.sector_size other, place);
+    }
+
+-- A sector that is as it was has the contents that it had.
+pub sector_kept : (s : ℕ) (contents : ℕ → ℕ) (old new : Chip) → SectorIs old s contents
+    → SameSector s old new → new.sector_size ≡ old.sector_size → SectorIs new s contents
+sector_kept s contents old new was same size =
+    let place : s * new.sector_size ≡ s * old.sector_size = ap (λ x. s * x) size in
+    record {
+      each = λ k o is below.
+          let at : k ≡ s * old.sector_size + o = is ∙ ap (λ x. x + o) place in
+          same.each k o at (omega arith) ∙ was.each k o at (omega arith);
+    }

@@ -1,1 +1,4 @@
 pub mod Chip
+pub mod Codes
+pub mod Torn
+pub mod Units

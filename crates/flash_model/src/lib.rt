@@ -3,6 +3,13 @@
 
 mod error;
 mod flash;
+mod reading;
+mod tearing;
+mod torn;
+mod unit;
 
 pub use error::FlashError;
 pub use flash::Flash;
+pub use reading::is_erased;
+pub use torn::{Armed, Torn};
+pub use unit::{FLAG, UNIT, is_unit_erased, set_unit};

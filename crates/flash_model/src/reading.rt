@@ -1,0 +1,61 @@
+//! Whether a range of a flash is erased.
+
+ghost use Rattle.std.specs.Prelude.{◌≡◌, ◌+◌, ◌<◌, ◌≤◌, ◌↔◌, false, true, length, slice_index, EachIndex, IfOk, IsOk, IsErrOf, IsTrue, OnOk};
+ghost use Rattle.flash_model.specs.Chip.{size_of, Ends, IsErased};
+
+use crate::error::FlashError;
+use crate::flash::Flash;
+
+/// How many bytes are read at once.
+const PIECE: usize = 64;
+
+/// Whether each byte is 0xFF.
+fn is_all_erased(bytes: &[u8]) -> bool
+    ensures { IsTrue result ↔ EachIndex bytes.now (λ i. slice_index bytes.now i ≡ 0xff) }
+{
+    bytes.iter().all(|byte| *byte == 0xff)
+}
+
+/// Whether a piece of the flash is erased, which is read into the buffer and is as long as that.
+#[tactic(auto, using(crate::proofs::Erased::erased_of_reads, crate::proofs::Erased::reads_of_erased))]
+fn is_piece_erased<F: Flash>(flash: &mut F, at: u32, piece: &mut [u8]) -> Result<bool, FlashError>
+    requires { at + length piece.old ≤ size_of (F.chip flash.old) }
+    ensures same { F.chip flash.new ≡ F.chip flash.old }
+    ensures ok { IfOk result (λ yes. IsTrue yes ↔ IsErased (F.chip flash.old) at (length piece.old)) }
+    ensures on { OnOk result ((F.chip flash.old).is_on ≡ true) }
+    ensures ends { Ends result (F.chip flash.old) (F.chip flash.new) }
+{
+    flash.read(at, piece)?;
+    Ok(is_all_erased(piece))
+}
+
+/// Whether `len` bytes from address `at` on are erased, that is, 0xFF. The range lies in the flash; of no bytes
+/// the answer is yes.
+///
+/// The flash is read by pieces of at most 64 bytes, up to the first one that isn't erased. It doesn't change.
+/// Does not allocate.
+///
+/// # Errors
+/// `Off` where the flash is off and `len` isn't 0.
+#[tactic(auto, using(crate::proofs::Erased::erased_joined, crate::proofs::Erased::erased_narrower))]
+pub fn is_erased<F: Flash>(flash: &mut F, at: u32, len: u32) -> Result<bool, FlashError>
+    requires { at + len ≤ size_of (F.chip flash.old) }
+    ensures same { F.chip flash.new ≡ F.chip flash.old }
+    ensures ok { IfOk result (λ yes. IsTrue yes ↔ IsErased (F.chip flash.old) at len) }
+    ensures answers { (F.chip flash.old).is_on ≡ true → IsOk result }
+    ensures refuses { (F.chip flash.old).is_on ≡ false → 0 < len → IsErrOf result FlashError.Off }
+    ensures erases { (F.chip flash.new).erases ≡ (F.chip flash.old).erases }
+    ensures ends { Ends result (F.chip flash.old) (F.chip flash.new) }
+{
+    let mut buffer = [0u8; PIECE];
+    let mut done = 0;
+    while done < len {
+        let left = (len - done) as usize;
+        let size = left.min(PIECE);
+        if !is_piece_erased(flash, at + done, &mut buffer[..size])? {
+            return Ok(false);
+        }
+        done += size as u32;
+    }
+    Ok(true)
+}

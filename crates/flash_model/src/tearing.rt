@@ -1,0 +1,69 @@
+//! Ranges of bytes in memory, written whole or torn.
+
+ghost use Rattle.std.specs.Prelude.{◌≡◌, ◌+◌, ◌<◌, ◌≤◌, length, replicate, slice_index, slice_range};
+ghost use Rattle.flash_model.specs.Torn.{replaced, torn_bytes, with_pattern};
+
+use crate::torn::Torn;
+
+/// Puts a pattern over the bytes, again and again from the first one on.
+fn repeat(bytes: &mut [u8], pattern: &[u8])
+    ensures { bytes.new ≡ with_pattern pattern.now bytes.old }
+{
+    if pattern.is_empty() {
+        return;
+    }
+    for i in 0..bytes.len() {
+        bytes[i] = pattern[i % pattern.len()];
+    }
+}
+
+/// Puts these bytes at their place.
+pub(crate) fn put(all: &mut [u8], at: usize, bytes: &[u8])
+    requires { at + length bytes.now ≤ length all.old }
+    ensures { all.new ≡ replaced at bytes.now all.old }
+{
+    all[at..at + bytes.len()].copy_from_slice(bytes);
+}
+
+/// Erases so many bytes.
+pub(crate) fn blank(all: &mut [u8], at: usize, n: usize)
+    requires { at + n ≤ length all.old }
+    ensures { all.new ≡ replaced at (replicate n 0xff) all.old }
+{
+    all[at..at + n].fill(0xff);
+}
+
+/// Puts a pattern over so many bytes.
+fn put_pattern(all: &mut [u8], at: usize, n: usize, pattern: &[u8])
+    requires { at + n ≤ length all.old }
+    ensures { all.new
+        ≡ replaced at (with_pattern pattern.now (slice_range all.old at (at + n))) all.old }
+{
+    repeat(&mut all[at..at + n], pattern);
+}
+
+/// Leaves of a program of these bytes what a cut leaves.
+pub(crate) fn tear_program(all: &mut [u8], at: usize, bytes: &[u8], torn: &Torn)
+    requires { at + length bytes.now ≤ length all.old }
+    ensures { let old = slice_range all.old at (at + length bytes.now) in
+        all.new ≡ replaced at (torn_bytes torn.now old bytes.now) all.old }
+{
+    match torn {
+        Torn::Keep => {}
+        Torn::Done => put(all, at, bytes),
+        Torn::Bytes(pattern) => put_pattern(all, at, bytes.len(), pattern),
+    }
+}
+
+/// Leaves of an erase of so many bytes what a cut leaves.
+pub(crate) fn tear_erase(all: &mut [u8], at: usize, n: usize, torn: &Torn)
+    requires { at + n ≤ length all.old }
+    ensures { let old = slice_range all.old at (at + n) in
+        all.new ≡ replaced at (torn_bytes torn.now old (replicate n 0xff)) all.old }
+{
+    match torn {
+        Torn::Keep => {}
+        Torn::Done => blank(all, at, n),
+        Torn::Bytes(pattern) => put_pattern(all, at, n, pattern),
+    }
+}

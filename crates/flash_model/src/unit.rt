@@ -1,0 +1,53 @@
+//! Units: eight bytes that are programmed together, after they were erased.
+
+ghost use Rattle.std.specs.Prelude.{◌≡◌, ◌+◌, ◌%◌, ◌≤◌, ◌↔◌, false, true, IfOk, IsOk, IsErrOf, IsTrue, OnOk};
+ghost use Rattle.flash_model.specs.Chip.{size_of, Ends, IsErased, Reads, SameOutside};
+ghost use Rattle.flash_model.specs.Units.{IsSet};
+
+use crate::reading::is_erased;
+use crate::error::FlashError;
+use crate::flash::Flash;
+
+/// The length of a unit in bytes.
+pub const UNIT: u32 = 8;
+
+/// What a unit holds that `set_unit` has written: 0x01, and 0xFF up to its end, as MCUboot writes a flag
+/// (`BOOT_FLAG_SET`).
+pub const FLAG: [u8; 8] = [0x01, 0xff, 0xff, 0xff, 0xff, 0xff, 0xff, 0xff];
+
+/// Whether the unit at address `at` is erased; where it isn't, it is set. The flash doesn't change. Does not
+/// allocate.
+///
+/// # Errors
+/// `Off` where the flash is off.
+pub fn is_unit_erased<F: Flash>(flash: &mut F, at: u32) -> Result<bool, FlashError>
+    requires { at + 8 ≤ size_of (F.chip flash.old) }
+    ensures same { F.chip flash.new ≡ F.chip flash.old }
+    ensures ok { IfOk result (λ yes. IsTrue yes ↔ IsErased (F.chip flash.old) at 8) }
+    ensures answers { (F.chip flash.old).is_on ≡ true → IsOk result }
+    ensures refuses { (F.chip flash.old).is_on ≡ false → IsErrOf result FlashError.Off }
+    ensures erases { (F.chip flash.new).erases ≡ (F.chip flash.old).erases }
+    ensures ends { Ends result (F.chip flash.old) (F.chip flash.new) }
+{
+    is_erased(flash, at, UNIT)
+}
+
+/// Sets the unit at address `at`, a multiple of 8, which is erased: writes `FLAG` to it. Does not allocate.
+///
+/// # Errors
+/// `Cut` where power failed: the unit holds any bytes, so it is erased or set; all else is as it was, and the
+/// flash is off. `Off` where it was off before: nothing changed.
+#[tactic(auto, using(crate::proofs::Units::set_of_reads))]
+pub fn set_unit<F: Flash>(flash: &mut F, at: u32) -> Result<(), FlashError>
+    requires inside { at + 8 ≤ size_of (F.chip flash.old) }
+    requires erased { IsErased (F.chip flash.old) at 8 }
+    requires place { at % 8 ≡ 0 }
+    ensures outside { SameOutside at 8 (F.chip flash.old) (F.chip flash.new) }
+    ensures ok { OnOk result (IsSet (F.chip flash.new) at) }
+    ensures flag { OnOk result (Reads (F.chip flash.new) at FLAG) }
+    ensures on { OnOk result ((F.chip flash.old).is_on ≡ true) }
+    ensures erases { (F.chip flash.new).erases ≡ (F.chip flash.old).erases }
+    ensures ends { Ends result (F.chip flash.old) (F.chip flash.new) }
+{
+    flash.program(at, &FLAG)
+}
