@@ -1,4 +1,5 @@
 pub mod Chip
 pub mod Codes
+pub mod Memory
 pub mod Torn
 pub mod Units

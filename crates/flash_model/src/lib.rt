@@ -3,6 +3,7 @@
 
 mod error;
 mod flash;
+mod memory;
 mod reading;
 mod tearing;
 mod torn;
@@ -10,6 +11,7 @@ mod unit;
 
 pub use error::FlashError;
 pub use flash::Flash;
+pub use memory::MemFlash;
 pub use reading::is_erased;
 pub use torn::{Armed, Torn};
 pub use unit::{FLAG, UNIT, is_unit_erased, set_unit};

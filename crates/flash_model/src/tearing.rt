@@ -1,11 +1,12 @@
 //! Ranges of bytes in memory, written whole or torn.
 
-ghost use Rattle.std.specs.Prelude.{◌≡◌, ◌+◌, ◌<◌, ◌≤◌, length, replicate, slice_index, slice_range};
+ghost use Rattle.std.specs.Prelude.{ℕ, ◌≡◌, ◌+◌, ◌<◌, ◌≤◌, length, replicate, slice_index, slice_range};
 ghost use Rattle.flash_model.specs.Torn.{replaced, torn_bytes, with_pattern};
 
 use crate::torn::Torn;
 
 /// Puts a pattern over the bytes, again and again from the first one on.
+#[tactic(auto, using(crate::proofs::TornBytes::with_pattern_none, crate::proofs::TornBytes::with_pattern_each))]
 fn repeat(bytes: &mut [u8], pattern: &[u8])
     ensures { bytes.new ≡ with_pattern pattern.now bytes.old }
 {
@@ -20,7 +21,8 @@ fn repeat(bytes: &mut [u8], pattern: &[u8])
 /// Puts these bytes at their place.
 pub(crate) fn put(all: &mut [u8], at: usize, bytes: &[u8])
     requires { at + length bytes.now ≤ length all.old }
-    ensures { all.new ≡ replaced at bytes.now all.old }
+    ensures bytes { all.new ≡ replaced at bytes.now all.old }
+    ensures are_bytes { (k : ℕ) → slice_index all.new k < 256 }
 {
     all[at..at + bytes.len()].copy_from_slice(bytes);
 }
@@ -28,7 +30,8 @@ pub(crate) fn put(all: &mut [u8], at: usize, bytes: &[u8])
 /// Erases so many bytes.
 pub(crate) fn blank(all: &mut [u8], at: usize, n: usize)
     requires { at + n ≤ length all.old }
-    ensures { all.new ≡ replaced at (replicate n 0xff) all.old }
+    ensures bytes { all.new ≡ replaced at (replicate n 0xff) all.old }
+    ensures are_bytes { (k : ℕ) → slice_index all.new k < 256 }
 {
     all[at..at + n].fill(0xff);
 }
@@ -36,8 +39,9 @@ pub(crate) fn blank(all: &mut [u8], at: usize, n: usize)
 /// Puts a pattern over so many bytes.
 fn put_pattern(all: &mut [u8], at: usize, n: usize, pattern: &[u8])
     requires { at + n ≤ length all.old }
-    ensures { all.new
+    ensures bytes { all.new
         ≡ replaced at (with_pattern pattern.now (slice_range all.old at (at + n))) all.old }
+    ensures are_bytes { (k : ℕ) → slice_index all.new k < 256 }
 {
     repeat(&mut all[at..at + n], pattern);
 }
@@ -45,8 +49,9 @@ fn put_pattern(all: &mut [u8], at: usize, n: usize, pattern: &[u8])
 /// Leaves of a program of these bytes what a cut leaves.
 pub(crate) fn tear_program(all: &mut [u8], at: usize, bytes: &[u8], torn: &Torn)
     requires { at + length bytes.now ≤ length all.old }
-    ensures { let old = slice_range all.old at (at + length bytes.now) in
+    ensures bytes { let old = slice_range all.old at (at + length bytes.now) in
         all.new ≡ replaced at (torn_bytes torn.now old bytes.now) all.old }
+    ensures are_bytes { (k : ℕ) → slice_index all.new k < 256 }
 {
     match torn {
         Torn::Keep => {}
@@ -58,8 +63,9 @@ pub(crate) fn tear_program(all: &mut [u8], at: usize, bytes: &[u8], torn: &Torn)
 /// Leaves of an erase of so many bytes what a cut leaves.
 pub(crate) fn tear_erase(all: &mut [u8], at: usize, n: usize, torn: &Torn)
     requires { at + n ≤ length all.old }
-    ensures { let old = slice_range all.old at (at + n) in
+    ensures bytes { let old = slice_range all.old at (at + n) in
         all.new ≡ replaced at (torn_bytes torn.now old (replicate n 0xff)) all.old }
+    ensures are_bytes { (k : ℕ) → slice_index all.new k < 256 }
 {
     match torn {
         Torn::Keep => {}

@@ -1,0 +1,77 @@
+-- A flash in memory: what a contract sees of it, and what a write of it leaves.
+use Rattle.std.specs.Prelude.{◌≡◌, ℕ, ◌+◌, ◌-◌, ◌^◌, true, false, List, length, min, slice_range}
+use Rattle.std.specs.Prelude.{Option, Some, None, Result, IsOk, IsErrOf}
+use Rattle.flash_model.specs.declared.error.FlashError.{FlashError}
+use Rattle.flash_model.specs.declared.error.FlashError.TheVariants.{Cut, Off}
+use Rattle.flash_model.specs.declared.memory.MemFlash.{MemFlash}
+use Rattle.flash_model.specs.declared.torn.Armed.{Armed}
+use Rattle.flash_model.specs.declared.torn.Torn.{Torn}
+use Rattle.flash_model.specs.Chip.{Chip}
+use Rattle.flash_model.specs.Torn.{replaced, torn_bytes, torn_for}
+
+-- A flash in memory: the flash itself, how many programs and erases it took, and the writes that are to be
+-- cut, in the order in which they were armed.
+pub record Memory : Type 0 where
+  pub chip : Chip
+  pub writes : ℕ
+  pub armed : List Armed
+
+-- The flash itself.
+abbrev pub chip_of : {L : Type 0} → MemFlash L → Chip
+chip_of flash = record {
+  sector_size = flash.sector_size;
+  sectors = flash.sectors;
+  bytes = flash.bytes.items;
+  is_on = flash.is_on;
+  cuts = flash.cuts.amount;
+  erases = flash.erases.amount;
+}
+
+abbrev pub memory_of : {L : Type 0} → MemFlash L → Memory
+memory_of flash = record { chip = chip_of flash; writes = flash.writes; armed = flash.armed.items }
+
+-- One more, up to the greatest number that 64 bits hold.
+abbrev pub one_more : ℕ → ℕ
+one_more n = min (n + 1) (2 ^ 64 - 1)
+
+-- What a cut of the next write leaves, where that write is to be cut.
+abbrev pub next_torn : Memory → Option Torn
+next_torn memory = torn_for (memory.writes + 1) memory.armed
+
+-- After a program of these bytes that was done.
+abbrev pub programmed : ℕ → List ℕ → Memory → Memory
+programmed at range old = record {
+  chip = record (old.chip) { bytes = replaced at range old.chip.bytes };
+  writes = one_more old.writes;
+  armed = old.armed;
+}
+
+-- After an erase that was done, of the sector that begins at this address; these are its bytes.
+abbrev pub erased : ℕ → List ℕ → Memory → Memory
+erased at range old = record {
+  chip = record (old.chip) { bytes = replaced at range old.chip.bytes; erases = old.chip.erases + 1 };
+  writes = one_more old.writes;
+  armed = old.armed;
+}
+
+-- After a cut of the write of these bytes.
+abbrev pub torn : ℕ → List ℕ → Torn → Memory → Memory
+torn at range left old = record {
+  chip = record (old.chip) {
+    bytes = replaced at
+        (torn_bytes left (slice_range old.chip.bytes at (at + length range)) range) old.chip.bytes;
+    is_on = false;
+    cuts = old.chip.cuts + 1;
+  };
+  writes = one_more old.writes;
+  armed = old.armed;
+}
+
+-- A write of these bytes ends as the flash was armed. A flash that is off refuses it, and doesn't count it; one
+-- that isn't armed is done; one that is armed is cut, and leaves what was armed.
+pub record Writes (result : Result Unit FlashError) (at : ℕ) (range : List ℕ) (done old new : Memory)
+  : Type 0 where
+  pub off : old.chip.is_on ≡ false → IsErrOf result Off × (new ≡ old)
+  pub on : old.chip.is_on ≡ true → next_torn old ≡ None → IsOk result × (new ≡ done)
+  pub armed : (left : Torn) → old.chip.is_on ≡ true → next_torn old ≡ Some left
+      → IsErrOf result Cut × (new ≡ torn at range left old)

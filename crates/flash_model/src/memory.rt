@@ -1,0 +1,270 @@
+//! A flash in memory, of which any write can be cut.
+
+ghost use Rattle.std.specs.Prelude.{◌≡◌, ◌+◌, ◌-◌, ◌*◌, ◌/◌, ◌%◌, ◌^◌, ◌<◌, ◌≤◌, ◌++◌, ◌∷◌, [], ℕ, All, length, min, replicate, slice_index, true, vec_len, IfOk, IsTrue, OnErr, OnOk};
+
+use crate::error::FlashError;
+use crate::flash::Flash;
+use crate::tearing::{blank, put, tear_erase, tear_program};
+use crate::torn::{Armed, Torn, torn_for};
+use std::alloc::{AllocError, Global};
+use std::sync::ledger::{Blank, Book, Ledger, Share};
+
+/// A flash in memory.
+#[derive(Drop)]
+pub struct MemFlash<L: Ledger> {
+    sector_size: u32,
+    sectors: u32,
+    bytes: Vec<u8>,
+    is_on: bool,
+    writes: u64,
+    erased: u64,
+    armed: Vec<Armed>,
+    book: Book<L>,
+    cuts: Share<L>,
+    erases: Share<L>,
+    ghost whole: { length bytes.items ≡ sectors * sector_size },
+    ghost addressed: { sectors * sector_size < 2 ^ 32 },
+    ghost are_bytes: { (k : ℕ) → slice_index bytes.items k < 256 },
+    ghost counts_cuts: { 0 < cuts.parts },
+    ghost counts_erases: { 0 < erases.parts },
+    ghost counts: { erased ≡ min erases.amount (2 ^ 64 - 1) },
+    ghost armed_below: { All (λ write. write.at < 2 ^ 64 - 1) armed.items },
+}
+
+impl<L: Ledger> MemFlash<L> {
+    ghost use Rattle.flash_model.specs.Memory.{memory_of};
+
+    /// A flash that is all erased.
+    pub fn new(alloc: Global, blank: Blank, sector_size: u32, sectors: u32) -> Result<Self, AllocError>
+        requires name { blank.name ≡ L.name }
+        requires parts { blank.parts ≡ L.parts }
+        requires two { L.parts ≡ 2 }
+        requires addressed { sectors * sector_size < 2 ^ 32 }
+        ensures { IfOk result (λ flash. memory_of flash ≡ record {
+            chip = record {
+                sector_size = sector_size;
+                sectors = sectors;
+                bytes = replicate (sectors * sector_size) 0xff;
+                is_on = true;
+                cuts = 0;
+                erases = 0;
+            };
+            writes = 0;
+            armed = [];
+        }) }
+    {
+        let bytes = vec![in alloc; 0xff; sectors as usize * sector_size as usize]?;
+        Ok(Self::of_sectors(alloc, blank, sector_size, sectors, bytes))
+    }
+
+    /// A flash that holds these bytes.
+    pub fn from_bytes(alloc: Global, blank: Blank, sector_size: u32, bytes: Vec<u8>) -> Self
+        requires name { blank.name ≡ L.name }
+        requires parts { blank.parts ≡ L.parts }
+        requires two { L.parts ≡ 2 }
+        requires sector { 0 < sector_size }
+        requires whole { vec_len bytes % sector_size ≡ 0 }
+        requires addressed { vec_len bytes < 2 ^ 32 }
+        ensures { memory_of result ≡ record {
+            chip = record {
+                sector_size = sector_size;
+                sectors = vec_len bytes / sector_size;
+                bytes = bytes.items;
+                is_on = true;
+                cuts = 0;
+                erases = 0;
+            };
+            writes = 0;
+            armed = [];
+        } }
+    {
+        let sectors = bytes.len() as u32 / sector_size;
+        Self::of_sectors(alloc, blank, sector_size, sectors, bytes)
+    }
+
+    /// A flash of so many sectors that holds these bytes.
+    fn of_sectors(alloc: Global, blank: Blank, sector_size: u32, sectors: u32, bytes: Vec<u8>) -> Self
+        requires name { blank.name ≡ L.name }
+        requires parts { blank.parts ≡ L.parts }
+        requires two { L.parts ≡ 2 }
+        requires whole { vec_len bytes ≡ sectors * sector_size }
+        requires addressed { vec_len bytes < 2 ^ 32 }
+        ensures { memory_of result ≡ record {
+            chip = record {
+                sector_size = sector_size;
+                sectors = sectors;
+                bytes = bytes.items;
+                is_on = true;
+                cuts = 0;
+                erases = 0;
+            };
+            writes = 0;
+            armed = [];
+        } }
+    {
+        let (book, mut cuts) = blank.open::<L>();
+        let erases = cuts.split_off(1, 0);
+        MemFlash {
+            sector_size,
+            sectors,
+            bytes,
+            is_on: true,
+            writes: 0,
+            erased: 0,
+            armed: Vec::new(alloc),
+            book,
+            cuts,
+            erases,
+        }
+    }
+
+    /// Arms a cut.
+    pub fn arm(&mut self, k: u64, torn: Torn) -> Result<(), AllocError>
+        requires { k < 2 ^ 64 - 1 }
+        ensures ok { OnOk result (memory_of self.new ≡ record (memory_of self.old) {
+            armed = (memory_of self.old).armed ++ record { at = k; torn = torn } ∷ [];
+        }) }
+        ensures err { OnErr result (memory_of self.new ≡ memory_of self.old) }
+    {
+        self.armed.push(Armed { at: k, torn })?;
+        Ok(())
+    }
+
+    /// How many programs and erases it took.
+    pub fn writes(&self) -> u64
+        ensures { result ≡ (memory_of self.now).writes }
+    {
+        self.writes
+    }
+
+    /// How many erases it completed.
+    pub fn erases(&self) -> u64
+        ensures { result ≡ min (memory_of self.now).chip.erases (2 ^ 64 - 1) }
+    {
+        self.erased
+    }
+
+    /// The bytes, in the order of their addresses.
+    pub fn bytes(&self) -> &[u8]
+        ensures { result.now ≡ (memory_of self.now).chip.bytes }
+    {
+        &self.bytes
+    }
+}
+
+impl<L: Ledger> Flash for MemFlash<L> {
+    ghost use Rattle.std.specs.Prelude.{◌≡◌, ◌+◌, ◌*◌, ◌<◌, ◌≤◌, ◌^◌, ℕ, length, true, slice_index};
+    ghost use Rattle.flash_model.specs.Chip.{size_of, Reads, IsErased, SameOutside, Ends};
+    ghost use Rattle.flash_model.specs.Memory.{chip_of, erased, memory_of, programmed, Writes};
+
+    ghost chip = { chip_of };
+
+    ghost whole = { λ f. f.whole };
+
+    ghost addressed = { λ f. f.addressed };
+
+    ghost bytes = { λ f. f.are_bytes };
+
+    fn sector_size(&self) -> u32 {
+        self.sector_size
+    }
+
+    fn sectors(&self) -> u32 {
+        self.sectors
+    }
+
+    fn read(&mut self, at: u32, out: &mut [u8]) -> Result<(), FlashError>
+        requires { at + length out.old ≤ size_of (chip_of self.old) }
+        ensures same { chip_of self.new ≡ chip_of self.old }
+        ensures ok { OnOk result (Reads (chip_of self.old) at out.new) }
+        ensures on { OnOk result ((chip_of self.old).is_on ≡ true) }
+        ensures erases { OnOk result ((chip_of self.new).erases ≡ (chip_of self.old).erases) }
+        ensures ends { Ends result (chip_of self.old) (chip_of self.new) }
+        ensures memory { memory_of self.new ≡ memory_of self.old }
+    {
+        if !self.is_on {
+            return Err(FlashError::Off);
+        }
+        let at = at as usize;
+        out.copy_from_slice(&self.bytes[at..at + out.len()]);
+        Ok(())
+    }
+
+    fn program(&mut self, at: u32, bytes: &[u8]) -> Result<(), FlashError>
+        requires inside { at + length bytes.now ≤ size_of (chip_of self.old) }
+        requires erased { IsErased (chip_of self.old) at (length bytes.now) }
+        requires place { at % 8 ≡ 0 }
+        requires units { length bytes.now % 8 ≡ 0 }
+        requires some { 8 ≤ length bytes.now }
+        ensures outside { SameOutside at (length bytes.now) (chip_of self.old) (chip_of self.new) }
+        ensures ok { OnOk result (Reads (chip_of self.new) at bytes.now) }
+        ensures on { OnOk result ((chip_of self.old).is_on ≡ true) }
+        ensures erases { (chip_of self.new).erases ≡ (chip_of self.old).erases }
+        ensures ends { Ends result (chip_of self.old) (chip_of self.new) }
+        ensures memory { let old = memory_of self.old in
+            Writes result at bytes.now (programmed at bytes.now old) old (memory_of self.new) }
+    {
+        if !self.is_on {
+            return Err(FlashError::Off);
+        }
+        self.writes = self.writes.saturating_add(1);
+        let at = at as usize;
+        match torn_for(&self.armed, self.writes) {
+            None => {
+                put(&mut self.bytes, at, bytes);
+                Ok(())
+            }
+            Some(torn) => {
+                tear_program(&mut self.bytes, at, bytes, torn);
+                self.is_on = false;
+                self.book.add(&mut self.cuts, 1);
+                Err(FlashError::Cut)
+            }
+        }
+    }
+
+    fn erase(&mut self, sector: u32) -> Result<(), FlashError>
+        requires { sector < (chip_of self.old).sectors }
+        ensures outside { SameOutside (sector * (chip_of self.old).sector_size)
+            (chip_of self.old).sector_size (chip_of self.old) (chip_of self.new) }
+        ensures ok { OnOk result (IsErased (chip_of self.new)
+            (sector * (chip_of self.old).sector_size) (chip_of self.old).sector_size) }
+        ensures on { OnOk result ((chip_of self.old).is_on ≡ true) }
+        ensures erases { OnOk result ((chip_of self.new).erases ≡ (chip_of self.old).erases + 1) }
+        ensures uncounted { OnErr result ((chip_of self.new).erases ≡ (chip_of self.old).erases) }
+        ensures ends { Ends result (chip_of self.old) (chip_of self.new) }
+        ensures memory { let old = memory_of self.old in
+            let at = sector * old.chip.sector_size in
+            let blank = replicate old.chip.sector_size 0xff in
+            Writes result at blank (erased at blank old) old (memory_of self.new) }
+    {
+        if !self.is_on {
+            return Err(FlashError::Off);
+        }
+        self.writes = self.writes.saturating_add(1);
+        let n = self.sector_size as usize;
+        let at = sector as usize * n;
+        match torn_for(&self.armed, self.writes) {
+            None => {
+                blank(&mut self.bytes, at, n);
+                self.book.add(&mut self.erases, 1);
+                self.erased = self.erased.saturating_add(1);
+                Ok(())
+            }
+            Some(torn) => {
+                tear_erase(&mut self.bytes, at, n, torn);
+                self.is_on = false;
+                self.book.add(&mut self.cuts, 1);
+                Err(FlashError::Cut)
+            }
+        }
+    }
+
+    fn restart(&mut self)
+        ensures chip { chip_of self.new ≡ record (chip_of self.old) { is_on = true } }
+        ensures memory { memory_of self.new
+            ≡ record (memory_of self.old) { chip = record (chip_of self.old) { is_on = true } } }
+    {
+        self.is_on = true;
+    }
+}
