@@ -1,12 +1,15 @@
 -- Bytes of which a range was replaced, and ranges that a cut left.
 use Rattle.std.proofs.Common.{◌≡◌, ℕ, zero, suc, ◌+◌, ◌-◌, ◌%◌, ◌<◌, ◌≤◌, List, [], ◌∷◌, ◌++◌, length, take, drop, min}
-use Rattle.std.proofs.Common.{slice_index, slice_range, get_or, refl, sym, ◌∙◌, ap, arith, ⊎_elim}
+use Rattle.std.proofs.Common.{slice_index, slice_range, get_or, replicate, refl, sym, ◌∙◌, ap, arith, ⊎_elim}
 use Rattle.std.proofs.lemmas.Bool.{cases_lt}
-use Rattle.std.proofs.lemmas.List.{ext_get_or, length-append, length-take, length-drop}
+use Rattle.std.proofs.lemmas.List.{ext_get_or, get_or-drop, get_or-take, get_or_append_left, get_or-append_right}
+use Rattle.std.proofs.lemmas.List.{length-append, length-take, length-drop, length-replicate, take_at}
 use Rattle.std.proofs.lemmas.List.FromFn.{get_or-map-range_with_len, length-map-range_with_len}
 use Rattle.flash_model.specs.declared.torn.Torn.{Torn}
 use Rattle.flash_model.specs.declared.torn.Torn.TheVariants.{Keep, Done, Bytes}
-use Rattle.flash_model.specs.Torn.{repeated, with_pattern, torn_bytes, replaced}
+use Rattle.flash_model.specs.Chip.{Chip, SameOutside}
+use Rattle.flash_model.proofs.Ranges.{length_range}
+use Rattle.flash_model.specs.Torn.{repeated, with_pattern, torn_bytes, torn_at, replaced}
 
 -- No bytes are put over what was there.
 pub with_pattern_none : (pattern old : List ℕ) → length pattern ≡ 0 → old ≡ with_pattern pattern old
@@ -37,3 +40,62 @@ pub length-torn_bytes : (torn : Torn) (old done : List ℕ) → length old ≡ l
 length-torn_bytes Keep old done same = same
 length-torn_bytes Done old done same = refl
 length-torn_bytes (Bytes pattern) old done same = length-with_pattern pattern.items old ∙ same
+
+pub length-replaced : (at : ℕ) (range bytes : List ℕ) → at + length range ≤ length bytes
+    → length (replaced at range bytes) ≡ length bytes
+length-replaced at range bytes inside = simp (length-append, length-take, length-drop) (omega arith)
+
+-- All other bytes are as they were.
+pub outside_of_replaced : (at n : ℕ) (range : List ℕ) (old new : Chip) → length range ≡ n
+    → at + n ≤ length old.bytes → new.bytes ≡ replaced at range old.bytes
+    → new.sector_size ≡ old.sector_size → new.sectors ≡ old.sectors → SameOutside at n old new
+outside_of_replaced at n range old new long inside is size sectors =
+    let front : length (take at old.bytes) ≡ at = length-take at old.bytes ∙ omega arith in
+    record {
+      sector_size = size;
+      sectors = sectors;
+      size = ap length is ∙ length-replaced at range old.bytes (omega arith);
+      before = λ k low. ap (λ bytes. slice_index bytes k) is
+          ∙ get_or_append_left (take at old.bytes) _ 0 k (omega arith) ∙ get_or-take at old.bytes k 0 low;
+      after = λ k high. ap (λ bytes. slice_index bytes k) is
+          ∙ get_or-append_right (take at old.bytes) _ at k 0 front (omega arith)
+          ∙ get_or-append_right range _ n (k - at) 0 long (omega arith)
+          ∙ get_or-drop (at + length range) old.bytes (k - at - n) 0
+          ∙ ap (λ i. slice_index old.bytes i) (omega arith);
+    }
+
+-- A cut leaves as many bytes in its range as there were ..
+pub length-torn_range : (torn : Torn) (at : ℕ) (bytes done : List ℕ) → at + length done ≤ length bytes
+    → length (torn_bytes torn (slice_range bytes at (at + length done)) done) ≡ length done
+length-torn_range torn at bytes done inside = length-torn_bytes torn _ done
+    (length_range bytes at (at + length done) ∙ omega arith)
+
+-- .. and as many in all.
+pub length-torn_at : (torn : Torn) (at : ℕ) (done bytes : List ℕ) → at + length done ≤ length bytes
+    → length (torn_at at done torn bytes) ≡ length bytes
+length-torn_at torn at done bytes inside =
+    let long = length-torn_range torn at bytes done inside in
+    length-replaced at _ bytes (omega (arith, long, inside))
+
+-- All other bytes are as they were.
+pub outside_of_torn : (torn : Torn) (at n : ℕ) (done : List ℕ) (old new : Chip) → length done ≡ n
+    → at + length done ≤ length old.bytes → new.bytes ≡ torn_at at done torn old.bytes
+    → new.sector_size ≡ old.sector_size → new.sectors ≡ old.sectors → SameOutside at n old new
+outside_of_torn torn at n done old new long inside is size sectors = outside_of_replaced at n _ old new
+    (length-torn_range torn at old.bytes done inside ∙ long) (omega (arith, long, inside)) is size sectors
+
+-- The bytes of an erase that was cut.
+pub torn_blank : (torn : Torn) (at n : ℕ) (old new : List ℕ)
+    → new ≡ replaced at (torn_bytes torn (slice_range old at (at + n)) (replicate n 255)) old
+    → new ≡ torn_at at (replicate n 255) torn old
+torn_blank torn at n old new is =
+    let blank : List ℕ = replicate n 255 in
+    let long : n ≡ length blank = sym (length-replicate {A = ℕ} n 255) in
+    is ∙ ap (λ m. replaced at (torn_bytes torn (slice_range old at (at + m)) blank) old) long
+
+-- The items of a vector of which all were lent and came back as others, just as many.
+pub items_after : (len : ℕ) (old new whole : List ℕ) → new ≡ whole → length whole ≡ length old
+    → length old ≡ len → take len (new ++ drop (length new) old) ≡ whole
+items_after len old new whole is long all =
+    let same : length new ≡ len = ap length is ∙ long ∙ all in
+    take_at new (drop (length new) old) len same ∙ is

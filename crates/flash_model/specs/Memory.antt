@@ -1,5 +1,5 @@
 -- A flash in memory: what a contract sees of it, and what a write of it leaves.
-use Rattle.std.specs.Prelude.{◌≡◌, ℕ, ◌+◌, ◌-◌, ◌^◌, true, false, List, length, min, slice_range}
+use Rattle.std.specs.Prelude.{◌≡◌, ℕ, ◌+◌, ◌-◌, ◌^◌, true, false, List, min}
 use Rattle.std.specs.Prelude.{Option, Some, None, Result, IsOk, IsErrOf}
 use Rattle.flash_model.specs.declared.error.FlashError.{FlashError}
 use Rattle.flash_model.specs.declared.error.FlashError.TheVariants.{Cut, Off}
@@ -7,7 +7,7 @@ use Rattle.flash_model.specs.declared.memory.MemFlash.{MemFlash}
 use Rattle.flash_model.specs.declared.torn.Armed.{Armed}
 use Rattle.flash_model.specs.declared.torn.Torn.{Torn}
 use Rattle.flash_model.specs.Chip.{Chip}
-use Rattle.flash_model.specs.Torn.{replaced, torn_bytes, torn_for}
+use Rattle.flash_model.specs.Torn.{replaced, torn_at, torn_for}
 
 -- A flash in memory: the flash itself, how many programs and erases it took, and the writes that are to be
 -- cut, in the order in which they were armed.
@@ -58,8 +58,7 @@ erased at range old = record {
 abbrev pub torn : ℕ → List ℕ → Torn → Memory → Memory
 torn at range left old = record {
   chip = record (old.chip) {
-    bytes = replaced at
-        (torn_bytes left (slice_range old.chip.bytes at (at + length range)) range) old.chip.bytes;
+    bytes = torn_at at range left old.chip.bytes;
     is_on = false;
     cuts = old.chip.cuts + 1;
   };

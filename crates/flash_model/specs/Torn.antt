@@ -1,6 +1,6 @@
 -- What a cut leaves of a range that was being written, and which writes are to be cut.
 use Rattle.std.specs.Prelude.{ℕ, ◌+◌, ◌%◌, ◌==◌, List, [], ◌∷◌, ◌++◌, length, take, drop, map}
-use Rattle.std.specs.Prelude.{Option, option_map, slice_index, find}
+use Rattle.std.specs.Prelude.{Option, option_map, slice_index, slice_range, find}
 use Rattle.std.specs.List.{range_with_len}
 use Rattle.flash_model.specs.declared.torn.Armed.{Armed}
 use Rattle.flash_model.specs.declared.torn.Torn.{Torn}
@@ -24,7 +24,12 @@ torn_bytes (Bytes pattern) old done = with_pattern pattern.items old
 
 -- All bytes, with others from an address on in the place of those that were there.
 abbrev pub replaced : ℕ → List ℕ → List ℕ → List ℕ
-replaced at range bytes = take at bytes ++ range ++ drop (at + length range) bytes
+replaced at range bytes = take at bytes ++ (range ++ drop (at + length range) bytes)
+
+-- All bytes after a cut of the write of these bytes at an address.
+abbrev pub torn_at : ℕ → List ℕ → Torn → List ℕ → List ℕ
+torn_at at done torn bytes =
+    replaced at (torn_bytes torn (slice_range bytes at (at + length done)) done) bytes
 
 -- What the cut of the write of this number leaves, where it is to be cut: the first that was armed counts.
 abbrev pub torn_for : ℕ → List Armed → Option Torn

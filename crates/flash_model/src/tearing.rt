@@ -1,7 +1,7 @@
 //! Ranges of bytes in memory, written whole or torn.
 
 ghost use Rattle.std.specs.Prelude.{ℕ, ◌≡◌, ◌+◌, ◌<◌, ◌≤◌, length, replicate, slice_index, slice_range};
-ghost use Rattle.flash_model.specs.Torn.{replaced, torn_bytes, with_pattern};
+ghost use Rattle.flash_model.specs.Torn.{replaced, torn_at, torn_bytes, with_pattern};
 
 use crate::torn::Torn;
 
@@ -49,8 +49,7 @@ fn put_pattern(all: &mut [u8], at: usize, n: usize, pattern: &[u8])
 /// Leaves of a program of these bytes what a cut leaves.
 pub(crate) fn tear_program(all: &mut [u8], at: usize, bytes: &[u8], torn: &Torn)
     requires { at + length bytes.now ≤ length all.old }
-    ensures bytes { let old = slice_range all.old at (at + length bytes.now) in
-        all.new ≡ replaced at (torn_bytes torn.now old bytes.now) all.old }
+    ensures bytes { all.new ≡ torn_at at bytes.now torn.now all.old }
     ensures are_bytes { (k : ℕ) → slice_index all.new k < 256 }
 {
     match torn {
