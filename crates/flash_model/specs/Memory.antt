@@ -30,6 +30,17 @@ chip_of flash = record {
 abbrev pub memory_of : {L : Type 0} → MemFlash L → Memory
 memory_of flash = record { chip = chip_of flash; writes = flash.writes; armed = flash.armed.items }
 
+-- A flash that was just made: it has power, and neither a cut nor an erase was counted.
+abbrev pub new_chip : ℕ → ℕ → List ℕ → Chip
+new_chip size count all = record {
+  sector_size = size;
+  sectors = count;
+  bytes = all;
+  is_on = true;
+  cuts = 0;
+  erases = 0;
+}
+
 -- One more, up to the greatest number that 64 bits hold.
 abbrev pub one_more : ℕ → ℕ
 one_more n = min (n + 1) (2 ^ 64 - 1)

@@ -9,7 +9,34 @@ use crate::torn::{Armed, Torn, torn_for};
 use std::alloc::{AllocError, Global};
 use std::sync::ledger::{Blank, Book, Ledger, Share};
 
-/// A flash in memory.
+/// A flash in memory, of which any write can be cut.
+///
+/// A *write* is a program or an erase. The k-th one, counted from the making of the flash, from 1, is cut where
+/// `arm(k, ..)` was called before it: it answers `Cut`, leaves in its range exactly what was armed and all else
+/// as it was, and the flash is off until `restart`. No other write is cut. A write that a flash refuses since it
+/// is off isn't counted; a write that is cut is counted by `writes`, and never by `erases`.
+///
+/// Reading, writing and restarting don't allocate: the bytes are there from its making, and those that cuts
+/// leave from `arm`.
+///
+/// Contracts see it as a `Memory` (`memory_of`): the chip, the number of writes, and the armed cuts in the order
+/// of their arming. The counts of cuts and of completed erases have no bound and take no bytes: they are tokens
+/// of the ledger `L`. So a flash is made in a function that is generic in `L`, whose caller picks the ledger:
+///
+/// ```text
+/// fn helper<L: Ledger>(alloc: Global, blank: Blank) -> Result<(), AllocError>
+///     requires name { blank.name ≡ L.name }
+///     requires parts { blank.parts ≡ L.parts }
+///     requires two { L.parts ≡ 2 }
+/// {
+///     let mut flash = MemFlash::<L>::new(alloc, blank, 512, 16)?;
+///     ..
+/// }
+///
+/// helper::<Brand>(rt.alloc(), Blank::new(2))?;
+/// ```
+///
+/// with `std::sync::ledger::{Blank, Ledger}` and `std::marker::Brand`.
 #[derive(Drop)]
 pub struct MemFlash<L: Ledger> {
     sector_size: u32,
@@ -17,7 +44,8 @@ pub struct MemFlash<L: Ledger> {
     bytes: Vec<u8>,
     is_on: bool,
     writes: u64,
-    erased: u64,
+    // The amount of `erases`, as far as 64 bits hold it.
+    completed: u64,
     armed: Vec<Armed>,
     book: Book<L>,
     cuts: Share<L>,
@@ -27,56 +55,48 @@ pub struct MemFlash<L: Ledger> {
     ghost are_bytes: { (k : ℕ) → slice_index bytes.items k < 256 },
     ghost counts_cuts: { 0 < cuts.parts },
     ghost counts_erases: { 0 < erases.parts },
-    ghost counts: { erased ≡ min erases.amount (2 ^ 64 - 1) },
+    ghost counts: { completed ≡ min erases.amount (2 ^ 64 - 1) },
     ghost armed_below: { All (λ write. write.at < 2 ^ 64 - 1) armed.items },
 }
 
 impl<L: Ledger> MemFlash<L> {
-    ghost use Rattle.flash_model.specs.Memory.{memory_of};
+    ghost use Rattle.flash_model.specs.Memory.{chip_of, memory_of, new_chip};
 
-    /// A flash that is all erased.
+    /// A flash of so many sectors of `sector_size` bytes each, all erased, and on. Nothing is armed.
+    ///
+    /// It has 4294967295 bytes at most. The ledger's token has two parts, as `Blank::new(2)` makes it.
+    ///
+    /// # Errors
+    /// Where memory for the bytes is refused.
     pub fn new(alloc: Global, blank: Blank, sector_size: u32, sectors: u32) -> Result<Self, AllocError>
         requires name { blank.name ≡ L.name }
         requires parts { blank.parts ≡ L.parts }
         requires two { L.parts ≡ 2 }
         requires addressed { sectors * sector_size < 2 ^ 32 }
-        ensures { IfOk result (λ flash. memory_of flash ≡ record {
-            chip = record {
-                sector_size = sector_size;
-                sectors = sectors;
-                bytes = replicate (sectors * sector_size) 0xff;
-                is_on = true;
-                cuts = 0;
-                erases = 0;
-            };
-            writes = 0;
-            armed = [];
-        }) }
+        ensures chip { IfOk result (λ flash. chip_of flash
+            ≡ new_chip sector_size sectors (replicate (sectors * sector_size) 0xff)) }
+        ensures writes { IfOk result (λ flash. (memory_of flash).writes ≡ 0) }
+        ensures armed { IfOk result (λ flash. (memory_of flash).armed ≡ []) }
     {
         let bytes = vec![in alloc; 0xff; sectors as usize * sector_size as usize]?;
         Ok(Self::of_sectors(alloc, blank, sector_size, sectors, bytes))
     }
 
-    /// A flash that holds these bytes.
+    /// A flash of these bytes, which is on: whole sectors of `sector_size` bytes each, 4294967295 bytes at most.
+    /// Nothing is armed. Does not allocate; the allocator is the one that `arm` will ask.
+    ///
+    /// The ledger's token has two parts, as `Blank::new(2)` makes it.
     pub fn from_bytes(alloc: Global, blank: Blank, sector_size: u32, bytes: Vec<u8>) -> Self
         requires name { blank.name ≡ L.name }
         requires parts { blank.parts ≡ L.parts }
         requires two { L.parts ≡ 2 }
-        requires sector { 0 < sector_size }
+        requires some { 0 < sector_size }
         requires whole { vec_len bytes % sector_size ≡ 0 }
         requires addressed { vec_len bytes < 2 ^ 32 }
-        ensures { memory_of result ≡ record {
-            chip = record {
-                sector_size = sector_size;
-                sectors = vec_len bytes / sector_size;
-                bytes = bytes.items;
-                is_on = true;
-                cuts = 0;
-                erases = 0;
-            };
-            writes = 0;
-            armed = [];
-        } }
+        ensures chip { chip_of result
+            ≡ new_chip sector_size (vec_len bytes / sector_size) bytes.items }
+        ensures writes { (memory_of result).writes ≡ 0 }
+        ensures armed { (memory_of result).armed ≡ [] }
     {
         let sectors = bytes.len() as u32 / sector_size;
         Self::of_sectors(alloc, blank, sector_size, sectors, bytes)
@@ -89,18 +109,9 @@ impl<L: Ledger> MemFlash<L> {
         requires two { L.parts ≡ 2 }
         requires whole { vec_len bytes ≡ sectors * sector_size }
         requires addressed { vec_len bytes < 2 ^ 32 }
-        ensures { memory_of result ≡ record {
-            chip = record {
-                sector_size = sector_size;
-                sectors = sectors;
-                bytes = bytes.items;
-                is_on = true;
-                cuts = 0;
-                erases = 0;
-            };
-            writes = 0;
-            armed = [];
-        } }
+        ensures chip { chip_of result ≡ new_chip sector_size sectors bytes.items }
+        ensures writes { (memory_of result).writes ≡ 0 }
+        ensures armed { (memory_of result).armed ≡ [] }
     {
         let (book, mut cuts) = blank.open::<L>();
         let erases = cuts.split_off(1, 0);
@@ -110,7 +121,7 @@ impl<L: Ledger> MemFlash<L> {
             bytes,
             is_on: true,
             writes: 0,
-            erased: 0,
+            completed: 0,
             armed: Vec::new(alloc),
             book,
             cuts,
@@ -118,35 +129,43 @@ impl<L: Ledger> MemFlash<L> {
         }
     }
 
-    /// Arms a cut.
+    /// Has the k-th write cut, counted from the making of the flash, from 1, and leave what `torn` says. `k` is
+    /// below 2^64 - 1, where counting stops.
+    ///
+    /// Calls add up; of several for the same `k` the first counts. A `k` of 0, or of a write that is over, does
+    /// nothing.
+    ///
+    /// # Errors
+    /// Where memory for one more is refused: the flash is as it was.
     pub fn arm(&mut self, k: u64, torn: Torn) -> Result<(), AllocError>
         requires { k < 2 ^ 64 - 1 }
-        ensures ok { OnOk result (memory_of self.new ≡ record (memory_of self.old) {
-            armed = (memory_of self.old).armed ++ record { at = k; torn = torn } ∷ [];
-        }) }
-        ensures err { OnErr result (memory_of self.new ≡ memory_of self.old) }
+        ensures chip { chip_of self.new ≡ chip_of self.old }
+        ensures writes { (memory_of self.new).writes ≡ (memory_of self.old).writes }
+        ensures armed { OnOk result ((memory_of self.new).armed
+            ≡ (memory_of self.old).armed ++ record { at = k; torn = torn } ∷ []) }
+        ensures same { OnErr result ((memory_of self.new).armed ≡ (memory_of self.old).armed) }
     {
         self.armed.push(Armed { at: k, torn })?;
         Ok(())
     }
 
-    /// How many programs and erases it took.
+    /// How many writes it took, programs and erases, also those that were cut. Stops at 2^64 - 1.
     pub fn writes(&self) -> u64
         ensures { result ≡ (memory_of self.now).writes }
     {
         self.writes
     }
 
-    /// How many erases it completed.
+    /// How many erases it completed; an erase that was cut isn't one of them. Stops at 2^64 - 1.
     pub fn erases(&self) -> u64
-        ensures { result ≡ min (memory_of self.now).chip.erases (2 ^ 64 - 1) }
+        ensures { result ≡ min (chip_of self.now).erases (2 ^ 64 - 1) }
     {
-        self.erased
+        self.completed
     }
 
-    /// The bytes, in the order of their addresses.
+    /// The bytes, in the order of their addresses, whether it is on or off.
     pub fn bytes(&self) -> &[u8]
-        ensures { result.now ≡ (memory_of self.now).chip.bytes }
+        ensures { result.now ≡ (chip_of self.now).bytes }
     {
         &self.bytes
     }
@@ -248,7 +267,7 @@ impl<L: Ledger> Flash for MemFlash<L> {
             None => {
                 blank(&mut self.bytes, at, n);
                 self.book.add(&mut self.erases, 1);
-                self.erased = self.erased.saturating_add(1);
+                self.completed = self.completed.saturating_add(1);
                 Ok(())
             }
             Some(torn) => {
