@@ -45,8 +45,8 @@ pub copy_after_erase : (a b e size m : ℕ) (old mid new : Chip)
     → a ≢ b → size ≡ e → m ≡ size → IsCopy (a * e) (b * e) e old new
 copy_after_erase a b e size m old mid new copied same other is all =
     copy_after (a * e) (b * e) m e (b * e) e old mid new
-        (subst (λ x. IsCopy (a * x) (b * x) m mid new) is copied) same
-        (grind (arith, products_apart a b e other)) (omega arith)
+    (subst (λ x. IsCopy (a * x) (b * x) m mid new) is copied) same
+    (grind (arith, products_apart a b e other)) (omega arith)
 
 -- The contents of a sector, at another one to which it was copied.
 pub sector_copied : (a b e n : ℕ) (contents : ℕ → ℕ) (old new : Chip) → SectorIs old a contents

@@ -56,17 +56,17 @@ pub erased_or : (chip : Chip) (at n : ℕ) → IsErased chip at n ⊎ (IsErased 
 erased_or chip at zero = inl (erased_none chip at)
 erased_or chip at (suc n) = ⊎_elim
     (λ (front : IsErased chip at n). ⊎_elim
-        (λ (is : slice_index chip.bytes (at + n) ≡ 0xff). inl (record {
-          each = λ k low high. ⊎_elim
-              (λ (before : k < at + n). front.each k low before)
-              (λ (behind : at + n ≤ k).
-                  let same : k ≡ at + n = omega arith in
-                  ap (λ x. slice_index chip.bytes x) same ∙ is)
-              (cases_lt k (at + n));
-        }))
-        (λ (other : slice_index chip.bytes (at + n) ≢ 0xff).
-            inr (λ all. other (all.each (at + n) (omega arith) (omega arith))))
-        (cases_eq (slice_index chip.bytes (at + n)) 0xff))
+    (λ (is : slice_index chip.bytes (at + n) ≡ 0xff). inl (record {
+      each = λ k low high. ⊎_elim
+          (λ (before : k < at + n). front.each k low before)
+          (λ (behind : at + n ≤ k).
+          let same : k ≡ at + n = omega arith in
+          ap (λ x. slice_index chip.bytes x) same ∙ is)
+          (cases_lt k (at + n));
+    }))
+    (λ (other : slice_index chip.bytes (at + n) ≢ 0xff).
+    inr (λ all. other (all.each (at + n) (omega arith) (omega arith))))
+    (cases_eq (slice_index chip.bytes (at + n)) 0xff))
     (λ (torn : IsErased chip at n → ⊥).
-        inr (λ all. torn (record { each = λ k low high. all.each k low (omega arith) })))
+    inr (λ all. torn (record { each = λ k low high. all.each k low (omega arith) })))
     (erased_or chip at n)

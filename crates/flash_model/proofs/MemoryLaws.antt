@@ -26,11 +26,11 @@ pub torn_for_next : (armed : List Armed) (writes next : ℕ) → All (λ write. 
     → next ≡ one_more writes → torn_for next armed ≡ torn_for (writes + 1) armed
 torn_for_next armed writes next below is = ⊎_elim
     (λ (counts : writes + 1 < 2 ^ 64 - 1).
-        let same : next ≡ writes + 1 = omega (arith, is) in
-        ap (λ n. torn_for n armed) same)
+    let same : next ≡ writes + 1 = omega (arith, is) in
+    ap (λ n. torn_for n armed) same)
     (λ (stopped : 2 ^ 64 - 1 ≤ writes + 1).
-        none_behind armed (2 ^ 64 - 1) next below (omega (arith, is))
-        ∙ sym (none_behind armed (2 ^ 64 - 1) (writes + 1) below stopped))
+    none_behind armed (2 ^ 64 - 1) next below (omega (arith, is))
+    ∙ sym (none_behind armed (2 ^ 64 - 1) (writes + 1) below stopped))
     (cases_lt (writes + 1) (2 ^ 64 - 1))
 
 -- A flash in memory, put together.

@@ -24,10 +24,10 @@ with_pattern_each [] old new some long each = absurd (omega (arith, some))
 with_pattern_each (b ∷ bs) old new some long each =
     let at : ℕ → ℕ = λ i. slice_index (b ∷ bs) (i % length (b ∷ bs)) in
     ext_get_or 0 new (repeated (b ∷ bs) (length old))
-        (long ∙ sym (length-map-range_with_len at 0 (length old)))
-        (λ i below.
-            let within : i < length old = omega (arith, below, long) in
-            each i within ∙ sym (get_or-map-range_with_len at 0 (length old) i i 0 within (omega arith)))
+    (long ∙ sym (length-map-range_with_len at 0 (length old)))
+    (λ i below.
+    let within : i < length old = omega (arith, below, long) in
+    each i within ∙ sym (get_or-map-range_with_len at 0 (length old) i i 0 within (omega arith)))
 
 pub length-with_pattern : (pattern old : List ℕ) → length (with_pattern pattern old) ≡ length old
 length-with_pattern [] old = refl

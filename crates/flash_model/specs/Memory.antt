@@ -80,7 +80,7 @@ torn at range left old = record {
 -- A write of these bytes ends as the flash was armed. A flash that is off refuses it, and doesn't count it; one
 -- that isn't armed is done; one that is armed is cut, and leaves what was armed.
 pub record Writes (result : Result Unit FlashError) (at : ℕ) (range : List ℕ) (done old new : Memory)
-  : Type 0 where
+    : Type 0 where
   pub off : old.chip.is_on ≡ false → IsErrOf result Off × (new ≡ old)
   pub on : old.chip.is_on ≡ true → next_torn old ≡ None → IsOk result × (new ≡ done)
   pub armed : (left : Torn) → old.chip.is_on ≡ true → next_torn old ≡ Some left

@@ -6,12 +6,21 @@ ghost use Rattle.flash_model.specs.Chip.{Chip, size_of, Reads, IsErased, SameOut
 use crate::error::FlashError;
 
 /// A flash: sectors of the same size, which are erased whole, and units of 8 bytes, which are programmed
-/// after they were erased.
+/// after they were erased. It has 4294967295 bytes at most.
 ///
 /// What a call leaves is said of the chip that contracts see: its bytes, whether it has power, how many
 /// writes were cut, and how many erases were completed. A write that is cut leaves its range with any bytes
-/// and all else as it was. A unit that reads erased is erased, and what is read doesn't drift: that a real
-/// flash is so is what its driver's author promises.
+/// and all else as it was.
+///
+/// What is asked of a driver, beyond the clauses of its calls:
+/// - A read fails only where the flash is off. Where the bus or the error correction of a part can fail
+///   otherwise, the driver tries again, or stops the device.
+/// - What is read doesn't drift: a unit reads the same until it is written, also one that a cut left half
+///   programmed. A unit that reads erased is erased, so that it may be programmed. A driver of a part whose torn
+///   units read one way now and another way later has to settle that, as by erased-page checks of the part.
+/// - `sector_size` and `sectors` never change.
+///
+/// The clauses name these counts only so that callers can be held to them; a driver keeps none at run time.
 pub trait Flash {
     ghost chip: { Self → Chip };
 

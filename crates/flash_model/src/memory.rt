@@ -68,7 +68,12 @@ impl<L: Ledger> MemFlash<L> {
     ///
     /// # Errors
     /// Where memory for the bytes is refused.
-    pub fn new(alloc: Global, blank: Blank, sector_size: u32, sectors: u32) -> Result<Self, AllocError>
+    pub fn new(
+        alloc: Global,
+        blank: Blank,
+        sector_size: u32,
+        sectors: u32,
+    ) -> Result<Self, AllocError>
         requires name { blank.name ≡ L.name }
         requires parts { blank.parts ≡ L.parts }
         requires two { L.parts ≡ 2 }
@@ -103,7 +108,13 @@ impl<L: Ledger> MemFlash<L> {
     }
 
     /// A flash of so many sectors that holds these bytes.
-    fn of_sectors(alloc: Global, blank: Blank, sector_size: u32, sectors: u32, bytes: Vec<u8>) -> Self
+    fn of_sectors(
+        alloc: Global,
+        blank: Blank,
+        sector_size: u32,
+        sectors: u32,
+        bytes: Vec<u8>,
+    ) -> Self
         requires name { blank.name ≡ L.name }
         requires parts { blank.parts ≡ L.parts }
         requires two { L.parts ≡ 2 }
@@ -257,12 +268,12 @@ impl<L: Ledger> Flash for MemFlash<L> {
             let blank = replicate old.chip.sector_size 0xff in
             Writes result at blank (erased at blank old) old (memory_of self.new) }
     {
+        let n = self.sector_size as usize;
+        let at = sector as usize * n;
         if !self.is_on {
             return Err(FlashError::Off);
         }
         self.writes = self.writes.saturating_add(1);
-        let n = self.sector_size as usize;
-        let at = sector as usize * n;
         match torn_for(&self.armed, self.writes) {
             None => {
                 blank(&mut self.bytes, at, n);

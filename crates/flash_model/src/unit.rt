@@ -4,9 +4,9 @@ ghost use Rattle.std.specs.Prelude.{◌≡◌, ◌+◌, ◌%◌, ◌≤◌, ◌�
 ghost use Rattle.flash_model.specs.Chip.{size_of, Ends, IsErased, Reads, SameOutside};
 ghost use Rattle.flash_model.specs.Units.{IsSet};
 
-use crate::reading::is_erased;
 use crate::error::FlashError;
 use crate::flash::Flash;
+use crate::reading::is_erased;
 
 /// The length of a unit in bytes.
 pub const UNIT: u32 = 8;
