@@ -1,6 +1,6 @@
 -- Copies of ranges, made piece by piece.
-use Rattle.std.proofs.Common.{◌≡◌, ◌≢◌, ◌⊎◌, ℕ, ◌+◌, ◌-◌, ◌*◌, ◌<◌, ◌≤◌, List, length}
-use Rattle.std.proofs.Common.{slice_index, sym, ◌∙◌, ap, subst, arith}
+use Rattle.std.proofs.Common.{◌≡◌, ◌≢◌, ◌⊎◌, ℕ, ◌+◌, ◌-◌, ◌*◌, ◌≤◌, List, length}
+use Rattle.std.proofs.Common.{sym, ◌∙◌, ap, subst, arith}
 use Rattle.flash_model.specs.Chip.{Chip, Reads, IsCopy, SameOutside, SectorIs}
 use Rattle.flash_model.proofs.Frame.{products_apart}
 

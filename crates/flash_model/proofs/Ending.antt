@@ -1,7 +1,7 @@
 -- How calls end that come one after the other.
-use Rattle.std.proofs.Common.{◌≡◌, ◌+◌, ℕ, false, Result, Ok, Err, OnOk, refl, sym, ◌∙◌, ap, arith}
+use Rattle.std.proofs.Common.{◌≡◌, ◌+◌, false, Result, Ok, Err, OnOk, refl, sym, ◌∙◌, ap}
 use Rattle.flash_model.specs.declared.error.FlashError.{FlashError}
-use Rattle.flash_model.specs.Chip.{Chip, Ends, IsUncut, IsCut}
+use Rattle.flash_model.specs.Chip.{Chip, Ends, IsUncut}
 
 pub uncut_refl : (chip : Chip) → IsUncut chip chip
 uncut_refl chip = record { on = refl; cuts = refl }

@@ -1,6 +1,6 @@
 -- What a write leaves of all else, and of what stood beside its range.
-use Rattle.std.proofs.Common.{◌≡◌, ◌≢◌, ◌⊎◌, ℕ, ◌+◌, ◌*◌, ◌<◌, ◌≤◌, List, length, ◌++◌}
-use Rattle.std.proofs.Common.{slice_index, refl, sym, ◌∙◌, ap, arith, inl, inr, ⊎_elim}
+use Rattle.std.proofs.Common.{◌≡◌, ◌≢◌, ◌⊎◌, ℕ, ◌+◌, ◌*◌, ◌/◌, ◌%◌, ◌<◌, ◌≤◌, List, length}
+use Rattle.std.proofs.Common.{refl, sym, ◌∙◌, ap, arith, inl, inr, ⊎_elim}
 use Rattle.std.proofs.lemmas.Bool.{cases_lt}
 use Rattle.flash_model.specs.Chip.{Chip, Reads, SameOutside, SameSector, SectorIs}
 
@@ -72,6 +72,28 @@ product_le a b e lt = grind arith
 pub products_apart : (a b e : ℕ) → a ≢ b → (a * e + e ≤ b * e) ⊎ (b * e + e ≤ a * e)
 products_apart a b e other = ⊎_elim
     (λ lt. inl (product_le a b e lt)) (λ le. inr (product_le b a e (omega arith))) (cases_lt a b)
+
+-- Sectors in their order begin in that order.
+pub mul_le : (a b e : ℕ) → a ≤ b → a * e ≤ b * e
+mul_le a b e le = grind arith
+
+-- The sector of an address that is written so isn't before one that begins at or before the address ..
+pub sector_from : (a s e o : ℕ) → a * e ≤ s * e + o → o < e → a ≤ s
+sector_from a s e o low small = ⊎_elim
+    (λ (before : s < a). absurd (omega (arith, product_le s a e before))) (λ (le : a ≤ s). le) (cases_lt s a)
+
+-- .. and is before one that begins behind the address.
+pub sector_below : (s b e o : ℕ) → s * e + o < b * e → s < b
+sector_below s b e o high = ⊎_elim
+    (λ (lt : s < b). lt) (λ (behind : b ≤ s). absurd (omega (arith, mul_le b s e behind))) (cases_lt s b)
+
+-- An address, by its sector and the offset in it.
+pub sector_at : (a n e k : ℕ) → 0 < e → a * e ≤ k → k < (a + n) * e
+    → (a ≤ k / e) × (k / e < a + n) × (k ≡ k / e * e + k % e) × (k % e < e)
+sector_at a n e k some low high =
+    let is : k ≡ k / e * e + k % e = omega arith in
+    let below : k % e < e = omega arith in
+    (sector_from a (k / e) e (k % e) (omega arith) below, sector_below (k / e) (a + n) e (k % e) (omega arith), is, below)
 
 pub same_sector_refl : (sector : ℕ) (chip : Chip) → SameSector sector chip chip
 same_sector_refl sector chip = record { each = λ k o is below. refl }

@@ -20,7 +20,7 @@ use crate::error::FlashError;
 ///   units read one way now and another way later has to settle that, as by erased-page checks of the part.
 /// - `sector_size` and `sectors` never change.
 ///
-/// The clauses name these counts only so that callers can be held to them; a driver keeps none at run time.
+/// The counts of cuts and of erases are for contracts alone: a driver keeps no number for them.
 pub trait Flash {
     ghost chip: { Self → Chip };
 

@@ -1,9 +1,8 @@
-use Rattle.std.proofs.Common.{rules, refl, sym, ◌∙◌, ◌≡◌, ◌≤◌, ◌+◌, ◌*◌, ℕ, length, replicate, subst, arith}
+use Rattle.std.proofs.Common.{rules, refl, sym, ◌∙◌, ◌≤◌, ◌+◌, ◌*◌, ℕ, length, replicate, arith}
 use Rattle.std.proofs.lemmas.List.{length-replicate}
 use Rattle.flash_model.proofs.Frame.{product_le}
 use Rattle.flash_model.proofs.MemoryLaws.{same_memory, torn_for_next, writes_done, writes_cut}
 use Rattle.flash_model.proofs.TornBytes.{items_after, length-replaced, length-torn_at, outside_of_torn, torn_blank}
-use Rattle.flash_model.specs.Chip.{SameOutside}
 use Rattle.flash_model.proofs.memory.MemFlashFlash.erase.Goals as goal
 
 pub returns-in-None-clause-memory : goal.returns-in-None-clause-memory
