@@ -92,8 +92,12 @@ pub sector_at : (a n e k : ℕ) → 0 < e → a * e ≤ k → k < (a + n) * e
     → (a ≤ k / e) × (k / e < a + n) × (k ≡ k / e * e + k % e) × (k % e < e)
 sector_at a n e k some low high =
     let is : k ≡ k / e * e + k % e = omega arith in
-    let below : k % e < e = omega arith in
-    (sector_from a (k / e) e (k % e) (omega arith) below, sector_below (k / e) (a + n) e (k % e) (omega arith), is, below)
+    let below : k % e < e = omega arith in (
+      sector_from a (k / e) e (k % e) (omega arith) below,
+      sector_below (k / e) (a + n) e (k % e) (omega arith),
+      is,
+      below,
+    )
 
 pub same_sector_refl : (sector : ℕ) (chip : Chip) → SameSector sector chip chip
 same_sector_refl sector chip = record { each = λ k o is below. refl }

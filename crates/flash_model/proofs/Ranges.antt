@@ -19,8 +19,8 @@ pub range_same : (a b : ℕ) (old new : List ℕ) → length new ≡ length old
 range_same a b old new long same = ext_get_or 0 (slice_range new a b) (slice_range old a b)
     (length_range new a b ∙ ap (λ n. min (b - a) (n - a)) long ∙ sym (length_range old a b))
     (λ i lt.
-        let within : i < b - a = omega (arith, length_range new a b) in
-        range_at new a b i within ∙ same (a + i) (omega arith) (omega arith) ∙ sym (range_at old a b i within))
+    let within : i < b - a = omega (arith, length_range new a b) in
+    range_at new a b i within ∙ same (a + i) (omega arith) (omega arith) ∙ sym (range_at old a b i within))
 
 -- A range beside the one that was written.
 pub range_kept : (a b from m : ℕ) (old new : Chip) → SameOutside from m old new
@@ -36,8 +36,8 @@ pub range_of_reads : (chip : Chip) (at : ℕ) (bytes : List ℕ) → Reads chip 
 range_of_reads chip at bytes reads fits =
     let long = length_range chip.bytes at (at + length bytes) in
     ext_get_or 0 (slice_range chip.bytes at (at + length bytes)) bytes (long ∙ omega arith) (λ i lt.
-        let below : i < length bytes = omega (arith, long) in
-        range_at chip.bytes at (at + length bytes) i (omega arith) ∙ reads.each (at + i) i refl below)
+    let below : i < length bytes = omega (arith, long) in
+    range_at chip.bytes at (at + length bytes) i (omega arith) ∙ reads.each (at + i) i refl below)
 
 -- .. and reads what it is.
 pub reads_of_range : (chip : Chip) (at : ℕ) (bytes : List ℕ)
@@ -55,10 +55,10 @@ range_of_erased chip at n erased fits =
     let blank : List ℕ = replicate n 0xff in
     let long = length_range chip.bytes at (at + n) in
     ext_get_or 0 (slice_range chip.bytes at (at + n)) blank
-        (long ∙ omega arith ∙ sym (length-replicate {A = ℕ} n 0xff)) (λ i lt.
-        let below : i < n = omega (arith, long) in
-        range_at chip.bytes at (at + n) i (omega arith)
-        ∙ erased.each (at + i) (omega arith) (omega arith) ∙ sym (get_or-replicate n i 0xff 0 below))
+    (long ∙ omega arith ∙ sym (length-replicate {A = ℕ} n 0xff)) (λ i lt.
+    let below : i < n = omega (arith, long) in
+    range_at chip.bytes at (at + n) i (omega arith)
+    ∙ erased.each (at + i) (omega arith) (omega arith) ∙ sym (get_or-replicate n i 0xff 0 below))
 
 -- .. and one that is 0xFF throughout is erased.
 pub erased_of_range : (chip : Chip) (at n : ℕ) → slice_range chip.bytes at (at + n) ≡ replicate n 0xff

@@ -1,5 +1,5 @@
 -- Bytes of which a range was replaced, and ranges that a cut left.
-use Rattle.std.proofs.Common.{◌≡◌, ℕ, ◌+◌, ◌-◌, ◌%◌, ◌<◌, ◌≤◌, List, [], ◌∷◌, ◌++◌, length, take, drop}
+use Rattle.std.proofs.Common.{◌≡◌, ◌*◌, ℕ, ◌+◌, ◌-◌, ◌%◌, ◌<◌, ◌≤◌, List, [], ◌∷◌, ◌++◌, length, take, drop}
 use Rattle.std.proofs.Common.{slice_index, slice_range, replicate, refl, sym, ◌∙◌, ap, arith}
 use Rattle.std.proofs.lemmas.List.{ext_get_or, get_or-drop, get_or-take, get_or_append_left, get_or-append_right}
 use Rattle.std.proofs.lemmas.List.{length-append, length-take, length-drop, length-replicate, take_at}
@@ -7,6 +7,7 @@ use Rattle.std.proofs.lemmas.List.FromFn.{get_or-map-range_with_len, length-map-
 use Rattle.flash_model.specs.declared.torn.Torn.{Torn}
 use Rattle.flash_model.specs.declared.torn.Torn.TheVariants.{Keep, Done, Bytes}
 use Rattle.flash_model.specs.Chip.{Chip, SameOutside}
+use Rattle.flash_model.proofs.Frame.{product_le}
 use Rattle.flash_model.proofs.Ranges.{length_range}
 use Rattle.flash_model.specs.Torn.{repeated, with_pattern, torn_bytes, torn_at, replaced}
 
@@ -98,3 +99,22 @@ pub items_after : (len : ℕ) (old new whole : List ℕ) → new ≡ whole → l
 items_after len old new whole is long all =
     let same : length new ≡ len = ap length is ∙ long ∙ all in
     take_at new (drop (length new) old) len same ∙ is
+
+-- A sector lies in the flash.
+pub blank_inside : (sector sectors size : ℕ) (bytes : List ℕ) → sector < sectors
+    → length bytes ≡ sectors * size → sector * size + length {A = ℕ} (replicate size 255) ≤ length bytes
+blank_inside sector sectors size bytes below whole =
+    let blank : List ℕ = replicate size 255 in
+    let long : length blank ≡ size = length-replicate {A = ℕ} size 255 in
+    let within = product_le sector sectors size below in
+    omega (arith, long, within, whole)
+
+-- The items after an erase that was cut.
+pub items_after_torn_blank : (torn : Torn) (len at n : ℕ) (old new : List ℕ)
+    → new ≡ replaced at (torn_bytes torn (slice_range old at (at + n)) (replicate n 255)) old
+    → at + length {A = ℕ} (replicate n 255) ≤ length old → length old ≡ len
+    → take len (new ++ drop (length new) old) ≡ torn_at at (replicate n 255) torn old
+items_after_torn_blank torn len at n old new is inside all =
+    let blank : List ℕ = replicate n 255 in
+    items_after len old new (torn_at at blank torn old) (torn_blank torn at n old new is)
+    (length-torn_at torn at blank old inside) all

@@ -60,7 +60,10 @@ programmed at range old = record {
 -- After an erase that was done, of the sector that begins at this address; these are its bytes.
 abbrev pub erased : ℕ → List ℕ → Memory → Memory
 erased at range old = record {
-  chip = record (old.chip) { bytes = replaced at range old.chip.bytes; erases = old.chip.erases + 1 };
+  chip = record (old.chip) {
+    bytes = replaced at range old.chip.bytes;
+    erases = old.chip.erases + 1;
+  };
   writes = one_more old.writes;
   armed = old.armed;
 }

@@ -21,7 +21,8 @@ fn is_all_erased(bytes: &[u8]) -> bool
 fn is_piece_erased<F: Flash>(flash: &mut F, at: u32, piece: &mut [u8]) -> Result<bool, FlashError>
     requires { at + length piece.old ≤ size_of (F.chip flash.old) }
     ensures same { F.chip flash.new ≡ F.chip flash.old }
-    ensures ok { IfOk result (λ yes. IsTrue yes ↔ IsErased (F.chip flash.old) at (length piece.old)) }
+    ensures ok { IfOk result (λ yes. IsTrue yes
+        ↔ IsErased (F.chip flash.old) at (length piece.old)) }
     ensures on { OnOk result ((F.chip flash.old).is_on ≡ true) }
     ensures ends { Ends result (F.chip flash.old) (F.chip flash.new) }
 {

@@ -6,24 +6,26 @@ use Rattle.flash_model.proofs.memory.MemFlashFlash.program.Goals as goal
 pub returns-in-None-clause-memory : goal.returns-in-None-clause-memory
 returns-in-None-clause-memory g c =
     let inside : c.args.at + length c.args.bytes.now ≤ length c.args.self.now.bytes.items = search rules in
-    let all = items_after _ _ _ _ (rw c.deref_mut.ensures.value at c.put.ensures.bytes)
-    (length-replaced _ _ _ inside) (search rules) in
     writes_done _ _ _ _ _ (search rules)
     (sym (torn_for_next _ _ _ c.args.self.now.armed_below c.saturating_add-self.ensures) ∙ search rules)
-    (same_memory _ _ _ _ _ _ _ _ _ _ _ _ all refl refl (search rules))
+    (same_memory _ _ _ _ _ _ _ _ _ _ _ _
+    (items_after _ _ _ _ (rw c.deref_mut.ensures.value at c.put.ensures.bytes) (length-replaced _ _ _ inside) (search rules))
+    refl refl (search rules))
 
 pub returns-in-Some-clause-outside : goal.returns-in-Some-clause-outside
 returns-in-Some-clause-outside g c =
     let inside : c.args.at + length c.args.bytes.now ≤ length c.args.self.now.bytes.items = search rules in
-    let all = items_after _ _ _ _ (rw c.deref_mut-in-Some.ensures.value at c.tear_program.ensures.bytes)
-    (length-torn_at c.in-Some.torn.now _ _ _ inside) (search rules) in
-    outside_of_torn c.in-Some.torn.now _ _ _ _ _ refl inside all refl refl
+    outside_of_torn c.in-Some.torn.now _ _ _ _ _ refl inside
+    (items_after _ _ _ _ (rw c.deref_mut-in-Some.ensures.value at c.tear_program.ensures.bytes)
+    (length-torn_at c.in-Some.torn.now _ _ _ inside) (search rules))
+    refl refl
 
 pub returns-in-Some-clause-memory : goal.returns-in-Some-clause-memory
 returns-in-Some-clause-memory g c =
     let inside : c.args.at + length c.args.bytes.now ≤ length c.args.self.now.bytes.items = search rules in
-    let all = items_after _ _ _ _ (rw c.deref_mut-in-Some.ensures.value at c.tear_program.ensures.bytes)
-    (length-torn_at c.in-Some.torn.now _ _ _ inside) (search rules) in
     writes_cut _ _ c.in-Some.torn.now _ _ _ (search rules)
     (sym (torn_for_next _ _ _ c.args.self.now.armed_below c.saturating_add-self.ensures) ∙ search rules)
-    (same_memory _ _ _ _ _ _ _ _ _ _ _ _ all (search rules) refl (search rules))
+    (same_memory _ _ _ _ _ _ _ _ _ _ _ _
+    (items_after _ _ _ _ (rw c.deref_mut-in-Some.ensures.value at c.tear_program.ensures.bytes)
+    (length-torn_at c.in-Some.torn.now _ _ _ inside) (search rules))
+    (search rules) refl (search rules))
