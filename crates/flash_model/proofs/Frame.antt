@@ -130,3 +130,10 @@ sector_kept s contents old new was same size =
           let at : k ≡ s * old.sector_size + o = is ∙ ap (λ x. x + o) place in
           same.each k o at (omega arith) ∙ was.each k o at (omega arith);
     }
+
+-- The contents of a sector beside the one that was written.
+pub sector_kept_outside : (s t e n : ℕ) (contents : ℕ → ℕ) (old new : Chip) → SectorIs old s contents
+    → SameOutside (t * e) n old new → e ≡ old.sector_size → n ≡ old.sector_size → s ≢ t
+    → SectorIs new s contents
+sector_kept_outside s t e n contents old new was same size whole other =
+    sector_kept s contents old new was (same_sector s t e n old new same size whole other) same.sector_size

@@ -1,6 +1,8 @@
 -- Ranges of a flash as lists of bytes.
-use Rattle.std.proofs.Common.{◌≡◌, ◌⊎◌, ℕ, ◌+◌, ◌-◌, ◌<◌, ◌≤◌, List, length, get_or, slice_index, slice_range}
+use Rattle.std.proofs.Common.{◌≡◌, ◌⊎◌, ℕ, ◌+◌, ◌-◌, ◌<◌, ◌≤◌, List, ◌++◌, length, get_or, slice_index, slice_range}
 use Rattle.std.proofs.Common.{drop, min, replicate, refl, sym, ◌∙◌, ap, arith, ⊎_elim, length-drop}
+use Rattle.std.proofs.lemmas.Bool.{cases_lt}
+use Rattle.std.proofs.lemmas.List.{get_or_append_left, get_or-append_right, get_or-append-add, length-append}
 use Rattle.std.proofs.lemmas.List.{ext_get_or, get_or-drop, get_or-replicate, get_or-take, length-replicate, length-take}
 use Rattle.flash_model.specs.Chip.{Chip, Reads, IsErased, SameOutside}
 
@@ -69,4 +71,36 @@ erased_of_range chip at n is = record {
       ap (λ j. slice_index chip.bytes j) place
       ∙ sym (range_at chip.bytes at (at + n) (k - at) (omega arith))
       ∙ ap (λ xs. slice_index xs (k - at)) is ∙ get_or-replicate n (k - at) 0xff 0 (omega arith);
+}
+
+-- What is read, one list behind the other.
+pub reads_joined : (chip : Chip) (at : ℕ) (first second : List ℕ) → Reads chip at first
+    → Reads chip (at + length first) second → Reads chip at (first ++ second)
+reads_joined chip at first second front back = record {
+  each = λ k i place below. ⊎_elim
+      (λ (low : i < length first).
+      front.each k i place low ∙ sym (get_or_append_left first second 0 i low))
+      (λ (high : length first ≤ i).
+      let within : i - length first < length second = omega (arith, below, length-append first second) in
+      back.each k (i - length first) (omega (arith, place, high)) within
+      ∙ sym (get_or-append_right first second (length first) i 0 refl high))
+      (cases_lt i (length first));
+}
+
+-- The front of what is read ..
+pub reads_front : (chip : Chip) (at : ℕ) (first second : List ℕ) → Reads chip at (first ++ second)
+    → Reads chip at first
+reads_front chip at first second reads = record {
+  each = λ k i place below.
+      reads.each k i place (omega (arith, below, length-append first second))
+      ∙ get_or_append_left first second 0 i below;
+}
+
+-- .. and what stands behind it.
+pub reads_behind : (chip : Chip) (at : ℕ) (first second : List ℕ) → Reads chip at (first ++ second)
+    → Reads chip (at + length first) second
+reads_behind chip at first second reads = record {
+  each = λ k i place below.
+      reads.each k (length first + i) (omega (arith, place)) (omega (arith, below, length-append first second))
+      ∙ get_or-append-add first second i 0;
 }

@@ -4,7 +4,7 @@ ghost use Rattle.std.specs.Prelude.{◌≡◌, ◌==◌, ◌+◌, ◌≤◌, len
 ghost use Rattle.flash_model.specs.Torn.{torn_for};
 
 /// What a cut leaves in its range.
-#[derive(Drop)]
+#[derive(Debug, Drop, PartialEq, Eq)]
 pub enum Torn {
     /// What was there before.
     Keep,
@@ -15,7 +15,7 @@ pub enum Torn {
 }
 
 /// A write that is to be cut.
-#[derive(Drop)]
+#[derive(Debug, Drop, PartialEq, Eq)]
 pub struct Armed {
     /// Its number, counted from the making of the flash, from 1.
     pub at: u64,
