@@ -9,8 +9,8 @@ use Rattle.flash_model.specs.declared.torn.Torn.{Torn}
 use Rattle.flash_model.specs.Chip.{Chip}
 use Rattle.flash_model.specs.Torn.{replaced, torn_at, torn_for}
 
--- A flash in memory: the flash itself, how many programs and erases it took, and the writes that are to be
--- cut, in the order in which they were armed.
+-- A flash in memory: the flash itself, how many programs and erases it took (up to 2 ^ 64 - 1), and the writes
+-- that are to be cut, in the order in which they were armed.
 pub record Memory : Type 0 where
   pub chip : Chip
   pub writes : ℕ
@@ -27,6 +27,7 @@ chip_of flash = record {
   erases = flash.erases.amount;
 }
 
+-- The flash with its count of writes and what is armed.
 abbrev pub memory_of : {L : Type 0} → MemFlash L → Memory
 memory_of flash = record { chip = chip_of flash; writes = flash.writes; armed = flash.armed.items }
 

@@ -36,7 +36,15 @@ use std::sync::ledger::{Blank, Book, Ledger, Share};
 /// helper::<Brand>(rt.alloc(), Blank::new(2))?;
 /// ```
 ///
-/// with `std::sync::ledger::{Blank, Ledger}` and `std::marker::Brand`.
+/// with `std::sync::ledger::{Blank, Ledger}` and `std::marker::Brand`, and in `proofs/CALLER/Invariants.antt` of the
+/// function that calls `helper` (without `g` where the caller isn't generic):
+///
+/// ```text
+/// use Rattle.CRATE.proofs.CALLER.Given as goal
+///
+/// abbrev pub ghosts-helper : goal.ghosts-helper
+/// ghosts-helper g a = record { name = a.blank.name; parts = a.blank.parts }
+/// ```
 #[derive(Drop)]
 pub struct MemFlash<L: Ledger> {
     sector_size: u32,
