@@ -1,8 +1,9 @@
--- The parts of a flash.
+-- The parts of a flash, and which of them a call may touch: a test of parts, by cases.
 use Rattle.std.specs.Prelude.{ℕ, Bool, true, false, ◌==◌, ◌&&◌, ◌/◌, ◌%◌, ◌^◌}
 use Rattle.sector_map.specs.declared.layout.Side.{Side}
 use Rattle.sector_map.specs.declared.layout.Side.TheVariants.{Primary, Secondary}
 
+-- A part: a slot of an image, the trailer of a slot, the scratch sector, or the log.
 pub data Part : Type 0 where
   Slot : ℕ → Side → Part
   TrailerOf : ℕ → Side → Part
@@ -15,7 +16,11 @@ same_side Primary Secondary = false
 same_side Secondary Primary = false
 same_side Secondary Secondary = true
 
--- one part
+-- Bit i of a mask: whether image i is in it.
+unfoldable pub is_member : ℕ → ℕ → Bool
+is_member mask i = mask / 2 ^ i % 2 == 1
+
+-- This part and no other.
 abbrev pub only : Part → Part → Bool
 only (Slot j on) (Slot i side) = (i == j) && same_side side on
 only (Slot j on) (TrailerOf i side) = false
@@ -34,20 +39,44 @@ only Log (TrailerOf i side) = false
 only Log Scratch = false
 only Log Log = true
 
--- bit i of a mask
-unfoldable pub is_member : ℕ → ℕ → Bool
-is_member mask i = mask / 2 ^ i % 2 == 1
+-- Both trailers of an image.
+abbrev pub trailers_of : ℕ → Part → Bool
+trailers_of j (Slot i side) = false
+trailers_of j (TrailerOf i side) = i == j
+trailers_of j Scratch = false
+trailers_of j Log = false
 
--- what a swap of a mask writes: the slots of the mask, scratch, and the trailers of one side of the mask
-abbrev pub swap_of : ℕ → Side → Part → Bool
-swap_of mask on (Slot i side) = is_member mask i
-swap_of mask on (TrailerOf i side) = is_member mask i && same_side side on
-swap_of mask on Scratch = true
-swap_of mask on Log = false
+-- The trailers of one side of the images of a mask.
+abbrev pub trailers_on : ℕ → Side → Part → Bool
+trailers_on mask on (Slot i side) = false
+trailers_on mask on (TrailerOf i side) = is_member mask i && same_side side on
+trailers_on mask on Scratch = false
+trailers_on mask on Log = false
 
--- what a swap of one image writes
+-- The trailers of both sides of the images of a mask.
+abbrev pub trailers_in : ℕ → Part → Bool
+trailers_in mask (Slot i side) = false
+trailers_in mask (TrailerOf i side) = is_member mask i
+trailers_in mask Scratch = false
+trailers_in mask Log = false
+
+-- What comes in for an image is written here: its secondary slot and the trailer of it.
+abbrev pub incoming_of : ℕ → Part → Bool
+incoming_of j (Slot i side) = (i == j) && same_side side Secondary
+incoming_of j (TrailerOf i side) = (i == j) && same_side side Secondary
+incoming_of j Scratch = false
+incoming_of j Log = false
+
+-- What a swap of one image writes: both its slots, its trailer on one side, and scratch.
 abbrev pub swap_one : ℕ → Side → Part → Bool
 swap_one j on (Slot i side) = i == j
 swap_one j on (TrailerOf i side) = (i == j) && same_side side on
 swap_one j on Scratch = true
 swap_one j on Log = false
+
+-- What a swap of the images of a mask writes: both slots of each, its trailer on one side, and scratch.
+abbrev pub swap_of : ℕ → Side → Part → Bool
+swap_of mask on (Slot i side) = is_member mask i
+swap_of mask on (TrailerOf i side) = is_member mask i && same_side side on
+swap_of mask on Scratch = true
+swap_of mask on Log = false

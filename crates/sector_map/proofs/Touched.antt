@@ -1,0 +1,118 @@
+-- Which tests of parts hold what others do. Each says that a part which the wider test leaves is left by the
+-- narrower one too, as keeps_wider takes it.
+use Rattle.std.proofs.Common.{◌≡◌, ℕ, Bool, true, false, ◌==◌, ◌&&◌, sym, ◌∙◌, ap, refl}
+use Rattle.std.proofs.lemmas.Bool.{eqb-true}
+use Rattle.sector_map.specs.declared.layout.Side.{Side}
+use Rattle.sector_map.specs.declared.layout.Side.TheVariants.{Secondary}
+use Rattle.sector_map.specs.Part.{Part, Slot, TrailerOf, Scratch, Log, only, same_side, is_member, trailers_of, trailers_on, trailers_in, incoming_of, swap_one, swap_of}
+
+-- Each part that the first test leaves is left by the second.
+abbrev pub LeavesLess : (Part → Bool) → (Part → Bool) → Type 0
+LeavesLess more less = (part : Part) → more part ≡ false → less part ≡ false
+
+false_true : false ≡ true → ⊥
+false_true e = cc
+
+not_left : (b c : Bool) → (b && c) ≡ false → b ≡ true → c ≡ false
+not_left true c e is = e
+not_left false c e is = absurd (false_true is)
+
+left_false : (b c : Bool) → b ≡ false → (b && c) ≡ false
+left_false true c e = absurd (false_true (sym e))
+left_false false c e = refl
+
+-- a test that is a conjunction
+and_false : (a b c : Bool) → (a ≡ true → b ≡ true) → (b && c) ≡ false → (a && c) ≡ false
+and_false true b c le e = not_left b c e (le refl)
+and_false false b c le e = refl
+
+member_of : (mask i j : ℕ) → is_member mask j ≡ true → (i == j) ≡ true → is_member mask i ≡ true
+member_of mask i j member same = ap (λ k. is_member mask k) (eqb-true i j same) ∙ member
+
+other_image : (mask i j : ℕ) (b : Bool) → (i == j) ≡ b → is_member mask j ≡ true → is_member mask i ≡ false → b ≡ false
+other_image mask i j true same member e = sym (member_of mask i j member same) ∙ e
+other_image mask i j false same member e = refl
+
+-- one trailer is among the two of its image
+pub trailer_of_both : (j : ℕ) (side : Side) → LeavesLess (trailers_of j) (only (TrailerOf j side))
+trailer_of_both j side (Slot i at) e = refl
+trailer_of_both j side (TrailerOf i at) e = left_false (i == j) (same_side at side) e
+trailer_of_both j side Scratch e = refl
+trailer_of_both j side Log e = refl
+
+-- one trailer is among those of a side of a mask
+pub trailer_on_side : (mask j : ℕ) (side : Side) → is_member mask j ≡ true → LeavesLess (trailers_on mask side) (only (TrailerOf j side))
+trailer_on_side mask j side member (Slot i at) e = refl
+trailer_on_side mask j side member (TrailerOf i at) e = and_false (i == j) (is_member mask i) (same_side at side) (member_of mask i j member) e
+trailer_on_side mask j side member Scratch e = refl
+trailer_on_side mask j side member Log e = refl
+
+-- one trailer is among those of a mask
+pub trailer_in_mask : (mask j : ℕ) (side : Side) → is_member mask j ≡ true → LeavesLess (trailers_in mask) (only (TrailerOf j side))
+trailer_in_mask mask j side member (Slot i at) e = refl
+trailer_in_mask mask j side member (TrailerOf i at) e = left_false (i == j) (same_side at side) (other_image mask i j (i == j) refl member e)
+trailer_in_mask mask j side member Scratch e = refl
+trailer_in_mask mask j side member Log e = refl
+
+-- both trailers of an image are among those of a mask
+pub trailers_in_mask : (mask j : ℕ) → is_member mask j ≡ true → LeavesLess (trailers_in mask) (trailers_of j)
+trailers_in_mask mask j member (Slot i at) e = refl
+trailers_in_mask mask j member (TrailerOf i at) e = other_image mask i j (i == j) refl member e
+trailers_in_mask mask j member Scratch e = refl
+trailers_in_mask mask j member Log e = refl
+
+-- the trailers of one side of a mask are among those of both
+pub side_in_mask : (mask : ℕ) (side : Side) → LeavesLess (trailers_in mask) (trailers_on mask side)
+side_in_mask mask side (Slot i at) e = refl
+side_in_mask mask side (TrailerOf i at) e = left_false (is_member mask i) (same_side at side) e
+side_in_mask mask side Scratch e = refl
+side_in_mask mask side Log e = refl
+
+-- the secondary slot is where images come in
+pub slot_of_incoming : (j : ℕ) → LeavesLess (incoming_of j) (only (Slot j Secondary))
+slot_of_incoming j (Slot i at) e = e
+slot_of_incoming j (TrailerOf i at) e = refl
+slot_of_incoming j Scratch e = refl
+slot_of_incoming j Log e = refl
+
+-- .. and so is its trailer
+pub trailer_of_incoming : (j : ℕ) → LeavesLess (incoming_of j) (only (TrailerOf j Secondary))
+trailer_of_incoming j (Slot i at) e = refl
+trailer_of_incoming j (TrailerOf i at) e = e
+trailer_of_incoming j Scratch e = refl
+trailer_of_incoming j Log e = refl
+
+-- a swap of an image writes its slots ..
+pub slot_of_swap : (j : ℕ) (side on : Side) → LeavesLess (swap_one j side) (only (Slot j on))
+slot_of_swap j side on (Slot i at) e = left_false (i == j) (same_side at on) e
+slot_of_swap j side on (TrailerOf i at) e = refl
+slot_of_swap j side on Scratch e = refl
+slot_of_swap j side on Log e = refl
+
+-- .. its trailer on the side that keeps the progress ..
+pub trailer_of_swap : (j : ℕ) (side : Side) → LeavesLess (swap_one j side) (only (TrailerOf j side))
+trailer_of_swap j side (Slot i at) e = refl
+trailer_of_swap j side (TrailerOf i at) e = e
+trailer_of_swap j side Scratch e = refl
+trailer_of_swap j side Log e = refl
+
+-- .. and scratch
+pub scratch_of_swap : (j : ℕ) (side : Side) → LeavesLess (swap_one j side) (only Scratch)
+scratch_of_swap j side (Slot i at) e = refl
+scratch_of_swap j side (TrailerOf i at) e = refl
+scratch_of_swap j side Scratch e = e
+scratch_of_swap j side Log e = refl
+
+-- a swap of a mask swaps each image in it
+pub one_of_swaps : (mask j : ℕ) (side : Side) → is_member mask j ≡ true → LeavesLess (swap_of mask side) (swap_one j side)
+one_of_swaps mask j side member (Slot i at) e = other_image mask i j (i == j) refl member e
+one_of_swaps mask j side member (TrailerOf i at) e = and_false (i == j) (is_member mask i) (same_side at side) (member_of mask i j member) e
+one_of_swaps mask j side member Scratch e = e
+one_of_swaps mask j side member Log e = refl
+
+-- a swap of a mask writes its trailers on one side
+pub trailers_of_swaps : (mask : ℕ) (side : Side) → LeavesLess (swap_of mask side) (trailers_on mask side)
+trailers_of_swaps mask side (Slot i at) e = refl
+trailers_of_swaps mask side (TrailerOf i at) e = e
+trailers_of_swaps mask side Scratch e = refl
+trailers_of_swaps mask side Log e = refl
