@@ -1,54 +1,74 @@
 -- Where the parts lie, and what they hold.
-use Rattle.std.specs.Prelude.{◌≡◌, ℕ, zero, suc, ◌+◌, ◌*◌, ◌/◌, ◌<◌, ◌≤◌, ◌^◌, Bool, true, false, min, List, length, slice_index, slice_range}
+use Rattle.std.specs.Prelude.{◌≡◌, ℕ, ◌+◌, ◌-◌, ◌*◌, ◌/◌, ◌<◌, ◌≤◌, ◌^◌, Bool, true, false, min, List}
+use Rattle.std.specs.Prelude.{length, slice_index, slice_range}
 use Rattle.flash_model.specs.Chip.{Chip, size_of}
 use Rattle.sector_map.specs.declared.layout.Side.{Side}
 use Rattle.sector_map.specs.declared.layout.Side.TheVariants.{Primary, Secondary}
 use Rattle.sector_map.specs.declared.layout.SectorMap.{SectorMap}
 use Rattle.sector_map.specs.Part.{Part, Slot, TrailerOf, Scratch, Log, is_member}
+use Rattle.sector_map.specs.Sizes.{MakeMap, before, all_sectors}
 
--- how many sectors each slot of an image has; none where the map lacks the image
+-- What is true of each map.
+abbrev pub IsMap : SectorMap → Type 0
+IsMap map = MakeMap map.sector_size map.images map.sectors
+
+-- How many sectors each slot of an image has: none where the map lacks the image.
 abbrev pub slot_sectors : SectorMap → ℕ → ℕ
 slot_sectors map i = slice_index map.sectors i
 
--- the sectors of one side that lie before an image
-unfoldable pub before : SectorMap → ℕ → ℕ
-before map zero = 0
-before map (suc i) = before map i + slot_sectors map i + 1
+-- How many sectors the map has.
+abbrev pub sectors_of : SectorMap → ℕ
+sectors_of map = all_sectors map.images map.sectors
 
--- where a side begins
+-- Where a side begins: the secondary slots lie behind the primary ones.
 abbrev pub side_start : SectorMap → Side → ℕ
 side_start map Primary = 0
-side_start map Secondary = before map map.images
+side_start map Secondary = before map.sectors map.images
 
--- the first sector of a part
+-- The number of a part's first sector. A trailer lies right behind its slot.
 abbrev pub first_of : SectorMap → Part → ℕ
-first_of map (Slot i side) = side_start map side + before map i
-first_of map (TrailerOf i side) = side_start map side + before map i + slot_sectors map i
-first_of map Scratch = 2 * before map map.images
-first_of map Log = 2 * before map map.images + 1
+first_of map (Slot i side) = side_start map side + before map.sectors i
+first_of map (TrailerOf i side) = side_start map side + before map.sectors i + slot_sectors map i
+first_of map Scratch = 2 * before map.sectors map.images
+first_of map Log = 2 * before map.sectors map.images + 1
 
--- how many sectors a part has
+-- How many sectors a part has: none where the map lacks the image.
 abbrev pub count_of : SectorMap → Part → ℕ
 count_of map (Slot i side) = slot_sectors map i
 count_of map (TrailerOf i side) = min 1 (slot_sectors map i)
 count_of map Scratch = 1
 count_of map Log = 3
 
--- all sectors of a map
-abbrev pub sectors_of : SectorMap → ℕ
-sectors_of map = 2 * before map map.images + 4
+-- The address of a part's first byte.
+abbrev pub start_of : SectorMap → Part → ℕ
+start_of map part = first_of map part * map.sector_size
 
--- what SectorMap::new accepts
-pub record IsMap (map : SectorMap) : Type 0 where
-  pub few : map.images ≤ 8
-  pub some : (i : ℕ) → i < map.images → 0 < slot_sectors map i
-  pub lacks : (i : ℕ) → map.images ≤ i → slot_sectors map i ≡ 0
-  pub trailers : (i : ℕ) → 24 * slot_sectors map i + 56 ≤ map.sector_size
-  pub units : 8 * (map.sector_size / 8) ≡ map.sector_size
-  pub size : sectors_of map * map.sector_size < 2 ^ 32
-  pub addressed : sectors_of map < 2 ^ 32
+-- How many bytes a part has.
+abbrev pub length_of : SectorMap → Part → ℕ
+length_of map part = count_of map part * map.sector_size
 
--- the map fits a flash
+-- How many places for records a sector of the log has: 64 bytes each, and 64 are left for its closing unit.
+abbrev pub places_of : SectorMap → ℕ
+places_of map = map.sector_size / 64 - 1
+
+-- The address of a place for a record in one of the log's three sectors.
+abbrev pub place_of_record : SectorMap → ℕ → ℕ → ℕ
+place_of_record map sector place = (first_of map Log + sector) * map.sector_size + 64 * place
+
+-- The address of the closing unit of one of the log's sectors: its last 8 bytes.
+abbrev pub closing_unit : SectorMap → ℕ → ℕ
+closing_unit map sector = (first_of map Log + sector) * map.sector_size + (map.sector_size - 8)
+
+-- A sector lies in a part.
+pub record IsIn (map : SectorMap) (part : Part) (sector : ℕ) : Type 0 where
+  pub low : first_of map part ≤ sector
+  pub high : sector < first_of map part + count_of map part
+
+-- The images of a mask are the map's.
+abbrev pub IsWithin : SectorMap → ℕ → Type 0
+IsWithin map mask = (i : ℕ) → is_member mask i ≡ true → i < map.images
+
+-- A flash has sectors of the map's size, and as many at least.
 pub record IsLaidOut (map : SectorMap) (chip : Chip) : Type 0 where
   pub is_map : IsMap map
   pub sector_size : chip.sector_size ≡ map.sector_size
@@ -56,22 +76,15 @@ pub record IsLaidOut (map : SectorMap) (chip : Chip) : Type 0 where
   pub whole : length chip.bytes ≡ size_of chip
   pub size : size_of chip < 2 ^ 32
 
--- the bytes of a part
+-- The bytes of a part.
 unfoldable pub part_of : SectorMap → Chip → Part → List ℕ
-part_of map chip part = slice_range chip.bytes (first_of map part * map.sector_size) ((first_of map part + count_of map part) * map.sector_size)
+part_of map chip part =
+    slice_range chip.bytes (start_of map part)
+    ((first_of map part + count_of map part) * map.sector_size)
 
--- a sector lies in a part
-pub record IsIn (map : SectorMap) (part : Part) (sector : ℕ) : Type 0 where
-  pub low : first_of map part ≤ sector
-  pub high : sector < first_of map part + count_of map part
-
--- each part that isn't touched is as it was
+-- The sectors are the same, and each part that isn't touched is as it was.
 pub record Keeps (map : SectorMap) (touched : Part → Bool) (old new : Chip) : Type 0 where
   pub sector_size : new.sector_size ≡ old.sector_size
   pub sectors : new.sectors ≡ old.sectors
   pub size : length new.bytes ≡ length old.bytes
   pub parts : (part : Part) → touched part ≡ false → part_of map new part ≡ part_of map old part
-
--- the images of a mask are the map's
-abbrev pub IsWithin : SectorMap → ℕ → Type 0
-IsWithin map mask = (i : ℕ) → is_member mask i ≡ true → i < map.images

@@ -1,57 +1,102 @@
-ghost use Rattle.std.specs.Prelude.{◌≡◌, ◌+◌, ◌*◌, ◌<◌, ◌≤◌, ◌^◌, ◌%◌, ℕ, length, slice_index, EachIndex, IsTrue, IfSome};
-ghost use Rattle.sector_map.specs.Map.{IsMap, before};
+//! A map of given sizes.
 
-use crate::SectorMap;
+ghost use Rattle.std.specs.Prelude.{◌≡◌, ◌+◌, ◌*◌, ◌<◌, ◌≤◌, ◌^◌, ◌↔◌, ℕ, IsTrue, IfOk, IfErr, IsOk, length, slice_index};
+ghost use Rattle.sector_map.specs.Making.{HasSizes, IsMapFault};
+ghost use Rattle.sector_map.specs.Sizes.{IsSectorSize, AreImages, HoldTrailers, AreAddressed, MakeMap, before};
 
-fn table_of(sectors: &[u32]) -> [u32; 8]
-    requires { length sectors.now ≤ 8 }
-    ensures same { (k : ℕ) → k < length sectors.now → slice_index result k ≡ slice_index sectors.now k }
-    ensures rest { (k : ℕ) → length sectors.now ≤ k → slice_index result k ≡ 0 }
+use crate::error::MapError;
+use crate::layout::SectorMap;
+use common::limits::MOST_IMAGES;
+
+impl SectorMap {
+    /// The map of sectors of `sector_size` bytes and of as many images as there are counts, the slots of each
+    /// with so many sectors.
+    ///
+    /// # Errors
+    /// The first check that fails: `BadSector` unless the size is a multiple of 64 from 512 to 131072;
+    /// `BadCount` unless there are 1 to 8 images, each with a sector at least; `TrailerFull` where three status
+    /// units of 8 bytes a sector and 56 bytes more don't fit into a sector; `TooLarge` where all parts together
+    /// have more than 4294967295 bytes.
+    pub fn new(sector_size: u32, sectors_per_image: &[u32]) -> Result<SectorMap, MapError>
+        ensures made { IfOk result (HasSizes sector_size sectors_per_image.now) }
+        ensures accepted { IsOk result ↔
+            MakeMap sector_size (length sectors_per_image.now) sectors_per_image.now }
+
+        ensures fault { IfErr result (IsMapFault sector_size sectors_per_image.now) }
+        ensures refused { (fault : MapError)
+            → IsMapFault sector_size sectors_per_image.now fault → result ≡ Err fault }
+    {
+        if !is_sector_size(sector_size) {
+            return Err(MapError::BadSector);
+        }
+        if !are_images(sectors_per_image) {
+            return Err(MapError::BadCount);
+        }
+        if !hold_trailers(sector_size, sectors_per_image) {
+            return Err(MapError::TrailerFull);
+        }
+        if !are_addressed(sector_size, sectors_per_image) {
+            return Err(MapError::TooLarge);
+        }
+        Ok(SectorMap {
+            sector_size,
+            images: sectors_per_image.len() as u8,
+            sectors: table_of(sectors_per_image),
+        })
+    }
+}
+
+fn is_sector_size(size: u32) -> bool
+    ensures { IsTrue result ↔ IsSectorSize size }
 {
-    let mut table = [0; 8];
-    for i in 0..sectors.len() {
-        table[i] = sectors[i];
+    size % 64 == 0 && 512 <= size && size <= 131072
+}
+
+fn are_images(counts: &[u32]) -> bool
+    ensures { IsTrue result ↔ AreImages (length counts.now) counts.now }
+{
+    !counts.is_empty() && counts.len() <= MOST_IMAGES && counts.iter().all(|count| *count > 0)
+}
+
+fn hold_trailers(size: u32, counts: &[u32]) -> bool
+    requires { 56 ≤ size }
+    ensures { IsTrue result ↔ HoldTrailers size counts.now }
+{
+    counts
+        .iter()
+        .all(|count| 24 * u64::from(*count) + 56 <= u64::from(size))
+}
+
+fn are_addressed(size: u32, counts: &[u32]) -> bool
+    requires sector { size ≤ 131072 }
+    requires few { length counts.now ≤ MOST_IMAGES }
+    ensures { IsTrue result ↔ AreAddressed size (length counts.now) counts.now }
+{
+    (2 * side_sectors(counts) + 4) * u64::from(size) <= u64::from(u32::MAX)
+}
+
+/// The sectors of one side.
+#[tactic(auto, using(crate::proofs::Places::before_none, crate::proofs::Places::before_more))]
+fn side_sectors(counts: &[u32]) -> u64
+    requires { length counts.now ≤ MOST_IMAGES }
+    ensures sectors { result ≡ before counts.now (length counts.now) }
+    ensures small { result ≤ 8 * 2 ^ 32 }
+{
+    let mut sectors = 0;
+    for count in counts {
+        sectors += u64::from(*count) + 1;
+    }
+    sectors
+}
+
+/// The counts, and none for images that aren't there.
+fn table_of(counts: &[u32]) -> [u32; MOST_IMAGES]
+    requires { length counts.now ≤ MOST_IMAGES }
+    ensures { (k : ℕ) → slice_index result k ≡ slice_index counts.now k }
+{
+    let mut table = [0; MOST_IMAGES];
+    for i in 0..counts.len() {
+        table[i] = counts[i];
     }
     table
-}
-
-fn trailers_fit(sectors: &[u32], sector_size: u32) -> bool
-    ensures { IsTrue result → EachIndex sectors.now (λ k. (0 < slice_index sectors.now k) × (24 * slice_index sectors.now k + 56 ≤ sector_size)) }
-{
-    sectors.iter().all(|count| *count > 0 && 24 * u64::from(*count) + 56 <= u64::from(sector_size))
-}
-
-#[tactic(auto, using(crate::proofs::Places::before_none, crate::proofs::Places::before_more))]
-fn total(map: &SectorMap) -> u64
-    requires { map.now.images ≤ 8 }
-    ensures { result ≡ before map.now map.now.images }
-{
-    let mut at = 0;
-    for i in 0..map.images {
-        at += u64::from(map.sectors[usize::from(i)]) + 1;
-    }
-    at
-}
-
-/// A map of images with these sectors, where it is one.
-#[tactic(auto, using(crate::proofs::Maps::is_map))]
-pub fn make_map(sector_size: u32, sectors: &[u32]) -> Option<SectorMap>
-    ensures { IfSome result (λ map. IsMap map) }
-{
-    if sector_size % 64 != 0 || sector_size < 512 || sector_size > 131072 {
-        return None;
-    }
-    if sectors.is_empty() || sectors.len() > 8 || !trailers_fit(sectors, sector_size) {
-        return None;
-    }
-    let map = SectorMap {
-        sector_size,
-        images: sectors.len() as u8,
-        sectors: table_of(sectors),
-    };
-    let all = total(&map);
-    if all > 4_294_967_295 || (2 * all + 4) * u64::from(sector_size) > 4_294_967_295 {
-        return None;
-    }
-    Some(map)
 }

@@ -4,6 +4,6 @@ use Rattle.sector_map.proofs.making.table_of.Given as goal
 abbrev pub invariant-loop-i : goal.invariant-loop-i
 invariant-loop-i l = record {
   long : length l.table ≡ 8;
-  same : (k : ℕ) → k < l.i → slice_index l.table k ≡ slice_index l.sectors k;
+  same : (k : ℕ) → k < l.i → slice_index l.table k ≡ slice_index l.counts k;
   rest : (k : ℕ) → l.i ≤ k → slice_index l.table k ≡ 0;
 }

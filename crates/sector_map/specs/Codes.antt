@@ -1,0 +1,18 @@
+-- The number and the name of each kind of sizes that make no map.
+use Rattle.std.specs.Prelude.{ℕ, List, codes}
+use Rattle.sector_map.specs.declared.error.MapError.{MapError}
+use Rattle.sector_map.specs.declared.error.MapError.TheVariants.{BadSector, BadCount, TrailerFull, TooLarge}
+
+-- The number of a kind.
+abbrev pub code_of : MapError → ℕ
+code_of BadSector = 1
+code_of BadCount = 2
+code_of TrailerFull = 3
+code_of TooLarge = 4
+
+-- The name of a kind.
+abbrev pub name_of : MapError → List ℕ
+name_of BadSector = codes "BadSector"
+name_of BadCount = codes "BadCount"
+name_of TrailerFull = codes "TrailerFull"
+name_of TooLarge = codes "TooLarge"
