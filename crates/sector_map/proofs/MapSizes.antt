@@ -1,5 +1,5 @@
 -- What makes a map.
-use Rattle.std.proofs.Common.{◌≡◌, ℕ, zero, suc, ◌+◌, ◌*◌, ◌^◌, ◌<◌, ◌≤◌, arith, ⊎_elim, length, slice_index, List, [], ◌∷◌, EachIndex, ap, refl, sym, ◌∙◌, subst, get_or}
+use Rattle.std.proofs.Common.{◌≡◌, ℕ, zero, suc, ◌+◌, ◌*◌, ◌^◌, ◌<◌, ◌≤◌, arith, ⊎_elim, length, slice_index, List, EachIndex, sym, ◌∙◌, subst}
 use Rattle.std.proofs.lemmas.Bool.{cases_lt}
 use Rattle.std.proofs.lemmas.List.{get_or_past}
 use Rattle.sector_map.specs.Sizes.{before, IsSectorSize, AreImages, HoldTrailers, AreAddressed, MakeMap}

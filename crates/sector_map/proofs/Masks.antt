@@ -1,9 +1,9 @@
 -- Masks that have no image from some number on: nothing is left of them when they are shifted by it.
-use Rattle.std.proofs.Common.{◌≡◌, ℕ, zero, suc, ◌+◌, ◌-◌, ◌*◌, ◌/◌, ◌%◌, ◌^◌, ◌<◌, ◌≤◌, ◌==◌, Bool, true, false, arith, ap, ⊎_elim, sym, ◌∙◌, refl}
-use Rattle.std.proofs.lemmas.Bool.{cases_lt, eq-eqb}
+use Rattle.std.proofs.Common.{◌≡◌, ℕ, zero, suc, ◌+◌, ◌-◌, ◌/◌, ◌%◌, ◌^◌, ◌<◌, ◌≤◌, Bool, true, false, arith, ap, ⊎_elim, sym, ◌∙◌, refl}
+use Rattle.std.proofs.lemmas.Bool.{cases_lt}
 use Rattle.std.proofs.lemmas.Bool.Decides.{nat_tests}
 use Rattle.std.proofs.lemmas.Nat.{pow-add}
-use Rattle.std.proofs.Math.Nat.{div-one, div-le_self, div-eq_of_lt, div-div-eq-div-mul, pow-succ', pow-le-pow_right}
+use Rattle.std.proofs.Math.Nat.{div-one, div-le_self, div-div-eq-div-mul, pow-succ'}
 use Rattle.sector_map.specs.Part.{is_member}
 
 -- what stands from a bit on is the shifted mask
