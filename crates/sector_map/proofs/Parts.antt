@@ -1,12 +1,12 @@
 -- What a write leaves of the parts.
-use Rattle.std.proofs.Common.{◌≡◌, ℕ, ◌+◌, ◌-◌, ◌*◌, ◌/◌, ◌%◌, ◌^◌, ◌<◌, ◌≤◌, Bool, false, arith, sym, ◌∙◌, ap, subst, refl, ⊎_elim, length, slice_index, get_or}
+use Rattle.std.proofs.Common.{◌≡◌, ℕ, ◌+◌, ◌-◌, ◌*◌, ◌/◌, ◌%◌, ◌^◌, ◌<◌, ◌≤◌, Bool, false, arith, sym, ◌∙◌, ap, subst, refl, ⊎_elim, length, slice_index, slice_range, get_or}
 use Rattle.std.proofs.lemmas.Bool.{cases_lt}
 use Rattle.flash_model.specs.Chip.{Chip, SameOutside, SameSector, size_of}
 use Rattle.flash_model.proofs.Frame.{product_le}
 use Rattle.flash_model.proofs.Ranges.{range_same, range_at}
 use Rattle.sector_map.specs.declared.layout.SectorMap.{SectorMap}
 use Rattle.sector_map.specs.Part.{Part, only}
-use Rattle.sector_map.specs.Map.{first_of, count_of, sectors_of, IsMap, IsLaidOut, IsIn, Keeps, part_of}
+use Rattle.sector_map.specs.Map.{start_of, first_of, count_of, sectors_of, IsMap, IsLaidOut, IsIn, Keeps, part_of}
 use Rattle.sector_map.proofs.Places.{apart}
 use Rattle.sector_map.proofs.Products.{mul_le, lower, upper, sector_at}
 
@@ -34,6 +34,17 @@ laid_out_kept map touched old new laid keeps = record {
 
 pub keeps_refl : (map : SectorMap) (touched : Part → Bool) (chip : Chip) → Keeps map touched chip chip
 keeps_refl map touched chip = record { sector_size = refl; sectors = refl; size = refl; parts = λ part e. refl }
+
+-- the same bytes have the same parts, whatever the power and the counts
+pub keeps_bytes : (map : SectorMap) (touched : Part → Bool) (old new : Chip) → new.sector_size ≡ old.sector_size → new.sectors ≡ old.sectors → new.bytes ≡ old.bytes
+    → Keeps map touched old new
+unfolding part_of
+keeps_bytes map touched old new size sectors same = record {
+  sector_size = size;
+  sectors = sectors;
+  size = ap length same;
+  parts = λ part e. ap (λ bytes. slice_range bytes (start_of map part) ((first_of map part + count_of map part) * map.sector_size)) same;
+}
 
 pub keeps_trans : (map : SectorMap) (touched : Part → Bool) (old mid new : Chip) → Keeps map touched old mid → Keeps map touched mid new → Keeps map touched old new
 keeps_trans map touched old mid new a b = record {
