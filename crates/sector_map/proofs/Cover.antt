@@ -58,18 +58,33 @@ record IsOf (sectors : List ℕ) (images s : ℕ) : Type 0 where
 image_of : (sectors : List ℕ) (images s : ℕ) → s < before sectors images → IsOf sectors images s
 image_of sectors zero s lt = absurd (omega (arith, before_none sectors))
 image_of sectors (suc n) s lt = ⊎_elim
-    (λ (less : s < before sectors n). let of = image_of sectors n s less in record { image = of.image; there = omega (arith, of.there); low = of.low; high = of.high })
-    (λ (last : before sectors n ≤ s). record { image = n; there = omega arith; low = last; high = omega (arith, before_step sectors n) })
+    (λ (less : s < before sectors n). let of = image_of sectors n s less in
+    record { image = of.image; there = omega (arith, of.there); low = of.low; high = of.high })
+    (λ (last : before sectors n ≤ s). record {
+      image = n;
+      there = omega arith;
+      low = last;
+      high =
+          omega (arith, before_step sectors n);
+    })
     (cases_lt s (before sectors n))
 
 -- a sector of a side is a slot's or a trailer's
-on_side : (map : SectorMap) (side : Side) (s : ℕ) → IsMap map → s < before map.sectors map.images → (part : Part) × IsIn map part (side_start map side + s)
+on_side : (map : SectorMap) (side : Side) (s : ℕ) → IsMap map → s < before map.sectors map.images
+    → (part : Part) × IsIn map part (side_start map side + s)
 on_side map side s fits lt =
     let of = image_of map.sectors map.images s lt in
     ⊎_elim
-    (λ (slot : s < before map.sectors of.image + slot_sectors map of.image). (Slot of.image side, record { low = omega (arith, of.low); high = omega arith }))
-    (λ (trailer : before map.sectors of.image + slot_sectors map of.image ≤ s).
-    (TrailerOf of.image side, record { low = omega arith; high = omega (arith, of.high, fits.counts.some of.image of.there) }))
+    (λ (slot : s < before map.sectors of.image + slot_sectors map of.image).
+    (Slot of.image side, record { low = omega (arith, of.low); high = omega arith }))
+    (λ (trailer : before map.sectors of.image + slot_sectors map of.image ≤ s). (
+      TrailerOf of.image side,
+      record {
+        low = omega arith;
+        high =
+            omega (arith, of.high, fits.counts.some of.image of.there);
+      },
+    ))
     (cases_lt s (before map.sectors of.image + slot_sectors map of.image))
 
 -- each sector lies in a part
@@ -77,7 +92,8 @@ pub covered : (map : SectorMap) (s : ℕ) → IsMap map → s < sectors_of map �
 covered map s fits lt = ⊎_elim
     (λ (primary : s < before map.sectors map.images). moved Primary s primary (omega arith))
     (λ (behind : before map.sectors map.images ≤ s). ⊎_elim
-    (λ (secondary : s < 2 * before map.sectors map.images). moved Secondary (s - before map.sectors map.images) (omega arith) (omega arith))
+    (λ (secondary : s < 2 * before map.sectors map.images). moved Secondary (s - before map.sectors map.images)
+    (omega arith) (omega arith))
     (λ (after : 2 * before map.sectors map.images ≤ s). ⊎_elim
     (λ (scratch : s < 2 * before map.sectors map.images + 1). (Scratch, record { low = after; high = scratch }))
     (λ (log : 2 * before map.sectors map.images + 1 ≤ s). (Log, record { low = log; high = omega arith }))
@@ -85,6 +101,7 @@ covered map s fits lt = ⊎_elim
     (cases_lt s (2 * before map.sectors map.images)))
     (cases_lt s (before map.sectors map.images))
   where
-    moved : (side : Side) (o : ℕ) → o < before map.sectors map.images → side_start map side + o ≡ s → (part : Part) × IsIn map part s
+    moved : (side : Side) (o : ℕ) → o < before map.sectors map.images → side_start map side + o ≡ s
+        → (part : Part) × IsIn map part s
     moved side o below is = let on = on_side map side o fits below in
         (on.0, record { low = omega (arith, is, on.1.low); high = omega (arith, is, on.1.high) })

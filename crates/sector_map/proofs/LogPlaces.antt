@@ -14,17 +14,21 @@ pub places_fill : (map : SectorMap) → IsMap map → 64 * places_of map + 64 �
 places_fill map fits = omega (arith, fits.sector.blocks, fits.sector.least)
 
 -- where a place is in the log
-pub place_in_log : (map : SectorMap) (sector place : ℕ) → place_of_record map sector place ≡ start_of map Log + (sector * map.sector_size + 64 * place)
+pub place_in_log : (map : SectorMap) (sector place : ℕ)
+    → place_of_record map sector place ≡ start_of map Log + (sector * map.sector_size + 64 * place)
 place_in_log map sector place = grind arith
 
 -- where a closing unit is in the log
-pub unit_in_log : (map : SectorMap) (sector : ℕ) → closing_unit map sector ≡ start_of map Log + (sector * map.sector_size + (map.sector_size - 8))
+pub unit_in_log : (map : SectorMap) (sector : ℕ)
+    → closing_unit map sector ≡ start_of map Log + (sector * map.sector_size + (map.sector_size - 8))
 unit_in_log map sector = grind arith
 
 -- a place ends before its sector's closing unit ..
-pub place_before_unit : (map : SectorMap) (sector place : ℕ) → IsMap map → place < places_of map → place_of_record map sector place + 64 ≤ closing_unit map sector
+pub place_before_unit : (map : SectorMap) (sector place : ℕ) → IsMap map → place < places_of map
+    → place_of_record map sector place + 64 ≤ closing_unit map sector
 place_before_unit map sector place fits lt = omega (arith, places_fill map fits)
 
 -- .. and this ends with the sector, in the log
-pub unit_fits_log : (map : SectorMap) (sector : ℕ) → IsMap map → sector < 3 → sector * map.sector_size + (map.sector_size - 8) + 8 ≤ length_of map Log
+pub unit_fits_log : (map : SectorMap) (sector : ℕ) → IsMap map → sector < 3
+    → sector * map.sector_size + (map.sector_size - 8) + 8 ≤ length_of map Log
 unit_fits_log map sector fits lt = omega (arith, product_le sector 3 map.sector_size lt, fits.sector.least)

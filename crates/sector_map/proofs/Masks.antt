@@ -16,7 +16,8 @@ unfolding is_member
 below_shift mask n i none member = ⊎_elim (λ (below : i < n). below)
     (λ (ge : n ≤ i).
     let apart : n + (i - n) ≡ i = omega arith in
-    let gone : mask / 2 ^ i ≡ 0 / 2 ^ (i - n) = ap (λ k. mask / 2 ^ k) (sym apart) ∙ sym (shifted mask n (i - n)) ∙ ap (λ q. q / 2 ^ (i - n)) none in
+    let gone : mask / 2 ^ i ≡ 0 / 2 ^ (i - n) = ap (λ k. mask / 2 ^ k) (sym apart)
+    ∙ sym (shifted mask n (i - n)) ∙ ap (λ q. q / 2 ^ (i - n)) none in
     let zero_is : 0 / 2 ^ (i - n) ≡ 0 = omega (arith, div-le_self 0 (2 ^ (i - n))) in
     absurd (grind (arith, nat_tests, ap (λ q. q % 2) (gone ∙ zero_is), member)))
     (cases_lt i n)
@@ -27,7 +28,10 @@ no_bits zero q lt none = omega arith
 no_bits (suc k) q lt none =
     let even : q % 2 ≡ 0 = ap (λ x. x % 2) (sym (div-one q)) ∙ none 0 in
     let small : q / 2 < 2 ^ k = omega (arith, pow-succ' 2 k) in
-    let half : q / 2 ≡ 0 = no_bits k (q / 2) small (λ i. ap (λ x. x % 2) (div-div-eq-div-mul q 2 (2 ^ i) ∙ ap (λ p. q / p) (sym (pow-succ' 2 i))) ∙ none (suc i)) in
+    let half : q / 2 ≡ 0 =
+    no_bits k (q / 2) small
+    (λ i. ap (λ x. x % 2) (div-div-eq-div-mul q 2 (2 ^ i) ∙ ap (λ p. q / p) (sym (pow-succ' 2 i)))
+    ∙ none (suc i)) in
     omega arith
 
 not_member : (mask i : ℕ) (b : Bool) → is_member mask i ≡ b → b ≡ false → mask / 2 ^ i % 2 ≡ 0

@@ -10,25 +10,33 @@ use Rattle.sector_map.specs.Map.{start_of, first_of, count_of, sectors_of, IsMap
 use Rattle.sector_map.proofs.Places.{apart}
 use Rattle.sector_map.proofs.Products.{mul_le, lower, upper, sector_at}
 
-pub keeps_of_sectors : (map : SectorMap) (touched : Part → Bool) (old new : Chip) → IsLaidOut map old → new.sector_size ≡ old.sector_size → new.sectors ≡ old.sectors → length new.bytes ≡ length old.bytes
-    → ((part : Part) (s : ℕ) → touched part ≡ false → IsIn map part s → SameSector s old new) → Keeps map touched old new
+pub keeps_of_sectors : (map : SectorMap) (touched : Part → Bool) (old new : Chip) → IsLaidOut map old
+    → new.sector_size ≡ old.sector_size → new.sectors ≡ old.sectors → length new.bytes ≡ length old.bytes
+    → ((part : Part) (s : ℕ) → touched part ≡ false → IsIn map part s → SameSector s old new)
+    → Keeps map touched old new
 unfolding part_of
 keeps_of_sectors map touched old new laid size sectors long same = record {
   sector_size = size;
   sectors = sectors;
   size = long;
   parts = λ part e. range_same _ _ old.bytes new.bytes long (λ k low high.
-      let at = sector_at (first_of map part) (count_of map part) map.sector_size k (omega (arith, laid.is_map.trailers 0)) low high in
-      let is : k / map.sector_size * map.sector_size ≡ k / map.sector_size * old.sector_size = ap (λ x. k / map.sector_size * x) (sym laid.sector_size) in
-      (same part (k / map.sector_size) e (record { low = at.0; high = at.1 })).each k (k % map.sector_size) (at.2 ∙ ap (λ x. x + k % map.sector_size) is) (subst (λ x. k % map.sector_size < x) (sym laid.sector_size) at.3));
+      let at = sector_at (first_of map part) (count_of map part) map.sector_size k
+      (omega (arith, laid.is_map.trailers 0)) low high in
+      let is : k / map.sector_size * map.sector_size ≡ k / map.sector_size * old.sector_size =
+      ap (λ x. k / map.sector_size * x) (sym laid.sector_size) in
+      (same part (k / map.sector_size) e (record { low = at.0; high = at.1 })).each k (k % map.sector_size)
+      (at.2 ∙ ap (λ x. x + k % map.sector_size) is)
+      (subst (λ x. k % map.sector_size < x) (sym laid.sector_size) at.3));
 }
 
-pub laid_out_kept : (map : SectorMap) (touched : Part → Bool) (old new : Chip) → IsLaidOut map old → Keeps map touched old new → IsLaidOut map new
+pub laid_out_kept : (map : SectorMap) (touched : Part → Bool) (old new : Chip) → IsLaidOut map old
+    → Keeps map touched old new → IsLaidOut map new
 laid_out_kept map touched old new laid keeps = record {
   is_map = laid.is_map;
   sector_size = keeps.sector_size ∙ laid.sector_size;
   sectors = subst (λ n. sectors_of map ≤ n) (sym keeps.sectors) laid.sectors;
-  whole = keeps.size ∙ laid.whole ∙ sym (ap (λ n. n * new.sector_size) keeps.sectors ∙ ap (λ n. old.sectors * n) keeps.sector_size);
+  whole = keeps.size ∙ laid.whole
+      ∙ sym (ap (λ n. n * new.sector_size) keeps.sectors ∙ ap (λ n. old.sectors * n) keeps.sector_size);
   size = rw (keeps.sectors, keeps.sector_size) laid.size;
 }
 
@@ -36,17 +44,21 @@ pub keeps_refl : (map : SectorMap) (touched : Part → Bool) (chip : Chip) → K
 keeps_refl map touched chip = record { sector_size = refl; sectors = refl; size = refl; parts = λ part e. refl }
 
 -- the same bytes have the same parts, whatever the power and the counts
-pub keeps_bytes : (map : SectorMap) (touched : Part → Bool) (old new : Chip) → new.sector_size ≡ old.sector_size → new.sectors ≡ old.sectors → new.bytes ≡ old.bytes
+pub keeps_bytes : (map : SectorMap) (touched : Part → Bool) (old new : Chip) → new.sector_size ≡ old.sector_size
+    → new.sectors ≡ old.sectors → new.bytes ≡ old.bytes
     → Keeps map touched old new
 unfolding part_of
 keeps_bytes map touched old new size sectors same = record {
   sector_size = size;
   sectors = sectors;
   size = ap length same;
-  parts = λ part e. ap (λ bytes. slice_range bytes (start_of map part) ((first_of map part + count_of map part) * map.sector_size)) same;
+  parts = λ part e. ap
+      (λ bytes. slice_range bytes (start_of map part)
+      ((first_of map part + count_of map part) * map.sector_size)) same;
 }
 
-pub keeps_trans : (map : SectorMap) (touched : Part → Bool) (old mid new : Chip) → Keeps map touched old mid → Keeps map touched mid new → Keeps map touched old new
+pub keeps_trans : (map : SectorMap) (touched : Part → Bool) (old mid new : Chip) → Keeps map touched old mid
+    → Keeps map touched mid new → Keeps map touched old new
 keeps_trans map touched old mid new a b = record {
   sector_size = b.sector_size ∙ a.sector_size;
   sectors = b.sectors ∙ a.sectors;
@@ -54,13 +66,24 @@ keeps_trans map touched old mid new a b = record {
   parts = λ part e. b.parts part e ∙ a.parts part e;
 }
 
-pub keeps_wider : (map : SectorMap) (less more : Part → Bool) (old new : Chip) → ((part : Part) → more part ≡ false → less part ≡ false) → Keeps map less old new → Keeps map more old new
-keeps_wider map less more old new wider a = record { sector_size = a.sector_size; sectors = a.sectors; size = a.size; parts = λ part e. a.parts part (wider part e) }
+pub keeps_wider : (map : SectorMap) (less more : Part → Bool) (old new : Chip)
+    → ((part : Part) → more part ≡ false → less part ≡ false) → Keeps map less old new → Keeps map more old new
+keeps_wider map less more old new wider a =
+    record {
+      sector_size = a.sector_size;
+      sectors = a.sectors;
+      size = a.size;
+      parts =
+          λ part e. a.parts part (wider part e);
+    }
 
 -- a write inside one part keeps all other parts
-pub keeps_others : (map : SectorMap) (part : Part) (at n : ℕ) (old new : Chip) → IsLaidOut map old → SameOutside at n old new
-    → first_of map part * map.sector_size ≤ at → at + n ≤ (first_of map part + count_of map part) * map.sector_size → Keeps map (only part) old new
-keeps_others map part at n old new laid same low high = keeps_of_sectors map (only part) old new laid same.sector_size same.sectors same.size
+pub keeps_others : (map : SectorMap) (part : Part) (at n : ℕ) (old new : Chip) → IsLaidOut map old
+    → SameOutside at n old new
+    → first_of map part * map.sector_size ≤ at
+    → at + n ≤ (first_of map part + count_of map part) * map.sector_size → Keeps map (only part) old new
+keeps_others map part at n old new laid same low high =
+    keeps_of_sectors map (only part) old new laid same.sector_size same.sectors same.size
     (λ other s e is_in. record {
       each = λ k o eq lt.
           let o_lt : o < map.sector_size = subst (λ x. o < x) laid.sector_size lt in
@@ -74,25 +97,41 @@ keeps_others map part at n old new laid same low high = keeps_of_sectors map (on
     })
   where
     inside : (s o k : ℕ) → o < map.sector_size → k ≡ s * map.sector_size + o → at ≤ k → k < at + n → IsIn map part s
-    inside s o k lt is ge below = record { low = lower (first_of map part) s map.sector_size o (omega arith) lt; high = upper s (first_of map part + count_of map part) map.sector_size o (omega arith) }
+    inside s o k lt is ge below =
+        record {
+          low = lower (first_of map part) s map.sector_size o (omega arith) lt;
+          high =
+              upper s (first_of map part + count_of map part) map.sector_size o (omega arith);
+        }
 
 -- the sectors of a part that is as it was
-pub sector_of_keeps : (map : SectorMap) (touched : Part → Bool) (old new : Chip) (part : Part) (s : ℕ) → IsLaidOut map old → Keeps map touched old new → touched part ≡ false → IsIn map part s → SameSector s old new
+pub sector_of_keeps : (map : SectorMap) (touched : Part → Bool) (old new : Chip) (part : Part) (s : ℕ)
+    → IsLaidOut map old → Keeps map touched old new → touched part ≡ false → IsIn map part s → SameSector s old new
 unfolding part_of
 sector_of_keeps map touched old new part s laid keeps e at = record {
   each = λ k o eq lt.
       let o_lt : o < map.sector_size = subst (λ x. o < x) laid.sector_size lt in
       let k_is : k ≡ s * map.sector_size + o = eq ∙ ap (λ x. s * x + o) laid.sector_size in
-      let low : first_of map part * map.sector_size ≤ s * map.sector_size = mul_le (first_of map part) s map.sector_size at.low in
-      let high : s * map.sector_size + map.sector_size ≤ (first_of map part + count_of map part) * map.sector_size = product_le s (first_of map part + count_of map part) map.sector_size at.high in
-      let in_range : k - first_of map part * map.sector_size < (first_of map part + count_of map part) * map.sector_size - first_of map part * map.sector_size = omega arith in
+      let low : first_of map part * map.sector_size ≤ s * map.sector_size =
+      mul_le (first_of map part) s map.sector_size at.low in
+      let high : s * map.sector_size + map.sector_size ≤
+      (first_of map part + count_of map part) * map.sector_size =
+      product_le s (first_of map part + count_of map part) map.sector_size at.high in
+      let in_range : k - first_of map part * map.sector_size <
+      (first_of map part + count_of map part) * map.sector_size - first_of map part * map.sector_size =
+      omega arith in
       let is : first_of map part * map.sector_size + (k - first_of map part * map.sector_size) ≡ k = omega arith in
       ap (λ j. slice_index new.bytes j) (sym is)
-      ∙ sym (range_at new.bytes (first_of map part * map.sector_size) ((first_of map part + count_of map part) * map.sector_size) _ in_range)
+      ∙ sym (range_at new.bytes (first_of map part * map.sector_size)
+      ((first_of map part + count_of map part) * map.sector_size) _ in_range)
       ∙ ap (λ xs. get_or xs (k - first_of map part * map.sector_size) 0) (keeps.parts part e)
-      ∙ range_at old.bytes (first_of map part * map.sector_size) ((first_of map part + count_of map part) * map.sector_size) _ in_range
+      ∙ range_at old.bytes (first_of map part * map.sector_size)
+      ((first_of map part + count_of map part) * map.sector_size) _ in_range
       ∙ ap (λ j. slice_index old.bytes j) is;
 }
 
-pub laid_out_by : (map : SectorMap) (chip : Chip) → IsMap map → chip.sector_size ≡ map.sector_size → sectors_of map ≤ chip.sectors → length chip.bytes ≡ chip.sectors * chip.sector_size → size_of chip < 2 ^ 32 → IsLaidOut map chip
-laid_out_by map chip fits size sectors whole addressed = record { is_map = fits; sector_size = size; sectors = sectors; whole = whole; size = addressed }
+pub laid_out_by : (map : SectorMap) (chip : Chip) → IsMap map → chip.sector_size ≡ map.sector_size
+    → sectors_of map ≤ chip.sectors → length chip.bytes ≡ chip.sectors * chip.sector_size
+    → size_of chip < 2 ^ 32 → IsLaidOut map chip
+laid_out_by map chip fits size sectors whole addressed =
+    record { is_map = fits; sector_size = size; sectors = sectors; whole = whole; size = addressed }

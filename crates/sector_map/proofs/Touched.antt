@@ -41,16 +41,20 @@ trailer_of_both j side Scratch e = refl
 trailer_of_both j side Log e = refl
 
 -- one trailer is among those of a side of a mask
-pub trailer_on_side : (mask j : ℕ) (side : Side) → is_member mask j ≡ true → LeavesLess (trailers_on mask side) (only (TrailerOf j side))
+pub trailer_on_side : (mask j : ℕ) (side : Side) → is_member mask j ≡ true
+    → LeavesLess (trailers_on mask side) (only (TrailerOf j side))
 trailer_on_side mask j side member (Slot i at) e = refl
-trailer_on_side mask j side member (TrailerOf i at) e = and_false (i == j) (is_member mask i) (same_side at side) (member_of mask i j member) e
+trailer_on_side mask j side member (TrailerOf i at) e =
+    and_false (i == j) (is_member mask i) (same_side at side) (member_of mask i j member) e
 trailer_on_side mask j side member Scratch e = refl
 trailer_on_side mask j side member Log e = refl
 
 -- one trailer is among those of a mask
-pub trailer_in_mask : (mask j : ℕ) (side : Side) → is_member mask j ≡ true → LeavesLess (trailers_in mask) (only (TrailerOf j side))
+pub trailer_in_mask : (mask j : ℕ) (side : Side) → is_member mask j ≡ true
+    → LeavesLess (trailers_in mask) (only (TrailerOf j side))
 trailer_in_mask mask j side member (Slot i at) e = refl
-trailer_in_mask mask j side member (TrailerOf i at) e = left_false (i == j) (same_side at side) (other_image mask i j (i == j) refl member e)
+trailer_in_mask mask j side member (TrailerOf i at) e =
+    left_false (i == j) (same_side at side) (other_image mask i j (i == j) refl member e)
 trailer_in_mask mask j side member Scratch e = refl
 trailer_in_mask mask j side member Log e = refl
 
@@ -104,9 +108,11 @@ scratch_of_swap j side Scratch e = e
 scratch_of_swap j side Log e = refl
 
 -- a swap of a mask swaps each image in it
-pub one_of_swaps : (mask j : ℕ) (side : Side) → is_member mask j ≡ true → LeavesLess (swap_of mask side) (swap_one j side)
+pub one_of_swaps : (mask j : ℕ) (side : Side) → is_member mask j ≡ true
+    → LeavesLess (swap_of mask side) (swap_one j side)
 one_of_swaps mask j side member (Slot i at) e = other_image mask i j (i == j) refl member e
-one_of_swaps mask j side member (TrailerOf i at) e = and_false (i == j) (is_member mask i) (same_side at side) (member_of mask i j member) e
+one_of_swaps mask j side member (TrailerOf i at) e =
+    and_false (i == j) (is_member mask i) (same_side at side) (member_of mask i j member) e
 one_of_swaps mask j side member Scratch e = e
 one_of_swaps mask j side member Log e = refl
 

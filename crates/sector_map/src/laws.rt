@@ -9,8 +9,8 @@ use crate::layout::SectorMap;
 /// The parts of a map are disjoint, lie in the flash, and fill it; and each trailer fits its sector: 24 bytes
 /// of status for each sector of the slot, and 56 bytes of other fields.
 pub fn parts_lie_apart(map: &SectorMap)
-    ensures apart { (p q : Part) (sector : ℕ) → IsIn map.now p sector → IsIn map.now q sector → p ≡ q }
-    ensures within { (p : Part) (sector : ℕ) → IsIn map.now p sector → sector < sectors_of map.now }
-    ensures filled { (sector : ℕ) → sector < sectors_of map.now → (p : Part) × IsIn map.now p sector }
+    ensures apart { (p q : Part) (s : ℕ) → IsIn map.now p s → IsIn map.now q s → p ≡ q }
+    ensures within { (p : Part) (s : ℕ) → IsIn map.now p s → s < sectors_of map.now }
+    ensures filled { (s : ℕ) → s < sectors_of map.now → (p : Part) × IsIn map.now p s }
     ensures trailers { (i : ℕ) → 24 * slot_sectors map.now i + 56 ≤ map.now.sector_size }
 {}

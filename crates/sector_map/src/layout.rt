@@ -52,7 +52,7 @@ impl SectorMap {
     pub fn sectors_in_all(&self) -> u32
         ensures { result ≡ sectors_of self.now }
     {
-        2 * self.sectors_before(self.images) + 4
+        self.scratch() + 4
     }
 
     /// How many bytes the map has.

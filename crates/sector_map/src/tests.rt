@@ -5,50 +5,52 @@ ghost use Rattle.std.specs.Prelude.{◌<◌};
 use crate::{MapError, SectorMap, Side, is_member, is_within, parts_lie_apart};
 use std::test::Fail;
 
+/// The name of the fault, or "Ok".
+fn answer(sector_size: u32, sectors_per_image: &[u32]) -> &'static str {
+    match SectorMap::new(sector_size, sectors_per_image) {
+        Ok(_) => "Ok",
+        Err(fault) => fault.name(),
+    }
+}
+
 #[test]
 fn a_slot_of_19_sectors_has_room_for_its_trailer(rt: HostRuntime) {
-    assert!(rt; SectorMap::new(512, &[19]).is_ok());
-    assert_eq!(rt; SectorMap::new(512, &[20]), Err(MapError::TrailerFull));
-    assert!(rt; SectorMap::new(131072, &[5459]).is_ok());
-    assert_eq!(rt; SectorMap::new(131072, &[5460]), Err(MapError::TrailerFull));
+    assert_eq!(rt; answer(512, &[19]), "Ok");
+    assert_eq!(rt; answer(512, &[20]), "TrailerFull");
+    assert_eq!(rt; answer(131072, &[5459]), "Ok");
+    assert_eq!(rt; answer(131072, &[5460]), "TrailerFull");
 }
 
 #[test]
 fn a_sector_is_a_multiple_of_64_in_its_limits(rt: HostRuntime) {
-    assert_eq!(rt; SectorMap::new(500, &[1]), Err(MapError::BadSector));
-    assert_eq!(rt; SectorMap::new(448, &[1]), Err(MapError::BadSector));
-    assert_eq!(rt; SectorMap::new(520, &[1]), Err(MapError::BadSector));
-    assert_eq!(rt; SectorMap::new(131136, &[1]), Err(MapError::BadSector));
-    assert!(rt; SectorMap::new(576, &[1]).is_ok());
+    assert_eq!(rt; answer(500, &[1]), "BadSector");
+    assert_eq!(rt; answer(448, &[1]), "BadSector");
+    assert_eq!(rt; answer(520, &[1]), "BadSector");
+    assert_eq!(rt; answer(131136, &[1]), "BadSector");
+    assert_eq!(rt; answer(576, &[1]), "Ok");
 }
 
 #[test]
 fn there_are_one_to_eight_images_each_with_sectors(rt: HostRuntime) {
-    assert_eq!(rt; SectorMap::new(512, &[]), Err(MapError::BadCount));
-    assert_eq!(rt; SectorMap::new(512, &[1, 0, 1]), Err(MapError::BadCount));
-    assert_eq!(rt; SectorMap::new(512, &[1; 9]), Err(MapError::BadCount));
-    assert!(rt; SectorMap::new(512, &[1; 8]).is_ok());
+    assert_eq!(rt; answer(512, &[]), "BadCount");
+    assert_eq!(rt; answer(512, &[1, 0, 1]), "BadCount");
+    assert_eq!(rt; answer(512, &[1; 9]), "BadCount");
+    assert_eq!(rt; answer(512, &[1; 8]), "Ok");
 }
 
 #[test]
 fn every_byte_has_an_address(rt: HostRuntime) {
-    assert_eq!(rt; SectorMap::new(131072, &[5459; 8]), Err(MapError::TooLarge));
+    assert_eq!(rt; answer(131072, &[5459; 8]), "TooLarge");
     // 32768 sectors of 131072 bytes are one byte too many.
-    assert_eq!(rt;
-        SectorMap::new(131072, &[5459, 5459, 5459, 1]),
-        Err(MapError::TooLarge)
-    );
-    assert!(rt; SectorMap::new(131072, &[5459, 5459, 5458, 1]).is_ok());
+    assert_eq!(rt; answer(131072, &[5459, 5459, 5459, 1]), "TooLarge");
+    assert_eq!(rt; answer(131072, &[5459, 5459, 5458, 1]), "Ok");
 }
 
 #[test]
 fn the_lowest_fault_is_answered(rt: HostRuntime) {
-    assert_eq!(rt; SectorMap::new(500, &[0; 9]), Err(MapError::BadSector));
-    assert_eq!(rt; SectorMap::new(512, &[20, 0]), Err(MapError::BadCount));
-    assert_eq!(rt;
-        SectorMap::new(131072, &[4_294_967_295; 8]),
-        Err(MapError::TrailerFull)
-    );
+    assert_eq!(rt; answer(500, &[0; 9]), "BadSector");
+    assert_eq!(rt; answer(512, &[20, 0]), "BadCount");
+    assert_eq!(rt; answer(131072, &[4_294_967_295; 8]), "TrailerFull");
 }
 
 #[test]

@@ -9,6 +9,8 @@ returns c =
     let images = c.args.map.now.images in
     let same : c.from.result / 2 ^ images ≡ mask / 2 ^ images = ap (λ m. m / 2 ^ images) c.from.ensures in
     let small : mask < 2 ^ 8 = search rules in (
-      λ shift i member. let none : mask / 2 ^ images ≡ 0 = grind (arith, nat_tests, shift, same) in below_shift mask images i none member,
-      λ all. let none : mask / 2 ^ images ≡ 0 = shift_below mask images small all in grind (arith, nat_tests, none, same),
+      λ shift i member. let none : mask / 2 ^ images ≡ 0 = grind (arith, nat_tests, shift, same) in
+          below_shift mask images i none member,
+      λ all. let none : mask / 2 ^ images ≡ 0 = shift_below mask images small all in
+          grind (arith, nat_tests, none, same),
     )
