@@ -1,15 +1,11 @@
 -- Where records and closing units stand in the log.
-use Rattle.std.proofs.Common.{◌≡◌, ℕ, ◌+◌, ◌-◌, ◌*◌, ◌/◌, ◌<◌, ◌≤◌, arith}
+use Rattle.std.proofs.Common.{◌≡◌, ℕ, ◌+◌, ◌-◌, ◌*◌, ◌<◌, ◌≤◌, arith}
 use Rattle.flash_model.proofs.Frame.{product_le}
 use Rattle.sector_map.specs.declared.layout.SectorMap.{SectorMap}
 use Rattle.sector_map.specs.Part.{Log}
 use Rattle.sector_map.specs.Map.{start_of, length_of, places_of, place_of_record, closing_unit, IsMap}
 
--- a sector is whole units ..
-pub units_of : (map : SectorMap) → IsMap map → 8 * (map.sector_size / 8) ≡ map.sector_size
-units_of map fits = omega (arith, fits.sector.blocks)
-
--- .. and whole places, the last of which has the closing unit
+-- a sector is whole places for records, and the one that has the closing unit
 pub places_fill : (map : SectorMap) → IsMap map → 64 * places_of map + 64 ≡ map.sector_size
 places_fill map fits = omega (arith, fits.sector.blocks, fits.sector.least)
 

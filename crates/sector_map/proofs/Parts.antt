@@ -10,6 +10,7 @@ use Rattle.sector_map.specs.Map.{start_of, first_of, count_of, sectors_of, IsMap
 use Rattle.sector_map.proofs.Places.{apart}
 use Rattle.sector_map.proofs.Products.{mul_le, lower, upper, sector_at}
 
+-- what is the same sector by sector is the same part by part
 pub keeps_of_sectors : (map : SectorMap) (touched : Part → Bool) (old new : Chip) → IsLaidOut map old
     → new.sector_size ≡ old.sector_size → new.sectors ≡ old.sectors → length new.bytes ≡ length old.bytes
     → ((part : Part) (s : ℕ) → touched part ≡ false → IsIn map part s → SameSector s old new)
@@ -29,6 +30,7 @@ keeps_of_sectors map touched old new laid size sectors long same = record {
       (subst (λ x. k % map.sector_size < x) (sym laid.sector_size) at.3));
 }
 
+-- a map stays laid out, whatever a call touches
 pub laid_out_kept : (map : SectorMap) (touched : Part → Bool) (old new : Chip) → IsLaidOut map old
     → Keeps map touched old new → IsLaidOut map new
 laid_out_kept map touched old new laid keeps = record {
@@ -40,6 +42,7 @@ laid_out_kept map touched old new laid keeps = record {
   size = rw (keeps.sectors, keeps.sector_size) laid.size;
 }
 
+-- what isn't written is kept
 pub keeps_refl : (map : SectorMap) (touched : Part → Bool) (chip : Chip) → Keeps map touched chip chip
 keeps_refl map touched chip = record { sector_size = refl; sectors = refl; size = refl; parts = λ part e. refl }
 
@@ -57,6 +60,7 @@ keeps_bytes map touched old new size sectors same = record {
       ((first_of map part + count_of map part) * map.sector_size)) same;
 }
 
+-- two calls in turn
 pub keeps_trans : (map : SectorMap) (touched : Part → Bool) (old mid new : Chip) → Keeps map touched old mid
     → Keeps map touched mid new → Keeps map touched old new
 keeps_trans map touched old mid new a b = record {
@@ -66,6 +70,7 @@ keeps_trans map touched old mid new a b = record {
   parts = λ part e. b.parts part e ∙ a.parts part e;
 }
 
+-- what touches less touches no more
 pub keeps_wider : (map : SectorMap) (less more : Part → Bool) (old new : Chip)
     → ((part : Part) → more part ≡ false → less part ≡ false) → Keeps map less old new → Keeps map more old new
 keeps_wider map less more old new wider a =
@@ -130,6 +135,7 @@ sector_of_keeps map touched old new part s laid keeps e at = record {
       ∙ ap (λ j. slice_index old.bytes j) is;
 }
 
+-- a flash that fits
 pub laid_out_by : (map : SectorMap) (chip : Chip) → IsMap map → chip.sector_size ≡ map.sector_size
     → sectors_of map ≤ chip.sectors → length chip.bytes ≡ chip.sectors * chip.sector_size
     → size_of chip < 2 ^ 32 → IsLaidOut map chip

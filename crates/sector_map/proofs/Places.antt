@@ -1,5 +1,5 @@
 -- Parts lie apart, and in the flash.
-use Rattle.std.proofs.Common.{◌≡◌, ℕ, zero, suc, ◌+◌, ◌*◌, ◌^◌, ◌<◌, ◌≤◌, ◌==◌, ◌&&◌, Bool, true, false, List, [], ◌∷◌, take, get_or, slice_index, arith, sym, ◌∙◌, ap, subst, refl, ⊎_elim, add-one}
+use Rattle.std.proofs.Common.{◌≡◌, ℕ, zero, suc, ◌+◌, ◌*◌, ◌/◌, ◌^◌, ◌<◌, ◌≤◌, ◌==◌, ◌&&◌, Bool, true, false, List, [], ◌∷◌, take, get_or, slice_index, arith, sym, ◌∙◌, ap, subst, refl, ⊎_elim, add-one}
 use Rattle.std.specs.List.{sum}
 use Rattle.std.proofs.lemmas.List.Sums.{sum-map, sum_by-cons}
 use Rattle.std.proofs.lemmas.List.{map-id}
@@ -45,12 +45,9 @@ before_lt sectors i (suc j) lt = ⊎_elim
     (omega (arith, before_step sectors j)))
     (cases_lt i j)
 
-pub before_le : (sectors : List ℕ) (i j : ℕ) → i ≤ j → before sectors i ≤ before sectors j
-before_le sectors i j le = ⊎_elim
-    (λ (lt : i < j). omega (arith, before_lt sectors i j lt))
-    (λ (ge : j ≤ i). let same : i ≡ j = omega arith in
-    subst (λ k. before sectors i ≤ before sectors k) same (omega arith))
-    (cases_lt i j)
+-- a sector is whole units
+pub units_of : (map : SectorMap) → IsMap map → 8 * (map.sector_size / 8) ≡ map.sector_size
+units_of map fits = omega (arith, fits.sector.blocks)
 
 -- the sectors' numbers are of 32 bits
 pub addressed : (map : SectorMap) → IsMap map → sectors_of map < 2 ^ 32
@@ -178,3 +175,13 @@ pub first_within : (map : SectorMap) (part : Part) → IsMap map → 0 < count_o
     → first_of map part < sectors_of map
 first_within map part fits some =
     within map part (first_of map part) fits (record { low = omega arith; high = omega arith })
+
+-- a trailer is one sector ..
+pub one_sector : (map : SectorMap) (i : ℕ) (side : Side) → IsMap map → i < map.images
+    → count_of map (TrailerOf i side) ≡ 1
+one_sector map i side fits lt = omega (arith, fits.counts.some i lt)
+
+-- .. which lies in it
+pub in_own_trailer : (map : SectorMap) (i : ℕ) (side : Side) → IsMap map → i < map.images
+    → IsIn map (TrailerOf i side) (first_of map (TrailerOf i side))
+in_own_trailer map i side fits lt = record { low = omega arith; high = omega (arith, fits.counts.some i lt) }

@@ -47,7 +47,8 @@ start_of map part = first_of map part * map.sector_size
 abbrev pub length_of : SectorMap → Part → ℕ
 length_of map part = count_of map part * map.sector_size
 
--- How many places for records a sector of the log has: 64 bytes each, and 64 are left for its closing unit.
+-- How many places for records a sector of the log has: of 64 bytes each, and 64 are left at the end for its
+-- closing unit.
 abbrev pub places_of : SectorMap → ℕ
 places_of map = map.sector_size / 64 - 1
 
@@ -68,11 +69,12 @@ pub record IsIn (map : SectorMap) (part : Part) (sector : ℕ) : Type 0 where
 abbrev pub IsWithin : SectorMap → ℕ → Type 0
 IsWithin map mask = (i : ℕ) → is_member mask i ≡ true → i < map.images
 
--- A flash has sectors of the map's size, and as many at least.
+-- The map is laid out on a flash: this has sectors of the map's size, and as many at least. The rest is true
+-- of each map and of each flash.
 pub record IsLaidOut (map : SectorMap) (chip : Chip) : Type 0 where
-  pub is_map : IsMap map
   pub sector_size : chip.sector_size ≡ map.sector_size
   pub sectors : sectors_of map ≤ chip.sectors
+  pub is_map : IsMap map
   pub whole : length chip.bytes ≡ size_of chip
   pub size : size_of chip < 2 ^ 32
 

@@ -31,8 +31,8 @@ all_sectors images sectors = 2 * before sectors images + 4
 abbrev pub AreAddressed : ℕ → ℕ → List ℕ → Type 0
 AreAddressed size images sectors = all_sectors images sectors * size < 2 ^ 32
 
--- Sectors of this size, and so many images with these sectors a slot, make a map. There are no sectors of
--- images that it lacks.
+-- Sectors of this size, and so many images with these sectors a slot, make a map. An image that it lacks has
+-- no sectors.
 pub record MakeMap (size images : ℕ) (sectors : List ℕ) : Type 0 where
   pub sector : IsSectorSize size
   pub counts : AreImages images sectors

@@ -6,16 +6,19 @@ ghost use Rattle.sector_map.specs.Sizes.{MakeMap, before};
 use common::limits::MOST_IMAGES;
 use flash_model::Flash;
 
-/// Which of an image's two slots: the one that it runs from, or the one that it comes in to.
+/// Which of an image's two slots (MCUboot's design document, "Image Slots").
 #[derive(Clone, Copy, Debug, PartialEq, Eq)]
 pub enum Side {
     /// The slot that the image runs from.
     Primary,
-    /// The slot that a new image comes in to, and that keeps the old one while the new one is on trial.
+    /// The slot that a new image is written to, and that keeps the old one while the new one is on trial.
     Secondary,
 }
 
-/// The sectors of a device's images.
+/// Where the parts of a device's flash lie, by the length of a sector and the sectors of each image. Both slots
+/// of an image have as many. In the order of their addresses there are: for each image its primary slot and the
+/// trailer's sector; for each image its secondary slot and the trailer's sector; scratch; three sectors of the
+/// log.
 #[derive(Clone, Copy, Debug, PartialEq, Eq)]
 pub struct SectorMap {
     /// The length of a sector in bytes.
@@ -71,7 +74,7 @@ impl SectorMap {
         self.start_of(side) + self.sectors_before(image)
     }
 
-    /// The address of a slot's first byte.
+    /// The address in bytes of a slot's first byte.
     pub fn slot_start(&self, image: u8, side: Side) -> u32
         requires { image < self.now.images }
         ensures { result ≡ start_of self.now (Slot image side) }
@@ -150,7 +153,7 @@ impl SectorMap {
         sector * self.sector_size
     }
 
-    /// Whether a flash has sectors of this size, and at least as many.
+    /// Whether a flash has sectors of the map's size, and as many at least.
     #[tactic(auto, using(crate::proofs::Parts::laid_out_by))]
     pub fn fits<F: Flash>(&self, flash: &F) -> bool
         ensures { IsTrue result ↔ IsLaidOut self.now (F.chip flash.now) }
