@@ -64,6 +64,12 @@ pub first_fits : (map : SectorMap) (i : ℕ) (side : Side) → IsMap map → i <
 first_fits map i Primary fits lt = omega (arith, before_lt map.sectors i map.images lt, addressed map fits)
 first_fits map i Secondary fits lt = omega (arith, before_lt map.sectors i map.images lt, addressed map fits)
 
+-- what counting the sectors before an image takes ..
+pub ruleset counting = (before_none, before_more)
+
+-- .. and that their numbers are of 32 bits
+pub ruleset placing = (counting, before_within, addressed)
+
 -- an image has sectors only where the map has the image
 pub there : (map : SectorMap) (i : ℕ) → IsMap map → 0 < slot_sectors map i → i < map.images
 there map i fits some =

@@ -172,7 +172,7 @@ impl SectorMap {
     }
 
     /// The sectors of one side before an image.
-    #[tactic(auto, using(crate::proofs::Places::before_within, crate::proofs::Places::before_none, crate::proofs::Places::before_more, crate::proofs::Places::addressed))]
+    #[tactic(auto, using(crate::proofs::Places::placing))]
     fn sectors_before(&self, image: u8) -> u32
         requires { image ≤ self.now.images }
         ensures { result ≡ before self.now.sectors image }

@@ -76,7 +76,7 @@ fn are_addressed(size: u32, counts: &[u32]) -> bool
 }
 
 /// The sectors of one side.
-#[tactic(auto, using(crate::proofs::Places::before_none, crate::proofs::Places::before_more))]
+#[tactic(auto, using(crate::proofs::Places::counting))]
 fn side_sectors(counts: &[u32]) -> u64
     requires { length counts.now ≤ MOST_IMAGES }
     ensures sectors { result ≡ before counts.now (length counts.now) }
