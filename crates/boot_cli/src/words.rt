@@ -49,8 +49,11 @@ pub fn task_of<'a, S: AsStr>(alloc: Global, words: &'a [S]) -> Result<Task<'a>, 
 }
 
 /// The fault of these words, as it is printed: it names them with their control characters escaped. `fault` is
-/// what their parse answered.
+/// what their parse answered; want of memory is passed on, since another parse may not meet it.
 pub fn fault_of<S: AsStr>(alloc: Global, words: &[S], fault: Error) -> Error {
+    if matches!(fault.kind(), ErrorKind::OutOfMemory) {
+        return fault;
+    }
     match escaped_words(alloc, words) {
         Err(error) => Error::from(error),
         Ok(escaped) => match task_of(alloc, escaped.as_slice()) {
