@@ -1,0 +1,5 @@
+pub mod Fields
+pub mod Standing
+pub mod SwapTable
+pub mod Status
+pub mod Touched

@@ -1,0 +1,47 @@
+-- The request that stands for an image.
+use Rattle.std.specs.Prelude.{ℕ, ◌&&◌, Bool, true, false, not, List, slice_range, Option, Some, None, if◌then◌else◌}
+use Rattle.flash_model.specs.Chip.{Chip}
+use Rattle.sector_map.specs.declared.layout.SectorMap.{SectorMap}
+use Rattle.sector_map.specs.declared.layout.Side.TheVariants.{Secondary}
+use Rattle.sector_map.specs.Part.{Slot}
+use Rattle.sector_map.specs.Map.{part_of}
+use Rattle.trailer.specs.declared.kinds.Magic.{Magic}
+use Rattle.trailer.specs.declared.kinds.Magic.TheVariants.{Good, Unset, Bad}
+use Rattle.trailer.specs.declared.kinds.Trailer.{Trailer}
+use Rattle.trailer.specs.declared.kinds.Kind.{Kind}
+use Rattle.trailer.specs.declared.kinds.Kind.TheVariants.{Test, Permanent}
+use Rattle.trailer.specs.Fields.{Fields, is_set, fields_at, trailer_of, erased_fields}
+
+abbrev pub is_good : Magic → Bool
+is_good Good = true
+is_good Unset = false
+is_good Bad = false
+
+abbrev pub is_permanent : Kind → Bool
+is_permanent Test = false
+is_permanent Permanent = true
+
+-- A request is permanent where image-ok is set.
+abbrev pub kind_of : Bool → Kind
+kind_of image_ok = if image_ok then Permanent else Test
+
+-- The first unit of a slot's bytes is set.
+abbrev pub first_is_set : List ℕ → Bool
+first_is_set slot = is_set (slice_range slot 0 8)
+
+-- The request that stands, by the secondary trailer and by whether the first unit of the secondary slot is set.
+abbrev pub standing_kind : Trailer → Bool → Option Kind
+standing_kind trailer is_filled =
+    if is_good trailer.magic && (not trailer.withdrawn && is_filled) then Some (kind_of trailer.image_ok) else None
+
+-- The bytes of the secondary slot of an image.
+abbrev pub incoming_slot : SectorMap → Chip → ℕ → List ℕ
+incoming_slot map chip image = part_of map chip (Slot image Secondary)
+
+-- The request that stands for an image.
+abbrev pub standing_of : SectorMap → Chip → ℕ → Option Kind
+standing_of map chip image = standing_kind (trailer_of (fields_at map chip image Secondary)) (first_is_set (incoming_slot map chip image))
+
+-- The fields of the trailer of a request.
+abbrev pub requested_fields : Kind → Fields
+requested_fields kind = record erased_fields { magic = Good; image_ok = is_permanent kind }

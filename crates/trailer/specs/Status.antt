@@ -1,0 +1,16 @@
+-- How far a swap has come, by the status units of a trailer.
+use Rattle.std.specs.Prelude.{ℕ, zero, suc, ◌+◌, ◌*◌, List, take, drop, if◌then◌else◌}
+use Rattle.flash_model.specs.Chip.{Chip}
+use Rattle.sector_map.specs.declared.layout.SectorMap.{SectorMap}
+use Rattle.sector_map.specs.declared.layout.Side.{Side}
+use Rattle.sector_map.specs.Map.{slot_sectors}
+use Rattle.trailer.specs.Fields.{are_erased, trailer_bytes}
+
+-- How many of the first n units of some bytes are set, up to the first erased one.
+unfoldable pub set_units : List ℕ → ℕ → ℕ
+set_units bytes zero = 0
+set_units bytes (suc n) = if are_erased (take 8 bytes) then 0 else set_units (drop 8 bytes) n + 1
+
+-- The status count of a trailer: there are three units for each sector of the slot.
+abbrev pub status_count_of : SectorMap → Chip → ℕ → Side → ℕ
+status_count_of map chip image side = set_units (trailer_bytes map chip image side) (3 * slot_sectors map image)

@@ -1,0 +1,14 @@
+//! Records on flash, first part: the trailer behind each slot, with MCUboot's fields.
+//!
+//! Promises: each field is read as its bytes say; after a call each trailer is as asked, and after a cut a
+//! request, a withdrawal and a confirmation stand as before or as asked, and any other write leaves its own unit
+//! (an erase its sector) with any bytes and all else as it was. Does not allocate. `upload`, `swap_scratch` and
+//! `boot_core` call it.
+#![tactic(auto)]
+
+mod format;
+mod kinds;
+mod table;
+
+pub use kinds::{Kind, Magic, Settling, SwapType, Trailer};
+pub use table::swap_type;
