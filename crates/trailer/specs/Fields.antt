@@ -9,7 +9,7 @@ use Rattle.flash_model.specs.Chip.{Chip}
 use Rattle.sector_map.specs.declared.layout.SectorMap.{SectorMap}
 use Rattle.sector_map.specs.declared.layout.Side.{Side}
 use Rattle.sector_map.specs.Part.{TrailerOf}
-use Rattle.sector_map.specs.Map.{part_of, slot_sectors}
+use Rattle.sector_map.specs.Map.{first_of, part_of, slot_sectors}
 use Rattle.trailer.specs.declared.kinds.Magic.{Magic}
 use Rattle.trailer.specs.declared.kinds.Magic.TheVariants.{Good, Unset, Bad}
 use Rattle.trailer.specs.declared.kinds.Trailer.{Trailer}
@@ -72,6 +72,11 @@ fields_in n e bytes = record {
 -- The bytes of the trailer of an image's side.
 abbrev pub trailer_bytes : SectorMap → Chip → ℕ → Side → List ℕ
 trailer_bytes map chip image side = part_of map chip (TrailerOf image side)
+
+-- Where the bytes begin that so many bytes before the end of a trailer begin.
+abbrev pub place_of : SectorMap → ℕ → Side → ℕ → ℕ
+place_of map image side from_end =
+    first_of map (TrailerOf image side) * map.sector_size + (map.sector_size - from_end)
 
 -- The fields of the trailer of an image's side.
 unfoldable pub fields_at : SectorMap → Chip → ℕ → Side → Fields

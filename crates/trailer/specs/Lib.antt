@@ -2,4 +2,3 @@ pub mod Fields
 pub mod Standing
 pub mod SwapTable
 pub mod Status
-pub mod Touched

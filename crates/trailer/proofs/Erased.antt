@@ -1,0 +1,107 @@
+-- Erased bytes, and what they say in a trailer.
+use Rattle.std.proofs.Common.{◌≡◌, ◌≢◌, ℕ, zero, suc, ◌+◌, ◌-◌, ◌*◌, ◌<◌, ◌≤◌, ◌==◌, ◌&&◌, Bool, true, false, not, arith, sym, ◌∙◌, ap, refl, List, [], ◌∷◌, length, get_or, slice_index, slice_range, take, drop, min, Option, Some, None, if◌then◌else◌, nat_lt, nat_le}
+use Rattle.std.proofs.lemmas.Bool.Decides.{nat_tests}
+use Rattle.std.proofs.lemmas.List.{get_or-drop}
+use Rattle.std.proofs.lemmas.Slice.Eq.{bytes_eq-Decides}
+use Rattle.std.specs.Str.{bytes_eq}
+use Rattle.byteorder.specs.Endian.{little_number}
+use Rattle.flash_model.specs.Chip.{Chip, IsErased}
+use Rattle.flash_model.proofs.Ranges.{length_range, range_at}
+use Rattle.sector_map.specs.declared.layout.SectorMap.{SectorMap}
+use Rattle.sector_map.specs.declared.layout.Side.{Side}
+use Rattle.sector_map.specs.Part.{TrailerOf}
+use Rattle.sector_map.specs.Map.{first_of, part_of, slot_sectors, IsMap, IsLaidOut}
+use Rattle.trailer.specs.declared.kinds.Magic.{Magic}
+use Rattle.trailer.specs.declared.kinds.Magic.TheVariants.{Good, Unset, Bad}
+use Rattle.trailer.specs.Fields.{are_erased, is_set, good_magic, magic_in, size_in, bytes_in, fields_in, fields_at, trailer_bytes, erased_fields, Fields, place_of}
+use Rattle.trailer.proofs.Places.{range_of_trailer, trailer_fits}
+
+both : (a b : Bool) → (a && b) ≡ true → (a ≡ true) × (b ≡ true)
+both true b e = (refl, e)
+both false b e = (e, cc)
+
+eq_is : (a b : ℕ) → (a == b) ≡ true → a ≡ b
+eq_is a b e = grind (arith, nat_tests, e)
+
+eq_true : (a b : ℕ) → a ≡ b → (a == b) ≡ true
+eq_true a b e = grind (arith, nat_tests, e)
+
+-- each byte of erased bytes is 0xFF ..
+pub erased_each : (bytes : List ℕ) (k : ℕ) → are_erased bytes ≡ true → k < length bytes → slice_index bytes k ≡ 0xff
+erased_each [] k all lt = absurd (omega (arith, lt))
+erased_each (b ∷ bytes) zero all lt = eq_is b 0xff (both (b == 0xff) (are_erased bytes) all).0
+erased_each (b ∷ bytes) (suc k) all lt = erased_each bytes k (both (b == 0xff) (are_erased bytes) all).1 (omega (arith, lt))
+
+-- .. and where each is, they are erased
+pub each_erased : (bytes : List ℕ) → ((k : ℕ) → k < length bytes → slice_index bytes k ≡ 0xff) → are_erased bytes ≡ true
+each_erased [] each = refl
+each_erased (b ∷ bytes) each =
+    ap (λ t. t && are_erased bytes) (eq_true b 0xff (each 0 (omega arith))) ∙ each_erased bytes (λ k lt. each (suc k) (omega (arith, lt)))
+
+-- a range of erased bytes is erased
+pub erased_range : (bytes : List ℕ) (a b : ℕ) → are_erased bytes ≡ true → are_erased (slice_range bytes a b) ≡ true
+erased_range bytes a b all = each_erased (slice_range bytes a b) (λ k lt.
+    let in_range : k < b - a = omega (arith, length_range bytes a b) in
+    let below : a + k < length bytes = omega (arith, length_range bytes a b) in
+    range_at bytes a b k in_range ∙ erased_each bytes (a + k) all below)
+
+-- erased bytes as a magic
+pub magic_erased : (bytes : List ℕ) → are_erased bytes ≡ true → magic_in bytes ≡ Unset
+magic_erased bytes all = by (bytes_eq bytes good_magic) refl
+  where
+    by : (same : Bool) → bytes_eq bytes good_magic ≡ same → magic_in bytes ≡ Unset
+    by true e =
+        let is : bytes ≡ good_magic = (bytes_eq-Decides bytes good_magic).0 e in
+        let wrong : are_erased good_magic ≡ true = ap (λ (xs : List ℕ). are_erased xs) (sym is) ∙ all in absurd (cc wrong)
+    by false e = ap (λ same. if same then Good else if are_erased bytes then Unset else Bad) e ∙ ap (λ t. if t then Unset else Bad) all
+
+and_false : (a b c : Bool) → c ≡ false → (a && (b && c)) ≡ false
+and_false true true c e = e
+and_false true false c e = refl
+and_false false b c e = refl
+
+-- erased bytes as a size
+pub size_erased : (limit : ℕ) (unit : List ℕ) → 4 < length unit → are_erased unit ≡ true → size_in limit unit ≡ None
+size_erased limit unit long all =
+    ap (λ (t : Bool). if t then Some (little_number 4 unit) else None)
+    (and_false (nat_lt 0 (little_number 4 unit)) (nat_le (little_number 4 unit) limit) (bytes_eq (drop 4 unit) (0 ∷ 0 ∷ 0 ∷ 0 ∷ [])) (by (bytes_eq (drop 4 unit) (0 ∷ 0 ∷ 0 ∷ 0 ∷ [])) refl))
+  where
+    by : (same : Bool) → bytes_eq (drop 4 unit) (0 ∷ 0 ∷ 0 ∷ 0 ∷ []) ≡ same → bytes_eq (drop 4 unit) (0 ∷ 0 ∷ 0 ∷ 0 ∷ []) ≡ false
+    by true e =
+        let is : drop 4 unit ≡ 0 ∷ 0 ∷ 0 ∷ 0 ∷ [] = (bytes_eq-Decides (drop 4 unit) (0 ∷ 0 ∷ 0 ∷ 0 ∷ [])).0 e in
+        let first : get_or unit 4 0 ≡ 0 = sym (get_or-drop 4 unit 0 0) ∙ ap (λ (xs : List ℕ). get_or xs 0 0) is in
+        absurd (omega (arith, first, erased_each unit 4 all long))
+    by false e = e
+
+-- erased bytes as a trailer
+pub fields_erased : (n e : ℕ) (bytes : List ℕ) → are_erased bytes ≡ true → length bytes ≡ e → 56 ≤ e → fields_in n e bytes ≡ erased_fields
+unfolding fields_in
+fields_erased n e bytes all long large =
+    let here : (a b : ℕ) → are_erased (slice_range bytes a b) ≡ true = λ a b. erased_range bytes a b all in
+    let unit : 4 < length (bytes_in e bytes 48 8) = omega (arith, length_range bytes (e - 48) (e - 48 + 8)) in
+    rw (magic_erased (bytes_in e bytes 16 16) (here _ _), here (e - 32) (e - 32 + 8), here (e - 24) (e - 24 + 8), here (e - 56) (e - 56 + 8), size_erased (n * e) (bytes_in e bytes 48 8) unit (here _ _), here 0 (24 * n)) refl
+
+-- erased bytes of the flash as a range of a trailer ..
+pub trailer_erased : (map : SectorMap) (chip : Chip) (image at n a b : ℕ) (side : Side) → IsErased chip at n → IsMap map → image < map.images → b ≤ map.sector_size
+    → at ≤ first_of map (TrailerOf image side) * map.sector_size + a → first_of map (TrailerOf image side) * map.sector_size + b ≤ at + n
+    → are_erased (slice_range (trailer_bytes map chip image side) a b) ≡ true
+trailer_erased map chip image at n a b side erased fits lt le low high =
+    let start = first_of map (TrailerOf image side) * map.sector_size in
+    ap (λ (xs : List ℕ). are_erased xs) (range_of_trailer map chip image a b side fits lt le)
+    ∙ each_erased (slice_range chip.bytes (start + a) (start + b)) (λ k lt.
+    let in_range : k < start + b - (start + a) = omega (arith, length_range chip.bytes (start + a) (start + b)) in
+    range_at chip.bytes (start + a) (start + b) k in_range ∙ erased.each (start + a + k) (omega arith) (omega arith))
+
+-- .. and back
+pub trailer_is_erased : (map : SectorMap) (chip : Chip) (image at n a b : ℕ) (side : Side) → are_erased (slice_range (trailer_bytes map chip image side) a b) ≡ true
+    → IsLaidOut map chip → image < map.images → b ≤ map.sector_size → at ≡ first_of map (TrailerOf image side) * map.sector_size + a → a + n ≡ b → IsErased chip at n
+trailer_is_erased map chip image at n a b side all laid lt le is width = record {
+  each = λ k low high.
+      let start = first_of map (TrailerOf image side) * map.sector_size in
+      let there : are_erased (slice_range chip.bytes (start + a) (start + b)) ≡ true = ap (λ (xs : List ℕ). are_erased xs) (sym (range_of_trailer map chip image a b side laid.is_map lt le)) ∙ all in
+      let fits : start + map.sector_size ≤ length chip.bytes = omega (arith, trailer_fits map chip image side laid lt, laid.whole) in
+      let in_range : k - at < start + b - (start + a) = omega arith in
+      let place : start + a + (k - at) ≡ k = omega arith in
+      ap (λ j. slice_index chip.bytes j) (sym place) ∙ sym (range_at chip.bytes (start + a) (start + b) (k - at) in_range)
+      ∙ erased_each (slice_range chip.bytes (start + a) (start + b)) (k - at) there (omega (arith, length_range chip.bytes (start + a) (start + b)));
+}
