@@ -43,9 +43,9 @@ trailer_fits map chip image side laid lt =
     let below : first_of map (TrailerOf image side) < chip.sectors = omega (arith, trailer_within map image side laid.is_map lt, laid.sectors) in
     subst (λ e. first_of map (TrailerOf image side) * map.sector_size + map.sector_size ≤ chip.sectors * e) (sym laid.sector_size) (product_le _ chip.sectors map.sector_size below)
 
-pub trailer_addressed : (map : SectorMap) (chip : Chip) (image : ℕ) (side : Side) → IsLaidOut map chip → image < map.images
+pub trailer_addressed : (map : SectorMap) (image : ℕ) (side : Side) → IsMap map → image < map.images
     → first_of map (TrailerOf image side) * map.sector_size + map.sector_size < 2 ^ 32
-trailer_addressed map chip image side laid lt = omega (arith, trailer_fits map chip image side laid lt, laid.size)
+trailer_addressed map image side fits lt = omega (arith, product_le (first_of map (TrailerOf image side)) (sectors_of map) map.sector_size (trailer_within map image side fits lt), fits.size)
 
 -- .. and of whole units
 pub trailer_aligned : (map : SectorMap) (image from_end : ℕ) (side : Side) → IsMap map → from_end ≤ map.sector_size → from_end % 8 ≡ 0 → place_of map image side from_end % 8 ≡ 0
@@ -85,3 +85,8 @@ trailer_alone map old new image at n side same laid lt low high =
     let ends : (first_of map (TrailerOf image side) + count_of map (TrailerOf image side)) * map.sector_size ≡ first_of map (TrailerOf image side) * map.sector_size + map.sector_size =
         ap (λ c. (first_of map (TrailerOf image side) + c) * map.sector_size) (one_sector map image side laid.is_map lt) ∙ grind arith in
     keeps_others map (TrailerOf image side) at n old new laid same low (omega (arith, ends))
+
+-- what lies before the end of a trailer lies in the flash
+pub place_fits : (map : SectorMap) (chip : Chip) (image from_end : ℕ) (side : Side) → IsLaidOut map chip → image < map.images → from_end ≤ 56
+    → place_of map image side from_end + from_end ≤ size_of chip
+place_fits map chip image from_end side laid lt le = omega (arith, trailer_fits map chip image side laid lt, laid.is_map.trailers image)

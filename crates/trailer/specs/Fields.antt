@@ -73,6 +73,11 @@ fields_in n e bytes = record {
 abbrev pub trailer_bytes : SectorMap → Chip → ℕ → Side → List ℕ
 trailer_bytes map chip image side = part_of map chip (TrailerOf image side)
 
+-- The n bytes of that trailer which begin so many bytes before its end.
+abbrev pub bytes_at : SectorMap → Chip → ℕ → Side → ℕ → ℕ → List ℕ
+bytes_at map chip image side from_end n =
+    bytes_in map.sector_size (trailer_bytes map chip image side) from_end n
+
 -- Where the bytes begin that so many bytes before the end of a trailer begin.
 abbrev pub place_of : SectorMap → ℕ → Side → ℕ → ℕ
 place_of map image side from_end =

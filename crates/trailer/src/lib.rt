@@ -8,7 +8,10 @@
 
 mod format;
 mod kinds;
+mod reading;
 mod table;
+mod units;
 
 pub use kinds::{Kind, Magic, Settling, SwapType, Trailer};
+pub use reading::read_trailer;
 pub use table::swap_type;

@@ -1,0 +1,139 @@
+//! The units of a trailer, read and written by their places.
+
+ghost use Rattle.std.specs.Prelude.{◌≡◌, ℕ, ◌+◌, ◌-◌, ◌*◌, ◌%◌, ◌<◌, ◌≤◌, true, length, OnOk, IfOk};
+ghost use Rattle.flash_model.specs.Chip.{Chip, Ends, IsErased, SameOutside};
+ghost use Rattle.sector_map.specs.Map.{IsMap, IsLaidOut, Keeps};
+ghost use Rattle.sector_map.specs.Part.{TrailerOf, only};
+ghost use Rattle.trailer.specs.Fields.{are_erased, bytes_at, is_set, magic_in, place_of};
+
+use crate::format::{MAGIC, MAGIC_PLACE};
+use crate::kinds::Magic;
+use flash_model::{Flash, FlashError};
+use sector_map::{SectorMap, Side};
+
+/// The address of what begins so many bytes before the end of a trailer.
+#[tactic(auto, using(crate::proofs::Places::trailer_addressed))]
+pub(crate) fn place_of(map: &SectorMap, image: u8, side: Side, from_end: u32) -> u32
+    requires is_map { IsMap map.now }
+    requires there { image < map.now.images }
+    requires within { from_end ≤ map.now.sector_size }
+    ensures { result ≡ place_of map.now image side from_end }
+{
+    map.trailer(image, side) * map.sector_size + (map.sector_size - from_end)
+}
+
+/// Reads the unit that begins so many bytes before the end of a trailer.
+#[tactic(auto, using(crate::proofs::Places::read_of_trailer, crate::proofs::Places::place_fits))]
+pub(crate) fn read_unit<F: Flash>(
+    flash: &mut F,
+    map: &SectorMap,
+    image: u8,
+    side: Side,
+    from_end: u32,
+) -> Result<[u8; 8], FlashError>
+    requires laid_out { IsLaidOut map.now (F.chip flash.old) }
+    requires there { image < map.now.images }
+    requires unit { 8 ≤ from_end }
+    requires within { from_end ≤ 56 }
+    ensures same { F.chip flash.new ≡ F.chip flash.old }
+    ensures ok { IfOk result
+        (λ unit. unit ≡ bytes_at map.now (F.chip flash.old) image side from_end 8) }
+    ensures erases { OnOk result ((F.chip flash.new).erases ≡ (F.chip flash.old).erases) }
+    ensures ends { Ends result (F.chip flash.old) (F.chip flash.new) }
+{
+    let mut unit = [0u8; 8];
+    flash.read(place_of(map, image, side, from_end), &mut unit)?;
+    Ok(unit)
+}
+
+/// Whether bytes are erased.
+fn are_erased(bytes: &[u8]) -> bool
+    ensures { result ≡ are_erased bytes.now }
+{
+    bytes.iter().all(|byte| *byte == 0xff)
+}
+
+/// Whether a unit is set.
+pub(crate) fn is_unit_set<F: Flash>(
+    flash: &mut F,
+    map: &SectorMap,
+    image: u8,
+    side: Side,
+    from_end: u32,
+) -> Result<bool, FlashError>
+    requires laid_out { IsLaidOut map.now (F.chip flash.old) }
+    requires there { image < map.now.images }
+    requires unit { 8 ≤ from_end }
+    requires within { from_end ≤ 56 }
+    ensures same { F.chip flash.new ≡ F.chip flash.old }
+    ensures ok { IfOk result
+        (λ yes. yes ≡ is_set (bytes_at map.now (F.chip flash.old) image side from_end 8)) }
+    ensures erases { OnOk result ((F.chip flash.new).erases ≡ (F.chip flash.old).erases) }
+    ensures ends { Ends result (F.chip flash.old) (F.chip flash.new) }
+{
+    Ok(!are_erased(&read_unit(flash, map, image, side, from_end)?))
+}
+
+/// What the bytes of a magic say.
+fn magic_in(bytes: &[u8; 16]) -> Magic
+    ensures { result ≡ magic_in bytes.now }
+{
+    if *bytes == MAGIC {
+        Magic::Good
+    } else if are_erased(bytes) {
+        Magic::Unset
+    } else {
+        Magic::Bad
+    }
+}
+
+/// What the magic of a trailer says.
+#[tactic(auto, using(crate::proofs::Places::read_of_trailer, crate::proofs::Places::place_fits))]
+pub(crate) fn read_magic<F: Flash>(
+    flash: &mut F,
+    map: &SectorMap,
+    image: u8,
+    side: Side,
+) -> Result<Magic, FlashError>
+    requires laid_out { IsLaidOut map.now (F.chip flash.old) }
+    requires there { image < map.now.images }
+    ensures same { F.chip flash.new ≡ F.chip flash.old }
+    ensures ok { IfOk result
+        (λ magic. magic ≡ magic_in (bytes_at map.now (F.chip flash.old) image side 16 16)) }
+    ensures erases { OnOk result ((F.chip flash.new).erases ≡ (F.chip flash.old).erases) }
+    ensures ends { Ends result (F.chip flash.old) (F.chip flash.new) }
+{
+    let mut magic = [0u8; 16];
+    flash.read(place_of(map, image, side, MAGIC_PLACE), &mut magic)?;
+    Ok(magic_in(&magic))
+}
+
+/// Writes whole units, so many bytes before the end of a trailer, where the trailer is erased.
+#[tactic(auto, using(crate::proofs::Places::read_of_trailer, crate::proofs::Places::place_fits, crate::proofs::Places::trailer_aligned, crate::proofs::Erased::trailer_is_erased))]
+pub(crate) fn write_units<F: Flash>(
+    flash: &mut F,
+    map: &SectorMap,
+    image: u8,
+    side: Side,
+    from_end: u32,
+    units: &[u8],
+) -> Result<(), FlashError>
+    requires laid_out { IsLaidOut map.now (F.chip flash.old) }
+    requires there { image < map.now.images }
+    requires some { 8 ≤ length units.now }
+    requires whole { length units.now % 8 ≡ 0 }
+    requires place { from_end % 8 ≡ 0 }
+    requires room { length units.now ≤ from_end }
+    requires within { from_end ≤ 56 }
+    requires erased { are_erased
+        (bytes_at map.now (F.chip flash.old) image side from_end (length units.now)) ≡ true }
+    ensures outside { SameOutside (place_of map.now image side from_end) (length units.now)
+        (F.chip flash.old) (F.chip flash.new) }
+    ensures ok { OnOk result (bytes_at map.now (F.chip flash.new) image side from_end
+        (length units.now) ≡ units.now) }
+    ensures erases { OnOk result ((F.chip flash.new).erases ≡ (F.chip flash.old).erases) }
+    ensures ends { Ends result (F.chip flash.old) (F.chip flash.new) }
+{
+    flash.program(place_of(map, image, side, from_end), units)?;
+    Ok(())
+}
