@@ -1,5 +1,5 @@
 -- Erased bytes, and what they say in a trailer.
-use Rattle.std.proofs.Common.{◌≡◌, ◌≢◌, ℕ, zero, suc, ◌+◌, ◌-◌, ◌*◌, ◌<◌, ◌≤◌, ◌==◌, ◌&&◌, Bool, true, false, not, arith, sym, ◌∙◌, ap, refl, List, [], ◌∷◌, length, get_or, slice_index, slice_range, take, drop, min, Option, Some, None, if◌then◌else◌, nat_lt, nat_le}
+use Rattle.std.proofs.Common.{◌≡◌, ◌≢◌, ℕ, zero, suc, ◌+◌, ◌-◌, ◌*◌, ◌<◌, ◌≤◌, ◌==◌, ◌&&◌, Bool, true, false, not, arith, sym, ◌∙◌, ap, refl, List, [], ◌∷◌, length, get_or, slice_index, slice_range, take, drop, min, Option, Some, None, if◌then◌else◌, nat_lt, nat_le, IsTrue, ◌↔◌, subst, take_all}
 use Rattle.std.proofs.lemmas.Bool.Decides.{nat_tests}
 use Rattle.std.proofs.lemmas.List.{get_or-drop}
 use Rattle.std.proofs.lemmas.Slice.Eq.{bytes_eq-Decides}
@@ -9,12 +9,12 @@ use Rattle.flash_model.specs.Chip.{Chip, IsErased}
 use Rattle.flash_model.proofs.Ranges.{length_range, range_at}
 use Rattle.sector_map.specs.declared.layout.SectorMap.{SectorMap}
 use Rattle.sector_map.specs.declared.layout.Side.{Side}
-use Rattle.sector_map.specs.Part.{TrailerOf}
-use Rattle.sector_map.specs.Map.{first_of, part_of, slot_sectors, IsMap, IsLaidOut}
+use Rattle.sector_map.specs.Part.{Part, TrailerOf}
+use Rattle.sector_map.specs.Map.{first_of, count_of, part_of, slot_sectors, IsMap, IsLaidOut}
 use Rattle.trailer.specs.declared.kinds.Magic.{Magic}
 use Rattle.trailer.specs.declared.kinds.Magic.TheVariants.{Good, Unset, Bad}
-use Rattle.trailer.specs.Fields.{are_erased, is_set, good_magic, magic_in, size_in, bytes_in, fields_in, fields_at, trailer_bytes, erased_fields, Fields, place_of}
-use Rattle.trailer.proofs.Places.{range_of_trailer, trailer_fits}
+use Rattle.trailer.specs.Fields.{are_erased, is_set, good_magic, magic_in, size_in, bytes_in, bytes_at, fields_in, fields_at, trailer_bytes, erased_fields, Fields, place_of}
+use Rattle.trailer.proofs.Places.{range_of_part, part_fits, one_sector, some_trailer}
 
 both : (a b : Bool) → (a && b) ≡ true → (a ≡ true) × (b ≡ true)
 both true b e = (refl, e)
@@ -25,6 +25,10 @@ eq_is a b e = grind (arith, nat_tests, e)
 
 eq_true : (a b : ℕ) → a ≡ b → (a == b) ≡ true
 eq_true a b e = grind (arith, nat_tests, e)
+
+not_true : (b : Bool) → (b ≡ true → ⊥) → b ≡ false
+not_true true never = absurd (never refl)
+not_true false never = refl
 
 -- each byte of erased bytes is 0xFF ..
 pub erased_each : (bytes : List ℕ) (k : ℕ) → are_erased bytes ≡ true → k < length bytes → slice_index bytes k ≡ 0xff
@@ -81,27 +85,74 @@ fields_erased n e bytes all long large =
     let unit : 4 < length (bytes_in e bytes 48 8) = omega (arith, length_range bytes (e - 48) (e - 48 + 8)) in
     rw (magic_erased (bytes_in e bytes 16 16) (here _ _), here (e - 32) (e - 32 + 8), here (e - 24) (e - 24 + 8), here (e - 56) (e - 56 + 8), size_erased (n * e) (bytes_in e bytes 48 8) unit (here _ _), here 0 (24 * n)) refl
 
--- erased bytes of the flash as a range of a trailer ..
-pub trailer_erased : (map : SectorMap) (chip : Chip) (image at n a b : ℕ) (side : Side) → IsErased chip at n → IsMap map → image < map.images → b ≤ map.sector_size
-    → at ≤ first_of map (TrailerOf image side) * map.sector_size + a → first_of map (TrailerOf image side) * map.sector_size + b ≤ at + n
-    → are_erased (slice_range (trailer_bytes map chip image side) a b) ≡ true
-trailer_erased map chip image at n a b side erased fits lt le low high =
-    let start = first_of map (TrailerOf image side) * map.sector_size in
-    ap (λ (xs : List ℕ). are_erased xs) (range_of_trailer map chip image a b side fits lt le)
+-- erased bytes of the flash in the first sector of a part ..
+pub part_erased : (map : SectorMap) (chip : Chip) (part : Part) (at n a b : ℕ) → IsErased chip at n → 0 < count_of map part → b ≤ map.sector_size
+    → at ≤ first_of map part * map.sector_size + a → first_of map part * map.sector_size + b ≤ at + n
+    → are_erased (slice_range (part_of map chip part) a b) ≡ true
+part_erased map chip part at n a b erased some le low high =
+    let start = first_of map part * map.sector_size in
+    ap (λ (xs : List ℕ). are_erased xs) (range_of_part map chip part a b some le)
     ∙ each_erased (slice_range chip.bytes (start + a) (start + b)) (λ k lt.
     let in_range : k < start + b - (start + a) = omega (arith, length_range chip.bytes (start + a) (start + b)) in
     range_at chip.bytes (start + a) (start + b) k in_range ∙ erased.each (start + a + k) (omega arith) (omega arith))
 
 -- .. and back
-pub trailer_is_erased : (map : SectorMap) (chip : Chip) (image at n a b : ℕ) (side : Side) → are_erased (slice_range (trailer_bytes map chip image side) a b) ≡ true
-    → IsLaidOut map chip → image < map.images → b ≤ map.sector_size → at ≡ first_of map (TrailerOf image side) * map.sector_size + a → a + n ≡ b → IsErased chip at n
-trailer_is_erased map chip image at n a b side all laid lt le is width = record {
+pub part_is_erased : (map : SectorMap) (chip : Chip) (part : Part) (at n a b : ℕ) → are_erased (slice_range (part_of map chip part) a b) ≡ true
+    → IsLaidOut map chip → 0 < count_of map part → b ≤ map.sector_size → at ≡ first_of map part * map.sector_size + a → a + n ≡ b → IsErased chip at n
+part_is_erased map chip part at n a b all laid some le is width = record {
   each = λ k low high.
-      let start = first_of map (TrailerOf image side) * map.sector_size in
-      let there : are_erased (slice_range chip.bytes (start + a) (start + b)) ≡ true = ap (λ (xs : List ℕ). are_erased xs) (sym (range_of_trailer map chip image a b side laid.is_map lt le)) ∙ all in
-      let fits : start + map.sector_size ≤ length chip.bytes = omega (arith, trailer_fits map chip image side laid lt, laid.whole) in
+      let start = first_of map part * map.sector_size in
+      let there : are_erased (slice_range chip.bytes (start + a) (start + b)) ≡ true = ap (λ (xs : List ℕ). are_erased xs) (sym (range_of_part map chip part a b some le)) ∙ all in
+      let fits : start + map.sector_size ≤ length chip.bytes = omega (arith, part_fits map chip part laid some, laid.whole) in
       let in_range : k - at < start + b - (start + a) = omega arith in
       let place : start + a + (k - at) ≡ k = omega arith in
       ap (λ j. slice_index chip.bytes j) (sym place) ∙ sym (range_at chip.bytes (start + a) (start + b) (k - at) in_range)
       ∙ erased_each (slice_range chip.bytes (start + a) (start + b)) (k - at) there (omega (arith, length_range chip.bytes (start + a) (start + b)));
 }
+
+-- a test of bytes of the flash is a test of the part's
+pub tells_part : (map : SectorMap) (chip : Chip) (part : Part) (at n a b : ℕ) (yes : Bool) → (IsTrue yes ↔ IsErased chip at n) → IsLaidOut map chip → 0 < count_of map part → b ≤ map.sector_size
+    → at ≡ first_of map part * map.sector_size + a → a + n ≡ b → yes ≡ are_erased (slice_range (part_of map chip part) a b)
+tells_part map chip part at n a b true tells laid some le is width = sym (part_erased map chip part at n a b (tells.0 refl) some le (omega arith) (omega arith))
+tells_part map chip part at n a b false tells laid some le is width = sym (not_true (are_erased (slice_range (part_of map chip part) a b)) (λ all.
+    let wrong : false ≡ true = tells.1 (part_is_erased map chip part at n a b all laid some le is width) in cc))
+
+-- a trailer has the bytes of its sector
+pub trailer_length : (map : SectorMap) (chip : Chip) (image : ℕ) (side : Side) → IsLaidOut map chip → image < map.images → length (trailer_bytes map chip image side) ≡ map.sector_size
+unfolding part_of
+trailer_length map chip image side laid lt =
+    let sum : (first_of map (TrailerOf image side) + count_of map (TrailerOf image side)) * map.sector_size ≡ first_of map (TrailerOf image side) * map.sector_size + map.sector_size =
+        ap (λ c. (first_of map (TrailerOf image side) + c) * map.sector_size) (one_sector map image side laid.is_map lt) ∙ grind arith in
+    length_range chip.bytes _ _ ∙ omega (arith, sum, part_fits map chip (TrailerOf image side) laid (some_trailer map image side laid.is_map lt), laid.whole)
+
+whole_range : (bytes : List ℕ) (e : ℕ) → length bytes ≡ e → slice_range bytes 0 e ≡ bytes
+whole_range bytes e long = ap (λ n. take n bytes) (let all : e - 0 ≡ e = omega arith in all) ∙ take_all e bytes (omega (arith, long))
+
+whole_trailer : (map : SectorMap) (chip : Chip) (image : ℕ) (side : Side) → IsLaidOut map chip → image < map.images → slice_range (trailer_bytes map chip image side) 0 map.sector_size ≡ trailer_bytes map chip image side
+whole_trailer map chip image side laid lt = whole_range (trailer_bytes map chip image side) map.sector_size (trailer_length map chip image side laid lt)
+
+-- a trailer is erased where its sector is
+pub trailer_erased : (map : SectorMap) (chip : Chip) (image at n : ℕ) (side : Side) → IsErased chip at n → IsLaidOut map chip → image < map.images
+    → at ≡ first_of map (TrailerOf image side) * map.sector_size → n ≡ map.sector_size → are_erased (trailer_bytes map chip image side) ≡ true
+trailer_erased map chip image at n side erased laid lt is width =
+    ap (λ (xs : List ℕ). are_erased xs) (sym (whole_trailer map chip image side laid lt))
+    ∙ part_erased map chip (TrailerOf image side) at n 0 map.sector_size erased (some_trailer map image side laid.is_map lt) (omega arith) (omega arith) (omega arith)
+
+-- .. and a test of the sector is a test of the trailer
+pub tells_trailer : (map : SectorMap) (chip : Chip) (image at n : ℕ) (side : Side) (yes : Bool) → (IsTrue yes ↔ IsErased chip at n) → IsLaidOut map chip → image < map.images
+    → at ≡ first_of map (TrailerOf image side) * map.sector_size → n ≡ map.sector_size → yes ≡ are_erased (trailer_bytes map chip image side)
+tells_trailer map chip image at n side told tells laid lt is width =
+    tells_part map chip (TrailerOf image side) at n 0 map.sector_size told tells laid (some_trailer map image side laid.is_map lt) (omega arith) (omega arith) (omega arith)
+    ∙ ap (λ (xs : List ℕ). are_erased xs) (whole_trailer map chip image side laid lt)
+
+-- erased units of a trailer are erased on the flash
+pub units_erased : (map : SectorMap) (chip : Chip) (image at from_end n : ℕ) (side : Side) → are_erased (bytes_at map chip image side from_end n) ≡ true → IsLaidOut map chip → image < map.images
+    → at ≡ place_of map image side from_end → n ≤ from_end → from_end ≤ map.sector_size → IsErased chip at n
+units_erased map chip image at from_end n side all laid lt is room le =
+    part_is_erased map chip (TrailerOf image side) at n (map.sector_size - from_end) (map.sector_size - from_end + n) all laid (some_trailer map image side laid.is_map lt) (omega arith) (omega arith) (omega arith)
+
+-- an erased trailer has the fields of one
+pub erased_fields_at : (map : SectorMap) (chip : Chip) (image : ℕ) (side : Side) → are_erased (trailer_bytes map chip image side) ≡ true → IsLaidOut map chip → image < map.images
+    → fields_at map chip image side ≡ erased_fields
+unfolding fields_at
+erased_fields_at map chip image side all laid lt = fields_erased (slot_sectors map image) map.sector_size (trailer_bytes map chip image side) all (trailer_length map chip image side laid lt) (omega (arith, laid.is_map.trailers image))

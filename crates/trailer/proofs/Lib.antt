@@ -1,3 +1,5 @@
 pub mod Places
 pub mod Erased
 pub mod OwnFields
+pub mod FieldUnits
+pub mod Gone

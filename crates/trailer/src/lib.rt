@@ -6,12 +6,14 @@
 //! `boot_core` call it.
 #![tactic(auto)]
 
+mod clearing;
 mod format;
 mod kinds;
 mod reading;
 mod table;
 mod units;
 
+pub use clearing::clear;
 pub use kinds::{Kind, Magic, Settling, SwapType, Trailer};
 pub use reading::read_trailer;
 pub use table::swap_type;

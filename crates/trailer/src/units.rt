@@ -109,7 +109,7 @@ pub(crate) fn read_magic<F: Flash>(
 }
 
 /// Writes whole units, so many bytes before the end of a trailer, where the trailer is erased.
-#[tactic(auto, using(crate::proofs::Places::read_of_trailer, crate::proofs::Places::place_fits, crate::proofs::Places::trailer_aligned, crate::proofs::Erased::trailer_is_erased))]
+#[tactic(auto, using(crate::proofs::Places::read_of_trailer, crate::proofs::Places::place_fits, crate::proofs::Places::place_aligned, crate::proofs::Erased::units_erased))]
 pub(crate) fn write_units<F: Flash>(
     flash: &mut F,
     map: &SectorMap,
