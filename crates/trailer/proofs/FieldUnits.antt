@@ -90,3 +90,7 @@ either_magic f g own = by g.magic refl
     by Good e = inl (own ∙ ap (λ m. record f { magic = m }) e)
     by Unset e = inr (ap is_good e)
     by Bad e = inr (ap is_good e)
+
+-- a field that is set already
+pub kept_image_ok : (f g : Fields) → g ≡ f → f.image_ok ≡ true → g ≡ record f { image_ok = true }
+kept_image_ok f g same was = same ∙ ap (λ b. record f { image_ok = b }) was

@@ -7,13 +7,19 @@
 #![tactic(auto)]
 
 mod clearing;
+mod fields;
 mod format;
 mod kinds;
 mod reading;
+mod requesting;
+mod requests;
+
 mod table;
 mod units;
 
 pub use clearing::clear;
 pub use kinds::{Kind, Magic, Settling, SwapType, Trailer};
 pub use reading::read_trailer;
+pub use requesting::{request, set_ok};
+pub use requests::standing;
 pub use table::swap_type;

@@ -11,6 +11,26 @@ use crate::units::{is_unit_set, read_magic};
 use flash_model::{Flash, FlashError};
 use sector_map::{SectorMap, Side};
 
+/// Whether `image_ok` of a trailer is set.
+#[tactic(auto, using(crate::proofs::FieldUnits::image_ok_is))]
+pub(crate) fn is_image_ok_set<F: Flash>(
+    flash: &mut F,
+    map: &SectorMap,
+    image: u8,
+    side: Side,
+) -> Result<bool, FlashError>
+    requires laid_out { IsLaidOut map.now (F.chip flash.old) }
+    requires there { image < map.now.images }
+    ensures same { F.chip flash.new ≡ F.chip flash.old }
+    ensures ok { IfOk result
+        (λ yes. yes ≡ (fields_at map.now (F.chip flash.old) image side).image_ok) }
+    ensures erases { OnOk result ((F.chip flash.new).erases ≡ (F.chip flash.old).erases) }
+    ensures ends { Ends result (F.chip flash.old) (F.chip flash.new) }
+{
+    let yes = is_unit_set(flash, map, image, side, IMAGE_OK)?;
+    Ok(yes)
+}
+
 /// Reads the fields of the trailer behind a slot.
 ///
 /// The map is laid out on the flash, and has the image, which is told by its number from 0.

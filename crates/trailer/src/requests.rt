@@ -1,0 +1,72 @@
+//! The request that stands for an image.
+
+ghost use Rattle.std.specs.Prelude.{◌≡◌, ℕ, ◌<◌, OnOk, IfOk};
+ghost use Rattle.flash_model.specs.Chip.{Chip, Ends};
+ghost use Rattle.sector_map.specs.Map.{IsLaidOut, part_of};
+ghost use Rattle.sector_map.specs.Part.{Slot};
+ghost use Rattle.trailer.specs.Standing.{first_is_set, standing_kind, standing_of};
+
+use crate::kinds::{Kind, Magic, Trailer};
+use crate::reading::read_trailer;
+use flash_model::{Flash, FlashError, is_unit_erased};
+use sector_map::{SectorMap, Side};
+
+/// Whether the first unit of a slot is set.
+#[tactic(auto, using(crate::proofs::Places::slot_fits, crate::proofs::Places::slot_addressed))]
+pub(crate) fn is_front_set<F: Flash>(
+    flash: &mut F,
+    map: &SectorMap,
+    image: u8,
+    side: Side,
+) -> Result<bool, FlashError>
+    requires laid_out { IsLaidOut map.now (F.chip flash.old) }
+    requires there { image < map.now.images }
+    ensures same { F.chip flash.new ≡ F.chip flash.old }
+    ensures ok { IfOk result
+        (λ yes. yes ≡ first_is_set (part_of map.now (F.chip flash.old) (Slot image side))) }
+    ensures erases { OnOk result ((F.chip flash.new).erases ≡ (F.chip flash.old).erases) }
+    ensures ends { Ends result (F.chip flash.old) (F.chip flash.new) }
+{
+    let at = map.slot(image, side) * map.sector_size;
+    let erased = is_unit_erased(flash, at)?;
+    Ok(!erased)
+}
+
+/// The request that a secondary trailer tells of, where its slot is filled.
+fn standing_kind(trailer: &Trailer, is_filled: bool) -> Option<Kind>
+    ensures { result ≡ standing_kind trailer.now is_filled }
+{
+    if trailer.magic != Magic::Good || trailer.withdrawn || !is_filled {
+        return None;
+    }
+    if trailer.image_ok {
+        Some(Kind::Permanent)
+    } else {
+        Some(Kind::Test)
+    }
+}
+
+/// The request that stands for an image, if one stands: where the magic of its secondary trailer is good, its
+/// withdrawn unit is erased, and the first unit of its secondary slot is set, that is, not all 0xFF. It is
+/// permanent where `image_ok` is set.
+///
+/// The map is laid out on the flash, and has the image, which is told by its number from 0.
+///
+/// # Errors
+/// `Off` where the flash was off. Nothing changes in any case.
+pub fn standing<F: Flash>(
+    flash: &mut F,
+    map: &SectorMap,
+    image: u8,
+) -> Result<Option<Kind>, FlashError>
+    requires laid_out { IsLaidOut map.now (F.chip flash.old) }
+    requires there { image < map.now.images }
+    ensures same { F.chip flash.new ≡ F.chip flash.old }
+    ensures ok { IfOk result (λ kind. kind ≡ standing_of map.now (F.chip flash.old) image) }
+    ensures erases { OnOk result ((F.chip flash.new).erases ≡ (F.chip flash.old).erases) }
+    ensures ends { Ends result (F.chip flash.old) (F.chip flash.new) }
+{
+    let trailer = read_trailer(flash, map, image, Side::Secondary)?;
+    let is_filled = is_front_set(flash, map, image, Side::Secondary)?;
+    Ok(standing_kind(&trailer, is_filled))
+}
