@@ -3,3 +3,4 @@ pub mod Erased
 pub mod OwnFields
 pub mod FieldUnits
 pub mod Gone
+pub mod Withdrawal

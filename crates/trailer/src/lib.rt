@@ -16,6 +16,7 @@ mod requests;
 
 mod table;
 mod units;
+mod withdrawing;
 
 pub use clearing::clear;
 pub use kinds::{Kind, Magic, Settling, SwapType, Trailer};
@@ -23,3 +24,4 @@ pub use reading::read_trailer;
 pub use requesting::{request, set_ok};
 pub use requests::standing;
 pub use table::swap_type;
+pub use withdrawing::withdraw;
