@@ -10,11 +10,12 @@ use Rattle.flash_model.proofs.Ranges.{length_range, range_at}
 use Rattle.sector_map.specs.declared.layout.SectorMap.{SectorMap}
 use Rattle.sector_map.specs.declared.layout.Side.{Side}
 use Rattle.sector_map.specs.Part.{Part, TrailerOf}
-use Rattle.sector_map.specs.Map.{first_of, count_of, part_of, slot_sectors, IsMap, IsLaidOut}
+use Rattle.sector_map.specs.Map.{first_of, start_of, length_of, part_of, slot_sectors, IsMap, IsLaidOut}
 use Rattle.trailer.specs.declared.kinds.Magic.{Magic}
 use Rattle.trailer.specs.declared.kinds.Magic.TheVariants.{Good, Unset, Bad}
 use Rattle.trailer.specs.Fields.{are_erased, is_set, good_magic, magic_in, size_in, bytes_in, bytes_at, fields_in, fields_at, trailer_bytes, erased_fields, Fields, place_of}
-use Rattle.trailer.proofs.Places.{range_of_part, part_fits, one_sector, some_trailer}
+use Rattle.sector_map.proofs.PartBytes.{length_part, part_at, part_erased_at}
+use Rattle.trailer.proofs.Places.{trailer_size}
 
 both : (a b : Bool) → (a && b) ≡ true → (a ≡ true) × (b ≡ true)
 both true b e = (refl, e)
@@ -85,45 +86,34 @@ fields_erased n e bytes all long large =
     let unit : 4 < length (bytes_in e bytes 48 8) = omega (arith, length_range bytes (e - 48) (e - 48 + 8)) in
     rw (magic_erased (bytes_in e bytes 16 16) (here _ _), here (e - 32) (e - 32 + 8), here (e - 24) (e - 24 + 8), here (e - 56) (e - 56 + 8), size_erased (n * e) (bytes_in e bytes 48 8) unit (here _ _), here 0 (24 * n)) refl
 
--- erased bytes of the flash in the first sector of a part ..
-pub part_erased : (map : SectorMap) (chip : Chip) (part : Part) (at n a b : ℕ) → IsErased chip at n → 0 < count_of map part → b ≤ map.sector_size
-    → at ≤ first_of map part * map.sector_size + a → first_of map part * map.sector_size + b ≤ at + n
-    → are_erased (slice_range (part_of map chip part) a b) ≡ true
-part_erased map chip part at n a b erased some le low high =
-    let start = first_of map part * map.sector_size in
-    ap (λ (xs : List ℕ). are_erased xs) (range_of_part map chip part a b some le)
-    ∙ each_erased (slice_range chip.bytes (start + a) (start + b)) (λ k lt.
-    let in_range : k < start + b - (start + a) = omega (arith, length_range chip.bytes (start + a) (start + b)) in
-    range_at chip.bytes (start + a) (start + b) k in_range ∙ erased.each (start + a + k) (omega arith) (omega arith))
+-- erased bytes of the flash in a part ..
+pub range_erased : (map : SectorMap) (chip : Chip) (part : Part) (at n a b : ℕ) → IsErased chip at n → IsLaidOut map chip → b ≤ length_of map part
+    → at ≤ start_of map part + a → start_of map part + b ≤ at + n → are_erased (slice_range (part_of map chip part) a b) ≡ true
+range_erased map chip part at n a b erased laid le low high = each_erased (slice_range (part_of map chip part) a b) (λ k lt.
+    let in_range : k < b - a = omega (arith, length_range (part_of map chip part) a b) in
+    range_at (part_of map chip part) a b k in_range ∙ part_erased_at map chip part at n (a + k) erased (omega arith) (omega arith) (omega arith))
 
 -- .. and back
-pub part_is_erased : (map : SectorMap) (chip : Chip) (part : Part) (at n a b : ℕ) → are_erased (slice_range (part_of map chip part) a b) ≡ true
-    → IsLaidOut map chip → 0 < count_of map part → b ≤ map.sector_size → at ≡ first_of map part * map.sector_size + a → a + n ≡ b → IsErased chip at n
-part_is_erased map chip part at n a b all laid some le is width = record {
+pub range_is_erased : (map : SectorMap) (chip : Chip) (part : Part) (at n a b : ℕ) → are_erased (slice_range (part_of map chip part) a b) ≡ true
+    → IsLaidOut map chip → b ≤ length_of map part → at ≡ start_of map part + a → a + n ≡ b → IsErased chip at n
+range_is_erased map chip part at n a b all laid le is width = record {
   each = λ k low high.
-      let start = first_of map part * map.sector_size in
-      let there : are_erased (slice_range chip.bytes (start + a) (start + b)) ≡ true = ap (λ (xs : List ℕ). are_erased xs) (sym (range_of_part map chip part a b some le)) ∙ all in
-      let fits : start + map.sector_size ≤ length chip.bytes = omega (arith, part_fits map chip part laid some, laid.whole) in
-      let in_range : k - at < start + b - (start + a) = omega arith in
-      let place : start + a + (k - at) ≡ k = omega arith in
-      ap (λ j. slice_index chip.bytes j) (sym place) ∙ sym (range_at chip.bytes (start + a) (start + b) (k - at) in_range)
-      ∙ erased_each (slice_range chip.bytes (start + a) (start + b)) (k - at) there (omega (arith, length_range chip.bytes (start + a) (start + b)));
+      let in_range : k - at < b - a = omega arith in
+      let place : start_of map part + (a + (k - at)) ≡ k = omega arith in
+      ap (λ j. slice_index chip.bytes j) (sym place) ∙ sym (part_at map chip part (a + (k - at)) (omega arith)) ∙ sym (range_at (part_of map chip part) a b (k - at) in_range)
+      ∙ erased_each (slice_range (part_of map chip part) a b) (k - at) all (omega (arith, length_range (part_of map chip part) a b, length_part map chip part laid));
 }
 
 -- a test of bytes of the flash is a test of the part's
-pub tells_part : (map : SectorMap) (chip : Chip) (part : Part) (at n a b : ℕ) (yes : Bool) → (IsTrue yes ↔ IsErased chip at n) → IsLaidOut map chip → 0 < count_of map part → b ≤ map.sector_size
-    → at ≡ first_of map part * map.sector_size + a → a + n ≡ b → yes ≡ are_erased (slice_range (part_of map chip part) a b)
-tells_part map chip part at n a b true tells laid some le is width = sym (part_erased map chip part at n a b (tells.0 refl) some le (omega arith) (omega arith))
-tells_part map chip part at n a b false tells laid some le is width = sym (not_true (are_erased (slice_range (part_of map chip part) a b)) (λ all.
-    let wrong : false ≡ true = tells.1 (part_is_erased map chip part at n a b all laid some le is width) in cc))
+pub tells_range : (map : SectorMap) (chip : Chip) (part : Part) (at n a b : ℕ) (told : Bool) → (IsTrue told ↔ IsErased chip at n) → IsLaidOut map chip → b ≤ length_of map part
+    → at ≡ start_of map part + a → a + n ≡ b → told ≡ are_erased (slice_range (part_of map chip part) a b)
+tells_range map chip part at n a b true tells laid le is width = sym (range_erased map chip part at n a b (tells.0 refl) laid le (omega arith) (omega arith))
+tells_range map chip part at n a b false tells laid le is width = sym (not_true (are_erased (slice_range (part_of map chip part) a b)) (λ all.
+    let wrong : false ≡ true = tells.1 (range_is_erased map chip part at n a b all laid le is width) in cc))
 
 -- a trailer has the bytes of its sector
 pub trailer_length : (map : SectorMap) (chip : Chip) (image : ℕ) (side : Side) → IsLaidOut map chip → image < map.images → length (trailer_bytes map chip image side) ≡ map.sector_size
-unfolding part_of
-trailer_length map chip image side laid lt =
-    let sum : (first_of map (TrailerOf image side) + count_of map (TrailerOf image side)) * map.sector_size ≡ first_of map (TrailerOf image side) * map.sector_size + map.sector_size =
-        ap (λ c. (first_of map (TrailerOf image side) + c) * map.sector_size) (one_sector map image side laid.is_map lt) ∙ grind arith in
-    length_range chip.bytes _ _ ∙ omega (arith, sum, part_fits map chip (TrailerOf image side) laid (some_trailer map image side laid.is_map lt), laid.whole)
+trailer_length map chip image side laid lt = length_part map chip (TrailerOf image side) laid ∙ trailer_size map image side laid.is_map lt
 
 whole_range : (bytes : List ℕ) (e : ℕ) → length bytes ≡ e → slice_range bytes 0 e ≡ bytes
 whole_range bytes e long = ap (λ n. take n bytes) (let all : e - 0 ≡ e = omega arith in all) ∙ take_all e bytes (omega (arith, long))
@@ -132,24 +122,25 @@ whole_trailer : (map : SectorMap) (chip : Chip) (image : ℕ) (side : Side) → 
 whole_trailer map chip image side laid lt = whole_range (trailer_bytes map chip image side) map.sector_size (trailer_length map chip image side laid lt)
 
 -- a trailer is erased where its sector is
-pub trailer_erased : (map : SectorMap) (chip : Chip) (image at n : ℕ) (side : Side) → IsErased chip at n → IsLaidOut map chip → image < map.images
-    → at ≡ first_of map (TrailerOf image side) * map.sector_size → n ≡ map.sector_size → are_erased (trailer_bytes map chip image side) ≡ true
-trailer_erased map chip image at n side erased laid lt is width =
+pub trailer_erased : (map : SectorMap) (chip : Chip) (image sector n : ℕ) (side : Side) → IsErased chip (sector * n) n → IsLaidOut map chip → image < map.images
+    → sector ≡ first_of map (TrailerOf image side) → n ≡ map.sector_size → are_erased (trailer_bytes map chip image side) ≡ true
+trailer_erased map chip image sector n side erased laid lt is width =
+    let start : sector * n ≡ start_of map (TrailerOf image side) = ap (λ s. s * n) is ∙ ap (λ e. first_of map (TrailerOf image side) * e) width in
     ap (λ (xs : List ℕ). are_erased xs) (sym (whole_trailer map chip image side laid lt))
-    ∙ part_erased map chip (TrailerOf image side) at n 0 map.sector_size erased (some_trailer map image side laid.is_map lt) (omega arith) (omega arith) (omega arith)
+    ∙ range_erased map chip (TrailerOf image side) (sector * n) n 0 map.sector_size erased laid (omega (arith, trailer_size map image side laid.is_map lt)) (omega (arith, start)) (omega (arith, start))
 
 -- .. and a test of the sector is a test of the trailer
-pub tells_trailer : (map : SectorMap) (chip : Chip) (image at n : ℕ) (side : Side) (yes : Bool) → (IsTrue yes ↔ IsErased chip at n) → IsLaidOut map chip → image < map.images
-    → at ≡ first_of map (TrailerOf image side) * map.sector_size → n ≡ map.sector_size → yes ≡ are_erased (trailer_bytes map chip image side)
+pub tells_trailer : (map : SectorMap) (chip : Chip) (image at n : ℕ) (side : Side) (told : Bool) → (IsTrue told ↔ IsErased chip at n) → IsLaidOut map chip → image < map.images
+    → at ≡ start_of map (TrailerOf image side) → n ≡ map.sector_size → told ≡ are_erased (trailer_bytes map chip image side)
 tells_trailer map chip image at n side told tells laid lt is width =
-    tells_part map chip (TrailerOf image side) at n 0 map.sector_size told tells laid (some_trailer map image side laid.is_map lt) (omega arith) (omega arith) (omega arith)
+    tells_range map chip (TrailerOf image side) at n 0 map.sector_size told tells laid (omega (arith, trailer_size map image side laid.is_map lt)) (omega arith) (omega arith)
     ∙ ap (λ (xs : List ℕ). are_erased xs) (whole_trailer map chip image side laid lt)
 
 -- erased units of a trailer are erased on the flash
 pub units_erased : (map : SectorMap) (chip : Chip) (image at from_end n : ℕ) (side : Side) → are_erased (bytes_at map chip image side from_end n) ≡ true → IsLaidOut map chip → image < map.images
     → at ≡ place_of map image side from_end → n ≤ from_end → from_end ≤ map.sector_size → IsErased chip at n
 units_erased map chip image at from_end n side all laid lt is room le =
-    part_is_erased map chip (TrailerOf image side) at n (map.sector_size - from_end) (map.sector_size - from_end + n) all laid (some_trailer map image side laid.is_map lt) (omega arith) (omega arith) (omega arith)
+    range_is_erased map chip (TrailerOf image side) at n (map.sector_size - from_end) (map.sector_size - from_end + n) all laid (omega (arith, trailer_size map image side laid.is_map lt)) (omega arith) (omega arith)
 
 -- an erased trailer has the fields of one
 pub erased_fields_at : (map : SectorMap) (chip : Chip) (image : ℕ) (side : Side) → are_erased (trailer_bytes map chip image side) ≡ true → IsLaidOut map chip → image < map.images

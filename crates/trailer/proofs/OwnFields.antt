@@ -4,10 +4,10 @@ use Rattle.flash_model.specs.Chip.{Chip, SameOutside}
 use Rattle.sector_map.specs.declared.layout.SectorMap.{SectorMap}
 use Rattle.sector_map.specs.declared.layout.Side.{Side}
 use Rattle.sector_map.specs.Part.{Part, TrailerOf}
-use Rattle.sector_map.specs.Map.{first_of, slot_sectors, IsMap, IsLaidOut, Keeps}
+use Rattle.sector_map.specs.Map.{start_of, slot_sectors, IsMap, IsLaidOut, Keeps}
 use Rattle.trailer.specs.declared.kinds.Magic.{Magic}
 use Rattle.trailer.specs.Fields.{are_erased, is_set, magic_in, size_in, bytes_in, fields_in, fields_at, trailer_bytes, Fields, place_of}
-use Rattle.trailer.proofs.Places.{range_besides, some_trailer}
+use Rattle.trailer.proofs.Places.{range_besides, trailer_size}
 
 fields : Magic → Bool → Bool → Bool → Option ℕ → Bool → Fields
 fields m c o w s f = record { magic = m; copy_done = c; image_ok = o; withdrawn = w; size = s; is_fresh = f }
@@ -28,7 +28,7 @@ pub unit_kept : (map : SectorMap) (old new : Chip) (image at own size from_end n
     → at ≡ place_of map image side own → size ≤ own → own ≤ 56 → n ≤ from_end → from_end ≤ 56 → (from_end + size ≤ own) ⊎ (own + n ≤ from_end)
     → bytes_in map.sector_size (trailer_bytes map new image side) from_end n ≡ bytes_in map.sector_size (trailer_bytes map old image side) from_end n
 unit_kept map old new image at own size from_end n side same fits lt is small own_le n_le le apart =
-    range_besides map old new (TrailerOf image side) at size _ _ same (some_trailer map image side fits lt) (omega (arith, fits.trailers image))
+    range_besides map old new (TrailerOf image side) at size _ _ same (omega (arith, trailer_size map image side fits lt, fits.trailers image))
     (⊎_elim (λ (l : from_end + size ≤ own). inr (omega (arith, fits.trailers image))) (λ (r : own + n ≤ from_end). inl (omega (arith, fits.trailers image))) apart)
 
 -- the status units lie before all others
@@ -36,7 +36,7 @@ pub status_kept : (map : SectorMap) (old new : Chip) (image at own size : ℕ) (
     → at ≡ place_of map image side own → own ≤ 56
     → slice_range (trailer_bytes map new image side) 0 (24 * slot_sectors map image) ≡ slice_range (trailer_bytes map old image side) 0 (24 * slot_sectors map image)
 status_kept map old new image at own size side same fits lt is own_le =
-    range_besides map old new (TrailerOf image side) at size 0 _ same (some_trailer map image side fits lt) (omega (arith, fits.trailers image)) (inl (omega (arith, fits.trailers image)))
+    range_besides map old new (TrailerOf image side) at size 0 _ same (omega (arith, trailer_size map image side fits lt, fits.trailers image)) (inl (omega (arith, fits.trailers image)))
 
 module _ (map : SectorMap) (old new : Chip) (image at : ℕ) (side : Side) (fits : IsMap map) (lt : image < map.images) where
   pub own_withdrawn : SameOutside at 8 old new → at ≡ place_of map image side 56

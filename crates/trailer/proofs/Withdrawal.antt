@@ -5,7 +5,7 @@ use Rattle.sector_map.specs.declared.layout.SectorMap.{SectorMap}
 use Rattle.sector_map.specs.declared.layout.Side.{Side}
 use Rattle.sector_map.specs.declared.layout.Side.TheVariants.{Secondary}
 use Rattle.sector_map.specs.Part.{Part, Slot, TrailerOf, only, incoming_of}
-use Rattle.sector_map.specs.Map.{first_of, Keeps, IsLaidOut, part_of}
+use Rattle.sector_map.specs.Map.{first_of, start_of, Keeps, IsLaidOut, part_of}
 use Rattle.sector_map.proofs.Parts.{keeps_trans, keeps_wider, laid_out_kept}
 use Rattle.sector_map.proofs.Touched.{slot_of_incoming, trailer_of_incoming}
 use Rattle.trailer.specs.declared.kinds.Magic.{Magic}
@@ -13,8 +13,8 @@ use Rattle.trailer.specs.declared.kinds.Magic.TheVariants.{Good, Unset, Bad}
 use Rattle.trailer.specs.declared.kinds.Kind.{Kind}
 use Rattle.trailer.specs.Fields.{Fields, are_erased, fields_at, trailer_of, trailer_bytes, erased_fields}
 use Rattle.trailer.specs.Standing.{is_good, first_is_set, standing_kind, standing_of, incoming_slot}
-use Rattle.trailer.proofs.Places.{some_slot}
-use Rattle.trailer.proofs.Erased.{part_erased, erased_fields_at}
+use Rattle.trailer.proofs.Places.{some_slot, sector_of_part}
+use Rattle.trailer.proofs.Erased.{range_erased, erased_fields_at}
 use Rattle.trailer.proofs.OwnFields.{fields_kept}
 use Rattle.trailer.proofs.FieldUnits.{either_withdrawn}
 use Rattle.trailer.proofs.Gone.{stands_with, gone_withdrawn, gone_without_front, none_whatever_front, none_without_front}
@@ -23,8 +23,8 @@ use Rattle.trailer.proofs.Gone.{stands_with, gone_withdrawn, gone_without_front,
 pub front_erased : (map : SectorMap) (chip : Chip) (image sector e : ℕ) (side : Side) → IsErased chip (sector * e) e → IsLaidOut map chip → image < map.images
     → sector ≡ first_of map (Slot image side) → e ≡ map.sector_size → first_is_set (part_of map chip (Slot image side)) ≡ false
 front_erased map chip image sector e side erased laid lt is e_is =
-    let start : sector * e ≡ first_of map (Slot image side) * map.sector_size = ap (λ s. s * e) is ∙ ap (λ x. first_of map (Slot image side) * x) e_is in
-    ap not (part_erased map chip (Slot image side) (sector * e) e 0 8 erased (some_slot map image side laid.is_map lt) (omega (arith, laid.is_map.trailers 0)) (omega (arith, start)) (omega (arith, start, laid.is_map.trailers 0)))
+    let start : sector * e ≡ start_of map (Slot image side) = ap (λ s. s * e) is ∙ ap (λ x. first_of map (Slot image side) * x) e_is in
+    ap not (range_erased map chip (Slot image side) (sector * e) e 0 8 erased laid (omega (arith, sector_of_part map (Slot image side) (some_slot map image side laid.is_map lt), laid.is_map.trailers 0)) (omega (arith, start)) (omega (arith, start, laid.is_map.trailers 0)))
 
 -- the withdrawn unit was written, or not
 pub taken_back : (map : SectorMap) (old new : Chip) (image : ℕ) (kind : Kind) → standing_of map old image ≡ Some kind

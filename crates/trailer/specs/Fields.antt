@@ -9,7 +9,7 @@ use Rattle.flash_model.specs.Chip.{Chip}
 use Rattle.sector_map.specs.declared.layout.SectorMap.{SectorMap}
 use Rattle.sector_map.specs.declared.layout.Side.{Side}
 use Rattle.sector_map.specs.Part.{TrailerOf}
-use Rattle.sector_map.specs.Map.{first_of, part_of, slot_sectors}
+use Rattle.sector_map.specs.Map.{part_of, slot_sectors, start_of}
 use Rattle.trailer.specs.declared.kinds.Magic.{Magic}
 use Rattle.trailer.specs.declared.kinds.Magic.TheVariants.{Good, Unset, Bad}
 use Rattle.trailer.specs.declared.kinds.Trailer.{Trailer}
@@ -80,8 +80,7 @@ bytes_at map chip image side from_end n =
 
 -- Where the bytes begin that so many bytes before the end of a trailer begin.
 abbrev pub place_of : SectorMap → ℕ → Side → ℕ → ℕ
-place_of map image side from_end =
-    first_of map (TrailerOf image side) * map.sector_size + (map.sector_size - from_end)
+place_of map image side from_end = start_of map (TrailerOf image side) + (map.sector_size - from_end)
 
 -- The fields of the trailer of an image's side.
 unfoldable pub fields_at : SectorMap → Chip → ℕ → Side → Fields

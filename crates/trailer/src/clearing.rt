@@ -10,7 +10,7 @@ use flash_model::{Flash, FlashError, is_erased};
 use sector_map::{SectorMap, Side};
 
 /// Whether a trailer is all erased.
-#[tactic(auto, using(crate::proofs::Places::trailer_fits, crate::proofs::Places::trailer_addressed))]
+#[tactic(auto, using(crate::proofs::Places::trailer_fits))]
 fn is_trailer_erased<F: Flash>(
     flash: &mut F,
     map: &SectorMap,
@@ -25,8 +25,7 @@ fn is_trailer_erased<F: Flash>(
     ensures erases { OnOk result ((F.chip flash.new).erases ≡ (F.chip flash.old).erases) }
     ensures ends { Ends result (F.chip flash.old) (F.chip flash.new) }
 {
-    let at = map.trailer(image, side) * map.sector_size;
-    let erased = is_erased(flash, at, map.sector_size)?;
+    let erased = is_erased(flash, map.trailer_start(image, side), map.sector_size)?;
     Ok(erased)
 }
 

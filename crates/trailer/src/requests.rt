@@ -12,7 +12,7 @@ use flash_model::{Flash, FlashError, is_unit_erased};
 use sector_map::{SectorMap, Side};
 
 /// Whether the first unit of a slot is set.
-#[tactic(auto, using(crate::proofs::Places::slot_fits, crate::proofs::Places::slot_addressed))]
+#[tactic(auto, using(crate::proofs::Places::slot_fits))]
 pub(crate) fn is_front_set<F: Flash>(
     flash: &mut F,
     map: &SectorMap,
@@ -27,8 +27,7 @@ pub(crate) fn is_front_set<F: Flash>(
     ensures erases { OnOk result ((F.chip flash.new).erases ≡ (F.chip flash.old).erases) }
     ensures ends { Ends result (F.chip flash.old) (F.chip flash.new) }
 {
-    let at = map.slot(image, side) * map.sector_size;
-    let erased = is_unit_erased(flash, at)?;
+    let erased = is_unit_erased(flash, map.slot_start(image, side))?;
     Ok(!erased)
 }
 

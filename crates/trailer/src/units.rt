@@ -2,7 +2,7 @@
 
 ghost use Rattle.std.specs.Prelude.{◌≡◌, ℕ, ◌+◌, ◌-◌, ◌*◌, ◌%◌, ◌<◌, ◌≤◌, true, length, OnOk, IfOk};
 ghost use Rattle.flash_model.specs.Chip.{Chip, Ends, IsErased, SameOutside};
-ghost use Rattle.sector_map.specs.Map.{IsMap, IsLaidOut, Keeps};
+ghost use Rattle.sector_map.specs.Map.{IsLaidOut, Keeps};
 ghost use Rattle.sector_map.specs.Part.{TrailerOf, only};
 ghost use Rattle.trailer.specs.Fields.{are_erased, bytes_at, is_set, magic_in, place_of};
 
@@ -14,12 +14,11 @@ use sector_map::{SectorMap, Side};
 /// The address of what begins so many bytes before the end of a trailer.
 #[tactic(auto, using(crate::proofs::Places::trailer_addressed))]
 pub(crate) fn place_of(map: &SectorMap, image: u8, side: Side, from_end: u32) -> u32
-    requires is_map { IsMap map.now }
     requires there { image < map.now.images }
     requires within { from_end ≤ map.now.sector_size }
     ensures { result ≡ place_of map.now image side from_end }
 {
-    map.trailer(image, side) * map.sector_size + (map.sector_size - from_end)
+    map.trailer_start(image, side) + (map.sector_size - from_end)
 }
 
 /// Reads the unit that begins so many bytes before the end of a trailer.
