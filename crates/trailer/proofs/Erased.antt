@@ -142,6 +142,12 @@ pub units_erased : (map : SectorMap) (chip : Chip) (image at from_end n : ℕ) (
 units_erased map chip image at from_end n side all laid lt is room le =
     range_is_erased map chip (TrailerOf image side) at n (map.sector_size - from_end) (map.sector_size - from_end + n) all laid (omega (arith, trailer_size map image side laid.is_map lt)) (omega arith) (omega arith)
 
+-- .. and a test of them is a test of the trailer's
+pub tells_units : (map : SectorMap) (chip : Chip) (image at from_end n : ℕ) (side : Side) (told : Bool) → (IsTrue told ↔ IsErased chip at n) → IsLaidOut map chip → image < map.images
+    → at ≡ place_of map image side from_end → n ≤ from_end → from_end ≤ map.sector_size → told ≡ are_erased (bytes_at map chip image side from_end n)
+tells_units map chip image at from_end n side told tells laid lt is room le =
+    tells_range map chip (TrailerOf image side) at n (map.sector_size - from_end) (map.sector_size - from_end + n) told tells laid (omega (arith, trailer_size map image side laid.is_map lt)) (omega arith) (omega arith)
+
 -- an erased trailer has the fields of one
 pub erased_fields_at : (map : SectorMap) (chip : Chip) (image : ℕ) (side : Side) → are_erased (trailer_bytes map chip image side) ≡ true → IsLaidOut map chip → image < map.images
     → fields_at map chip image side ≡ erased_fields

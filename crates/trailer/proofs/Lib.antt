@@ -4,3 +4,4 @@ pub mod OwnFields
 pub mod FieldUnits
 pub mod Gone
 pub mod Withdrawal
+pub mod Marks

@@ -1,4 +1,5 @@
 pub mod Fields
 pub mod Standing
 pub mod SwapTable
+pub mod Settled
 pub mod Status

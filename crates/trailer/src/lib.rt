@@ -10,9 +10,11 @@ mod clearing;
 mod fields;
 mod format;
 mod kinds;
+mod marking;
 mod reading;
 mod requesting;
 mod requests;
+mod settling;
 
 mod table;
 mod units;
@@ -23,5 +25,6 @@ pub use kinds::{Kind, Magic, Settling, SwapType, Trailer};
 pub use reading::read_trailer;
 pub use requesting::{request, set_ok};
 pub use requests::standing;
+pub use settling::settle;
 pub use table::swap_type;
 pub use withdrawing::withdraw;

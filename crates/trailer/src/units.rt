@@ -8,7 +8,7 @@ ghost use Rattle.trailer.specs.Fields.{are_erased, bytes_at, is_set, magic_in, p
 
 use crate::format::{MAGIC, MAGIC_PLACE};
 use crate::kinds::Magic;
-use flash_model::{Flash, FlashError};
+use flash_model::{Flash, FlashError, is_erased};
 use sector_map::{SectorMap, Side};
 
 /// The address of what begins so many bytes before the end of a trailer.
@@ -46,7 +46,7 @@ pub(crate) fn read_unit<F: Flash>(
 }
 
 /// Whether bytes are erased.
-fn are_erased(bytes: &[u8]) -> bool
+pub(crate) fn are_erased(bytes: &[u8]) -> bool
     ensures { result ≡ are_erased bytes.now }
 {
     bytes.iter().all(|byte| *byte == 0xff)
@@ -105,6 +105,30 @@ pub(crate) fn read_magic<F: Flash>(
     let mut magic = [0u8; 16];
     flash.read(place_of(map, image, side, MAGIC_PLACE), &mut magic)?;
     Ok(magic_in(&magic))
+}
+
+/// Whether units that begin so many bytes before the end of a trailer are erased.
+#[tactic(auto, using(crate::proofs::Places::place_fits, crate::proofs::Erased::tells_units))]
+pub(crate) fn are_units_erased<F: Flash>(
+    flash: &mut F,
+    map: &SectorMap,
+    image: u8,
+    side: Side,
+    from_end: u32,
+    length: u32,
+) -> Result<bool, FlashError>
+    requires laid_out { IsLaidOut map.now (F.chip flash.old) }
+    requires there { image < map.now.images }
+    requires room { length ≤ from_end }
+    requires within { from_end ≤ 56 }
+    ensures same { F.chip flash.new ≡ F.chip flash.old }
+    ensures ok { IfOk result
+        (λ erased. erased ≡ are_erased (bytes_at map.now (F.chip flash.old) image side from_end length)) }
+    ensures erases { OnOk result ((F.chip flash.new).erases ≡ (F.chip flash.old).erases) }
+    ensures ends { Ends result (F.chip flash.old) (F.chip flash.new) }
+{
+    let erased = is_erased(flash, place_of(map, image, side, from_end), length)?;
+    Ok(erased)
 }
 
 /// Writes whole units, so many bytes before the end of a trailer, where the trailer is erased.

@@ -32,7 +32,10 @@ fn take_back<F: Flash>(flash: &mut F, map: &SectorMap, image: u8) -> Result<(), 
 {
     match standing(flash, map, image)? {
         None => Ok(()),
-        Some(_) => set_withdrawn(flash, map, image, Side::Secondary),
+        Some(_) => {
+            set_withdrawn(flash, map, image, Side::Secondary)?;
+            Ok(())
+        }
     }
 }
 
@@ -58,7 +61,8 @@ fn erase_front<F: Flash>(
     if !is_front_set(flash, map, image, side)? {
         return Ok(());
     }
-    flash.erase(map.slot(image, side))
+    flash.erase(map.slot(image, side))?;
+    Ok(())
 }
 
 /// Takes back the request of an image, if one stands: sets the withdrawn unit, then erases the first sector of
@@ -93,5 +97,6 @@ pub fn withdraw<F: Flash>(flash: &mut F, map: &SectorMap, image: u8) -> Result<(
 {
     take_back(flash, map, image)?;
     erase_front(flash, map, image, Side::Secondary)?;
-    clear(flash, map, image, Side::Secondary)
+    clear(flash, map, image, Side::Secondary)?;
+    Ok(())
 }

@@ -1,0 +1,52 @@
+-- What settling makes of the trailers of an image.
+use Rattle.std.specs.Prelude.{◌≡◌, ◌⊎◌, ℕ, Bool, true, false, List}
+use Rattle.flash_model.specs.Chip.{Chip}
+use Rattle.sector_map.specs.declared.layout.SectorMap.{SectorMap}
+use Rattle.sector_map.specs.declared.layout.Side.{Side}
+use Rattle.trailer.specs.declared.kinds.Magic.{Magic}
+use Rattle.trailer.specs.declared.kinds.Magic.TheVariants.{Good, Unset, Bad}
+use Rattle.trailer.specs.declared.kinds.Settling.{Settling}
+use Rattle.trailer.specs.declared.kinds.Settling.TheVariants.{Test, Permanent, Back}
+use Rattle.trailer.specs.Fields.{Fields, are_erased, flag, good_magic, bytes_at, erased_fields}
+
+-- Whether the image is settled as confirmed: not so where it is tried.
+abbrev pub is_confirmed : Settling → Bool
+is_confirmed Test = false
+is_confirmed Permanent = true
+is_confirmed Back = true
+
+-- The trailers of an image that is settled: the primary one tells of a swap that is done, and of an image that is
+-- confirmed or not; the secondary one is erased.
+pub record IsSettled (confirmed : Bool) (primary secondary : Fields) : Type 0 where
+  pub magic : primary.magic ≡ Good
+  pub copy_done : primary.copy_done ≡ true
+  pub image_ok : primary.image_ok ≡ confirmed
+  pub erased : secondary ≡ erased_fields
+
+-- Units are erased or hold these bytes: no write of them was torn.
+abbrev pub IsFree : List ℕ → List ℕ → Type 0
+IsFree units bytes = (are_erased units ≡ true) ⊎ (units ≡ bytes)
+
+-- image_ok isn't torn; of an image that isn't confirmed it is erased.
+pub record IsOkFree (confirmed : Bool) (unit : List ℕ) : Type 0 where
+  pub kept : confirmed ≡ true → IsFree unit flag
+  pub tried : confirmed ≡ false → are_erased unit ≡ true
+
+-- A magic isn't torn: it is good or unset.
+abbrev pub is_whole_magic : Magic → Bool
+is_whole_magic Good = true
+is_whole_magic Unset = true
+is_whole_magic Bad = false
+
+-- None of copy_done, image_ok and the magic is torn.
+pub record IsWhole (map : SectorMap) (chip : Chip) (image : ℕ) (side : Side) (confirmed : Bool) : Type 0 where
+  pub copy_done : IsFree (bytes_at map chip image side 32 8) flag
+  pub image_ok : IsOkFree confirmed (bytes_at map chip image side 24 8)
+  pub magic : IsFree (bytes_at map chip image side 16 16) good_magic
+
+-- copy_done, image_ok and the magic hold their values, byte for byte.
+pub record HasMarks (map : SectorMap) (chip : Chip) (image : ℕ) (side : Side) (confirmed : Bool) : Type 0 where
+  pub copy_done : bytes_at map chip image side 32 8 ≡ flag
+  pub image_ok : confirmed ≡ true → bytes_at map chip image side 24 8 ≡ flag
+  pub tried : confirmed ≡ false → are_erased (bytes_at map chip image side 24 8) ≡ true
+  pub magic : bytes_at map chip image side 16 16 ≡ good_magic

@@ -1,0 +1,195 @@
+//! Settling the trailers of an image after a swap.
+
+ghost use Rattle.std.specs.Prelude.{◌≡◌, ℕ, ◌+◌, ◌<◌, ◌≤◌, ◌↔◌, ◌||◌, IsTrue, OnOk, IfOk};
+ghost use Rattle.std.specs.Str.{bytes_eq};
+ghost use Rattle.flash_model.specs.Chip.{Chip, Ends};
+ghost use Rattle.sector_map.specs.Map.{IsLaidOut, Keeps};
+ghost use Rattle.sector_map.specs.Part.{TrailerOf, only, trailers_of};
+ghost use Rattle.sector_map.specs.declared.layout.Side.TheVariants.{Primary, Secondary};
+ghost use Rattle.trailer.specs.Fields.{are_erased, bytes_at, fields_at, flag, good_magic};
+ghost use Rattle.trailer.specs.Settled.{HasMarks, IsFree, IsOkFree, IsSettled, IsWhole, is_confirmed, is_whole_magic};
+
+use crate::clearing::erase_trailer;
+use crate::format::{COPY_DONE, IMAGE_OK};
+use crate::kinds::{Magic, Settling};
+use crate::marking::mark_trailer;
+use crate::units::{are_erased, is_unit_set, read_magic, read_unit};
+use flash_model::{FLAG, Flash, FlashError};
+use sector_map::{SectorMap, Side};
+
+/// Whether an image is settled as confirmed.
+fn is_confirmed(settling: Settling) -> bool
+    ensures { result ≡ is_confirmed settling }
+{
+    match settling {
+        Settling::Test => false,
+        Settling::Permanent | Settling::Back => true,
+    }
+}
+
+/// Whether a unit is erased or set as a flag.
+fn is_flag_or_erased(unit: &[u8; 8]) -> bool
+    ensures { result ≡ (bytes_eq unit.now flag || are_erased unit.now) }
+{
+    *unit == FLAG || are_erased(unit)
+}
+
+/// Whether a magic is good or unset.
+fn is_whole_magic(magic: Magic) -> bool
+    ensures { result ≡ is_whole_magic magic }
+{
+    match magic {
+        Magic::Good | Magic::Unset => true,
+        Magic::Bad => false,
+    }
+}
+
+/// Whether a flag of a trailer is erased or holds its value, so that no write of it was torn.
+#[tactic(auto, using(crate::proofs::Marks::tells_flag))]
+fn is_flag_free<F: Flash>(
+    flash: &mut F,
+    map: &SectorMap,
+    image: u8,
+    side: Side,
+    from_end: u32,
+) -> Result<bool, FlashError>
+    requires laid_out { IsLaidOut map.now (F.chip flash.old) }
+    requires there { image < map.now.images }
+    requires unit { 8 ≤ from_end }
+    requires within { from_end ≤ 56 }
+    ensures same { F.chip flash.new ≡ F.chip flash.old }
+    ensures ok { IfOk result (λ free. IsTrue free
+        ↔ IsFree (bytes_at map.now (F.chip flash.old) image side from_end 8) flag) }
+    ensures erases { OnOk result ((F.chip flash.new).erases ≡ (F.chip flash.old).erases) }
+    ensures ends { Ends result (F.chip flash.old) (F.chip flash.new) }
+{
+    let unit = read_unit(flash, map, image, side, from_end)?;
+    Ok(is_flag_or_erased(&unit))
+}
+
+/// Whether the magic of a trailer is erased or good.
+#[tactic(auto, using(crate::proofs::Marks::tells_magic))]
+fn is_magic_free<F: Flash>(
+    flash: &mut F,
+    map: &SectorMap,
+    image: u8,
+    side: Side,
+) -> Result<bool, FlashError>
+    requires laid_out { IsLaidOut map.now (F.chip flash.old) }
+    requires there { image < map.now.images }
+    ensures same { F.chip flash.new ≡ F.chip flash.old }
+    ensures ok { IfOk result (λ free. IsTrue free
+        ↔ IsFree (bytes_at map.now (F.chip flash.old) image side 16 16) good_magic) }
+    ensures erases { OnOk result ((F.chip flash.new).erases ≡ (F.chip flash.old).erases) }
+    ensures ends { Ends result (F.chip flash.old) (F.chip flash.new) }
+{
+    let magic = read_magic(flash, map, image, side)?;
+    Ok(is_whole_magic(magic))
+}
+
+/// Whether `image_ok` of a trailer isn't torn; of an image that is to be tried it is erased.
+fn is_ok_free<F: Flash>(
+    flash: &mut F,
+    map: &SectorMap,
+    image: u8,
+    side: Side,
+    confirmed: bool,
+) -> Result<bool, FlashError>
+    requires laid_out { IsLaidOut map.now (F.chip flash.old) }
+    requires there { image < map.now.images }
+    ensures same { F.chip flash.new ≡ F.chip flash.old }
+    ensures ok { IfOk result (λ free. IsTrue free
+        ↔ IsOkFree confirmed (bytes_at map.now (F.chip flash.old) image side 24 8)) }
+    ensures erases { OnOk result ((F.chip flash.new).erases ≡ (F.chip flash.old).erases) }
+    ensures ends { Ends result (F.chip flash.old) (F.chip flash.new) }
+{
+    if confirmed {
+        let free = is_flag_free(flash, map, image, side, IMAGE_OK)?;
+        return Ok(free);
+    }
+    let set = is_unit_set(flash, map, image, side, IMAGE_OK)?;
+    Ok(!set)
+}
+
+/// Whether none of the units that settling writes is torn.
+fn is_trailer_whole<F: Flash>(
+    flash: &mut F,
+    map: &SectorMap,
+    image: u8,
+    side: Side,
+    confirmed: bool,
+) -> Result<bool, FlashError>
+    requires laid_out { IsLaidOut map.now (F.chip flash.old) }
+    requires there { image < map.now.images }
+    ensures same { F.chip flash.new ≡ F.chip flash.old }
+    ensures ok { IfOk result
+        (λ whole. IsTrue whole ↔ IsWhole map.now (F.chip flash.old) image side confirmed) }
+    ensures erases { OnOk result ((F.chip flash.new).erases ≡ (F.chip flash.old).erases) }
+    ensures ends { Ends result (F.chip flash.old) (F.chip flash.new) }
+{
+    let copy_done = is_flag_free(flash, map, image, side, COPY_DONE)?;
+    let image_ok = is_ok_free(flash, map, image, side, confirmed)?;
+    let magic = is_magic_free(flash, map, image, side)?;
+    Ok(copy_done && image_ok && magic)
+}
+
+/// Erases a primary trailer where the units that settling writes can't be written: after a swap back always,
+/// else where one of them is torn.
+fn make_whole<F: Flash>(
+    flash: &mut F,
+    map: &SectorMap,
+    image: u8,
+    side: Side,
+    settling: Settling,
+) -> Result<(), FlashError>
+    requires laid_out { IsLaidOut map.now (F.chip flash.old) }
+    requires there { image < map.now.images }
+    ensures outside { Keeps map.now (only (TrailerOf image side))
+        (F.chip flash.old) (F.chip flash.new) }
+    ensures ok { OnOk result (IsWhole map.now (F.chip flash.new) image side (is_confirmed settling)) }
+    ensures erases { OnOk result ((F.chip flash.new).erases ≤ (F.chip flash.old).erases + 1) }
+    ensures ends { Ends result (F.chip flash.old) (F.chip flash.new) }
+{
+    if settling != Settling::Back
+        && is_trailer_whole(flash, map, image, side, settling == Settling::Permanent)?
+    {
+        return Ok(());
+    }
+    erase_trailer(flash, map, image, side)?;
+    Ok(())
+}
+
+/// Settles the trailers of an image whose slots were swapped. The secondary trailer is erased. The primary one
+/// gets `copy_done`, `image_ok` unless the image is to be tried, and the magic; it is erased first where one of
+/// these units is torn, that is, set and not to its value, and after a swap back always. Units that hold their
+/// values aren't written again.
+///
+/// It can be repeated, whatever the trailers hold. The map is laid out on the flash, and has the image, which is
+/// told by its number from 0.
+///
+/// # Errors
+/// `Cut` where power failed: the two trailers hold any bytes, and all else is as it was. `Off` where the flash
+/// was off before: nothing changed.
+pub fn settle<F: Flash>(
+    flash: &mut F,
+    map: &SectorMap,
+    image: u8,
+    settling: Settling,
+) -> Result<(), FlashError>
+    requires laid_out { IsLaidOut map.now (F.chip flash.old) }
+    requires there { image < map.now.images }
+    ensures outside { Keeps map.now (trailers_of image) (F.chip flash.old) (F.chip flash.new) }
+    ensures ok { OnOk result (IsSettled (is_confirmed settling)
+        (fields_at map.now (F.chip flash.new) image Primary)
+        (fields_at map.now (F.chip flash.new) image Secondary)) }
+    // No unit is left torn.
+    ensures marks { OnOk result
+        (HasMarks map.now (F.chip flash.new) image Primary (is_confirmed settling)) }
+    ensures erases { OnOk result ((F.chip flash.new).erases ≤ (F.chip flash.old).erases + 2) }
+    ensures ends { Ends result (F.chip flash.old) (F.chip flash.new) }
+{
+    erase_trailer(flash, map, image, Side::Secondary)?;
+    make_whole(flash, map, image, Side::Primary, settling)?;
+    mark_trailer(flash, map, image, Side::Primary, is_confirmed(settling))?;
+    Ok(())
+}
