@@ -5,3 +5,5 @@ pub mod FieldUnits
 pub mod Gone
 pub mod Withdrawal
 pub mod Marks
+pub mod SizeUnits
+pub mod StatusUnits

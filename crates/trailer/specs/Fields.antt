@@ -1,10 +1,10 @@
 -- What a trailer says, by the bytes of its sector. The fields, but withdrawn, and the bytes of the magic are
 -- MCUboot's (its design document, "Image Trailer"); where they stand is bootswap's own.
 use Rattle.std.specs.Prelude.{ℕ, ◌+◌, ◌-◌, ◌*◌, ◌==◌, ◌&&◌, Bool, true, false, not, nat_lt, nat_le}
-use Rattle.std.specs.Prelude.{List, [], ◌∷◌, take, drop, slice_range, Option, Some, None, if◌then◌else◌}
+use Rattle.std.specs.Prelude.{List, [], ◌∷◌, ◌++◌, take, drop, slice_range, Option, Some, None, if◌then◌else◌}
 use Rattle.std.specs.List.{list_all}
 use Rattle.std.specs.Str.{bytes_eq}
-use Rattle.byteorder.specs.Endian.{little_number}
+use Rattle.byteorder.specs.Endian.{little_bytes, little_number}
 use Rattle.flash_model.specs.Chip.{Chip}
 use Rattle.sector_map.specs.declared.layout.SectorMap.{SectorMap}
 use Rattle.sector_map.specs.declared.layout.Side.{Side}
@@ -40,6 +40,10 @@ abbrev pub size_in : ℕ → List ℕ → Option ℕ
 size_in limit unit =
     if nat_lt 0 (little_number 4 unit) && (nat_le (little_number 4 unit) limit && bytes_eq (drop 4 unit) (0 ∷ 0 ∷ 0 ∷ 0 ∷ []))
     then Some (little_number 4 unit) else None
+
+-- The unit of a size: the number, the least byte first, and four zero bytes.
+abbrev pub size_bytes : ℕ → List ℕ
+size_bytes size = little_bytes 4 size ++ (0 ∷ 0 ∷ 0 ∷ 0 ∷ [])
 
 -- The fields of a trailer.
 pub record Fields : Type 0 where

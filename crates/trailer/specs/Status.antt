@@ -1,10 +1,14 @@
 -- How far a swap has come, by the status units of a trailer.
-use Rattle.std.specs.Prelude.{ℕ, zero, suc, ◌+◌, ◌*◌, List, take, drop, if◌then◌else◌}
+use Rattle.std.specs.Prelude.{ℕ, zero, suc, ◌+◌, ◌*◌, List, slice_range, take, drop, if◌then◌else◌}
 use Rattle.flash_model.specs.Chip.{Chip}
 use Rattle.sector_map.specs.declared.layout.SectorMap.{SectorMap}
 use Rattle.sector_map.specs.declared.layout.Side.{Side}
 use Rattle.sector_map.specs.Map.{slot_sectors}
 use Rattle.trailer.specs.Fields.{are_erased, trailer_bytes}
+
+-- A status unit of a trailer. They are counted from 0.
+abbrev pub status_unit : List ℕ → ℕ → List ℕ
+status_unit bytes status = slice_range bytes (8 * status) (8 * status + 8)
 
 -- How many of the first n units of some bytes are set, up to the first erased one.
 unfoldable pub set_units : List ℕ → ℕ → ℕ

@@ -16,6 +16,8 @@ mod requesting;
 mod requests;
 mod settling;
 
+mod sizes;
+mod statuses;
 mod table;
 mod units;
 mod withdrawing;
@@ -26,5 +28,7 @@ pub use reading::read_trailer;
 pub use requesting::{request, set_ok};
 pub use requests::standing;
 pub use settling::settle;
+pub use sizes::{read_size, write_size};
+pub use statuses::{push_status, status_count};
 pub use table::swap_type;
 pub use withdrawing::withdraw;

@@ -1,0 +1,96 @@
+//! The size of a swap.
+
+ghost use Rattle.std.specs.Prelude.{◌≡◌, ℕ, ◌+◌, ◌*◌, ◌<◌, ◌≤◌, true, Some, OnOk, IfOk};
+ghost use Rattle.flash_model.specs.Chip.{Chip, Ends, SameOutside};
+ghost use Rattle.sector_map.specs.Map.{IsLaidOut, Keeps, slot_sectors};
+ghost use Rattle.sector_map.specs.Part.{TrailerOf, only};
+ghost use Rattle.trailer.specs.Fields.{are_erased, bytes_at, fields_at, place_of, size_bytes, size_in};
+
+use crate::format::SWAP_SIZE;
+use crate::units::{read_unit, write_units};
+use byteorder::{ByteOrder, LittleEndian};
+use flash_model::{Flash, FlashError};
+use sector_map::{SectorMap, Side};
+
+/// The unit of a size: the number, the least byte first, and four zero bytes.
+fn size_unit(size: u32) -> [u8; 8]
+    ensures { result ≡ size_bytes size }
+{
+    let mut unit = [0u8; 8];
+    LittleEndian::write_u32(&mut unit, size);
+    unit
+}
+
+/// The size in a unit, if it is one: 1 to a limit.
+fn size_in(unit: &[u8; 8], limit: u32) -> Option<u32>
+    ensures { result ≡ size_in limit unit.now }
+{
+    let size = LittleEndian::read_u32(unit);
+    if size > 0 && size <= limit && unit[4..] == [0, 0, 0, 0] {
+        Some(size)
+    } else {
+        None
+    }
+}
+
+/// Writes the unit of `swap_size` of a trailer, which is erased: how many bytes of each slot a swap moves, from 1
+/// to the slot's length.
+///
+/// The map is laid out on the flash, and has the image, which is told by its number from 0.
+///
+/// # Errors
+/// `Cut` where power failed: the unit holds any bytes, and all else is as it was. `Off` where the flash was off
+/// before: nothing changed.
+#[tactic(auto, using(crate::proofs::Places::units_alone, crate::proofs::OwnFields::own_size, crate::proofs::SizeUnits::size_written))]
+pub fn write_size<F: Flash>(
+    flash: &mut F,
+    map: &SectorMap,
+    image: u8,
+    side: Side,
+    size: u32,
+) -> Result<(), FlashError>
+    requires laid_out { IsLaidOut map.now (F.chip flash.old) }
+    requires there { image < map.now.images }
+    requires erased { are_erased (bytes_at map.now (F.chip flash.old) image side 48 8) ≡ true }
+    ensures outside { Keeps map.now (only (TrailerOf image side))
+        (F.chip flash.old) (F.chip flash.new) }
+    ensures unit { SameOutside (place_of map.now image side 48) 8
+        (F.chip flash.old) (F.chip flash.new) }
+    ensures own { fields_at map.now (F.chip flash.new) image side
+        ≡ record (fields_at map.now (F.chip flash.old) image side)
+        { size = (fields_at map.now (F.chip flash.new) image side).size } }
+    ensures bytes { OnOk result
+        (bytes_at map.now (F.chip flash.new) image side 48 8 ≡ size_bytes size) }
+    ensures ok { OnOk result (0 < size → size ≤ slot_sectors map.now image * map.now.sector_size
+        → (fields_at map.now (F.chip flash.new) image side).size ≡ Some size) }
+    ensures erases { OnOk result ((F.chip flash.new).erases ≡ (F.chip flash.old).erases) }
+    ensures ends { Ends result (F.chip flash.old) (F.chip flash.new) }
+{
+    write_units(flash, map, image, side, SWAP_SIZE, &size_unit(size))?;
+    Ok(())
+}
+
+/// Reads `swap_size` of a trailer: how many bytes of each slot a swap moves. There is none where the unit is
+/// erased, where its number isn't from 1 to the slot's length, or where its last four bytes aren't zero.
+///
+/// The map is laid out on the flash, and has the image, which is told by its number from 0.
+///
+/// # Errors
+/// `Off` where the flash was off. Nothing changes in any case.
+#[tactic(auto, using(crate::proofs::SizeUnits::size_is))]
+pub fn read_size<F: Flash>(
+    flash: &mut F,
+    map: &SectorMap,
+    image: u8,
+    side: Side,
+) -> Result<Option<u32>, FlashError>
+    requires laid_out { IsLaidOut map.now (F.chip flash.old) }
+    requires there { image < map.now.images }
+    ensures same { F.chip flash.new ≡ F.chip flash.old }
+    ensures ok { IfOk result (λ size. size ≡ (fields_at map.now (F.chip flash.old) image side).size) }
+    ensures erases { OnOk result ((F.chip flash.new).erases ≡ (F.chip flash.old).erases) }
+    ensures ends { Ends result (F.chip flash.old) (F.chip flash.new) }
+{
+    let unit = read_unit(flash, map, image, side, SWAP_SIZE)?;
+    Ok(size_in(&unit, map.slot_length(image)))
+}

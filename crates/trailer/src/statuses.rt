@@ -1,0 +1,111 @@
+//! How far a swap has come.
+
+ghost use Rattle.std.specs.Prelude.{◌≡◌, ℕ, ◌+◌, ◌*◌, ◌<◌, ◌≤◌, OnOk, IfOk};
+ghost use Rattle.flash_model.specs.Chip.{Chip, Ends, SameOutside};
+ghost use Rattle.sector_map.specs.Map.{IsLaidOut, Keeps, slot_sectors, start_of};
+ghost use Rattle.sector_map.specs.Part.{TrailerOf, only};
+ghost use Rattle.trailer.specs.Fields.{are_erased, fields_at, trailer_bytes};
+ghost use Rattle.trailer.specs.Status.{status_count_of, status_unit};
+
+use flash_model::{Flash, FlashError, UNIT, is_unit_erased, set_unit};
+use sector_map::{SectorMap, Side};
+
+/// How many status units a trailer has: three for each sector of the slot.
+#[tactic(auto, using(crate::proofs::StatusUnits::status_fit))]
+fn status_units(map: &SectorMap, image: u8) -> u32
+    requires { image < map.now.images }
+    ensures count { result ≡ 3 * slot_sectors map.now image }
+    ensures fit { 8 * result + 56 ≤ map.now.sector_size }
+{
+    3 * map.slot_sectors(image)
+}
+
+/// Whether a status unit of a trailer is erased. Status units are counted from 0.
+#[tactic(auto, using(crate::proofs::Places::trailer_fits, crate::proofs::Places::trailer_addressed))]
+fn is_status_erased<F: Flash>(
+    flash: &mut F,
+    map: &SectorMap,
+    image: u8,
+    side: Side,
+    status: u32,
+) -> Result<bool, FlashError>
+    requires laid_out { IsLaidOut map.now (F.chip flash.old) }
+    requires there { image < map.now.images }
+    requires below { status < 3 * slot_sectors map.now image }
+    ensures same { F.chip flash.new ≡ F.chip flash.old }
+    ensures ok { IfOk result (λ erased. erased
+        ≡ are_erased (status_unit (trailer_bytes map.now (F.chip flash.old) image side) status)) }
+    ensures erases { OnOk result ((F.chip flash.new).erases ≡ (F.chip flash.old).erases) }
+    ensures ends { Ends result (F.chip flash.old) (F.chip flash.new) }
+{
+    let erased = is_unit_erased(flash, map.trailer_start(image, side) + UNIT * status)?;
+    Ok(erased)
+}
+
+/// Counts the status units of a trailer that are set, from its first one up to the first that is erased: how many
+/// steps of a swap are done.
+///
+/// The map is laid out on the flash, and has the image, which is told by its number from 0.
+///
+/// # Errors
+/// `Off` where the flash was off. Nothing changes in any case.
+#[tactic(auto, using(crate::proofs::StatusUnits::units_are))]
+pub fn status_count<F: Flash>(
+    flash: &mut F,
+    map: &SectorMap,
+    image: u8,
+    side: Side,
+) -> Result<u32, FlashError>
+    requires laid_out { IsLaidOut map.now (F.chip flash.old) }
+    requires there { image < map.now.images }
+    ensures same { F.chip flash.new ≡ F.chip flash.old }
+    ensures ok { IfOk result
+        (λ count. count ≡ status_count_of map.now (F.chip flash.old) image side) }
+    ensures erases { OnOk result ((F.chip flash.new).erases ≡ (F.chip flash.old).erases) }
+    ensures ends { Ends result (F.chip flash.old) (F.chip flash.new) }
+{
+    let all = status_units(map, image);
+    for status in 0..all {
+        if is_status_erased(flash, map, image, side, status)? {
+            return Ok(status);
+        }
+    }
+    Ok(all)
+}
+
+/// Sets the first status unit of a trailer that is erased. There is one: the status count is below three for each
+/// sector of the slot.
+///
+/// The map is laid out on the flash, and has the image, which is told by its number from 0.
+///
+/// # Errors
+/// `Cut` where power failed: the unit holds any bytes, so it counts or not, and all else is as it was. `Off` where
+/// the flash was off before: nothing changed.
+#[tactic(auto, using(crate::proofs::Places::trailer_fits, crate::proofs::Places::trailer_addressed, crate::proofs::StatusUnits::status_alone, crate::proofs::StatusUnits::own_status, crate::proofs::StatusUnits::pushed, crate::proofs::StatusUnits::status_is_erased))]
+pub fn push_status<F: Flash>(
+    flash: &mut F,
+    map: &SectorMap,
+    image: u8,
+    side: Side,
+) -> Result<(), FlashError>
+    requires laid_out { IsLaidOut map.now (F.chip flash.old) }
+    requires there { image < map.now.images }
+    requires room { status_count_of map.now (F.chip flash.old) image side
+        < 3 * slot_sectors map.now image }
+    ensures outside { Keeps map.now (only (TrailerOf image side))
+        (F.chip flash.old) (F.chip flash.new) }
+    ensures unit { SameOutside (start_of map.now (TrailerOf image side)
+        + 8 * status_count_of map.now (F.chip flash.old) image side) 8
+        (F.chip flash.old) (F.chip flash.new) }
+    ensures own { fields_at map.now (F.chip flash.new) image side
+        ≡ record (fields_at map.now (F.chip flash.old) image side)
+        { is_fresh = (fields_at map.now (F.chip flash.new) image side).is_fresh } }
+    ensures ok { OnOk result (status_count_of map.now (F.chip flash.old) image side
+        < status_count_of map.now (F.chip flash.new) image side) }
+    ensures erases { OnOk result ((F.chip flash.new).erases ≡ (F.chip flash.old).erases) }
+    ensures ends { Ends result (F.chip flash.old) (F.chip flash.new) }
+{
+    let count = status_count(flash, map, image, side)?;
+    set_unit(flash, map.trailer_start(image, side) + UNIT * count)?;
+    Ok(())
+}
