@@ -1,13 +1,14 @@
 -- Status units, and how many are set.
-use Rattle.std.proofs.Common.{◌≡◌, ◌⊎◌, ℕ, zero, suc, ◌+◌, ◌-◌, ◌*◌, ◌<◌, ◌≤◌, Bool, true, false, arith, sym, ◌∙◌, ap, subst, refl, inl, inr, ⊎_elim, List, slice_range, take, drop, if◌then◌else◌}
+use Rattle.std.proofs.Common.{◌≡◌, ◌⊎◌, ℕ, zero, suc, ◌+◌, ◌-◌, ◌*◌, ◌/◌, ◌%◌, ◌<◌, ◌≤◌, Bool, true, false, arith, sym, ◌∙◌, ap, subst, refl, inl, inr, ⊎_elim, List, slice_range, take, drop, if◌then◌else◌}
 use Rattle.std.proofs.lemmas.Bool.{cases_lt}
 use Rattle.std.proofs.lemmas.List.{drop-drop}
 use Rattle.flash_model.specs.Chip.{Chip, IsErased, SameOutside}
 use Rattle.flash_model.specs.Units.{IsSet}
+use Rattle.flash_model.proofs.Units.{aligned}
 use Rattle.sector_map.specs.declared.layout.SectorMap.{SectorMap}
 use Rattle.sector_map.specs.declared.layout.Side.{Side}
 use Rattle.sector_map.specs.Part.{Part, TrailerOf, only}
-use Rattle.sector_map.specs.Map.{slot_sectors, start_of, IsMap, IsLaidOut, Keeps}
+use Rattle.sector_map.specs.Map.{slot_sectors, first_of, start_of, IsMap, IsLaidOut, Keeps}
 use Rattle.sector_map.proofs.Parts.{laid_out_kept}
 use Rattle.sector_map.proofs.PartBytes.{keeps_write}
 use Rattle.trailer.specs.Fields.{are_erased, is_set, magic_in, size_in, trailer_bytes, fields_in, fields_at}
@@ -61,28 +62,28 @@ counts_past bytes (suc n) (suc c) le set =
 -- the units below a count are set ..
 pub set_below : (bytes : List ℕ) (n j : ℕ) → j < set_units bytes n → are_erased (status_unit bytes j) ≡ false
 set_below bytes zero j lt = absurd (omega (arith, lt, units_none bytes))
-set_below bytes (suc n) j lt = by (are_erased (take 8 bytes)) refl j lt
+set_below bytes (suc n) j lt = by (λ j lt. set_below (drop 8 bytes) n j lt) (are_erased (take 8 bytes)) refl j lt
   where
-    by : (first : Bool) → are_erased (take 8 bytes) ≡ first → (j : ℕ) → j < set_units bytes (suc n) → are_erased (status_unit bytes j) ≡ false
-    by true e j lt = absurd (omega (arith, lt, units_step bytes n ∙ ap (λ b. if b then 0 else set_units (drop 8 bytes) n + 1) e))
-    by false e zero lt = ap (λ (xs : List ℕ). are_erased xs) (unit_first bytes) ∙ e
-    by false e (suc j) lt =
+    by : ((j : ℕ) → j < set_units (drop 8 bytes) n → are_erased (status_unit (drop 8 bytes) j) ≡ false) → (first : Bool) → are_erased (take 8 bytes) ≡ first → (j : ℕ) → j < set_units bytes (suc n) → are_erased (status_unit bytes j) ≡ false
+    by behind true e j lt = absurd (omega (arith, lt, units_step bytes n ∙ ap (λ b. if b then 0 else set_units (drop 8 bytes) n + 1) e))
+    by behind false e zero lt = ap (λ (xs : List ℕ). are_erased xs) (unit_first bytes) ∙ e
+    by behind false e (suc j) lt =
         let count : set_units bytes (suc n) ≡ set_units (drop 8 bytes) n + 1 = units_step bytes n ∙ ap (λ b. if b then 0 else set_units (drop 8 bytes) n + 1) e in
-        ap (λ (xs : List ℕ). are_erased xs) (sym (unit_behind bytes j)) ∙ set_below (drop 8 bytes) n j (omega (arith, lt, count))
+        ap (λ (xs : List ℕ). are_erased xs) (sym (unit_behind bytes j)) ∙ behind j (omega (arith, lt, count))
 
 -- .. and the unit at it is erased
 pub free_at : (bytes : List ℕ) (n : ℕ) → set_units bytes n < n → are_erased (status_unit bytes (set_units bytes n)) ≡ true
 free_at bytes zero lt = absurd (omega (arith, lt))
-free_at bytes (suc n) lt = by (are_erased (take 8 bytes)) refl
+free_at bytes (suc n) lt = by (λ lt. free_at (drop 8 bytes) n lt) (are_erased (take 8 bytes)) refl
   where
-    by : (first : Bool) → are_erased (take 8 bytes) ≡ first → are_erased (status_unit bytes (set_units bytes (suc n))) ≡ true
-    by true e =
+    by : (set_units (drop 8 bytes) n < n → are_erased (status_unit (drop 8 bytes) (set_units (drop 8 bytes) n)) ≡ true) → (first : Bool) → are_erased (take 8 bytes) ≡ first → are_erased (status_unit bytes (set_units bytes (suc n))) ≡ true
+    by behind true e =
         let count : set_units bytes (suc n) ≡ 0 = units_step bytes n ∙ ap (λ b. if b then 0 else set_units (drop 8 bytes) n + 1) e in
         ap (λ k. are_erased (status_unit bytes k)) count ∙ ap (λ (xs : List ℕ). are_erased xs) (unit_first bytes) ∙ e
-    by false e =
+    by behind false e =
         let count : set_units bytes (suc n) ≡ suc (set_units (drop 8 bytes) n) = units_step bytes n ∙ ap (λ b. if b then 0 else set_units (drop 8 bytes) n + 1) e ∙ omega arith in
         ap (λ k. are_erased (status_unit bytes k)) count ∙ ap (λ (xs : List ℕ). are_erased xs) (sym (unit_behind bytes (set_units (drop 8 bytes) n)))
-        ∙ free_at (drop 8 bytes) n (omega (arith, lt, count))
+        ∙ behind (omega (arith, lt, count))
 
 -- the first erased status unit of a trailer is erased on the flash
 pub status_is_erased : (map : SectorMap) (chip : Chip) (image at count : ℕ) (side : Side) → IsLaidOut map chip → image < map.images → count ≡ status_count_of map chip image side
@@ -91,6 +92,11 @@ status_is_erased map chip image at count side laid lt is below place =
     let free : are_erased (status_unit (trailer_bytes map chip image side) count) ≡ true =
         ap (λ k. are_erased (status_unit (trailer_bytes map chip image side) k)) is ∙ free_at (trailer_bytes map chip image side) (3 * slot_sectors map image) (omega arith) in
     range_is_erased map chip (TrailerOf image side) at 8 (8 * count) (8 * count + 8) free laid (omega (arith, trailer_size map image side laid.is_map lt, laid.is_map.trailers image)) (omega arith) (omega arith)
+
+pub status_aligned : (map : SectorMap) (image count : ℕ) (side : Side) → IsMap map → (start_of map (TrailerOf image side) + 8 * count) % 8 ≡ 0
+status_aligned map image count side fits =
+    let units : 8 * (map.sector_size / 8) ≡ map.sector_size = omega (arith, fits.sector.blocks) in
+    omega (arith, aligned (first_of map (TrailerOf image side)) map.sector_size units)
 
 -- a write of a status unit leaves the other parts ..
 pub status_alone : (map : SectorMap) (old new : Chip) (image at count : ℕ) (side : Side) → SameOutside at 8 old new → IsLaidOut map old → image < map.images
