@@ -36,10 +36,11 @@ tells_magic bytes magic told is tells = by (bytes_eq bytes good_magic) (are_eras
         (λ _. inl all, λ _. tells ∙ ap is_whole_magic there)
     by false false e not_all =
         let there : magic ≡ Bad = is ∙ ap (λ t. if t then Good else if are_erased bytes then Unset else Bad) e ∙ ap (λ t. if t then Unset else Bad) not_all in
-        let untold : told ≡ false = tells ∙ ap is_whole_magic there in
-        (λ yes. let wrong : true ≡ false = sym yes ∙ untold in absurd (cc wrong),
-         λ free. ⊎_elim (λ (all : are_erased bytes ≡ true). let wrong : true ≡ false = sym all ∙ not_all in absurd (cc wrong))
-         (λ (same : bytes ≡ good_magic). let wrong : true ≡ false = sym ((bytes_eq-Decides bytes good_magic).1 same) ∙ e in absurd (cc wrong)) free)
+        let untold : told ≡ false = tells ∙ ap is_whole_magic there in (
+          λ yes. let wrong : true ≡ false = sym yes ∙ untold in absurd (cc wrong),
+          λ free. ⊎_elim (λ (all : are_erased bytes ≡ true). let wrong : true ≡ false = sym all ∙ not_all in absurd (cc wrong))
+              (λ (same : bytes ≡ good_magic). let wrong : true ≡ false = sym ((bytes_eq-Decides bytes good_magic).1 same) ∙ e in absurd (cc wrong)) free,
+        )
 
 -- what tells that a flag isn't torn
 pub tells_flag : (unit : List ℕ) (told : Bool) → told ≡ (bytes_eq unit flag || are_erased unit) → IsTrue told ↔ IsFree unit flag
@@ -49,10 +50,11 @@ tells_flag unit told tells = by (bytes_eq unit flag) (are_erased unit) refl refl
     by true erased e all = (λ _. inr ((bytes_eq-Decides unit flag).0 e), λ _. tells ∙ ap (λ t. t || are_erased unit) e)
     by false true e all = (λ _. inl all, λ _. tells ∙ ap (λ t. t || are_erased unit) e ∙ all)
     by false false e not_all =
-        let untold : told ≡ false = tells ∙ ap (λ t. t || are_erased unit) e ∙ not_all in
-        (λ yes. let wrong : true ≡ false = sym yes ∙ untold in absurd (cc wrong),
-         λ free. ⊎_elim (λ (all : are_erased unit ≡ true). let wrong : true ≡ false = sym all ∙ not_all in absurd (cc wrong))
-         (λ (same : unit ≡ flag). let wrong : true ≡ false = sym ((bytes_eq-Decides unit flag).1 same) ∙ e in absurd (cc wrong)) free)
+        let untold : told ≡ false = tells ∙ ap (λ t. t || are_erased unit) e ∙ not_all in (
+          λ yes. let wrong : true ≡ false = sym yes ∙ untold in absurd (cc wrong),
+          λ free. ⊎_elim (λ (all : are_erased unit ≡ true). let wrong : true ≡ false = sym all ∙ not_all in absurd (cc wrong))
+              (λ (same : unit ≡ flag). let wrong : true ≡ false = sym ((bytes_eq-Decides unit flag).1 same) ∙ e in absurd (cc wrong)) free,
+        )
 
 -- an erased trailer has no torn unit
 pub erased_whole : (map : SectorMap) (chip : Chip) (image : ℕ) (side : Side) (confirmed : Bool) → are_erased (trailer_bytes map chip image side) ≡ true → IsWhole map chip image side confirmed

@@ -90,7 +90,7 @@ pub status_is_erased : (map : SectorMap) (chip : Chip) (image at count : ℕ) (s
     → count < 3 * slot_sectors map image → at ≡ start_of map (TrailerOf image side) + 8 * count → IsErased chip at 8
 status_is_erased map chip image at count side laid lt is below place =
     let free : are_erased (status_unit (trailer_bytes map chip image side) count) ≡ true =
-        ap (λ k. are_erased (status_unit (trailer_bytes map chip image side) k)) is ∙ free_at (trailer_bytes map chip image side) (3 * slot_sectors map image) (omega arith) in
+    ap (λ k. are_erased (status_unit (trailer_bytes map chip image side) k)) is ∙ free_at (trailer_bytes map chip image side) (3 * slot_sectors map image) (omega arith) in
     range_is_erased map chip (TrailerOf image side) at 8 (8 * count) (8 * count + 8) free laid (omega (arith, trailer_size map image side laid.is_map lt, laid.is_map.trailers image)) (omega arith) (omega arith)
 
 pub status_aligned : (map : SectorMap) (image count : ℕ) (side : Side) → IsMap map → (start_of map (TrailerOf image side) + 8 * count) % 8 ≡ 0
@@ -111,7 +111,7 @@ pub own_status : (map : SectorMap) (old new : Chip) (image at count : ℕ) (side
 unfolding fields_at fields_in
 own_status map old new image at count side same fits lt is below =
     let kept = λ (from_end n : ℕ) (n_le : n ≤ from_end) (le : from_end ≤ 56).
-        range_besides map old new (TrailerOf image side) at 8 (map.sector_size - from_end) (map.sector_size - from_end + n) same (omega (arith, trailer_size map image side fits lt, fits.trailers image)) (inr (omega (arith, fits.trailers image))) in
+    range_besides map old new (TrailerOf image side) at 8 (map.sector_size - from_end) (map.sector_size - from_end + n) same (omega (arith, trailer_size map image side fits lt, fits.trailers image)) (inr (omega (arith, fits.trailers image))) in
     same_fields _ _ (ap magic_in (kept 16 16 (omega arith) (omega arith)))
     (ap is_set (kept 32 8 (omega arith) (omega arith)))
     (ap is_set (kept 24 8 (omega arith) (omega arith)))
@@ -127,12 +127,12 @@ pushed map old new image at count side same set laid lt is below place =
     let new_laid = laid_out_kept map _ old new laid (status_alone map old new image at count side same laid lt place below) in
     let size = trailer_size map image side laid.is_map lt in
     let past = counts_past (trailer_bytes map new image side) (3 * slot_sectors map image) (suc count) (omega arith)
-        (λ j below_next. ⊎_elim
-        (λ (before : j < count).
-        ap (λ (xs : List ℕ). are_erased xs) (range_besides map old new (TrailerOf image side) at 8 (8 * j) (8 * j + 8) same (omega (arith, size, laid.is_map.trailers image)) (inl (omega arith)))
-        ∙ set_below (trailer_bytes map old image side) (3 * slot_sectors map image) j (omega arith))
-        (λ (last : count ≤ j).
-        not_true (are_erased (status_unit (trailer_bytes map new image side) j)) (λ all. set.not_erased
-        (range_is_erased map new (TrailerOf image side) at 8 (8 * j) (8 * j + 8) all new_laid (omega (arith, size, laid.is_map.trailers image)) (omega arith) (omega arith))))
-        (cases_lt j count)) in
+    (λ j below_next. ⊎_elim
+    (λ (before : j < count).
+    ap (λ (xs : List ℕ). are_erased xs) (range_besides map old new (TrailerOf image side) at 8 (8 * j) (8 * j + 8) same (omega (arith, size, laid.is_map.trailers image)) (inl (omega arith)))
+    ∙ set_below (trailer_bytes map old image side) (3 * slot_sectors map image) j (omega arith))
+    (λ (last : count ≤ j).
+    not_true (are_erased (status_unit (trailer_bytes map new image side) j)) (λ all. set.not_erased
+    (range_is_erased map new (TrailerOf image side) at 8 (8 * j) (8 * j + 8) all new_laid (omega (arith, size, laid.is_map.trailers image)) (omega arith) (omega arith))))
+    (cases_lt j count)) in
     omega (arith, past)

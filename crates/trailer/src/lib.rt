@@ -15,7 +15,6 @@ mod reading;
 mod requesting;
 mod requests;
 mod settling;
-
 mod sizes;
 mod statuses;
 mod table;

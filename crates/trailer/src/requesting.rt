@@ -82,11 +82,7 @@ pub fn request<F: Flash>(
 /// `Cut` where power failed: `image_ok` is as it was or set, and all else as it was. `Off` where the flash was
 /// off before: nothing changed.
 #[tactic(auto, using(crate::proofs::FieldUnits::either_image_ok, crate::proofs::FieldUnits::kept_image_ok))]
-pub fn set_ok<F: Flash>(
-    flash: &mut F,
-    map: &SectorMap,
-    image: u8,
-) -> Result<(), FlashError>
+pub fn set_ok<F: Flash>(flash: &mut F, map: &SectorMap, image: u8) -> Result<(), FlashError>
     requires laid_out { IsLaidOut map.now (F.chip flash.old) }
     requires there { image < map.now.images }
     ensures outside { Keeps map.now (only (TrailerOf image Primary))
