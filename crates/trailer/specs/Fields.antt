@@ -38,7 +38,8 @@ magic_in bytes = if bytes_eq bytes good_magic then Good else if are_erased bytes
 -- The size in a unit: a number from 1 to a limit, and four zero bytes.
 abbrev pub size_in : ℕ → List ℕ → Option ℕ
 size_in limit unit =
-    if nat_lt 0 (little_number 4 unit) && (nat_le (little_number 4 unit) limit && bytes_eq (drop 4 unit) (0 ∷ 0 ∷ 0 ∷ 0 ∷ []))
+    if nat_lt 0 (little_number 4 unit) && (nat_le (little_number 4 unit) limit
+    && bytes_eq (drop 4 unit) (0 ∷ 0 ∷ 0 ∷ 0 ∷ []))
     then Some (little_number 4 unit) else None
 
 -- The unit of a size: the number, the least byte first, and four zero bytes.
@@ -84,15 +85,24 @@ bytes_at map chip image side from_end n =
 
 -- Where the bytes begin that so many bytes before the end of a trailer begin.
 abbrev pub place_of : SectorMap → ℕ → Side → ℕ → ℕ
-place_of map image side from_end = start_of map (TrailerOf image side) + (map.sector_size - from_end)
+place_of map image side from_end =
+    start_of map (TrailerOf image side) + (map.sector_size - from_end)
 
 -- The fields of the trailer of an image's side.
 unfoldable pub fields_at : SectorMap → Chip → ℕ → Side → Fields
-fields_at map chip image side = fields_in (slot_sectors map image) map.sector_size (trailer_bytes map chip image side)
+fields_at map chip image side =
+    fields_in (slot_sectors map image) map.sector_size (trailer_bytes map chip image side)
 
 -- The fields of an erased trailer.
 abbrev pub erased_fields : Fields
-erased_fields = record { magic = Unset; copy_done = false; image_ok = false; withdrawn = false; size = None; is_fresh = true }
+erased_fields = record {
+  magic = Unset;
+  copy_done = false;
+  image_ok = false;
+  withdrawn = false;
+  size = None;
+  is_fresh = true;
+}
 
 -- Those fields that are read together.
 abbrev pub trailer_of : Fields → Trailer

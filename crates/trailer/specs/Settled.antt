@@ -39,13 +39,15 @@ is_whole_magic Unset = true
 is_whole_magic Bad = false
 
 -- None of copy_done, image_ok and the magic is torn.
-pub record IsWhole (map : SectorMap) (chip : Chip) (image : ℕ) (side : Side) (confirmed : Bool) : Type 0 where
+pub record IsWhole (map : SectorMap) (chip : Chip) (image : ℕ) (side : Side) (confirmed : Bool)
+    : Type 0 where
   pub copy_done : IsFree (bytes_at map chip image side 32 8) flag
   pub image_ok : IsOkFree confirmed (bytes_at map chip image side 24 8)
   pub magic : IsFree (bytes_at map chip image side 16 16) good_magic
 
 -- copy_done, image_ok and the magic hold their values, byte for byte.
-pub record HasMarks (map : SectorMap) (chip : Chip) (image : ℕ) (side : Side) (confirmed : Bool) : Type 0 where
+pub record HasMarks (map : SectorMap) (chip : Chip) (image : ℕ) (side : Side) (confirmed : Bool)
+    : Type 0 where
   pub copy_done : bytes_at map chip image side 32 8 ≡ flag
   pub image_ok : confirmed ≡ true → bytes_at map chip image side 24 8 ≡ flag
   pub tried : confirmed ≡ false → are_erased (bytes_at map chip image side 24 8) ≡ true

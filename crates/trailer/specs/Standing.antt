@@ -32,7 +32,8 @@ first_is_set slot = is_set (slice_range slot 0 8)
 -- The request that stands, by the secondary trailer and by whether the first unit of the secondary slot is set.
 abbrev pub standing_kind : Trailer → Bool → Option Kind
 standing_kind trailer is_filled =
-    if is_good trailer.magic && (not trailer.withdrawn && is_filled) then Some (kind_of trailer.image_ok) else None
+    if is_good trailer.magic && (not trailer.withdrawn && is_filled)
+    then Some (kind_of trailer.image_ok) else None
 
 -- The bytes of the secondary slot of an image.
 abbrev pub incoming_slot : SectorMap → Chip → ℕ → List ℕ
@@ -40,7 +41,9 @@ incoming_slot map chip image = part_of map chip (Slot image Secondary)
 
 -- The request that stands for an image.
 abbrev pub standing_of : SectorMap → Chip → ℕ → Option Kind
-standing_of map chip image = standing_kind (trailer_of (fields_at map chip image Secondary)) (first_is_set (incoming_slot map chip image))
+standing_of map chip image =
+    standing_kind (trailer_of (fields_at map chip image Secondary))
+    (first_is_set (incoming_slot map chip image))
 
 -- The fields of the trailer of a request.
 abbrev pub requested_fields : Kind → Fields

@@ -17,4 +17,5 @@ set_units bytes (suc n) = if are_erased (take 8 bytes) then 0 else set_units (dr
 
 -- The status count of a trailer: there are three units for each sector of the slot.
 abbrev pub status_count_of : SectorMap → Chip → ℕ → Side → ℕ
-status_count_of map chip image side = set_units (trailer_bytes map chip image side) (3 * slot_sectors map image)
+status_count_of map chip image side =
+    set_units (trailer_bytes map chip image side) (3 * slot_sectors map image)

@@ -18,5 +18,6 @@ abbrev pub swap_type_of : Trailer → Trailer → SwapType
 swap_type_of primary secondary =
     if is_good secondary.magic && not secondary.image_ok then Test
     else if is_good secondary.magic && secondary.image_ok then Perm
-    else if is_good primary.magic && (primary.copy_done && (not primary.image_ok && is_unset secondary.magic)) then Revert
+    else if is_good primary.magic
+    && (primary.copy_done && (not primary.image_ok && is_unset secondary.magic)) then Revert
     else None

@@ -146,7 +146,8 @@ fn make_whole<F: Flash>(
     requires there { image < map.now.images }
     ensures outside { Keeps map.now (only (TrailerOf image side))
         (F.chip flash.old) (F.chip flash.new) }
-    ensures ok { OnOk result (IsWhole map.now (F.chip flash.new) image side (is_confirmed settling)) }
+    ensures ok { OnOk result
+        (IsWhole map.now (F.chip flash.new) image side (is_confirmed settling)) }
     ensures erases { OnOk result ((F.chip flash.new).erases ≤ (F.chip flash.old).erases + 1) }
     ensures ends { Ends result (F.chip flash.old) (F.chip flash.new) }
 {

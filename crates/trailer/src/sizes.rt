@@ -87,7 +87,8 @@ pub fn read_size<F: Flash>(
     requires laid_out { IsLaidOut map.now (F.chip flash.old) }
     requires there { image < map.now.images }
     ensures same { F.chip flash.new ≡ F.chip flash.old }
-    ensures ok { IfOk result (λ size. size ≡ (fields_at map.now (F.chip flash.old) image side).size) }
+    ensures ok { IfOk result
+        (λ size. size ≡ (fields_at map.now (F.chip flash.old) image side).size) }
     ensures erases { OnOk result ((F.chip flash.new).erases ≡ (F.chip flash.old).erases) }
     ensures ends { Ends result (F.chip flash.old) (F.chip flash.new) }
 {

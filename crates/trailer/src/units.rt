@@ -123,7 +123,8 @@ pub(crate) fn are_units_erased<F: Flash>(
     requires within { from_end ≤ 56 }
     ensures same { F.chip flash.new ≡ F.chip flash.old }
     ensures ok { IfOk result
-        (λ erased. erased ≡ are_erased (bytes_at map.now (F.chip flash.old) image side from_end length)) }
+        (λ erased. erased
+        ≡ are_erased (bytes_at map.now (F.chip flash.old) image side from_end length)) }
     ensures erases { OnOk result ((F.chip flash.new).erases ≡ (F.chip flash.old).erases) }
     ensures ends { Ends result (F.chip flash.old) (F.chip flash.new) }
 {

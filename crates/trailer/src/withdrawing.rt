@@ -25,7 +25,8 @@ fn take_back<F: Flash>(flash: &mut F, map: &SectorMap, image: u8) -> Result<(), 
         ⊎ (standing_of map.now (F.chip flash.new) image ≡ None) }
     ensures ok { OnOk result (standing_of map.now (F.chip flash.new) image ≡ None) }
     // It is no erase, and a trailer that tells of a request isn't erased.
-    ensures erased { OnOk result (are_erased (trailer_bytes map.now (F.chip flash.new) image Secondary)
+    ensures erased { OnOk result
+        (are_erased (trailer_bytes map.now (F.chip flash.new) image Secondary)
         ≡ are_erased (trailer_bytes map.now (F.chip flash.old) image Secondary)) }
     ensures erases { OnOk result ((F.chip flash.new).erases ≡ (F.chip flash.old).erases) }
     ensures ends { Ends result (F.chip flash.old) (F.chip flash.new) }
@@ -85,14 +86,16 @@ pub fn withdraw<F: Flash>(flash: &mut F, map: &SectorMap, image: u8) -> Result<(
         × (fields_at map.now (F.chip flash.new) image Secondary
         ≡ fields_at map.now (F.chip flash.old) image Secondary))
         ⊎ (standing_of map.now (F.chip flash.new) image ≡ None) }
-    ensures ok { OnOk result (fields_at map.now (F.chip flash.new) image Secondary ≡ erased_fields) }
+    ensures ok { OnOk result
+        (fields_at map.now (F.chip flash.new) image Secondary ≡ erased_fields) }
     ensures bytes { OnOk result
         (are_erased (trailer_bytes map.now (F.chip flash.new) image Secondary) ≡ true) }
     ensures front { OnOk result
         (first_is_set (incoming_slot map.now (F.chip flash.new) image) ≡ false) }
     ensures erases { OnOk result ((F.chip flash.new).erases ≡ (F.chip flash.old).erases
         + (if first_is_set (incoming_slot map.now (F.chip flash.old) image) then 1 else 0)
-        + (if are_erased (trailer_bytes map.now (F.chip flash.old) image Secondary) then 0 else 1)) }
+        + (if are_erased (trailer_bytes map.now (F.chip flash.old) image Secondary)
+        then 0 else 1)) }
     ensures ends { Ends result (F.chip flash.old) (F.chip flash.new) }
 {
     take_back(flash, map, image)?;
