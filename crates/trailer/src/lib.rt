@@ -31,3 +31,6 @@ pub use sizes::{read_size, write_size};
 pub use statuses::{push_status, status_count};
 pub use table::swap_type;
 pub use withdrawing::withdraw;
+
+#[cfg(test)]
+mod tests;

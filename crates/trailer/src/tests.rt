@@ -1,0 +1,200 @@
+//! Requests, withdrawals, sizes and settled trailers on a flash in memory, with the places and bytes written out.
+//! Image 0 of the map has its primary trailer in sector 2, its secondary slot in sectors 6 and 7, and the trailer
+//! of that in sector 8.
+
+ghost use Rattle.std.specs.Prelude.{◌≡◌};
+
+use super::*;
+use crate::format::MAGIC;
+use flash_model::{FLAG, Flash, FlashError, MemFlash, Torn};
+use sector_map::{SectorMap, Side};
+use std::alloc::Global;
+use std::marker::Brand;
+use std::process::Abort;
+use std::sync::ledger::{Blank, Ledger};
+use std::test::Fail;
+
+/// Two images of two sectors of 512 bytes each.
+fn two_images(rt: &impl Abort) -> Result<SectorMap, Fail> {
+    let map = SectorMap::new(512, &[2, 2])?;
+    assert_eq!(rt; map.images, 2);
+    Ok(map)
+}
+
+/// An erased flash but for the first byte of image 0's secondary slot.
+fn filled<L: Ledger>(alloc: Global, blank: Blank) -> Result<MemFlash<L>, Fail>
+    requires name { blank.name ≡ L.name }
+    requires parts { blank.parts ≡ L.parts }
+    requires two { L.parts ≡ 2 }
+{
+    let mut bytes = vec![in alloc; 0xff; 8192]?;
+    bytes[3072] = 0x3d;
+    Ok(MemFlash::<L>::from_bytes(alloc, blank, 512, bytes))
+}
+
+fn request_and_withdraw<L: Ledger>(rt: &impl Abort, alloc: Global, blank: Blank) -> Result<(), Fail>
+    requires name { blank.name ≡ L.name }
+    requires parts { blank.parts ≡ L.parts }
+    requires two { L.parts ≡ 2 }
+{
+    let map = two_images(rt)?;
+    let mut flash = filled::<L>(alloc, blank)?;
+    assert!(rt; map.images == 2);
+    assert!(rt; map.fits(&flash));
+    clear(&mut flash, &map, 0, Side::Secondary)?;
+    assert_eq!(rt; flash.writes(), 0);
+    request(&mut flash, &map, 0, Kind::Permanent)?;
+    assert_eq!(rt; flash.writes(), 2);
+    assert_eq!(rt; flash.bytes().len(), 8192);
+    assert_eq!(rt; &flash.bytes()[4584..4592], FLAG.as_slice());
+    assert_eq!(rt; &flash.bytes()[4592..4608], MAGIC.as_slice());
+    let primary = read_trailer(&mut flash, &map, 0, Side::Primary)?;
+    let secondary = read_trailer(&mut flash, &map, 0, Side::Secondary)?;
+    assert_eq!(rt; swap_type(&primary, &secondary), SwapType::Perm);
+    assert_eq!(rt; standing(&mut flash, &map, 0)?, Some(Kind::Permanent));
+    withdraw(&mut flash, &map, 0)?;
+    assert_eq!(rt; flash.writes(), 5);
+    assert_eq!(rt; flash.erases(), 2);
+    assert_eq!(rt; standing(&mut flash, &map, 0)?, None);
+    Ok(())
+}
+
+#[test]
+fn a_request_takes_two_writes_and_its_withdrawal_three(rt: HostRuntime) -> Result<(), Fail> {
+    request_and_withdraw::<Brand>(&rt, rt.alloc(), Blank::new(2))
+}
+
+fn request_cut<L: Ledger>(
+    rt: &impl Abort,
+    alloc: Global,
+    blank: Blank,
+    torn: Torn,
+) -> Result<(Magic, Option<Kind>), Fail>
+    requires name { blank.name ≡ L.name }
+    requires parts { blank.parts ≡ L.parts }
+    requires two { L.parts ≡ 2 }
+{
+    let map = two_images(rt)?;
+    let mut flash = filled::<L>(alloc, blank)?;
+    flash.arm(2, torn)?;
+    assert!(rt; map.images == 2);
+    assert!(rt; map.fits(&flash));
+    clear(&mut flash, &map, 0, Side::Secondary)?;
+    assert_eq!(rt;
+        request(&mut flash, &map, 0, Kind::Permanent),
+        Err(FlashError::Cut)
+    );
+    flash.restart();
+    assert!(rt; map.fits(&flash));
+    let trailer = read_trailer(&mut flash, &map, 0, Side::Secondary)?;
+    Ok((trailer.magic, standing(&mut flash, &map, 0)?))
+}
+
+fn after_a_cut_request(
+    rt: &impl Abort,
+    alloc: Global,
+    torn: Torn,
+) -> Result<(Magic, Option<Kind>), Fail> {
+    request_cut::<Brand>(rt, alloc, Blank::new(2), torn)
+}
+
+#[test]
+fn a_request_that_is_cut_stands_whole_or_not(rt: HostRuntime) -> Result<(), Fail> {
+    let zero = vec![in rt.alloc(); 0x00]?;
+    let (magic, kind) = after_a_cut_request(&rt, rt.alloc(), Torn::Bytes(zero))?;
+    assert_eq!(rt; magic, Magic::Bad);
+    assert_eq!(rt; kind, None);
+    let (magic, kind) = after_a_cut_request(&rt, rt.alloc(), Torn::Done)?;
+    assert_eq!(rt; magic, Magic::Good);
+    assert_eq!(rt; kind, Some(Kind::Permanent));
+    let (magic, kind) = after_a_cut_request(&rt, rt.alloc(), Torn::Keep)?;
+    assert_eq!(rt; magic, Magic::Unset);
+    assert_eq!(rt; kind, None);
+    Ok(())
+}
+
+#[tactic(auto, using(crate::proofs::Erased::erased_units))]
+fn size_written<L: Ledger>(rt: &impl Abort, alloc: Global, blank: Blank) -> Result<(), Fail>
+    requires name { blank.name ≡ L.name }
+    requires parts { blank.parts ≡ L.parts }
+    requires two { L.parts ≡ 2 }
+{
+    let map = two_images(rt)?;
+    let mut flash = filled::<L>(alloc, blank)?;
+    assert!(rt; map.images == 2);
+    assert!(rt; map.fits(&flash));
+    clear(&mut flash, &map, 0, Side::Primary)?;
+    write_size(&mut flash, &map, 0, Side::Primary, 96)?;
+    assert_eq!(rt; flash.bytes().len(), 8192);
+    assert_eq!(rt;
+        &flash.bytes()[1488..1496],
+        [0x60, 0, 0, 0, 0, 0, 0, 0].as_slice()
+    );
+    assert_eq!(rt; read_size(&mut flash, &map, 0, Side::Primary)?, Some(96));
+    assert_eq!(rt; read_size(&mut flash, &map, 0, Side::Secondary)?, None);
+    Ok(())
+}
+
+#[test]
+fn a_size_is_written_as_a_number_and_four_zero_bytes(rt: HostRuntime) -> Result<(), Fail> {
+    size_written::<Brand>(&rt, rt.alloc(), Blank::new(2))
+}
+
+fn settled<L: Ledger>(rt: &impl Abort, alloc: Global, blank: Blank) -> Result<(), Fail>
+    requires name { blank.name ≡ L.name }
+    requires parts { blank.parts ≡ L.parts }
+    requires two { L.parts ≡ 2 }
+{
+    let map = two_images(rt)?;
+    let mut flash = filled::<L>(alloc, blank)?;
+    assert!(rt; map.images == 2);
+    assert!(rt; map.fits(&flash));
+    settle(&mut flash, &map, 0, Settling::Test)?;
+    // The secondary trailer is erased; copy_done and the magic are written, and no more the second time.
+    assert_eq!(rt; flash.writes(), 3);
+    settle(&mut flash, &map, 0, Settling::Test)?;
+    assert_eq!(rt; flash.writes(), 4);
+    let primary = read_trailer(&mut flash, &map, 0, Side::Primary)?;
+    let secondary = read_trailer(&mut flash, &map, 0, Side::Secondary)?;
+    assert_eq!(rt; swap_type(&primary, &secondary), SwapType::Revert);
+    set_ok(&mut flash, &map, 0)?;
+    set_ok(&mut flash, &map, 0)?;
+    assert_eq!(rt; flash.writes(), 5);
+    settle(&mut flash, &map, 0, Settling::Back)?;
+    assert_eq!(rt; flash.writes(), 10);
+    assert_eq!(rt; flash.erases(), 4);
+    Ok(())
+}
+
+#[test]
+fn what_is_settled_is_not_written_again(rt: HostRuntime) -> Result<(), Fail> {
+    settled::<Brand>(&rt, rt.alloc(), Blank::new(2))
+}
+
+fn counted<L: Ledger>(rt: &impl Abort, alloc: Global, blank: Blank) -> Result<(), Fail>
+    requires name { blank.name ≡ L.name }
+    requires parts { blank.parts ≡ L.parts }
+    requires two { L.parts ≡ 2 }
+{
+    let map = two_images(rt)?;
+    let mut flash = filled::<L>(alloc, blank)?;
+    assert!(rt; map.images == 2);
+    assert!(rt; map.fits(&flash));
+    for status in 0..6 {
+        assert!(rt; map.images == 2);
+        assert!(rt; map.fits(&flash));
+        let count = status_count(&mut flash, &map, 0, Side::Primary)?;
+        assert_eq!(rt; count, status);
+        if count < 3 * map.slot_sectors(0) {
+            push_status(&mut flash, &map, 0, Side::Primary)?;
+        }
+    }
+    assert!(rt; map.fits(&flash));
+    assert_eq!(rt; status_count(&mut flash, &map, 0, Side::Primary)?, 6);
+    Ok(())
+}
+
+#[test]
+fn status_units_are_counted(rt: HostRuntime) -> Result<(), Fail> {
+    counted::<Brand>(&rt, rt.alloc(), Blank::new(2))
+}
