@@ -2,7 +2,7 @@
 //! Image 0 of the map has its primary trailer in sector 2, its secondary slot in sectors 6 and 7, and the trailer
 //! of that in sector 8.
 
-ghost use Rattle.std.specs.Prelude.{◌≡◌};
+ghost use Rattle.std.specs.Prelude.{◌≡◌, ◌<◌};
 
 use super::*;
 use crate::format::MAGIC;
@@ -197,4 +197,120 @@ fn counted<L: Ledger>(rt: &impl Abort, alloc: Global, blank: Blank) -> Result<()
 #[test]
 fn status_units_are_counted(rt: HostRuntime) -> Result<(), Fail> {
     counted::<Brand>(&rt, rt.alloc(), Blank::new(2))
+}
+
+/// What a cut leaves: the range as it was, as if done, all 0x00, all 0xff, or a copy of a trailer with a good magic.
+fn torn(alloc: Global, which: u8) -> Result<Torn, Fail> {
+    match which {
+        0 => Ok(Torn::Keep),
+        1 => Ok(Torn::Done),
+        2 => Ok(Torn::Bytes(vec![in alloc; 0x00]?)),
+        3 => Ok(Torn::Bytes(vec![in alloc; 0xff]?)),
+        _ => {
+            let mut trailer = vec![in alloc; 0xff; 512]?;
+            trailer[496..512].copy_from_slice(&MAGIC);
+            Ok(Torn::Bytes(trailer))
+        }
+    }
+}
+
+fn withdrawal_cut<L: Ledger>(
+    rt: &impl Abort,
+    alloc: Global,
+    blank: Blank,
+    write: u64,
+    torn: Torn,
+) -> Result<Option<Kind>, Fail>
+    requires name { blank.name ≡ L.name }
+    requires parts { blank.parts ≡ L.parts }
+    requires two { L.parts ≡ 2 }
+    requires early { write < 100 }
+{
+    let map = two_images(rt)?;
+    let mut flash = filled::<L>(alloc, blank)?;
+    flash.arm(write, torn)?;
+    assert!(rt; map.images == 2);
+    assert!(rt; map.fits(&flash));
+    clear(&mut flash, &map, 0, Side::Secondary)?;
+    request(&mut flash, &map, 0, Kind::Permanent)?;
+    assert_eq!(rt; withdraw(&mut flash, &map, 0), Err(FlashError::Cut));
+    flash.restart();
+    assert!(rt; map.fits(&flash));
+    Ok(standing(&mut flash, &map, 0)?)
+}
+
+fn after_a_cut_withdrawal(
+    rt: &impl Abort,
+    alloc: Global,
+    write: u64,
+    torn: Torn,
+) -> Result<Option<Kind>, Fail>
+    requires { write < 100 }
+{
+    withdrawal_cut::<Brand>(rt, alloc, Blank::new(2), write, torn)
+}
+
+#[test]
+fn a_withdrawal_that_is_cut_leaves_the_request_or_none(rt: HostRuntime) -> Result<(), Fail> {
+    // The write of the withdrawn unit, which stays erased or is set.
+    for which in 0..5 {
+        let kind = after_a_cut_withdrawal(&rt, rt.alloc(), 3, torn(rt.alloc(), which)?)?;
+        let stands = which == 0 || which >= 3;
+        assert_eq!(rt; kind, if stands { Some(Kind::Permanent) } else { None });
+    }
+    // The erases of the slot's first sector and of the trailer.
+    for write in 4..6 {
+        for which in 0..5 {
+            let kind = after_a_cut_withdrawal(&rt, rt.alloc(), write, torn(rt.alloc(), which)?)?;
+            assert_eq!(rt; kind, None);
+        }
+    }
+    Ok(())
+}
+
+fn settling_cut<L: Ledger>(
+    rt: &impl Abort,
+    alloc: Global,
+    blank: Blank,
+    write: u64,
+    torn: Torn,
+) -> Result<(), Fail>
+    requires name { blank.name ≡ L.name }
+    requires parts { blank.parts ≡ L.parts }
+    requires two { L.parts ≡ 2 }
+    requires early { write < 100 }
+{
+    let map = two_images(rt)?;
+    let mut flash = filled::<L>(alloc, blank)?;
+    flash.arm(write, torn)?;
+    assert!(rt; map.images == 2);
+    assert!(rt; map.fits(&flash));
+    let end = settle(&mut flash, &map, 0, Settling::Permanent);
+    assert_eq!(rt; end, Err(FlashError::Cut));
+    flash.restart();
+    assert!(rt; map.fits(&flash));
+    settle(&mut flash, &map, 0, Settling::Permanent)?;
+    assert_eq!(rt; flash.bytes().len(), 8192);
+    assert_eq!(rt; &flash.bytes()[1504..1512], FLAG.as_slice());
+    assert_eq!(rt; &flash.bytes()[1512..1520], FLAG.as_slice());
+    assert_eq!(rt; &flash.bytes()[1520..1536], MAGIC.as_slice());
+    let secondary = read_trailer(&mut flash, &map, 0, Side::Secondary)?;
+    assert_eq!(rt; secondary.magic, Magic::Unset);
+    Ok(())
+}
+
+fn settle_after_a_cut(rt: &impl Abort, alloc: Global, write: u64, torn: Torn) -> Result<(), Fail>
+    requires { write < 100 }
+{
+    settling_cut::<Brand>(rt, alloc, Blank::new(2), write, torn)
+}
+
+#[test]
+fn trailers_are_settled_after_any_cut(rt: HostRuntime) -> Result<(), Fail> {
+    for write in 1..5 {
+        for which in 0..5 {
+            settle_after_a_cut(&rt, rt.alloc(), write, torn(rt.alloc(), which)?)?;
+        }
+    }
+    Ok(())
 }
