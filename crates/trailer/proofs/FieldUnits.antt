@@ -1,7 +1,6 @@
 -- What fields say of the units that they are read from.
-use Rattle.std.proofs.Common.{◌≡◌, ◌⊎◌, ℕ, ◌+◌, ◌-◌, ◌*◌, ◌<◌, ◌≤◌, Bool, true, false, not, sym, ◌∙◌, ap, refl, inl, inr, List, if◌then◌else◌}
+use Rattle.std.proofs.Common.{◌≡◌, ◌⊎◌, ℕ, Bool, true, false, not, sym, ◌∙◌, ap, refl, inl, inr, List, if◌then◌else◌}
 use Rattle.std.specs.Str.{bytes_eq}
-use Rattle.std.proofs.lemmas.Slice.Eq.{bytes_eq-Decides}
 use Rattle.flash_model.specs.Chip.{Chip}
 use Rattle.sector_map.specs.declared.layout.SectorMap.{SectorMap}
 use Rattle.sector_map.specs.declared.layout.Side.{Side}
@@ -23,10 +22,12 @@ pub unset_magic : (bytes : List ℕ) → magic_in bytes ≡ Unset → are_erased
 unset_magic bytes e = by (bytes_eq bytes good_magic) (are_erased bytes) refl refl
   where
     by : (good erased : Bool) → bytes_eq bytes good_magic ≡ good → are_erased bytes ≡ erased → are_erased bytes ≡ true
-    by true erased good all = let wrong = ap (λ t. if t then Good else if are_erased bytes then Unset else Bad) good in absurd (cc (wrong, e))
+    by true erased good all = let wrong = ap (λ t. if t then Good else if are_erased bytes then Unset else Bad) good in
+        absurd (cc (wrong, e))
     by false true not_good all = all
     by false false not_good not_all =
-        let wrong : magic_in bytes ≡ Bad = ap (λ t. if t then Good else if are_erased bytes then Unset else Bad) not_good ∙ ap (λ t. if t then Unset else Bad) not_all in absurd (cc (wrong, e))
+        let wrong : magic_in bytes ≡ Bad = ap (λ t. if t then Good else if are_erased bytes then Unset else Bad)
+        not_good ∙ ap (λ t. if t then Unset else Bad) not_all in absurd (cc (wrong, e))
 
 -- the units of the fields of a trailer
 module _ (map : SectorMap) (chip : Chip) (image : ℕ) (side : Side) where
@@ -46,13 +47,16 @@ module _ (map : SectorMap) (chip : Chip) (image : ℕ) (side : Side) where
   unfolding fields_at fields_in
   withdrawn_is = refl
 
-  pub erased_magic : (fields_at map chip image side).magic ≡ Unset → are_erased (bytes_at map chip image side 16 16) ≡ true
+  pub erased_magic : (fields_at map chip image side).magic ≡ Unset → are_erased (bytes_at map chip image side 16 16) ≡
+      true
   erased_magic e = unset_magic (bytes_at map chip image side 16 16) (sym magic_is ∙ e)
 
-  pub erased_image_ok : (fields_at map chip image side).image_ok ≡ false → are_erased (bytes_at map chip image side 24 8) ≡ true
+  pub erased_image_ok : (fields_at map chip image side).image_ok ≡ false → are_erased
+      (bytes_at map chip image side 24 8) ≡ true
   erased_image_ok e = not_set (bytes_at map chip image side 24 8) (sym image_ok_is ∙ e)
 
-  pub erased_withdrawn : (fields_at map chip image side).withdrawn ≡ false → are_erased (bytes_at map chip image side 56 8) ≡ true
+  pub erased_withdrawn : (fields_at map chip image side).withdrawn ≡ false → are_erased
+      (bytes_at map chip image side 56 8) ≡ true
   erased_withdrawn e = not_set (bytes_at map chip image side 56 8) (sym withdrawn_is ∙ e)
 
   pub good_of_bytes : bytes_at map chip image side 16 16 ≡ good_magic → (fields_at map chip image side).magic ≡ Good
@@ -68,14 +72,16 @@ module _ (map : SectorMap) (chip : Chip) (image : ℕ) (side : Side) where
   withdrawn_of_flag e = withdrawn_is ∙ ap (λ (unit : List ℕ). is_set unit) e
 
 -- a field that is written stands as before or as asked
-pub either_image_ok : (f g : Fields) → g ≡ record f { image_ok = g.image_ok } → f.image_ok ≡ false → (g ≡ f) ⊎ (g ≡ record f { image_ok = true })
+pub either_image_ok : (f g : Fields) → g ≡ record f { image_ok = g.image_ok } → f.image_ok ≡ false
+    → (g ≡ f) ⊎ (g ≡ record f { image_ok = true })
 either_image_ok f g own was = by g.image_ok refl
   where
     by : (now : Bool) → g.image_ok ≡ now → (g ≡ f) ⊎ (g ≡ record f { image_ok = true })
     by true e = inr (own ∙ ap (λ b. record f { image_ok = b }) e)
     by false e = inl (own ∙ ap (λ b. record f { image_ok = b }) (e ∙ sym was))
 
-pub either_withdrawn : (f g : Fields) → g ≡ record f { withdrawn = g.withdrawn } → f.withdrawn ≡ false → (g ≡ f) ⊎ (g.withdrawn ≡ true)
+pub either_withdrawn : (f g : Fields) → g ≡ record f { withdrawn = g.withdrawn } → f.withdrawn ≡ false
+    → (g ≡ f) ⊎ (g.withdrawn ≡ true)
 either_withdrawn f g own was = by g.withdrawn refl
   where
     by : (now : Bool) → g.withdrawn ≡ now → (g ≡ f) ⊎ (g.withdrawn ≡ true)
@@ -83,7 +89,8 @@ either_withdrawn f g own was = by g.withdrawn refl
     by false e = inl (own ∙ ap (λ b. record f { withdrawn = b }) (e ∙ sym was))
 
 -- a magic is good or it isn't
-pub either_magic : (f g : Fields) → g ≡ record f { magic = g.magic } → (g ≡ record f { magic = Good }) ⊎ (is_good g.magic ≡ false)
+pub either_magic : (f g : Fields) → g ≡ record f { magic = g.magic }
+    → (g ≡ record f { magic = Good }) ⊎ (is_good g.magic ≡ false)
 either_magic f g own = by g.magic refl
   where
     by : (now : Magic) → g.magic ≡ now → (g ≡ record f { magic = Good }) ⊎ (is_good g.magic ≡ false)

@@ -1,24 +1,19 @@
 -- When no request stands, and what keeps it so.
-use Rattle.std.proofs.Common.{◌≡◌, ◌⊎◌, ℕ, ◌+◌, ◌*◌, ◌<◌, ◌≤◌, ◌&&◌, Bool, true, false, not, sym, ◌∙◌, ap, refl, inl, inr, Option, Some, None, if◌then◌else◌}
-use Rattle.std.specs.Str.{bytes_eq}
+use Rattle.std.proofs.Common.{◌≡◌, ◌⊎◌, ℕ, ◌&&◌, Bool, true, false, not, ◌∙◌, ap, refl, inl, inr, Some, None, if◌then◌else◌}
 use Rattle.flash_model.specs.Chip.{Chip}
 use Rattle.sector_map.specs.declared.layout.SectorMap.{SectorMap}
-use Rattle.sector_map.specs.declared.layout.Side.{Side}
 use Rattle.sector_map.specs.declared.layout.Side.TheVariants.{Secondary}
-use Rattle.sector_map.specs.Part.{Part, Slot, TrailerOf}
-use Rattle.sector_map.specs.Map.{Keeps, IsLaidOut}
-use Rattle.trailer.specs.declared.kinds.Magic.{Magic}
-use Rattle.trailer.specs.declared.kinds.Magic.TheVariants.{Good, Unset, Bad}
 use Rattle.trailer.specs.declared.kinds.Trailer.{Trailer}
 use Rattle.trailer.specs.declared.kinds.Kind.{Kind}
 use Rattle.trailer.specs.declared.kinds.Kind.TheVariants.{Test, Permanent}
-use Rattle.trailer.specs.Fields.{Fields, are_erased, is_set, good_magic, magic_in, bytes_at, fields_in, fields_at, trailer_of, trailer_bytes, erased_fields}
-use Rattle.trailer.specs.Standing.{is_good, is_permanent, kind_of, first_is_set, standing_kind, standing_of, incoming_slot, requested_fields}
-use Rattle.trailer.proofs.Erased.{erased_fields_at}
+use Rattle.trailer.specs.Fields.{fields_at, trailer_of}
+use Rattle.trailer.specs.Standing.{is_good, kind_of, first_is_set, standing_kind, standing_of, incoming_slot, requested_fields}
 
 -- no request stands where the magic isn't good ..
-pub none_without_magic : (trailer : Trailer) (front : Bool) → is_good trailer.magic ≡ false → standing_kind trailer front ≡ None
-none_without_magic trailer front e = ap (λ b. if b && (not trailer.withdrawn && front) then Some (kind_of trailer.image_ok) else None) e
+pub none_without_magic : (trailer : Trailer) (front : Bool) → is_good trailer.magic ≡ false
+    → standing_kind trailer front ≡ None
+none_without_magic trailer front e = ap (λ b. if b && (not trailer.withdrawn && front) then Some
+    (kind_of trailer.image_ok) else None) e
 
 and_never : (a : Bool) → (a && false) ≡ false
 and_never true = refl
@@ -34,10 +29,12 @@ none_withdrawn trailer front e =
 pub none_without_front : (trailer : Trailer) (front : Bool) → front ≡ false → standing_kind trailer front ≡ None
 none_without_front trailer front e =
     ap (λ b. if is_good trailer.magic && (not trailer.withdrawn && b) then Some (kind_of trailer.image_ok) else None) e
-    ∙ ap (λ b. if b then Some (kind_of trailer.image_ok) else None) (ap (λ b. is_good trailer.magic && b) (and_never (not trailer.withdrawn)) ∙ and_never (is_good trailer.magic))
+    ∙ ap (λ b. if b then Some (kind_of trailer.image_ok) else None)
+    (ap (λ b. is_good trailer.magic && b) (and_never (not trailer.withdrawn)) ∙ and_never (is_good trailer.magic))
 
 -- where the first unit is set, it is for another reason
-pub none_whatever_front : (trailer : Trailer) (front : Bool) → standing_kind trailer true ≡ None → standing_kind trailer front ≡ None
+pub none_whatever_front : (trailer : Trailer) (front : Bool) → standing_kind trailer true ≡ None
+    → standing_kind trailer front ≡ None
 none_whatever_front trailer true none = none
 none_whatever_front trailer false none = none_without_front trailer false refl
 
@@ -55,7 +52,8 @@ pub record IsStanding (trailer : Trailer) (front : Bool) : Type 0 where
   pub kept : trailer.withdrawn ≡ false
   pub filled : front ≡ true
 
-pub stands_with : (trailer : Trailer) (front : Bool) (kind : Kind) → standing_kind trailer front ≡ Some kind → IsStanding trailer front
+pub stands_with : (trailer : Trailer) (front : Bool) (kind : Kind) → standing_kind trailer front ≡ Some kind
+    → IsStanding trailer front
 stands_with trailer front kind stands = by (is_good trailer.magic && (not trailer.withdrawn && front)) refl
   where
     by : (test : Bool) → (is_good trailer.magic && (not trailer.withdrawn && front)) ≡ test → IsStanding trailer front
@@ -67,17 +65,24 @@ stands_with trailer front kind stands = by (is_good trailer.magic && (not traile
         let none = ap (λ b. if b then Some (kind_of trailer.image_ok) else None) e in absurd (cc (none, stands))
 
 -- the same of the flash
-pub gone_without_magic : (map : SectorMap) (chip : Chip) (image : ℕ) → is_good (fields_at map chip image Secondary).magic ≡ false → standing_of map chip image ≡ None
-gone_without_magic map chip image e = none_without_magic (trailer_of (fields_at map chip image Secondary)) (first_is_set (incoming_slot map chip image)) e
+pub gone_without_magic : (map : SectorMap) (chip : Chip) (image : ℕ)
+    → is_good (fields_at map chip image Secondary).magic ≡ false → standing_of map chip image ≡ None
+gone_without_magic map chip image e = none_without_magic (trailer_of (fields_at map chip image Secondary))
+    (first_is_set (incoming_slot map chip image)) e
 
-pub gone_withdrawn : (map : SectorMap) (chip : Chip) (image : ℕ) → (fields_at map chip image Secondary).withdrawn ≡ true → standing_of map chip image ≡ None
-gone_withdrawn map chip image e = none_withdrawn (trailer_of (fields_at map chip image Secondary)) (first_is_set (incoming_slot map chip image)) e
+pub gone_withdrawn : (map : SectorMap) (chip : Chip) (image : ℕ)
+    → (fields_at map chip image Secondary).withdrawn ≡ true → standing_of map chip image ≡ None
+gone_withdrawn map chip image e = none_withdrawn (trailer_of (fields_at map chip image Secondary))
+    (first_is_set (incoming_slot map chip image)) e
 
-pub gone_without_front : (map : SectorMap) (chip : Chip) (image : ℕ) → first_is_set (incoming_slot map chip image) ≡ false → standing_of map chip image ≡ None
-gone_without_front map chip image e = none_without_front (trailer_of (fields_at map chip image Secondary)) (first_is_set (incoming_slot map chip image)) e
+pub gone_without_front : (map : SectorMap) (chip : Chip) (image : ℕ)
+    → first_is_set (incoming_slot map chip image) ≡ false → standing_of map chip image ≡ None
+gone_without_front map chip image e = none_without_front (trailer_of (fields_at map chip image Secondary))
+    (first_is_set (incoming_slot map chip image)) e
 
 -- a request that is asked for stands where the slot's first unit is set
-pub requested_stands : (kind : Kind) (front : Bool) → (standing_kind (trailer_of (requested_fields kind)) front ≡ None) ⊎ (standing_kind (trailer_of (requested_fields kind)) front ≡ Some kind)
+pub requested_stands : (kind : Kind) (front : Bool) → (standing_kind (trailer_of (requested_fields kind)) front ≡ None)
+    ⊎ (standing_kind (trailer_of (requested_fields kind)) front ≡ Some kind)
 requested_stands Test true = inr refl
 requested_stands Test false = inl refl
 requested_stands Permanent true = inr refl

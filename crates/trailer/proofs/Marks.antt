@@ -1,5 +1,5 @@
 -- The units that settling writes, one after the other.
-use Rattle.std.proofs.Common.{◌≡◌, ◌⊎◌, ℕ, ◌+◌, ◌<◌, ◌≤◌, Bool, true, false, not, arith, sym, ◌∙◌, ap, subst, refl, inl, inr, ⊎_elim, List, IsTrue, ◌↔◌, ◌||◌, if◌then◌else◌}
+use Rattle.std.proofs.Common.{◌≡◌, ℕ, ◌<◌, Bool, true, false, not, arith, sym, ◌∙◌, ap, subst, refl, inl, inr, ⊎_elim, List, IsTrue, ◌↔◌, ◌||◌, if◌then◌else◌}
 use Rattle.std.specs.Str.{bytes_eq}
 use Rattle.std.proofs.lemmas.Slice.Eq.{bytes_eq-Decides}
 use Rattle.trailer.specs.declared.kinds.Magic.{Magic}
@@ -8,11 +8,11 @@ use Rattle.flash_model.specs.Chip.{Chip, SameOutside}
 use Rattle.sector_map.specs.declared.layout.SectorMap.{SectorMap}
 use Rattle.sector_map.specs.declared.layout.Side.{Side}
 use Rattle.sector_map.specs.declared.layout.Side.TheVariants.{Primary, Secondary}
-use Rattle.sector_map.specs.Part.{Part, TrailerOf, only, trailers_of}
+use Rattle.sector_map.specs.Part.{TrailerOf, only, trailers_of}
 use Rattle.sector_map.specs.Map.{IsMap, IsLaidOut, Keeps}
 use Rattle.sector_map.proofs.Parts.{keeps_trans, keeps_wider, laid_out_kept}
 use Rattle.sector_map.proofs.Touched.{trailer_of_both}
-use Rattle.trailer.specs.Fields.{are_erased, is_set, flag, good_magic, magic_in, bytes_at, trailer_bytes, fields_at, erased_fields, place_of}
+use Rattle.trailer.specs.Fields.{are_erased, flag, good_magic, magic_in, bytes_at, trailer_bytes, fields_at, erased_fields, place_of}
 use Rattle.trailer.specs.Settled.{is_whole_magic, IsFree, IsOkFree, IsWhole, HasMarks, IsSettled}
 use Rattle.trailer.proofs.Places.{units_alone}
 use Rattle.trailer.proofs.Erased.{erased_range}
@@ -21,29 +21,37 @@ use Rattle.trailer.proofs.FieldUnits.{good_of_bytes, copy_done_of_flag, image_ok
 
 -- a unit that is free and not erased holds its value
 pub holds_value : (units bytes : List ℕ) → IsFree units bytes → are_erased units ≡ false → units ≡ bytes
-holds_value units bytes free not_all = ⊎_elim (λ (all : are_erased units ≡ true). let wrong : true ≡ false = sym all ∙ not_all in absurd (cc wrong)) (λ (is : units ≡ bytes). is) free
+holds_value units bytes free not_all = ⊎_elim (λ (all : are_erased units ≡ true). let wrong : true ≡ false = sym all ∙
+    not_all in absurd (cc wrong)) (λ (is : units ≡ bytes). is) free
 
 -- what tells that a magic isn't torn
-pub tells_magic : (bytes : List ℕ) (magic : Magic) (told : Bool) → magic ≡ magic_in bytes → told ≡ is_whole_magic magic → IsTrue told ↔ IsFree bytes good_magic
+pub tells_magic : (bytes : List ℕ) (magic : Magic) (told : Bool) → magic ≡ magic_in bytes → told ≡ is_whole_magic magic
+    → IsTrue told ↔ IsFree bytes good_magic
 tells_magic bytes magic told is tells = by (bytes_eq bytes good_magic) (are_erased bytes) refl refl
   where
-    by : (good erased : Bool) → bytes_eq bytes good_magic ≡ good → are_erased bytes ≡ erased → IsTrue told ↔ IsFree bytes good_magic
+    by : (good erased : Bool) → bytes_eq bytes good_magic ≡ good → are_erased bytes ≡ erased → IsTrue told ↔ IsFree
+        bytes good_magic
     by true erased e all =
         let there : magic ≡ Good = is ∙ ap (λ t. if t then Good else if are_erased bytes then Unset else Bad) e in
         (λ _. inr ((bytes_eq-Decides bytes good_magic).0 e), λ _. tells ∙ ap is_whole_magic there)
     by false true e all =
-        let there : magic ≡ Unset = is ∙ ap (λ t. if t then Good else if are_erased bytes then Unset else Bad) e ∙ ap (λ t. if t then Unset else Bad) all in
+        let there : magic ≡ Unset = is ∙ ap (λ t. if t then Good else if are_erased bytes then Unset else Bad) e ∙ ap
+        (λ t. if t then Unset else Bad) all in
         (λ _. inl all, λ _. tells ∙ ap is_whole_magic there)
     by false false e not_all =
-        let there : magic ≡ Bad = is ∙ ap (λ t. if t then Good else if are_erased bytes then Unset else Bad) e ∙ ap (λ t. if t then Unset else Bad) not_all in
+        let there : magic ≡ Bad = is ∙ ap (λ t. if t then Good else if are_erased bytes then Unset else Bad) e ∙ ap
+        (λ t. if t then Unset else Bad) not_all in
         let untold : told ≡ false = tells ∙ ap is_whole_magic there in (
           λ yes. let wrong : true ≡ false = sym yes ∙ untold in absurd (cc wrong),
-          λ free. ⊎_elim (λ (all : are_erased bytes ≡ true). let wrong : true ≡ false = sym all ∙ not_all in absurd (cc wrong))
-              (λ (same : bytes ≡ good_magic). let wrong : true ≡ false = sym ((bytes_eq-Decides bytes good_magic).1 same) ∙ e in absurd (cc wrong)) free,
+          λ free. ⊎_elim (λ (all : are_erased bytes ≡ true). let wrong : true ≡ false = sym all ∙ not_all in absurd
+              (cc wrong))
+              (λ (same : bytes ≡ good_magic). let wrong : true ≡ false = sym
+              ((bytes_eq-Decides bytes good_magic).1 same) ∙ e in absurd (cc wrong)) free,
         )
 
 -- what tells that a flag isn't torn
-pub tells_flag : (unit : List ℕ) (told : Bool) → told ≡ (bytes_eq unit flag || are_erased unit) → IsTrue told ↔ IsFree unit flag
+pub tells_flag : (unit : List ℕ) (told : Bool) → told ≡ (bytes_eq unit flag || are_erased unit)
+    → IsTrue told ↔ IsFree unit flag
 tells_flag unit told tells = by (bytes_eq unit flag) (are_erased unit) refl refl
   where
     by : (held erased : Bool) → bytes_eq unit flag ≡ held → are_erased unit ≡ erased → IsTrue told ↔ IsFree unit flag
@@ -52,12 +60,15 @@ tells_flag unit told tells = by (bytes_eq unit flag) (are_erased unit) refl refl
     by false false e not_all =
         let untold : told ≡ false = tells ∙ ap (λ t. t || are_erased unit) e ∙ not_all in (
           λ yes. let wrong : true ≡ false = sym yes ∙ untold in absurd (cc wrong),
-          λ free. ⊎_elim (λ (all : are_erased unit ≡ true). let wrong : true ≡ false = sym all ∙ not_all in absurd (cc wrong))
-              (λ (same : unit ≡ flag). let wrong : true ≡ false = sym ((bytes_eq-Decides unit flag).1 same) ∙ e in absurd (cc wrong)) free,
+          λ free. ⊎_elim (λ (all : are_erased unit ≡ true). let wrong : true ≡ false = sym all ∙ not_all in absurd
+              (cc wrong))
+              (λ (same : unit ≡ flag). let wrong : true ≡ false = sym ((bytes_eq-Decides unit flag).1 same) ∙ e in
+              absurd (cc wrong)) free,
         )
 
 -- an erased trailer has no torn unit
-pub erased_whole : (map : SectorMap) (chip : Chip) (image : ℕ) (side : Side) (confirmed : Bool) → are_erased (trailer_bytes map chip image side) ≡ true → IsWhole map chip image side confirmed
+pub erased_whole : (map : SectorMap) (chip : Chip) (image : ℕ) (side : Side) (confirmed : Bool)
+    → are_erased (trailer_bytes map chip image side) ≡ true → IsWhole map chip image side confirmed
 erased_whole map chip image side confirmed all =
     let unit = λ (a b : ℕ). erased_range (trailer_bytes map chip image side) a b all in
     record {
@@ -67,65 +78,93 @@ erased_whole map chip image side confirmed all =
     }
 
 module _ (map : SectorMap) (image : ℕ) (side : Side) (fits : IsMap map) (lt : image < map.images) where
-  ok_beside_copy_done : (old new : Chip) → SameOutside (place_of map image side 32) 8 old new → bytes_at map new image side 24 8 ≡ bytes_at map old image side 24 8
-  ok_beside_copy_done old new same = unit_kept map old new image _ 32 8 24 8 side same fits lt refl (omega arith) (omega arith) (omega arith) (omega arith) (inl (omega arith))
+  ok_beside_copy_done : (old new : Chip) → SameOutside (place_of map image side 32) 8 old new → bytes_at map new image
+      side 24 8 ≡ bytes_at map old image side 24 8
+  ok_beside_copy_done old new same = unit_kept map old new image _ 32 8 24 8 side same fits lt refl (omega arith)
+      (omega arith) (omega arith) (omega arith) (inl (omega arith))
 
-  magic_beside_copy_done : (old new : Chip) → SameOutside (place_of map image side 32) 8 old new → bytes_at map new image side 16 16 ≡ bytes_at map old image side 16 16
-  magic_beside_copy_done old new same = unit_kept map old new image _ 32 8 16 16 side same fits lt refl (omega arith) (omega arith) (omega arith) (omega arith) (inl (omega arith))
+  magic_beside_copy_done : (old new : Chip) → SameOutside (place_of map image side 32) 8 old new → bytes_at map new
+      image side 16 16 ≡ bytes_at map old image side 16 16
+  magic_beside_copy_done old new same = unit_kept map old new image _ 32 8 16 16 side same fits lt refl (omega arith)
+      (omega arith) (omega arith) (omega arith) (inl (omega arith))
 
-  copy_done_beside_ok : (old new : Chip) → SameOutside (place_of map image side 24) 8 old new → bytes_at map new image side 32 8 ≡ bytes_at map old image side 32 8
-  copy_done_beside_ok old new same = unit_kept map old new image _ 24 8 32 8 side same fits lt refl (omega arith) (omega arith) (omega arith) (omega arith) (inr (omega arith))
+  copy_done_beside_ok : (old new : Chip) → SameOutside (place_of map image side 24) 8 old new → bytes_at map new image
+      side 32 8 ≡ bytes_at map old image side 32 8
+  copy_done_beside_ok old new same = unit_kept map old new image _ 24 8 32 8 side same fits lt refl (omega arith)
+      (omega arith) (omega arith) (omega arith) (inr (omega arith))
 
-  magic_beside_ok : (old new : Chip) → SameOutside (place_of map image side 24) 8 old new → bytes_at map new image side 16 16 ≡ bytes_at map old image side 16 16
-  magic_beside_ok old new same = unit_kept map old new image _ 24 8 16 16 side same fits lt refl (omega arith) (omega arith) (omega arith) (omega arith) (inl (omega arith))
+  magic_beside_ok : (old new : Chip) → SameOutside (place_of map image side 24) 8 old new → bytes_at map new image side
+      16 16 ≡ bytes_at map old image side 16 16
+  magic_beside_ok old new same = unit_kept map old new image _ 24 8 16 16 side same fits lt refl (omega arith)
+      (omega arith) (omega arith) (omega arith) (inl (omega arith))
 
-  copy_done_beside_magic : (old new : Chip) → SameOutside (place_of map image side 16) 16 old new → bytes_at map new image side 32 8 ≡ bytes_at map old image side 32 8
-  copy_done_beside_magic old new same = unit_kept map old new image _ 16 16 32 8 side same fits lt refl (omega arith) (omega arith) (omega arith) (omega arith) (inr (omega arith))
+  copy_done_beside_magic : (old new : Chip) → SameOutside (place_of map image side 16) 16 old new → bytes_at map new
+      image side 32 8 ≡ bytes_at map old image side 32 8
+  copy_done_beside_magic old new same = unit_kept map old new image _ 16 16 32 8 side same fits lt refl (omega arith)
+      (omega arith) (omega arith) (omega arith) (inr (omega arith))
 
-  ok_beside_magic : (old new : Chip) → SameOutside (place_of map image side 16) 16 old new → bytes_at map new image side 24 8 ≡ bytes_at map old image side 24 8
-  ok_beside_magic old new same = unit_kept map old new image _ 16 16 24 8 side same fits lt refl (omega arith) (omega arith) (omega arith) (omega arith) (inr (omega arith))
+  ok_beside_magic : (old new : Chip) → SameOutside (place_of map image side 16) 16 old new → bytes_at map new image
+      side 24 8 ≡ bytes_at map old image side 24 8
+  ok_beside_magic old new same = unit_kept map old new image _ 16 16 24 8 side same fits lt refl (omega arith)
+      (omega arith) (omega arith) (omega arith) (inr (omega arith))
 
   -- what is still free after the first unit, and after the second
-  pub ok_still_free : (old new : Chip) (confirmed : Bool) → IsWhole map old image side confirmed → SameOutside (place_of map image side 32) 8 old new
+  pub ok_still_free : (old new : Chip) (confirmed : Bool) → IsWhole map old image side confirmed → SameOutside
+      (place_of map image side 32) 8 old new
       → IsOkFree confirmed (bytes_at map new image side 24 8)
-  ok_still_free old new confirmed whole same = subst (λ (unit : List ℕ). IsOkFree confirmed unit) (sym (ok_beside_copy_done old new same)) whole.image_ok
+  ok_still_free old new confirmed whole same = subst (λ (unit : List ℕ). IsOkFree confirmed unit)
+      (sym (ok_beside_copy_done old new same)) whole.image_ok
 
-  pub magic_still_free : (old mid new : Chip) (confirmed : Bool) → IsWhole map old image side confirmed → SameOutside (place_of map image side 32) 8 old mid → SameOutside (place_of map image side 24) 8 mid new
+  pub magic_still_free : (old mid new : Chip) (confirmed : Bool) → IsWhole map old image side confirmed → SameOutside
+      (place_of map image side 32) 8 old mid → SameOutside (place_of map image side 24) 8 mid new
       → IsFree (bytes_at map new image side 16 16) good_magic
   magic_still_free old mid new confirmed whole a b =
-      subst (λ (units : List ℕ). IsFree units good_magic) (sym (magic_beside_ok mid new b ∙ magic_beside_copy_done old mid a)) whole.magic
+      subst (λ (units : List ℕ). IsFree units good_magic) (sym
+      (magic_beside_ok mid new b ∙ magic_beside_copy_done old mid a)) whole.magic
 
   -- all are written
   pub marked : (old first second new : Chip) (confirmed : Bool) → IsWhole map old image side confirmed
       → SameOutside (place_of map image side 32) 8 old first → bytes_at map first image side 32 8 ≡ flag
-      → SameOutside (place_of map image side 24) 8 first second → (confirmed ≡ true → bytes_at map second image side 24 8 ≡ flag) → (confirmed ≡ false → second ≡ first)
-      → SameOutside (place_of map image side 16) 16 second new → bytes_at map new image side 16 16 ≡ good_magic → HasMarks map new image side confirmed
+      → SameOutside (place_of map image side 24) 8 first second →
+      (confirmed ≡ true → bytes_at map second image side 24 8 ≡ flag) → (confirmed ≡ false → second ≡ first)
+      → SameOutside (place_of map image side 16) 16 second new → bytes_at map new image side 16 16 ≡ good_magic →
+      HasMarks map new image side confirmed
   marked old first second new confirmed whole a done b ok tried c good = record {
     copy_done = copy_done_beside_magic second new c ∙ copy_done_beside_ok first second b ∙ done;
     image_ok = λ e. ok_beside_magic second new c ∙ ok e;
-    tried = λ e. ap (λ (unit : List ℕ). are_erased unit) (ok_beside_magic second new c ∙ ap (λ chip. bytes_at map chip image side 24 8) (tried e) ∙ ok_beside_copy_done old first a) ∙ whole.image_ok.tried e;
+    tried = λ e. ap (λ (unit : List ℕ). are_erased unit) (ok_beside_magic second new c ∙ ap
+        (λ chip. bytes_at map chip image side 24 8) (tried e) ∙ ok_beside_copy_done old first a) ∙ whole.image_ok.tried
+        e;
     magic = good;
   }
 
 -- the writes of the three units leave all other parts
-pub two_alone : (map : SectorMap) (old mid new : Chip) (image : ℕ) (side : Side) → SameOutside (place_of map image side 32) 8 old mid → SameOutside (place_of map image side 24) 8 mid new → IsLaidOut map old → image < map.images
+pub two_alone : (map : SectorMap) (old mid new : Chip) (image : ℕ) (side : Side)
+    → SameOutside (place_of map image side 32) 8 old mid → SameOutside (place_of map image side 24) 8 mid new
+    → IsLaidOut map old → image < map.images
     → Keeps map (only (TrailerOf image side)) old new
 two_alone map old mid new image side a b laid lt =
     let first = units_alone map old mid image _ 32 8 side a laid lt refl (omega arith) (omega arith) in
-    keeps_trans map _ old mid new first (units_alone map mid new image _ 24 8 side b (laid_out_kept map _ old mid laid first) lt refl (omega arith) (omega arith))
+    keeps_trans map _ old mid new first (units_alone map mid new image _ 24 8 side b
+    (laid_out_kept map _ old mid laid first) lt refl (omega arith) (omega arith))
 
-pub three_alone : (map : SectorMap) (old first second new : Chip) (image : ℕ) (side : Side) → SameOutside (place_of map image side 32) 8 old first → SameOutside (place_of map image side 24) 8 first second
-    → SameOutside (place_of map image side 16) 16 second new → IsLaidOut map old → image < map.images → Keeps map (only (TrailerOf image side)) old new
+pub three_alone : (map : SectorMap) (old first second new : Chip) (image : ℕ) (side : Side)
+    → SameOutside (place_of map image side 32) 8 old first → SameOutside (place_of map image side 24) 8 first second
+    → SameOutside (place_of map image side 16) 16 second new → IsLaidOut map old → image < map.images → Keeps map
+    (only (TrailerOf image side)) old new
 three_alone map old first second new image side a b c laid lt =
     let two = two_alone map old first second image side a b laid lt in
-    keeps_trans map _ old second new two (units_alone map second new image _ 16 16 side c (laid_out_kept map _ old second laid two) lt refl (omega arith) (omega arith))
+    keeps_trans map _ old second new two (units_alone map second new image _ 16 16 side c
+    (laid_out_kept map _ old second laid two) lt refl (omega arith) (omega arith))
 
 -- what the units say as fields
-ok_field : (map : SectorMap) (chip : Chip) (image : ℕ) (side : Side) (confirmed : Bool) → HasMarks map chip image side confirmed → (fields_at map chip image side).image_ok ≡ confirmed
+ok_field : (map : SectorMap) (chip : Chip) (image : ℕ) (side : Side) (confirmed : Bool)
+    → HasMarks map chip image side confirmed → (fields_at map chip image side).image_ok ≡ confirmed
 ok_field map chip image side true marks = image_ok_of_flag map chip image side (marks.image_ok refl)
 ok_field map chip image side false marks = image_ok_is map chip image side ∙ ap not (marks.tried refl)
 
-pub settled : (map : SectorMap) (chip : Chip) (image : ℕ) (confirmed : Bool) → HasMarks map chip image Primary confirmed → fields_at map chip image Secondary ≡ erased_fields
+pub settled : (map : SectorMap) (chip : Chip) (image : ℕ) (confirmed : Bool)
+    → HasMarks map chip image Primary confirmed → fields_at map chip image Secondary ≡ erased_fields
     → IsSettled confirmed (fields_at map chip image Primary) (fields_at map chip image Secondary)
 settled map chip image confirmed marks erased = record {
   magic = good_of_bytes map chip image Primary marks.magic;
@@ -135,16 +174,23 @@ settled map chip image confirmed marks erased = record {
 }
 
 -- the secondary trailer stays as the primary one is written
-pub secondary_kept : (map : SectorMap) (old mid new : Chip) (image : ℕ) → fields_at map old image Secondary ≡ erased_fields → Keeps map (only (TrailerOf image Primary)) old mid → Keeps map (only (TrailerOf image Primary)) mid new
+pub secondary_kept : (map : SectorMap) (old mid new : Chip) (image : ℕ)
+    → fields_at map old image Secondary ≡ erased_fields → Keeps map (only (TrailerOf image Primary)) old mid
+    → Keeps map (only (TrailerOf image Primary)) mid new
     → fields_at map new image Secondary ≡ erased_fields
-secondary_kept map old mid new image erased a b = fields_kept map _ mid new image Secondary b (beside image) ∙ fields_kept map _ old mid image Secondary a (beside image) ∙ erased
+secondary_kept map old mid new image erased a b = fields_kept map _ mid new image Secondary b (beside image) ∙
+    fields_kept map _ old mid image Secondary a (beside image) ∙ erased
   where
     beside : (i : ℕ) → only (TrailerOf i Primary) (TrailerOf i Secondary) ≡ false
     beside i = grind arith
 
 -- the trailers of one image
-pub one_of_trailers : (map : SectorMap) (old new : Chip) (image : ℕ) (side : Side) → Keeps map (only (TrailerOf image side)) old new → Keeps map (trailers_of image) old new
+pub one_of_trailers : (map : SectorMap) (old new : Chip) (image : ℕ) (side : Side)
+    → Keeps map (only (TrailerOf image side)) old new → Keeps map (trailers_of image) old new
 one_of_trailers map old new image side a = keeps_wider map _ (trailers_of image) old new (trailer_of_both image side) a
 
-pub both_trailers : (map : SectorMap) (old mid new : Chip) (image : ℕ) (side : Side) → Keeps map (trailers_of image) old mid → Keeps map (only (TrailerOf image side)) mid new → Keeps map (trailers_of image) old new
-both_trailers map old mid new image side a b = keeps_trans map (trailers_of image) old mid new a (one_of_trailers map mid new image side b)
+pub both_trailers : (map : SectorMap) (old mid new : Chip) (image : ℕ) (side : Side)
+    → Keeps map (trailers_of image) old mid → Keeps map (only (TrailerOf image side)) mid new
+    → Keeps map (trailers_of image) old new
+both_trailers map old mid new image side a b = keeps_trans map (trailers_of image) old mid new a
+    (one_of_trailers map mid new image side b)

@@ -1,10 +1,10 @@
 -- A write of a unit of a trailer changes its own field alone.
-use Rattle.std.proofs.Common.{◌≡◌, ◌⊎◌, ℕ, ◌+◌, ◌-◌, ◌*◌, ◌<◌, ◌≤◌, Bool, false, Option, arith, ◌∙◌, ap, refl, sym, inl, inr, ⊎_elim, List, slice_range}
+use Rattle.std.proofs.Common.{◌≡◌, ◌⊎◌, ℕ, ◌+◌, ◌*◌, ◌<◌, ◌≤◌, Bool, false, Option, arith, ◌∙◌, ap, refl, inl, inr, ⊎_elim, slice_range}
 use Rattle.flash_model.specs.Chip.{Chip, SameOutside}
 use Rattle.sector_map.specs.declared.layout.SectorMap.{SectorMap}
 use Rattle.sector_map.specs.declared.layout.Side.{Side}
 use Rattle.sector_map.specs.Part.{Part, TrailerOf}
-use Rattle.sector_map.specs.Map.{start_of, slot_sectors, IsMap, IsLaidOut, Keeps}
+use Rattle.sector_map.specs.Map.{slot_sectors, IsMap, Keeps}
 use Rattle.trailer.specs.declared.kinds.Magic.{Magic}
 use Rattle.trailer.specs.Fields.{are_erased, is_set, magic_in, size_in, bytes_in, fields_in, fields_at, trailer_bytes, Fields, place_of}
 use Rattle.trailer.proofs.Places.{range_besides, trailer_size}
@@ -13,7 +13,8 @@ fields : Magic → Bool → Bool → Bool → Option ℕ → Bool → Fields
 fields m c o w s f = record { magic = m; copy_done = c; image_ok = o; withdrawn = w; size = s; is_fresh = f }
 
 -- the same field by field is the same
-pub same_fields : (a b : Fields) → a.magic ≡ b.magic → a.copy_done ≡ b.copy_done → a.image_ok ≡ b.image_ok → a.withdrawn ≡ b.withdrawn → a.size ≡ b.size → a.is_fresh ≡ b.is_fresh → a ≡ b
+pub same_fields : (a b : Fields) → a.magic ≡ b.magic → a.copy_done ≡ b.copy_done → a.image_ok ≡ b.image_ok
+    → a.withdrawn ≡ b.withdrawn → a.size ≡ b.size → a.is_fresh ≡ b.is_fresh → a ≡ b
 unfolding fields
 same_fields a b m c o w s f =
     ap (λ x. fields x a.copy_done a.image_ok a.withdrawn a.size a.is_fresh) m
@@ -24,83 +25,114 @@ same_fields a b m c o w s f =
     ∙ ap (λ x. fields b.magic b.copy_done b.image_ok b.withdrawn b.size x) f
 
 -- a unit beside the one that is written
-pub unit_kept : (map : SectorMap) (old new : Chip) (image at own size from_end n : ℕ) (side : Side) → SameOutside at size old new → IsMap map → image < map.images
-    → at ≡ place_of map image side own → size ≤ own → own ≤ 56 → n ≤ from_end → from_end ≤ 56 → (from_end + size ≤ own) ⊎ (own + n ≤ from_end)
-    → bytes_in map.sector_size (trailer_bytes map new image side) from_end n ≡ bytes_in map.sector_size (trailer_bytes map old image side) from_end n
+pub unit_kept : (map : SectorMap) (old new : Chip) (image at own size from_end n : ℕ) (side : Side)
+    → SameOutside at size old new → IsMap map → image < map.images
+    → at ≡ place_of map image side own → size ≤ own → own ≤ 56 → n ≤ from_end → from_end ≤ 56 → (from_end + size ≤ own)
+    ⊎ (own + n ≤ from_end)
+    → bytes_in map.sector_size (trailer_bytes map new image side) from_end n ≡ bytes_in map.sector_size
+    (trailer_bytes map old image side) from_end n
 unit_kept map old new image at own size from_end n side same fits lt is small own_le n_le le apart =
-    range_besides map old new (TrailerOf image side) at size _ _ same (omega (arith, trailer_size map image side fits lt, fits.trailers image))
-    (⊎_elim (λ (l : from_end + size ≤ own). inr (omega (arith, fits.trailers image))) (λ (r : own + n ≤ from_end). inl (omega (arith, fits.trailers image))) apart)
+    range_besides map old new (TrailerOf image side) at size _ _ same
+    (omega (arith, trailer_size map image side fits lt, fits.trailers image))
+    (⊎_elim (λ (l : from_end + size ≤ own). inr (omega (arith, fits.trailers image)))
+    (λ (r : own + n ≤ from_end). inl (omega (arith, fits.trailers image))) apart)
 
 -- the status units lie before all others
-pub status_kept : (map : SectorMap) (old new : Chip) (image at own size : ℕ) (side : Side) → SameOutside at size old new → IsMap map → image < map.images
+pub status_kept : (map : SectorMap) (old new : Chip) (image at own size : ℕ) (side : Side)
+    → SameOutside at size old new → IsMap map → image < map.images
     → at ≡ place_of map image side own → own ≤ 56
-    → slice_range (trailer_bytes map new image side) 0 (24 * slot_sectors map image) ≡ slice_range (trailer_bytes map old image side) 0 (24 * slot_sectors map image)
+    → slice_range (trailer_bytes map new image side) 0 (24 * slot_sectors map image) ≡ slice_range
+    (trailer_bytes map old image side) 0 (24 * slot_sectors map image)
 status_kept map old new image at own size side same fits lt is own_le =
-    range_besides map old new (TrailerOf image side) at size 0 _ same (omega (arith, trailer_size map image side fits lt, fits.trailers image)) (inl (omega (arith, fits.trailers image)))
+    range_besides map old new (TrailerOf image side) at size 0 _ same
+    (omega (arith, trailer_size map image side fits lt, fits.trailers image))
+    (inl (omega (arith, fits.trailers image)))
 
-module _ (map : SectorMap) (old new : Chip) (image at : ℕ) (side : Side) (fits : IsMap map) (lt : image < map.images) where
-  pub own_withdrawn : SameOutside at 8 old new → at ≡ place_of map image side 56
-      → fields_at map new image side ≡ record (fields_at map old image side) { withdrawn = (fields_at map new image side).withdrawn }
-  unfolding fields_at fields_in
-  own_withdrawn same is =
-      let kept = λ (from_end n : ℕ) (n_le : n ≤ from_end) (le : from_end ≤ 56) (apart : (from_end + 8 ≤ 56) ⊎ (56 + n ≤ from_end)). unit_kept map old new image at 56 8 from_end n side same fits lt is (omega arith) (omega arith) n_le le apart in
-      same_fields _ _ (ap magic_in (kept 16 16 (omega arith) (omega arith) (inl (omega arith))))
-      (ap is_set (kept 32 8 (omega arith) (omega arith) (inl (omega arith))))
-      (ap is_set (kept 24 8 (omega arith) (omega arith) (inl (omega arith))))
-      refl
-      (ap (size_in (slot_sectors map image * map.sector_size)) (kept 48 8 (omega arith) (omega arith) (inl (omega arith))))
-      (ap are_erased (status_kept map old new image at 56 8 side same fits lt is (omega arith)))
+module _ (map : SectorMap) (old new : Chip) (image at : ℕ) (side : Side) (fits : IsMap map) (lt : image < map.images)
+  where
+    pub own_withdrawn : SameOutside at 8 old new → at ≡ place_of map image side 56
+        → fields_at map new image side ≡ record (fields_at map old image side)
+        { withdrawn = (fields_at map new image side).withdrawn }
+    unfolding fields_at fields_in
+    own_withdrawn same is =
+        let kept = λ (from_end n : ℕ) (n_le : n ≤ from_end) (le : from_end ≤ 56)
+        (apart : (from_end + 8 ≤ 56) ⊎ (56 + n ≤ from_end)). unit_kept map old new image at 56 8 from_end n side same
+        fits lt is (omega arith) (omega arith) n_le le apart in
+        same_fields _ _ (ap magic_in (kept 16 16 (omega arith) (omega arith) (inl (omega arith))))
+        (ap is_set (kept 32 8 (omega arith) (omega arith) (inl (omega arith))))
+        (ap is_set (kept 24 8 (omega arith) (omega arith) (inl (omega arith))))
+        refl
+        (ap (size_in (slot_sectors map image * map.sector_size))
+        (kept 48 8 (omega arith) (omega arith) (inl (omega arith))))
+        (ap are_erased (status_kept map old new image at 56 8 side same fits lt is (omega arith)))
 
-  pub own_size : SameOutside at 8 old new → at ≡ place_of map image side 48
-      → fields_at map new image side ≡ record (fields_at map old image side) { size = (fields_at map new image side).size }
-  unfolding fields_at fields_in
-  own_size same is =
-      let kept = λ (from_end n : ℕ) (n_le : n ≤ from_end) (le : from_end ≤ 56) (apart : (from_end + 8 ≤ 48) ⊎ (48 + n ≤ from_end)). unit_kept map old new image at 48 8 from_end n side same fits lt is (omega arith) (omega arith) n_le le apart in
-      same_fields _ _ (ap magic_in (kept 16 16 (omega arith) (omega arith) (inl (omega arith))))
-      (ap is_set (kept 32 8 (omega arith) (omega arith) (inl (omega arith))))
-      (ap is_set (kept 24 8 (omega arith) (omega arith) (inl (omega arith))))
-      (ap is_set (kept 56 8 (omega arith) (omega arith) (inr (omega arith))))
-      refl
-      (ap are_erased (status_kept map old new image at 48 8 side same fits lt is (omega arith)))
+    pub own_size : SameOutside at 8 old new → at ≡ place_of map image side 48
+        → fields_at map new image side ≡ record (fields_at map old image side)
+        { size = (fields_at map new image side).size }
+    unfolding fields_at fields_in
+    own_size same is =
+        let kept = λ (from_end n : ℕ) (n_le : n ≤ from_end) (le : from_end ≤ 56)
+        (apart : (from_end + 8 ≤ 48) ⊎ (48 + n ≤ from_end)). unit_kept map old new image at 48 8 from_end n side same
+        fits lt is (omega arith) (omega arith) n_le le apart in
+        same_fields _ _ (ap magic_in (kept 16 16 (omega arith) (omega arith) (inl (omega arith))))
+        (ap is_set (kept 32 8 (omega arith) (omega arith) (inl (omega arith))))
+        (ap is_set (kept 24 8 (omega arith) (omega arith) (inl (omega arith))))
+        (ap is_set (kept 56 8 (omega arith) (omega arith) (inr (omega arith))))
+        refl
+        (ap are_erased (status_kept map old new image at 48 8 side same fits lt is (omega arith)))
 
-  pub own_copy_done : SameOutside at 8 old new → at ≡ place_of map image side 32
-      → fields_at map new image side ≡ record (fields_at map old image side) { copy_done = (fields_at map new image side).copy_done }
-  unfolding fields_at fields_in
-  own_copy_done same is =
-      let kept = λ (from_end n : ℕ) (n_le : n ≤ from_end) (le : from_end ≤ 56) (apart : (from_end + 8 ≤ 32) ⊎ (32 + n ≤ from_end)). unit_kept map old new image at 32 8 from_end n side same fits lt is (omega arith) (omega arith) n_le le apart in
-      same_fields _ _ (ap magic_in (kept 16 16 (omega arith) (omega arith) (inl (omega arith))))
-      refl
-      (ap is_set (kept 24 8 (omega arith) (omega arith) (inl (omega arith))))
-      (ap is_set (kept 56 8 (omega arith) (omega arith) (inr (omega arith))))
-      (ap (size_in (slot_sectors map image * map.sector_size)) (kept 48 8 (omega arith) (omega arith) (inr (omega arith))))
-      (ap are_erased (status_kept map old new image at 32 8 side same fits lt is (omega arith)))
+    pub own_copy_done : SameOutside at 8 old new → at ≡ place_of map image side 32
+        → fields_at map new image side ≡ record (fields_at map old image side)
+        { copy_done = (fields_at map new image side).copy_done }
+    unfolding fields_at fields_in
+    own_copy_done same is =
+        let kept = λ (from_end n : ℕ) (n_le : n ≤ from_end) (le : from_end ≤ 56)
+        (apart : (from_end + 8 ≤ 32) ⊎ (32 + n ≤ from_end)). unit_kept map old new image at 32 8 from_end n side same
+        fits lt is (omega arith) (omega arith) n_le le apart in
+        same_fields _ _ (ap magic_in (kept 16 16 (omega arith) (omega arith) (inl (omega arith))))
+        refl
+        (ap is_set (kept 24 8 (omega arith) (omega arith) (inl (omega arith))))
+        (ap is_set (kept 56 8 (omega arith) (omega arith) (inr (omega arith))))
+        (ap (size_in (slot_sectors map image * map.sector_size))
+        (kept 48 8 (omega arith) (omega arith) (inr (omega arith))))
+        (ap are_erased (status_kept map old new image at 32 8 side same fits lt is (omega arith)))
 
-  pub own_image_ok : SameOutside at 8 old new → at ≡ place_of map image side 24
-      → fields_at map new image side ≡ record (fields_at map old image side) { image_ok = (fields_at map new image side).image_ok }
-  unfolding fields_at fields_in
-  own_image_ok same is =
-      let kept = λ (from_end n : ℕ) (n_le : n ≤ from_end) (le : from_end ≤ 56) (apart : (from_end + 8 ≤ 24) ⊎ (24 + n ≤ from_end)). unit_kept map old new image at 24 8 from_end n side same fits lt is (omega arith) (omega arith) n_le le apart in
-      same_fields _ _ (ap magic_in (kept 16 16 (omega arith) (omega arith) (inl (omega arith))))
-      (ap is_set (kept 32 8 (omega arith) (omega arith) (inr (omega arith))))
-      refl
-      (ap is_set (kept 56 8 (omega arith) (omega arith) (inr (omega arith))))
-      (ap (size_in (slot_sectors map image * map.sector_size)) (kept 48 8 (omega arith) (omega arith) (inr (omega arith))))
-      (ap are_erased (status_kept map old new image at 24 8 side same fits lt is (omega arith)))
+    pub own_image_ok : SameOutside at 8 old new → at ≡ place_of map image side 24
+        → fields_at map new image side ≡ record (fields_at map old image side)
+        { image_ok = (fields_at map new image side).image_ok }
+    unfolding fields_at fields_in
+    own_image_ok same is =
+        let kept = λ (from_end n : ℕ) (n_le : n ≤ from_end) (le : from_end ≤ 56)
+        (apart : (from_end + 8 ≤ 24) ⊎ (24 + n ≤ from_end)). unit_kept map old new image at 24 8 from_end n side same
+        fits lt is (omega arith) (omega arith) n_le le apart in
+        same_fields _ _ (ap magic_in (kept 16 16 (omega arith) (omega arith) (inl (omega arith))))
+        (ap is_set (kept 32 8 (omega arith) (omega arith) (inr (omega arith))))
+        refl
+        (ap is_set (kept 56 8 (omega arith) (omega arith) (inr (omega arith))))
+        (ap (size_in (slot_sectors map image * map.sector_size))
+        (kept 48 8 (omega arith) (omega arith) (inr (omega arith))))
+        (ap are_erased (status_kept map old new image at 24 8 side same fits lt is (omega arith)))
 
-  pub own_magic : SameOutside at 16 old new → at ≡ place_of map image side 16
-      → fields_at map new image side ≡ record (fields_at map old image side) { magic = (fields_at map new image side).magic }
-  unfolding fields_at fields_in
-  own_magic same is =
-      let kept = λ (from_end n : ℕ) (n_le : n ≤ from_end) (le : from_end ≤ 56) (apart : (from_end + 16 ≤ 16) ⊎ (16 + n ≤ from_end)). unit_kept map old new image at 16 16 from_end n side same fits lt is (omega arith) (omega arith) n_le le apart in
-      same_fields _ _ refl
-      (ap is_set (kept 32 8 (omega arith) (omega arith) (inr (omega arith))))
-      (ap is_set (kept 24 8 (omega arith) (omega arith) (inr (omega arith))))
-      (ap is_set (kept 56 8 (omega arith) (omega arith) (inr (omega arith))))
-      (ap (size_in (slot_sectors map image * map.sector_size)) (kept 48 8 (omega arith) (omega arith) (inr (omega arith))))
-      (ap are_erased (status_kept map old new image at 16 16 side same fits lt is (omega arith)))
+    pub own_magic : SameOutside at 16 old new → at ≡ place_of map image side 16
+        → fields_at map new image side ≡ record (fields_at map old image side)
+        { magic = (fields_at map new image side).magic }
+    unfolding fields_at fields_in
+    own_magic same is =
+        let kept = λ (from_end n : ℕ) (n_le : n ≤ from_end) (le : from_end ≤ 56)
+        (apart : (from_end + 16 ≤ 16) ⊎ (16 + n ≤ from_end)). unit_kept map old new image at 16 16 from_end n side
+        same fits lt is (omega arith) (omega arith) n_le le apart in
+        same_fields _ _ refl
+        (ap is_set (kept 32 8 (omega arith) (omega arith) (inr (omega arith))))
+        (ap is_set (kept 24 8 (omega arith) (omega arith) (inr (omega arith))))
+        (ap is_set (kept 56 8 (omega arith) (omega arith) (inr (omega arith))))
+        (ap (size_in (slot_sectors map image * map.sector_size))
+        (kept 48 8 (omega arith) (omega arith) (inr (omega arith))))
+        (ap are_erased (status_kept map old new image at 16 16 side same fits lt is (omega arith)))
 
 -- a trailer that isn't touched keeps its fields
-pub fields_kept : (map : SectorMap) (touched : Part → Bool) (old new : Chip) (image : ℕ) (side : Side) → Keeps map touched old new → touched (TrailerOf image side) ≡ false
+pub fields_kept : (map : SectorMap) (touched : Part → Bool) (old new : Chip) (image : ℕ) (side : Side)
+    → Keeps map touched old new → touched (TrailerOf image side) ≡ false
     → fields_at map new image side ≡ fields_at map old image side
 unfolding fields_at
-fields_kept map touched old new image side keeps e = ap (fields_in (slot_sectors map image) map.sector_size) (keeps.parts (TrailerOf image side) e)
+fields_kept map touched old new image side keeps e = ap (fields_in (slot_sectors map image) map.sector_size)
+    (keeps.parts (TrailerOf image side) e)

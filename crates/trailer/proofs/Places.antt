@@ -1,5 +1,5 @@
 -- Where trailers and slots lie, and the bytes of a part by offset.
-use Rattle.std.proofs.Common.{◌≡◌, ◌⊎◌, ℕ, ◌+◌, ◌-◌, ◌*◌, ◌/◌, ◌%◌, ◌^◌, ◌<◌, ◌≤◌, arith, sym, ◌∙◌, ap, subst, refl, List, length, slice_index, slice_range, min, inl, inr, ⊎_elim}
+use Rattle.std.proofs.Common.{◌≡◌, ◌⊎◌, ℕ, ◌+◌, ◌-◌, ◌*◌, ◌/◌, ◌%◌, ◌^◌, ◌<◌, ◌≤◌, arith, sym, ◌∙◌, ap, List, length, slice_range, min, inl, inr, ⊎_elim}
 use Rattle.flash_model.specs.Chip.{Chip, Reads, SameOutside, size_of}
 use Rattle.flash_model.proofs.Frame.{product_le}
 use Rattle.flash_model.proofs.Units.{aligned}
@@ -7,20 +7,23 @@ use Rattle.flash_model.proofs.Ranges.{length_range, range_same, range_of_reads}
 use Rattle.sector_map.specs.declared.layout.SectorMap.{SectorMap}
 use Rattle.sector_map.specs.declared.layout.Side.{Side}
 use Rattle.sector_map.specs.Part.{Part, Slot, TrailerOf, only}
-use Rattle.sector_map.specs.Map.{slot_sectors, first_of, count_of, start_of, length_of, sectors_of, IsMap, IsLaidOut, IsIn, Keeps, part_of}
+use Rattle.sector_map.specs.Map.{first_of, count_of, start_of, length_of, sectors_of, IsMap, IsLaidOut, IsIn, Keeps, part_of}
 use Rattle.sector_map.proofs.Places.{first_within}
 use Rattle.sector_map.proofs.Products.{mul_le}
 use Rattle.sector_map.proofs.PartBytes.{part_inside, part_kept_at, range_of_part, keeps_write, keeps_erase}
-use Rattle.trailer.specs.Fields.{trailer_bytes, bytes_in, bytes_at, place_of}
+use Rattle.trailer.specs.Fields.{bytes_at, place_of}
 
-pub some_slot : (map : SectorMap) (image : ℕ) (side : Side) → IsMap map → image < map.images → 0 < count_of map (Slot image side)
+pub some_slot : (map : SectorMap) (image : ℕ) (side : Side) → IsMap map → image < map.images
+    → 0 < count_of map (Slot image side)
 some_slot map image side fits lt = fits.counts.some image lt
 
-pub some_trailer : (map : SectorMap) (image : ℕ) (side : Side) → IsMap map → image < map.images → 0 < count_of map (TrailerOf image side)
+pub some_trailer : (map : SectorMap) (image : ℕ) (side : Side) → IsMap map → image < map.images
+    → 0 < count_of map (TrailerOf image side)
 some_trailer map image side fits lt = omega (arith, fits.counts.some image lt)
 
 -- a trailer is one sector
-pub trailer_size : (map : SectorMap) (image : ℕ) (side : Side) → IsMap map → image < map.images → length_of map (TrailerOf image side) ≡ map.sector_size
+pub trailer_size : (map : SectorMap) (image : ℕ) (side : Side) → IsMap map → image < map.images
+    → length_of map (TrailerOf image side) ≡ map.sector_size
 trailer_size map image side fits lt =
     let one : count_of map (TrailerOf image side) ≡ 1 = omega (arith, fits.counts.some image lt) in
     ap (λ n. n * map.sector_size) one ∙ omega arith
@@ -30,73 +33,127 @@ pub sector_of_part : (map : SectorMap) (part : Part) → 0 < count_of map part �
 sector_of_part map part some = omega (arith, mul_le 1 (count_of map part) map.sector_size some)
 
 -- the first sector of a part has addresses
-pub part_addressed : (map : SectorMap) (part : Part) → IsMap map → 0 < count_of map part → start_of map part + map.sector_size < 2 ^ 32
-part_addressed map part fits some = omega (arith, product_le (first_of map part) (sectors_of map) map.sector_size (first_within map part fits some), fits.addressed)
+pub part_addressed : (map : SectorMap) (part : Part) → IsMap map → 0 < count_of map part
+    → start_of map part + map.sector_size < 2 ^ 32
+part_addressed map part fits some = omega (
+  arith,
+  product_le (first_of map part) (sectors_of map) map.sector_size
+      (first_within map part fits some),
+  fits.addressed,
+)
 
 -- a write leaves the other bytes of a part
-pub range_besides : (map : SectorMap) (old new : Chip) (part : Part) (at n a b : ℕ) → SameOutside at n old new → b ≤ length_of map part
-    → (start_of map part + b ≤ at) ⊎ (at + n ≤ start_of map part + a) → slice_range (part_of map new part) a b ≡ slice_range (part_of map old part) a b
+pub range_besides : (map : SectorMap) (old new : Chip) (part : Part) (at n a b : ℕ) → SameOutside at n old new
+    → b ≤ length_of map part
+    → (start_of map part + b ≤ at) ⊎ (at + n ≤ start_of map part + a) → slice_range (part_of map new part) a b ≡
+    slice_range (part_of map old part) a b
 unfolding part_of
 range_besides map old new part at n a b same le apart =
     range_same a b (part_of map old part) (part_of map new part)
-    (length_range new.bytes _ _ ∙ ap (λ m. min ((first_of map part + count_of map part) * map.sector_size - start_of map part) (m - start_of map part)) same.size ∙ sym (length_range old.bytes _ _))
+    (length_range new.bytes _ _ ∙ ap (λ m. min ((first_of map part + count_of map part) * map.sector_size - start_of
+    map part) (m - start_of map part)) same.size ∙ sym (length_range old.bytes _ _))
     (λ k low high. part_kept_at map part at n k old new same (omega arith)
-    (⊎_elim (λ (l : start_of map part + b ≤ at). inl (omega arith)) (λ (r : at + n ≤ start_of map part + a). inr (omega arith)) apart))
+    (⊎_elim (λ (l : start_of map part + b ≤ at). inl (omega arith))
+    (λ (r : at + n ≤ start_of map part + a). inr (omega arith)) apart))
 
 -- trailers ..
-pub trailer_within : (map : SectorMap) (chip : Chip) (image : ℕ) (side : Side) → IsLaidOut map chip → image < map.images → first_of map (TrailerOf image side) < chip.sectors
-trailer_within map chip image side laid lt = omega (arith, first_within map (TrailerOf image side) laid.is_map (some_trailer map image side laid.is_map lt), laid.sectors)
+pub trailer_within : (map : SectorMap) (chip : Chip) (image : ℕ) (side : Side) → IsLaidOut map chip
+    → image < map.images → first_of map (TrailerOf image side) < chip.sectors
+trailer_within map chip image side laid lt = omega (
+  arith,
+  first_within map (TrailerOf image side) laid.is_map
+      (some_trailer map image side laid.is_map lt),
+  laid.sectors,
+)
 
-pub trailer_fits : (map : SectorMap) (chip : Chip) (image : ℕ) (side : Side) → IsLaidOut map chip → image < map.images → start_of map (TrailerOf image side) + map.sector_size ≤ size_of chip
+pub trailer_fits : (map : SectorMap) (chip : Chip) (image : ℕ) (side : Side) → IsLaidOut map chip → image < map.images
+    → start_of map (TrailerOf image side) + map.sector_size ≤ size_of chip
 trailer_fits map chip image side laid lt =
-    omega (arith, part_inside map chip (TrailerOf image side) laid (some_trailer map image side laid.is_map lt), sector_of_part map (TrailerOf image side) (some_trailer map image side laid.is_map lt))
+    omega (
+      arith,
+      part_inside map chip (TrailerOf image side) laid (some_trailer map image side laid.is_map lt),
+      sector_of_part map (TrailerOf image side) (some_trailer map image side laid.is_map lt),
+    )
 
-pub trailer_addressed : (map : SectorMap) (image : ℕ) (side : Side) → IsMap map → image < map.images → start_of map (TrailerOf image side) + map.sector_size < 2 ^ 32
-trailer_addressed map image side fits lt = part_addressed map (TrailerOf image side) fits (some_trailer map image side fits lt)
+pub trailer_addressed : (map : SectorMap) (image : ℕ) (side : Side) → IsMap map → image < map.images
+    → start_of map (TrailerOf image side) + map.sector_size < 2 ^ 32
+trailer_addressed map image side fits lt = part_addressed map (TrailerOf image side) fits
+    (some_trailer map image side fits lt)
 
-first_in : (map : SectorMap) (part : Part) (sector : ℕ) → sector ≡ first_of map part → 0 < count_of map part → IsIn map part sector
+first_in : (map : SectorMap) (part : Part) (sector : ℕ) → sector ≡ first_of map part → 0 < count_of map part
+    → IsIn map part sector
 first_in map part sector is some = record { low = omega arith; high = omega arith }
 
-pub trailer_alone : (map : SectorMap) (old new : Chip) (image sector : ℕ) (side : Side) → SameOutside (sector * old.sector_size) old.sector_size old new → IsLaidOut map old → image < map.images
+pub trailer_alone : (map : SectorMap) (old new : Chip) (image sector : ℕ) (side : Side)
+    → SameOutside (sector * old.sector_size) old.sector_size old new → IsLaidOut map old → image < map.images
     → sector ≡ first_of map (TrailerOf image side) → Keeps map (only (TrailerOf image side)) old new
 trailer_alone map old new image sector side same laid lt is =
-    keeps_erase map (TrailerOf image side) sector old new laid same (first_in map (TrailerOf image side) sector is (some_trailer map image side laid.is_map lt))
+    keeps_erase map (TrailerOf image side) sector old new laid same
+    (first_in map (TrailerOf image side) sector is (some_trailer map image side laid.is_map lt))
 
 -- .. and slots
-pub slot_within : (map : SectorMap) (chip : Chip) (image : ℕ) (side : Side) → IsLaidOut map chip → image < map.images → first_of map (Slot image side) < chip.sectors
-slot_within map chip image side laid lt = omega (arith, first_within map (Slot image side) laid.is_map (some_slot map image side laid.is_map lt), laid.sectors)
+pub slot_within : (map : SectorMap) (chip : Chip) (image : ℕ) (side : Side) → IsLaidOut map chip → image < map.images
+    → first_of map (Slot image side) < chip.sectors
+slot_within map chip image side laid lt = omega (
+  arith,
+  first_within map (Slot image side) laid.is_map
+      (some_slot map image side laid.is_map lt),
+  laid.sectors,
+)
 
-pub slot_fits : (map : SectorMap) (chip : Chip) (image : ℕ) (side : Side) → IsLaidOut map chip → image < map.images → start_of map (Slot image side) + map.sector_size ≤ size_of chip
+pub slot_fits : (map : SectorMap) (chip : Chip) (image : ℕ) (side : Side) → IsLaidOut map chip → image < map.images
+    → start_of map (Slot image side) + map.sector_size ≤ size_of chip
 slot_fits map chip image side laid lt =
-    omega (arith, part_inside map chip (Slot image side) laid (some_slot map image side laid.is_map lt), sector_of_part map (Slot image side) (some_slot map image side laid.is_map lt))
+    omega (
+      arith,
+      part_inside map chip (Slot image side) laid (some_slot map image side laid.is_map lt),
+      sector_of_part
+          map (Slot image side) (some_slot map image side laid.is_map lt),
+    )
 
-pub slot_alone : (map : SectorMap) (old new : Chip) (image sector : ℕ) (side : Side) → SameOutside (sector * old.sector_size) old.sector_size old new → IsLaidOut map old → image < map.images
+pub slot_alone : (map : SectorMap) (old new : Chip) (image sector : ℕ) (side : Side)
+    → SameOutside (sector * old.sector_size) old.sector_size old new → IsLaidOut map old → image < map.images
     → sector ≡ first_of map (Slot image side) → Keeps map (only (Slot image side)) old new
 slot_alone map old new image sector side same laid lt is =
-    keeps_erase map (Slot image side) sector old new laid same (first_in map (Slot image side) sector is (some_slot map image side laid.is_map lt))
+    keeps_erase map (Slot image side) sector old new laid same
+    (first_in map (Slot image side) sector is (some_slot map image side laid.is_map lt))
 
 -- a place in a trailer lies in the flash, at a whole unit
-pub place_fits : (map : SectorMap) (chip : Chip) (image from_end : ℕ) (side : Side) → IsLaidOut map chip → image < map.images → from_end ≤ 56
+pub place_fits : (map : SectorMap) (chip : Chip) (image from_end : ℕ) (side : Side) → IsLaidOut map chip
+    → image < map.images → from_end ≤ 56
     → place_of map image side from_end + from_end ≤ size_of chip
-place_fits map chip image from_end side laid lt le = omega (arith, trailer_fits map chip image side laid lt, laid.is_map.trailers image)
+place_fits map chip image from_end side laid lt le = omega (
+  arith,
+  trailer_fits map chip image side laid lt,
+  laid.is_map.trailers image,
+)
 
-pub place_aligned : (map : SectorMap) (image from_end : ℕ) (side : Side) → IsMap map → from_end ≤ map.sector_size → from_end % 8 ≡ 0 → place_of map image side from_end % 8 ≡ 0
+pub place_aligned : (map : SectorMap) (image from_end : ℕ) (side : Side) → IsMap map → from_end ≤ map.sector_size
+    → from_end % 8 ≡ 0 → place_of map image side from_end % 8 ≡ 0
 place_aligned map image from_end side fits le unit =
     let units : 8 * (map.sector_size / 8) ≡ map.sector_size = omega (arith, fits.sector.blocks) in
     omega (arith, aligned (first_of map (TrailerOf image side)) map.sector_size units, units)
 
 -- what is read at a place of a trailer
-pub read_of_trailer : (map : SectorMap) (chip : Chip) (image at from_end n : ℕ) (side : Side) (bytes : List ℕ) → Reads chip at bytes → at ≡ place_of map image side from_end
-    → n ≡ length bytes → n ≤ from_end → from_end ≤ map.sector_size → IsLaidOut map chip → image < map.images → bytes_at map chip image side from_end n ≡ bytes
+pub read_of_trailer : (map : SectorMap) (chip : Chip) (image at from_end n : ℕ) (side : Side) (bytes : List ℕ)
+    → Reads chip at bytes → at ≡ place_of map image side from_end
+    → n ≡ length bytes → n ≤ from_end → from_end ≤ map.sector_size → IsLaidOut map chip → image < map.images → bytes_at
+    map chip image side from_end n ≡ bytes
 read_of_trailer map chip image at from_end n side bytes reads is long within_end le laid lt =
     let start = start_of map (TrailerOf image side) in
-    range_of_part map chip (TrailerOf image side) (map.sector_size - from_end) (map.sector_size - from_end + n) laid (omega (arith, trailer_size map image side laid.is_map lt))
-    ∙ ap (λ k. slice_range chip.bytes (start + (map.sector_size - from_end)) k) (let e : start + (map.sector_size - from_end + n) ≡ start + (map.sector_size - from_end) + length bytes = omega arith in e)
+    range_of_part map chip (TrailerOf image side) (map.sector_size - from_end) (map.sector_size - from_end + n) laid
+    (omega (arith, trailer_size map image side laid.is_map lt))
+    ∙ ap (λ k. slice_range chip.bytes (start + (map.sector_size - from_end)) k)
+    (let e : start + (map.sector_size - from_end + n) ≡ start + (map.sector_size - from_end) + length bytes = omega
+    arith in e)
     ∙ ap (λ k. slice_range chip.bytes k (k + length bytes)) (sym is)
     ∙ range_of_reads chip at bytes reads (omega (arith, trailer_fits map chip image side laid lt, laid.whole))
 
 -- a write of units of a trailer leaves all other parts
-pub units_alone : (map : SectorMap) (old new : Chip) (image at from_end n : ℕ) (side : Side) → SameOutside at n old new → IsLaidOut map old → image < map.images
-    → at ≡ place_of map image side from_end → n ≤ from_end → from_end ≤ 56 → Keeps map (only (TrailerOf image side)) old new
+pub units_alone : (map : SectorMap) (old new : Chip) (image at from_end n : ℕ) (side : Side) → SameOutside at n old new
+    → IsLaidOut map old → image < map.images
+    → at ≡ place_of map image side from_end → n ≤ from_end → from_end ≤ 56 → Keeps map (only (TrailerOf image side))
+    old new
 units_alone map old new image at from_end n side same laid lt is room le =
-    keeps_write map (TrailerOf image side) (map.sector_size - from_end) at n old new laid same is (omega (arith, trailer_size map image side laid.is_map lt, laid.is_map.trailers image))
+    keeps_write map (TrailerOf image side) (map.sector_size - from_end) at n old new laid same is
+    (omega (arith, trailer_size map image side laid.is_map lt, laid.is_map.trailers image))

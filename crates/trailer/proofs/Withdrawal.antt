@@ -1,105 +1,141 @@
 -- What each step of a withdrawal leaves of the request.
-use Rattle.std.proofs.Common.{◌≡◌, ◌⊎◌, ℕ, ◌+◌, ◌-◌, ◌*◌, ◌<◌, ◌≤◌, Bool, true, false, not, arith, sym, ◌∙◌, ap, subst, refl, inl, inr, ⊎_elim, List, slice_range, Option, Some, None, if◌then◌else◌}
+use Rattle.std.proofs.Common.{◌≡◌, ◌⊎◌, ℕ, ◌+◌, ◌*◌, ◌<◌, Bool, true, false, not, arith, sym, ◌∙◌, ap, refl, inl, inr, ⊎_elim, List, Some, None, if◌then◌else◌}
 use Rattle.flash_model.specs.Chip.{Chip, IsErased}
 use Rattle.sector_map.specs.declared.layout.SectorMap.{SectorMap}
 use Rattle.sector_map.specs.declared.layout.Side.{Side}
 use Rattle.sector_map.specs.declared.layout.Side.TheVariants.{Secondary}
-use Rattle.sector_map.specs.Part.{Part, Slot, TrailerOf, only, incoming_of}
+use Rattle.sector_map.specs.Part.{Slot, TrailerOf, only, incoming_of}
 use Rattle.sector_map.specs.Map.{first_of, start_of, Keeps, IsLaidOut, part_of}
 use Rattle.sector_map.proofs.Parts.{keeps_trans, keeps_wider, laid_out_kept}
 use Rattle.sector_map.proofs.Touched.{slot_of_incoming, trailer_of_incoming}
-use Rattle.trailer.specs.declared.kinds.Magic.{Magic}
-use Rattle.trailer.specs.declared.kinds.Magic.TheVariants.{Good, Unset, Bad}
+use Rattle.trailer.specs.declared.kinds.Magic.TheVariants.{Unset}
 use Rattle.trailer.specs.declared.kinds.Kind.{Kind}
-use Rattle.trailer.specs.Fields.{Fields, are_erased, fields_at, trailer_of, trailer_bytes, erased_fields}
+use Rattle.trailer.specs.Fields.{Fields, are_erased, fields_at, trailer_of, trailer_bytes}
 use Rattle.trailer.specs.Standing.{is_good, first_is_set, standing_kind, standing_of, incoming_slot}
 use Rattle.trailer.proofs.Places.{some_slot, sector_of_part}
 use Rattle.trailer.proofs.Erased.{range_erased, erased_fields_at}
 use Rattle.trailer.proofs.OwnFields.{fields_kept}
 use Rattle.trailer.proofs.FieldUnits.{either_withdrawn}
-use Rattle.trailer.proofs.Gone.{stands_with, gone_withdrawn, gone_without_front, none_whatever_front, none_without_front}
+use Rattle.trailer.proofs.Gone.{stands_with, gone_withdrawn, gone_without_front, none_whatever_front}
 
 -- an erased sector begins with an erased unit
-pub front_erased : (map : SectorMap) (chip : Chip) (image sector e : ℕ) (side : Side) → IsErased chip (sector * e) e → IsLaidOut map chip → image < map.images
-    → sector ≡ first_of map (Slot image side) → e ≡ map.sector_size → first_is_set (part_of map chip (Slot image side)) ≡ false
+pub front_erased : (map : SectorMap) (chip : Chip) (image sector e : ℕ) (side : Side) → IsErased chip (sector * e) e
+    → IsLaidOut map chip → image < map.images
+    → sector ≡ first_of map (Slot image side) → e ≡ map.sector_size → first_is_set (part_of map chip (Slot image side))
+    ≡ false
 front_erased map chip image sector e side erased laid lt is e_is =
-    let start : sector * e ≡ start_of map (Slot image side) = ap (λ s. s * e) is ∙ ap (λ x. first_of map (Slot image side) * x) e_is in
-    ap not (range_erased map chip (Slot image side) (sector * e) e 0 8 erased laid (omega (arith, sector_of_part map (Slot image side) (some_slot map image side laid.is_map lt), laid.is_map.trailers 0)) (omega (arith, start)) (omega (arith, start, laid.is_map.trailers 0)))
+    let start : sector * e ≡ start_of map (Slot image side) = ap (λ s. s * e) is ∙ ap
+    (λ x. first_of map (Slot image side) * x) e_is in
+    ap not (range_erased map chip (Slot image side) (sector * e) e 0 8 erased laid
+    (omega (
+      arith,
+      sector_of_part map (Slot image side) (some_slot map image side laid.is_map lt),
+      laid.is_map.trailers 0,
+    )) (omega (arith, start)) (omega (arith, start, laid.is_map.trailers 0)))
 
 -- the withdrawn unit was written, or not
 pub taken_back : (map : SectorMap) (old new : Chip) (image : ℕ) (kind : Kind) → standing_of map old image ≡ Some kind
-    → fields_at map new image Secondary ≡ record (fields_at map old image Secondary) { withdrawn = (fields_at map new image Secondary).withdrawn }
+    → fields_at map new image Secondary ≡ record (fields_at map old image Secondary)
+    { withdrawn = (fields_at map new image Secondary).withdrawn }
     → (fields_at map new image Secondary ≡ fields_at map old image Secondary) ⊎ (standing_of map new image ≡ None)
 taken_back map old new image kind stands own =
-    let was = stands_with (trailer_of (fields_at map old image Secondary)) (first_is_set (incoming_slot map old image)) kind stands in
+    let was = stands_with (trailer_of (fields_at map old image Secondary)) (first_is_set (incoming_slot map old image))
+    kind stands in
     ⊎_elim (λ (same : fields_at map new image Secondary ≡ fields_at map old image Secondary). inl same)
     (λ (set : (fields_at map new image Secondary).withdrawn ≡ true). inr (gone_withdrawn map new image set))
     (either_withdrawn (fields_at map old image Secondary) (fields_at map new image Secondary) own was.kept)
 
-pub kept_when_standing : (map : SectorMap) (chip : Chip) (image : ℕ) (kind : Kind) → standing_of map chip image ≡ Some kind → (fields_at map chip image Secondary).withdrawn ≡ false
-kept_when_standing map chip image kind stands = (stands_with (trailer_of (fields_at map chip image Secondary)) (first_is_set (incoming_slot map chip image)) kind stands).kept
+pub kept_when_standing : (map : SectorMap) (chip : Chip) (image : ℕ) (kind : Kind)
+    → standing_of map chip image ≡ Some kind → (fields_at map chip image Secondary).withdrawn ≡ false
+kept_when_standing map chip image kind stands = (stands_with (trailer_of (fields_at map chip image Secondary))
+    (first_is_set (incoming_slot map chip image)) kind stands).kept
 
 -- a trailer with a good magic isn't erased
-good_not_erased : (map : SectorMap) (chip : Chip) (image : ℕ) → IsLaidOut map chip → image < map.images → is_good (fields_at map chip image Secondary).magic ≡ true
+good_not_erased : (map : SectorMap) (chip : Chip) (image : ℕ) → IsLaidOut map chip → image < map.images
+    → is_good (fields_at map chip image Secondary).magic ≡ true
     → are_erased (trailer_bytes map chip image Secondary) ≡ false
 good_not_erased map chip image laid lt good = by (are_erased (trailer_bytes map chip image Secondary)) refl
   where
-    by : (all : Bool) → are_erased (trailer_bytes map chip image Secondary) ≡ all → are_erased (trailer_bytes map chip image Secondary) ≡ false
+    by : (all : Bool) → are_erased (trailer_bytes map chip image Secondary) ≡ all → are_erased
+        (trailer_bytes map chip image Secondary) ≡ false
     by true e =
-        let wrong : is_good Unset ≡ true = ap (λ (f : Fields). is_good f.magic) (sym (erased_fields_at map chip image Secondary e laid lt)) ∙ good in cc
+        let wrong : is_good Unset ≡ true = ap (λ (f : Fields). is_good f.magic)
+        (sym (erased_fields_at map chip image Secondary e laid lt)) ∙ good in cc
     by false e = e
 
 pub still_written : (map : SectorMap) (old new : Chip) (image : ℕ) (kind : Kind) → standing_of map old image ≡ Some kind
-    → fields_at map new image Secondary ≡ record (fields_at map old image Secondary) { withdrawn = (fields_at map new image Secondary).withdrawn }
+    → fields_at map new image Secondary ≡ record (fields_at map old image Secondary)
+    { withdrawn = (fields_at map new image Secondary).withdrawn }
     → IsLaidOut map old → Keeps map (only (TrailerOf image Secondary)) old new → image < map.images
     → are_erased (trailer_bytes map new image Secondary) ≡ are_erased (trailer_bytes map old image Secondary)
 still_written map old new image kind stands own laid keeps lt =
-    let was = stands_with (trailer_of (fields_at map old image Secondary)) (first_is_set (incoming_slot map old image)) kind stands in
-    good_not_erased map new image (laid_out_kept map _ old new laid keeps) lt (ap (λ (f : Fields). is_good f.magic) own ∙ was.good)
+    let was = stands_with (trailer_of (fields_at map old image Secondary)) (first_is_set (incoming_slot map old image))
+    kind stands in
+    good_not_erased map new image (laid_out_kept map _ old new laid keeps) lt
+    (ap (λ (f : Fields). is_good f.magic) own ∙ was.good)
     ∙ sym (good_not_erased map old image laid lt was.good)
 
 -- where no request stands, none stands after the slot's first sector was erased or left
-pub none_after_front : (map : SectorMap) (old new : Chip) (image : ℕ) → standing_of map old image ≡ None → Keeps map (only (Slot image Secondary)) old new
+pub none_after_front : (map : SectorMap) (old new : Chip) (image : ℕ) → standing_of map old image ≡ None
+    → Keeps map (only (Slot image Secondary)) old new
     → (first_is_set (incoming_slot map old image) ≡ false → new ≡ old) → standing_of map new image ≡ None
 none_after_front map old new image none keeps idle = by (first_is_set (incoming_slot map old image)) refl
   where
     by : (front : Bool) → first_is_set (incoming_slot map old image) ≡ front → standing_of map new image ≡ None
     by false e = ap (λ chip. standing_of map chip image) (idle e) ∙ none
     by true e =
-        let same : fields_at map new image Secondary ≡ fields_at map old image Secondary = fields_kept map _ old new image Secondary keeps refl in
-        let set : standing_kind (trailer_of (fields_at map old image Secondary)) true ≡ None = ap (λ b. standing_kind (trailer_of (fields_at map old image Secondary)) b) (sym e) ∙ none in
+        let same : fields_at map new image Secondary ≡ fields_at map old image Secondary = fields_kept map _ old new
+        image Secondary keeps refl in
+        let set : standing_kind (trailer_of (fields_at map old image Secondary)) true ≡ None = ap
+        (λ b. standing_kind (trailer_of (fields_at map old image Secondary)) b) (sym e) ∙ none in
         ap (λ (f : Fields). standing_kind (trailer_of f) (first_is_set (incoming_slot map new image))) same
-        ∙ none_whatever_front (trailer_of (fields_at map old image Secondary)) (first_is_set (incoming_slot map new image)) set
+        ∙ none_whatever_front (trailer_of (fields_at map old image Secondary))
+        (first_is_set (incoming_slot map new image)) set
 
 -- where the slot's first unit is erased, none stands whatever becomes of the trailer
-pub front_after_trailer : (map : SectorMap) (old new : Chip) (image : ℕ) → first_is_set (incoming_slot map old image) ≡ false → Keeps map (only (TrailerOf image Secondary)) old new
+pub front_after_trailer : (map : SectorMap) (old new : Chip) (image : ℕ)
+    → first_is_set (incoming_slot map old image) ≡ false → Keeps map (only (TrailerOf image Secondary)) old new
     → first_is_set (incoming_slot map new image) ≡ false
-front_after_trailer map old new image front keeps = ap (λ (slot : List ℕ). first_is_set slot) (keeps.parts (Slot image Secondary) refl) ∙ front
+front_after_trailer map old new image front keeps = ap (λ (slot : List ℕ). first_is_set slot)
+    (keeps.parts (Slot image Secondary) refl) ∙ front
 
-pub none_after_trailer : (map : SectorMap) (old new : Chip) (image : ℕ) → first_is_set (incoming_slot map old image) ≡ false → Keeps map (only (TrailerOf image Secondary)) old new
+pub none_after_trailer : (map : SectorMap) (old new : Chip) (image : ℕ)
+    → first_is_set (incoming_slot map old image) ≡ false → Keeps map (only (TrailerOf image Secondary)) old new
     → standing_of map new image ≡ None
-none_after_trailer map old new image front keeps = gone_without_front map new image (front_after_trailer map old new image front keeps)
+none_after_trailer map old new image front keeps = gone_without_front map new image
+    (front_after_trailer map old new image front keeps)
 
 -- a trailer and then a slot were touched, and then the trailer again
-pub trailer_then_slot : (map : SectorMap) (old mid new : Chip) (image : ℕ) → Keeps map (only (TrailerOf image Secondary)) old mid → Keeps map (only (Slot image Secondary)) mid new → Keeps map (incoming_of image) old new
+pub trailer_then_slot : (map : SectorMap) (old mid new : Chip) (image : ℕ)
+    → Keeps map (only (TrailerOf image Secondary)) old mid → Keeps map (only (Slot image Secondary)) mid new
+    → Keeps map (incoming_of image) old new
 trailer_then_slot map old mid new image a b = keeps_trans map (incoming_of image) old mid new
-    (keeps_wider map _ (incoming_of image) old mid (trailer_of_incoming image) a) (keeps_wider map _ (incoming_of image) mid new (slot_of_incoming image) b)
+    (keeps_wider map _ (incoming_of image) old mid (trailer_of_incoming image) a)
+    (keeps_wider map _ (incoming_of image) mid new (slot_of_incoming image) b)
 
-pub incoming_then_trailer : (map : SectorMap) (old mid new : Chip) (image : ℕ) → Keeps map (incoming_of image) old mid → Keeps map (only (TrailerOf image Secondary)) mid new → Keeps map (incoming_of image) old new
+pub incoming_then_trailer : (map : SectorMap) (old mid new : Chip) (image : ℕ) → Keeps map (incoming_of image) old mid
+    → Keeps map (only (TrailerOf image Secondary)) mid new → Keeps map (incoming_of image) old new
 incoming_then_trailer map old mid new image a b = keeps_trans map (incoming_of image) old mid new a
     (keeps_wider map _ (incoming_of image) mid new (trailer_of_incoming image) b)
 
-pub trailer_of_withdrawal : (map : SectorMap) (old new : Chip) (image : ℕ) → Keeps map (only (TrailerOf image Secondary)) old new → Keeps map (incoming_of image) old new
+pub trailer_of_withdrawal : (map : SectorMap) (old new : Chip) (image : ℕ)
+    → Keeps map (only (TrailerOf image Secondary)) old new → Keeps map (incoming_of image) old new
 trailer_of_withdrawal map old new image a = keeps_wider map _ (incoming_of image) old new (trailer_of_incoming image) a
 
 -- the erases of a withdrawal
-pub erases_of : (map : SectorMap) (old first second new : Chip) (image : ℕ) → Keeps map (only (TrailerOf image Secondary)) old first → Keeps map (only (Slot image Secondary)) first second
+pub erases_of : (map : SectorMap) (old first second new : Chip) (image : ℕ)
+    → Keeps map (only (TrailerOf image Secondary)) old first → Keeps map (only (Slot image Secondary)) first second
     → are_erased (trailer_bytes map first image Secondary) ≡ are_erased (trailer_bytes map old image Secondary)
     → first.erases ≡ old.erases
     → second.erases ≡ first.erases + (if first_is_set (incoming_slot map first image) then 1 else 0)
     → new.erases ≡ second.erases + (if are_erased (trailer_bytes map second image Secondary) then 0 else 1)
-    → new.erases ≡ old.erases + (if first_is_set (incoming_slot map old image) then 1 else 0) + (if are_erased (trailer_bytes map old image Secondary) then 0 else 1)
+    → new.erases ≡ old.erases + (if first_is_set (incoming_slot map old image) then 1 else 0) +
+    (if are_erased (trailer_bytes map old image Secondary) then 0 else 1)
 erases_of map old first second new image a b written one two three =
     let slot = ap (λ (xs : List ℕ). if first_is_set xs then 1 else 0) (a.parts (Slot image Secondary) refl) in
-    let trailer = ap (λ (xs : List ℕ). if are_erased xs then 0 else 1) (b.parts (TrailerOf image Secondary) refl) ∙ ap (λ all. if all then 0 else 1) written in
-    three ∙ ap (λ n. second.erases + n) trailer ∙ ap (λ n. n + (if are_erased (trailer_bytes map old image Secondary) then 0 else 1)) (two ∙ ap (λ n. n + (if first_is_set (incoming_slot map first image) then 1 else 0)) one ∙ ap (λ n. old.erases + n) slot)
+    let trailer = ap (λ (xs : List ℕ). if are_erased xs then 0 else 1) (b.parts (TrailerOf image Secondary) refl) ∙ ap
+    (λ all. if all then 0 else 1) written in
+    three ∙ ap (λ n. second.erases + n) trailer ∙ ap (λ n. n +
+    (if are_erased (trailer_bytes map old image Secondary) then 0 else 1))
+    (two ∙ ap (λ n. n + (if first_is_set (incoming_slot map first image) then 1 else 0)) one ∙ ap
+    (λ n. old.erases + n) slot)

@@ -6,5 +6,6 @@ use Rattle.trailer.proofs.statuses.status_count.Given as goal
 abbrev pub invariant-loop-status : goal.invariant-loop-status
 invariant-loop-status g l = record {
   same : g.F.Flash.chip l.flash ≡ g.F.Flash.chip l.fn.flash;
-  set : (j : ℕ) → j < l.status → are_erased (status_unit (trailer_bytes l.map (g.F.Flash.chip l.fn.flash) l.image l.side) j) ≡ false;
+  set : (j : ℕ) → j < l.status → are_erased (status_unit (trailer_bytes l.map (g.F.Flash.chip l.fn.flash) l.image
+      l.side) j) ≡ false;
 }

@@ -3,8 +3,10 @@ use Rattle.trailer.proofs.withdrawing.erase_front.Goals as goal
 
 pub returns-in_err-erase-clause-outside : goal.returns-in_err-erase-clause-outside
 returns-in_err-erase-clause-outside g c =
-    slot_alone c.args.map.now _ _ c.args.image c.slot.result c.args.side (rw c.is_front_set.ensures.same at c.erase.ensures.outside) c.requires.laid_out c.requires.there c.slot.ensures
+    slot_alone c.args.map.now _ _ c.args.image c.slot.result c.args.side
+    (rw c.is_front_set.ensures.same at c.erase.ensures.outside) c.requires.laid_out c.requires.there c.slot.ensures
 
 pub returns-clause-outside : goal.returns-clause-outside
 returns-clause-outside g c =
-    slot_alone c.args.map.now _ _ c.args.image c.slot.result c.args.side (rw c.is_front_set.ensures.same at c.erase.ensures.outside) c.requires.laid_out c.requires.there c.slot.ensures
+    slot_alone c.args.map.now _ _ c.args.image c.slot.result c.args.side
+    (rw c.is_front_set.ensures.same at c.erase.ensures.outside) c.requires.laid_out c.requires.there c.slot.ensures
