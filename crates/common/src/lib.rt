@@ -2,7 +2,8 @@
 //! definitions and lemmas that crates of different layers cite.
 //!
 //! Promises: a number is read exactly where the text is what is printed of it; a text is cut at its
-//! first separator, and into its lines. Does not allocate. Any crate may call it.
+//! first separator; and it is read line by line into a state, up to the first line that the state
+//! doesn't take. Does not allocate. Any crate may call it.
 #![tactic(auto)]
 
 pub mod ascii;
