@@ -68,15 +68,17 @@ fn request_cut<L: Ledger>(
     rt: &impl Abort,
     alloc: Global,
     blank: Blank,
+    write: u64,
     torn: Torn,
 ) -> Result<(Magic, Option<Kind>), Fail>
     requires name { blank.name ≡ L.name }
     requires parts { blank.parts ≡ L.parts }
     requires two { L.parts ≡ 2 }
+    requires early { write < 100 }
 {
     let map = two_images(rt)?;
     let mut flash = filled::<L>(alloc, blank)?;
-    flash.arm(2, torn)?;
+    flash.arm(write, torn)?;
     assert!(rt; map.images == 2);
     assert!(rt; map.fits(&flash));
     clear(&mut flash, &map, 0, Side::Secondary)?;
@@ -93,23 +95,33 @@ fn request_cut<L: Ledger>(
 fn after_a_cut_request(
     rt: &impl Abort,
     alloc: Global,
+    write: u64,
     torn: Torn,
-) -> Result<(Magic, Option<Kind>), Fail> {
-    request_cut::<Brand>(rt, alloc, Blank::new(2), torn)
+) -> Result<(Magic, Option<Kind>), Fail>
+    requires { write < 100 }
+{
+    request_cut::<Brand>(rt, alloc, Blank::new(2), write, torn)
 }
 
 #[test]
 fn a_request_that_is_cut_stands_whole_or_not(rt: HostRuntime) -> Result<(), Fail> {
-    let zero = vec![in rt.alloc(); 0x00]?;
-    let (magic, kind) = after_a_cut_request(&rt, rt.alloc(), Torn::Bytes(zero))?;
-    assert_eq!(rt; magic, Magic::Bad);
-    assert_eq!(rt; kind, None);
-    let (magic, kind) = after_a_cut_request(&rt, rt.alloc(), Torn::Done)?;
-    assert_eq!(rt; magic, Magic::Good);
-    assert_eq!(rt; kind, Some(Kind::Permanent));
-    let (magic, kind) = after_a_cut_request(&rt, rt.alloc(), Torn::Keep)?;
-    assert_eq!(rt; magic, Magic::Unset);
-    assert_eq!(rt; kind, None);
+    // The write of image_ok, without which no magic is written.
+    for which in 0..5 {
+        let (magic, kind) = after_a_cut_request(&rt, rt.alloc(), 1, torn(rt.alloc(), which)?)?;
+        assert_eq!(rt; magic, Magic::Unset);
+        assert_eq!(rt; kind, None);
+    }
+    // The write of the magic.
+    for which in 0..5 {
+        let (magic, kind) = after_a_cut_request(&rt, rt.alloc(), 2, torn(rt.alloc(), which)?)?;
+        let (wanted, stands) = match which {
+            1 => (Magic::Good, Some(Kind::Permanent)),
+            2 => (Magic::Bad, None),
+            _ => (Magic::Unset, None),
+        };
+        assert_eq!(rt; magic, wanted);
+        assert_eq!(rt; kind, stands);
+    }
     Ok(())
 }
 
@@ -311,6 +323,126 @@ fn trailers_are_settled_after_any_cut(rt: HostRuntime) -> Result<(), Fail> {
         for which in 0..5 {
             settle_after_a_cut(&rt, rt.alloc(), write, torn(rt.alloc(), which)?)?;
         }
+    }
+    Ok(())
+}
+
+fn confirmation_cut<L: Ledger>(
+    rt: &impl Abort,
+    alloc: Global,
+    blank: Blank,
+    torn: Torn,
+) -> Result<Trailer, Fail>
+    requires name { blank.name ≡ L.name }
+    requires parts { blank.parts ≡ L.parts }
+    requires two { L.parts ≡ 2 }
+{
+    let map = two_images(rt)?;
+    let mut flash = filled::<L>(alloc, blank)?;
+    flash.arm(1, torn)?;
+    assert!(rt; map.images == 2);
+    assert!(rt; map.fits(&flash));
+    assert_eq!(rt; set_ok(&mut flash, &map, 0), Err(FlashError::Cut));
+    flash.restart();
+    assert!(rt; map.fits(&flash));
+    Ok(read_trailer(&mut flash, &map, 0, Side::Primary)?)
+}
+
+fn after_a_cut_confirmation(rt: &impl Abort, alloc: Global, torn: Torn) -> Result<Trailer, Fail> {
+    confirmation_cut::<Brand>(rt, alloc, Blank::new(2), torn)
+}
+
+#[test]
+fn a_confirmation_that_is_cut_stands_or_not(rt: HostRuntime) -> Result<(), Fail> {
+    for which in 0..5 {
+        let trailer = after_a_cut_confirmation(&rt, rt.alloc(), torn(rt.alloc(), which)?)?;
+        assert_eq!(rt; trailer.image_ok, which == 1 || which == 2);
+        assert_eq!(rt; trailer.magic, Magic::Unset);
+        assert!(rt; !trailer.copy_done && !trailer.withdrawn);
+    }
+    Ok(())
+}
+
+fn clearing_cut<L: Ledger>(
+    rt: &impl Abort,
+    alloc: Global,
+    blank: Blank,
+    torn: Torn,
+) -> Result<Option<Kind>, Fail>
+    requires name { blank.name ≡ L.name }
+    requires parts { blank.parts ≡ L.parts }
+    requires two { L.parts ≡ 2 }
+{
+    let map = two_images(rt)?;
+    let mut flash = filled::<L>(alloc, blank)?;
+    flash.arm(3, torn)?;
+    assert!(rt; map.images == 2);
+    assert!(rt; map.fits(&flash));
+    clear(&mut flash, &map, 0, Side::Secondary)?;
+    request(&mut flash, &map, 0, Kind::Permanent)?;
+    assert_eq!(rt;
+        clear(&mut flash, &map, 0, Side::Secondary),
+        Err(FlashError::Cut)
+    );
+    flash.restart();
+    assert!(rt; map.fits(&flash));
+    Ok(standing(&mut flash, &map, 0)?)
+}
+
+fn after_a_cut_clearing(rt: &impl Abort, alloc: Global, torn: Torn) -> Result<Option<Kind>, Fail> {
+    clearing_cut::<Brand>(rt, alloc, Blank::new(2), torn)
+}
+
+#[test]
+fn a_clearing_that_is_cut_leaves_any_bytes(rt: HostRuntime) -> Result<(), Fail> {
+    for which in 0..5 {
+        let kind = after_a_cut_clearing(&rt, rt.alloc(), torn(rt.alloc(), which)?)?;
+        // As it was, or with the copy's magic and nothing else.
+        let stands = match which {
+            0 => Some(Kind::Permanent),
+            4 => Some(Kind::Test),
+            _ => None,
+        };
+        assert_eq!(rt; kind, stands);
+    }
+    Ok(())
+}
+
+#[tactic(auto, using(crate::proofs::Erased::erased_units))]
+fn size_cut<L: Ledger>(
+    rt: &impl Abort,
+    alloc: Global,
+    blank: Blank,
+    torn: Torn,
+) -> Result<Option<u32>, Fail>
+    requires name { blank.name ≡ L.name }
+    requires parts { blank.parts ≡ L.parts }
+    requires two { L.parts ≡ 2 }
+{
+    let map = two_images(rt)?;
+    let mut flash = filled::<L>(alloc, blank)?;
+    flash.arm(1, torn)?;
+    assert!(rt; map.images == 2);
+    assert!(rt; map.fits(&flash));
+    clear(&mut flash, &map, 0, Side::Primary)?;
+    assert_eq!(rt;
+        write_size(&mut flash, &map, 0, Side::Primary, 96),
+        Err(FlashError::Cut)
+    );
+    flash.restart();
+    assert!(rt; map.fits(&flash));
+    Ok(read_size(&mut flash, &map, 0, Side::Primary)?)
+}
+
+fn after_a_cut_size(rt: &impl Abort, alloc: Global, torn: Torn) -> Result<Option<u32>, Fail> {
+    size_cut::<Brand>(rt, alloc, Blank::new(2), torn)
+}
+
+#[test]
+fn a_size_that_is_cut_is_read_or_none(rt: HostRuntime) -> Result<(), Fail> {
+    for which in 0..5 {
+        let size = after_a_cut_size(&rt, rt.alloc(), torn(rt.alloc(), which)?)?;
+        assert_eq!(rt; size, if which == 1 { Some(96) } else { None });
     }
     Ok(())
 }
