@@ -1,7 +1,12 @@
 pub mod AsciiLaws
 pub mod Bytes
 pub mod Cuts
+pub mod Items
 pub mod LinesLaws
 pub mod Lists
+pub mod Numbered
 pub mod Numbers
+pub mod Options
+pub mod Printed
+pub mod ReadingLaws
 pub mod Results

@@ -1,3 +1,2 @@
 pub mod Header
 pub mod Codes
-pub mod Checks

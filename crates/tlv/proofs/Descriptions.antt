@@ -8,7 +8,7 @@ use Rattle.byteorder.specs.Endian.{little_number}
 use Rattle.byteorder.specs.Numbers.{little_number-reads_back}
 use Rattle.sha2.specs.Sha256.{sha256}
 use Rattle.arrayvec.specs.ArrayVec.{ArrayVec}
-use Rattle.common.proofs.Lists.{same_cons}
+use Rattle.common.proofs.Items.{same_cons}
 use Rattle.version_order.specs.declared.dependency.Dependency.{Dependency}
 use Rattle.version_order.specs.declared.version.Version.{Version}
 use Rattle.image_header.specs.declared.header.Header.{Header}

@@ -11,7 +11,7 @@ use Rattle.common.specs.Bytes.{IsBytes}
 use Rattle.tlv.specs.Fault.{HasProtectedArea, HasUnprotectedArea, IsProtectedFault, IsTotal, IsUnprotectedFault, protected_place, unprotected_place, total_at, entries_at}
 use Rattle.tlv.specs.Front.{IsFront, IsProtected}
 use Rattle.tlv.specs.Image.{Image, BeginsWithImage, protected_bytes, hashed_bytes, image_bytes}
-use Rattle.common.proofs.Lists.{drop-from}
+use Rattle.common.proofs.Items.{drop-from}
 use Rattle.tlv.proofs.Areas.{IsAreaOf, drop-area, area_of_entries, area_has_no_fault}
 use Rattle.tlv.proofs.ImageLaws.{parts_of_image, protected_bytes-absent, protected_bytes-there, image_has_protected_area, image_has_unprotected_area}
 use Rattle.tlv.proofs.Parts.{whole_of}
