@@ -1,5 +1,6 @@
 pub mod AsciiLaws
 pub mod Bytes
+pub mod ChecksLaws
 pub mod Cuts
 pub mod Items
 pub mod LinesLaws

@@ -5,7 +5,8 @@ use Rattle.byteorder.specs.Endian.{little_number}
 use Rattle.image_header.specs.declared.header.Header.{Header}
 use Rattle.image_header.specs.declared.error.HeaderError.{HeaderError}
 use Rattle.image_header.specs.declared.error.HeaderError.TheVariants.{Short, BadMagic, BadHeaderSize, UnsupportedFlags}
-use Rattle.common.specs.Checks.{FailsFirst, PassBefore, FailsFirst-unique}
+use Rattle.common.specs.Checks.{FailsFirst, PassBefore}
+use Rattle.common.proofs.ChecksLaws.{FailsFirst-unique}
 use Rattle.image_header.specs.Header.{BeginsWith, HasKnownFlags, IsAccepted, IsHeaderFault, header_magic}
 use Rattle.image_header.proofs.Laws.{BeginsWith-length, BeginsWith-magic, header-unique}
 
