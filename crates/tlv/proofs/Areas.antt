@@ -1,6 +1,6 @@
 -- An area at a place: what its head and its bytes say, and the bytes that it is spelled by.
 use Rattle.std.proofs.Common.{◌≡◌, ℕ, ◌+◌, ◌-◌, ◌^◌, ◌<◌, ◌≤◌, List, ◌++◌, length, take, drop, Option, refl, sym, ap, subst, ◌∙◌, arith}
-use Rattle.std.proofs.lemmas.List.{take_at, take-append-drop, length-append, length-drop, length-take-le, take_rest}
+use Rattle.std.proofs.lemmas.List.{take_at, take-append-drop, length-append, length-drop, length-take-le}
 use Rattle.byteorder.specs.Endian.{little_bytes, little_number}
 use Rattle.byteorder.specs.Numbers.{little_number-reads_back}
 use Rattle.common.proofs.Items.{drop-from}
@@ -127,7 +127,24 @@ area_has_no_fault bytes place magic expected fault area failed =
       | IsAreaFault.not_filled before not_filled is ↦ not_filled area.1
     ]
 
--- A number in what lies behind a place, cut off where the bytes end.
-pub number_behind : (bytes : List ℕ) (place : ℕ)
-    → little_number 2 (take (length bytes - place) (drop place bytes)) ≡ little_number 2 (drop place bytes)
-number_behind bytes place = ap (little_number 2) (take_rest bytes place)
+-- What was read of an area: its magic number, its length and the bytes of its entries.
+pub record AreaRead (bytes : List ℕ) (place magic total : ℕ) (entries : List ℕ) : Type 0 where
+  pub magic_is : magic_at bytes place ≡ magic
+  pub total_is : total_at bytes place ≡ total
+  pub entries_are : entries ≡ entries_at bytes place
+
+pub area_read : (bytes area behind entries : List ℕ) (place magic total size : ℕ) → area ≡ drop place bytes
+    → magic ≡ little_number 2 area → total ≡ little_number 2 (drop 2 area) → size ≡ total
+    → behind ≡ drop 4 area → entries ≡ take (size - 4) behind → AreaRead bytes place magic size entries
+area_read bytes area behind entries place magic total size at magic_is total_is size_is behind_is entries_is =
+    let size_at : total_at bytes place ≡ size =
+    ap (little_number 2) (sym (drop-from 2 place (place + 2) bytes refl))
+    ∙ ap (λ (x : List ℕ). little_number 2 (drop 2 x)) (sym at) ∙ sym total_is ∙ sym size_is in
+    let behind_at : behind ≡ drop (place + 4) bytes =
+    behind_is ∙ ap (drop 4) at ∙ drop-from 4 place (place + 4) bytes refl in
+    record {
+      magic_is = ap (little_number 2) (sym at) ∙ sym magic_is;
+      total_is = size_at;
+      entries_are = entries_is ∙ ap (take (size - 4)) behind_at
+          ∙ ap (λ (n : ℕ). take (n - 4) (drop (place + 4) bytes)) (sym size_at);
+    }

@@ -1,9 +1,7 @@
 -- Bytes are an intact image by one description, and no check fails of them.
-use Rattle.std.proofs.Common.{◌≡◌, ℕ, ◌^◌, ◌<◌, ◌≤◌, inl, inr, List, [], ◌∷◌, ◌++◌, length, drop, map, Result, Ok, Err, refl, sym, ap, subst, ◌∙◌, arith}
-use Rattle.std.specs.Prelude.{IfErr}
-use Rattle.std.specs.Result.{IsErrAnd}
+use Rattle.std.proofs.Common.{◌≡◌, ◌≢◌, ℕ, ◌+◌, ◌^◌, ◌<◌, ◌≤◌, inl, inr, List, [], ◌∷◌, ◌++◌, length, drop, map, refl, sym, ap, subst, ◌∙◌, arith}
 use Rattle.std.specs.List.{AllByRecursion}
-use Rattle.std.proofs.lemmas.List.{drop_all, length-drop}
+use Rattle.std.proofs.lemmas.List.{append-nil, length-append, nil_from_length}
 use Rattle.byteorder.specs.Endian.{little_number}
 use Rattle.byteorder.specs.Numbers.{little_number-reads_back}
 use Rattle.sha2.specs.Sha256.{sha256}
@@ -15,16 +13,19 @@ use Rattle.image_header.specs.declared.header.Header.{Header}
 use Rattle.image_header.specs.declared.error.HeaderError.{HeaderError}
 use Rattle.image_header.proofs.Faults.{accepted_has_no_fault}
 use Rattle.image_header.specs.Header.{IsHeaderFault}
+use Rattle.flash_model.specs.Chip.{Chip}
 use Rattle.tlv.specs.declared.desc.Desc.{Desc}
 use Rattle.tlv.specs.declared.error.ImageError.{ImageError}
 use Rattle.tlv.specs.declared.error.ImageError.TheVariants.{NoDigest, TwoDigests, BadDigest, BadDependency, TooManyDependencies, TrailingBytes, BadCounter}
 use Rattle.tlv.specs.declared.front.Front.{Front}
 use Rattle.tlv.specs.Area.{values_of}
-use Rattle.tlv.specs.Fault.{IsEntryFault, IsFirstFault}
+use Rattle.tlv.specs.Fault.{IsEntryFault, IsFirstFault, IsFrontFault}
 use Rattle.tlv.specs.Fields.{FitsDependency, IsCounterFault, IsDependencyFault, IsDigestFault, SpellCounter, SpellDependencies, SpellDigest, counter_bytes, counter_kind, dependency_bytes, dependency_kind, digest_kind}
 use Rattle.tlv.specs.Front.{IsFrontOf}
-use Rattle.tlv.specs.Image.{BeginsWithImage, Describes, Image, IsIntact, PassesCounter, PassesDependencyCount, PassesDigest, PassesEntries, counter_values, dependency_values, digest_values, hashed_bytes}
-use Rattle.tlv.specs.Reading.{entries_of, values_read}
+use Rattle.tlv.specs.Image.{BeginsIntact, BeginsWithImage, Describes, Image, IsIntact, PassesCounter, PassesDependencyCount, PassesDigest, PassesEntries, counter_values, dependency_values, digest_values, hashed_bytes, image_bytes}
+use Rattle.tlv.specs.Reading.{entries_of}
+use Rattle.tlv.specs.SlotTlvs.{values_at}
+use Rattle.tlv.specs.Span.{bytes_of}
 use Rattle.tlv.proofs.AreaLaws.{entries_of-entries_bytes}
 use Rattle.tlv.proofs.FieldLaws.{dependency_bytes-same}
 use Rattle.tlv.proofs.Fronts.{no_image_in_protected, no_image_in_unprotected}
@@ -108,10 +109,10 @@ intact-unique bytes first second a b =
 -- ---- no fault
 
 -- No check of the header fails of an image ..
-no_header_fault : (bytes : List ℕ) (image : Image) (fault : HeaderError) → BeginsWithImage bytes image []
-    → IsHeaderFault bytes fault → ⊥
-no_header_fault bytes image fault begins failed =
-    let header = (parts_of_image bytes image [] begins).header in
+no_header_fault : (bytes : List ℕ) (image : Image) (trailing : List ℕ) (fault : HeaderError)
+    → BeginsWithImage bytes image trailing → IsHeaderFault bytes fault → ⊥
+no_header_fault bytes image trailing fault begins failed =
+    let header = (parts_of_image bytes image trailing begins).header in
     accepted_has_no_fault bytes image.header fault header begins.formed.accepted failed
 
 -- .. nor any check that passes.
@@ -133,128 +134,209 @@ no_counter_fault : (image : Image) (fault : ImageError) → PassesCounter image
 no_counter_fault image BadCounter passes failed = passes.1 failed
 no_counter_fault image other passes failed = failed
 
-no_entry_fault : (image : Image) (fault : ImageError) → PassesEntries image → IsEntryFault image [] fault → ⊥
-no_entry_fault image fault passes failed =
+-- Where the entries pass their checks, nothing but the last check can fail.
+no_entry_fault : (image : Image) (trailing : List ℕ) (fault : ImageError) → PassesEntries image
+    → IsEntryFault image trailing fault → (fault ≡ TrailingBytes) × (0 < length trailing)
+no_entry_fault image trailing fault passes failed =
     elim failed [
-      | IsEntryFault.in_digest own ↦ no_digest_fault (digest_values image) (hashed_bytes image) fault passes.0.0.0 own
-      | IsEntryFault.in_dependencies before own ↦ no_dependency_fault image fault passes.0 own
-      | IsEntryFault.in_counter before own ↦ no_counter_fault image fault passes own
-      | IsEntryFault.behind before some is ↦ omega (arith, some)
+      | IsEntryFault.in_digest own ↦
+          absurd (no_digest_fault (digest_values image) (hashed_bytes image) fault passes.0.0.0 own)
+      | IsEntryFault.in_dependencies before own ↦ absurd (no_dependency_fault image fault passes.0 own)
+      | IsEntryFault.in_counter before own ↦ absurd (no_counter_fault image fault passes own)
+      | IsEntryFault.behind before some is ↦ (is, some)
+    ]
+
+no_fault_but_last : (bytes : List ℕ) (image : Image) (trailing : List ℕ) (fault : ImageError)
+    → BeginsWithImage bytes image trailing → PassesEntries image → IsFirstFault bytes fault
+    → (fault ≡ TrailingBytes) × (0 < length trailing)
+no_fault_but_last bytes image trailing fault begins passes failed =
+    elim failed [
+      | IsFirstFault.in_header own own_failed is ↦
+          absurd (no_header_fault bytes image trailing own begins own_failed)
+      | IsFirstFault.in_protected header header_begins some area ↦
+          absurd (no_image_in_protected bytes header fault header_begins.0 some area image trailing begins)
+      | IsFirstFault.in_unprotected header header_begins before area ↦
+          absurd (no_image_in_unprotected bytes header fault header_begins.0 area image trailing begins)
+      | IsFirstFault.in_entries own own_trailing own_begins entry ↦
+          let same = image-unique bytes own image own_trailing trailing own_begins begins in
+          let behind = subst (λ (t : List ℕ). IsEntryFault own t fault) same.1 entry in
+          let here = subst (λ (i : Image). IsEntryFault i trailing fault) same.0 behind in
+          no_entry_fault image trailing fault passes here
     ]
 
 -- No check fails of an intact image.
 pub intact_has_no_fault : (bytes : List ℕ) (description : Desc) (fault : ImageError) → IsIntact bytes description
     → IsFirstFault bytes fault → ⊥
 intact_has_no_fault bytes description fault intact failed =
-    elim failed [
-      | IsFirstFault.in_header own own_failed is ↦ no_header_fault bytes intact.0 own intact.1 own_failed
-      | IsFirstFault.in_protected header begins some area ↦
-          no_image_in_protected bytes header fault begins.0 some area intact.0 [] intact.1
-      | IsFirstFault.in_unprotected header begins before area ↦
-          no_image_in_unprotected bytes header fault begins.0 area intact.0 [] intact.1
-      | IsFirstFault.in_entries image trailing begins entry ↦
-          let same = image-unique bytes image intact.0 trailing [] begins intact.1 in
-          let whole = subst (λ (t : List ℕ). IsEntryFault image t fault) same.1 entry in
-          let own = subst (λ (i : Image). IsEntryFault i [] fault) same.0 whole in
-          no_entry_fault intact.0 fault intact.3 own
-    ]
+    omega (arith, (no_fault_but_last bytes intact.0 [] fault intact.1 intact.3 failed).1)
+
+-- ---- the image that bytes begin with
+
+-- Bytes begin with the image that a front of them is.
+begins_with : (bytes : List ℕ) (description : Desc) (intact : BeginsIntact bytes description)
+    → BeginsWithImage bytes intact.3.0 intact.1
+begins_with bytes description intact = record {
+  formed = intact.3.1.formed;
+  parts = intact.2
+      ∙ ap (λ (front : List ℕ). front ++ intact.1) (intact.3.1.parts ∙ append-nil (image_bytes intact.3.0));
+}
+
+-- No check fails of it.
+pub front_has_no_fault : (bytes : List ℕ) (description : Desc) (fault : ImageError) → BeginsIntact bytes description
+    → IsFrontFault bytes fault → ⊥
+front_has_no_fault bytes description fault intact failed =
+    let begins = begins_with bytes description intact in
+    failed.1 (no_fault_but_last bytes intact.3.0 intact.1 fault begins intact.3.3 failed.0).0
+
+-- Bytes begin with an intact image by one description.
+pub front-unique : (bytes : List ℕ) (first second : Desc) → BeginsIntact bytes first → BeginsIntact bytes second
+    → first ≡ second
+front-unique bytes first second a b =
+    let same : b.3.0 ≡ a.3.0 =
+    (image-unique bytes b.3.0 a.3.0 b.1 a.1 (begins_with bytes second b) (begins_with bytes first a)).0 in
+    let described : Describes a.3.0 second = subst (λ (image : Image). Describes image second) same b.3.2 in
+    description-unique a.3.0 first second a.3.2 described
+
+-- Its length is what its description says, and the rest follows it.
+length_behind : (bytes : List ℕ) (description : Desc) (intact : BeginsIntact bytes description)
+    → length bytes ≡ description.length + length intact.1
+length_behind bytes description intact =
+    let begins = begins_with bytes description intact in
+    ap length begins.parts ∙ length-append (image_bytes intact.3.0) intact.1
+    ∙ ap (λ (n : ℕ). n + length intact.1) (sym intact.3.2.length_of)
+
+-- Where bytes follow it, that is the first fault ..
+pub first_behind : (bytes : List ℕ) (description : Desc) → BeginsIntact bytes description
+    → description.length < length bytes → IsFirstFault bytes TrailingBytes
+first_behind bytes description intact longer =
+    let some : 0 < length intact.1 = omega (arith, longer, length_behind bytes description intact) in
+    IsFirstFault.in_entries intact.3.0 intact.1 (begins_with bytes description intact)
+    (IsEntryFault.behind intact.3.3 some refl)
+
+-- .. and where none do, the bytes are that image.
+pub intact_whole : (bytes : List ℕ) (description : Desc) → BeginsIntact bytes description
+    → length bytes ≤ description.length → IsIntact bytes description
+intact_whole bytes description intact whole =
+    let none : intact.1 ≡ [] =
+    nil_from_length intact.1 (omega (arith, whole, length_behind bytes description intact)) in
+    let same : intact.0 ≡ bytes =
+    sym (append-nil intact.0) ∙ ap (λ (rest : List ℕ). intact.0 ++ rest) (sym none) ∙ sym intact.2 in
+    subst (λ (front : List ℕ). IsIntact front description) same intact.3
 
 -- ---- what is found of a front
 
 -- The values of a front's entries are the image's.
-unprotected_values : (bytes : List ℕ) (front : Front) (image : Image) (kind : ℕ) → IsFrontOf bytes front image
-    → values_read kind front.unprotected.now ≡ values_of kind image.unprotected
-unprotected_values bytes front image kind is =
+unprotected_values : (chip : Chip) (bytes : List ℕ) (front : Front) (image : Image) (kind : ℕ)
+    → IsFrontOf chip bytes front image → values_at kind chip front.unprotected ≡ values_of kind image.unprotected
+unprotected_values chip bytes front image kind is =
     let read = (entries_of-entries_bytes image.unprotected is.begins.formed.unprotected.each).0 in
     ap (values_of kind) (ap entries_of is.unprotected ∙ read)
 
-protected_values : (bytes : List ℕ) (front : Front) (image : Image) (kind : ℕ) → IsFrontOf bytes front image
-    → values_read kind front.protected.now ≡ values_of kind image.protected
-protected_values bytes front image kind is =
+protected_values : (chip : Chip) (bytes : List ℕ) (front : Front) (image : Image) (kind : ℕ)
+    → IsFrontOf chip bytes front image → values_at kind chip front.protected ≡ values_of kind image.protected
+protected_values chip bytes front image kind is =
     let read = (entries_of-entries_bytes image.protected is.begins.formed.protected.each).0 in
     ap (values_of kind) (ap entries_of is.protected ∙ read)
 
 -- The digest entry of a front that holds its digest is the image's digest.
-pub passes_digest : (bytes : List ℕ) (front : Front) (image : Image) → IsFrontOf bytes front image
-    → SpellDigest (values_read digest_kind front.unprotected.now) front.hashed.now → PassesDigest image
-passes_digest bytes front image is own =
-    sym (unprotected_values bytes front image digest_kind is) ∙ own
+pub passes_digest : (chip : Chip) (bytes : List ℕ) (front : Front) (image : Image) → IsFrontOf chip bytes front image
+    → SpellDigest (values_at digest_kind chip front.unprotected) (bytes_of chip front.hashed) → PassesDigest image
+passes_digest chip bytes front image is own =
+    sym (unprotected_values chip bytes front image digest_kind is) ∙ own
     ∙ ap (λ (hashed : List ℕ). sha256 hashed ∷ []) is.hashed
 
-pub has_dependencies : (bytes : List ℕ) (front : Front) (image : Image) (dependencies : List Dependency)
-    → IsFrontOf bytes front image → SpellDependencies (values_read dependency_kind front.protected.now) dependencies
+pub has_dependencies : (chip : Chip) (bytes : List ℕ) (front : Front) (image : Image) (dependencies : List Dependency)
+    → IsFrontOf chip bytes front image → SpellDependencies (values_at dependency_kind chip front.protected) dependencies
     → SpellDependencies (dependency_values image) dependencies
-has_dependencies bytes front image dependencies is spelled =
-    let same = protected_values bytes front image dependency_kind is in
+has_dependencies chip bytes front image dependencies is spelled =
+    let same = protected_values chip bytes front image dependency_kind is in
     subst (λ (values : List (List ℕ)). SpellDependencies values dependencies) same spelled
 
-pub has_counter : (bytes : List ℕ) (front : Front) (image : Image) (counter : ℕ) → IsFrontOf bytes front image
-    → SpellCounter (values_read counter_kind front.protected.now) counter → SpellCounter (counter_values image) counter
-has_counter bytes front image counter is spelled =
-    let same = protected_values bytes front image counter_kind is in
+pub has_counter : (chip : Chip) (bytes : List ℕ) (front : Front) (image : Image) (counter : ℕ)
+    → IsFrontOf chip bytes front image → SpellCounter (values_at counter_kind chip front.protected) counter
+    → SpellCounter (counter_values image) counter
+has_counter chip bytes front image counter is spelled =
+    let same = protected_values chip bytes front image counter_kind is in
     subst (λ (values : List (List ℕ)). SpellCounter values counter) same spelled
 
+-- No fault of an entry is that bytes follow.
+digest_not_behind : (values : List (List ℕ)) (hashed : List ℕ) (fault : ImageError) → IsDigestFault values hashed fault
+    → fault ≢ TrailingBytes
+digest_not_behind values hashed NoDigest failed = λ behind. cc
+digest_not_behind values hashed TwoDigests failed = λ behind. cc
+digest_not_behind values hashed BadDigest failed = λ behind. cc
+digest_not_behind values hashed other failed = absurd failed
+
+dependencies_not_behind : (values : List (List ℕ)) (fault : ImageError) → IsDependencyFault values fault
+    → fault ≢ TrailingBytes
+dependencies_not_behind values BadDependency failed = λ behind. cc
+dependencies_not_behind values TooManyDependencies failed = λ behind. cc
+dependencies_not_behind values other failed = absurd failed
+
+counter_not_behind : (values : List (List ℕ)) (fault : ImageError) → IsCounterFault values fault
+    → fault ≢ TrailingBytes
+counter_not_behind values BadCounter failed = λ behind. cc
+counter_not_behind values other failed = absurd failed
+
 -- What fails of the digest entry is the first fault ..
-pub first_in_digest : (bytes : List ℕ) (front : Front) (image : Image) (fault : ImageError)
-    → IsFrontOf bytes front image
-    → IsDigestFault (values_read digest_kind front.unprotected.now) front.hashed.now fault → IsFirstFault bytes fault
-first_in_digest bytes front image fault is failed =
-    let read = values_read digest_kind front.unprotected.now in
-    let same = unprotected_values bytes front image digest_kind is in
+pub first_in_digest : (chip : Chip) (bytes : List ℕ) (front : Front) (image : Image) (fault : ImageError)
+    → IsFrontOf chip bytes front image
+    → IsDigestFault (values_at digest_kind chip front.unprotected) (bytes_of chip front.hashed) fault
+    → IsFrontFault bytes fault
+first_in_digest chip bytes front image fault is failed =
+    let read = values_at digest_kind chip front.unprotected in
+    let same = unprotected_values chip bytes front image digest_kind is in
     let of_hashed = subst (λ (hashed : List ℕ). IsDigestFault read hashed fault) is.hashed failed in
-    let own = subst (λ (values : List (List ℕ)). IsDigestFault values (hashed_bytes image) fault) same of_hashed in
-    IsFirstFault.in_entries image (drop front.length bytes) is.begins (IsEntryFault.in_digest own)
+    let own = subst (λ (values : List (List ℕ)). IsDigestFault values (hashed_bytes image) fault) same of_hashed in (
+      IsFirstFault.in_entries image (drop front.length bytes) is.begins (IsEntryFault.in_digest own),
+      digest_not_behind read (bytes_of chip front.hashed) fault failed,
+    )
 
 -- .. and then that of the dependencies ..
-pub first_in_dependencies : (bytes : List ℕ) (front : Front) (image : Image) (fault : ImageError)
-    → IsFrontOf bytes front image → PassesDigest image
-    → IsDependencyFault (values_read dependency_kind front.protected.now) fault → IsFirstFault bytes fault
-first_in_dependencies bytes front image fault is digest failed =
-    let same = protected_values bytes front image dependency_kind is in
-    let own = subst (λ (values : List (List ℕ)). IsDependencyFault values fault) same failed in
-    IsFirstFault.in_entries image (drop front.length bytes) is.begins (IsEntryFault.in_dependencies digest own)
+pub first_in_dependencies : (chip : Chip) (bytes : List ℕ) (front : Front) (image : Image) (fault : ImageError)
+    → IsFrontOf chip bytes front image → PassesDigest image
+    → IsDependencyFault (values_at dependency_kind chip front.protected) fault → IsFrontFault bytes fault
+first_in_dependencies chip bytes front image fault is digest failed =
+    let same = protected_values chip bytes front image dependency_kind is in
+    let own = subst (λ (values : List (List ℕ)). IsDependencyFault values fault) same failed in (
+      IsFirstFault.in_entries image (drop front.length bytes) is.begins (IsEntryFault.in_dependencies digest own),
+      dependencies_not_behind (values_at dependency_kind chip front.protected) fault failed,
+    )
 
--- .. that of the security counter ..
-pub first_in_counter : (bytes : List ℕ) (front : Front) (image : Image) (fault : ImageError)
-    → IsFrontOf bytes front image → PassesDependencyCount image
-    → IsCounterFault (values_read counter_kind front.protected.now) fault → IsFirstFault bytes fault
-first_in_counter bytes front image fault is passes failed =
-    let same = protected_values bytes front image counter_kind is in
-    let own = subst (λ (values : List (List ℕ)). IsCounterFault values fault) same failed in
-    IsFirstFault.in_entries image (drop front.length bytes) is.begins (IsEntryFault.in_counter passes own)
+-- .. and that of the security counter.
+pub first_in_counter : (chip : Chip) (bytes : List ℕ) (front : Front) (image : Image) (fault : ImageError)
+    → IsFrontOf chip bytes front image → PassesDependencyCount image
+    → IsCounterFault (values_at counter_kind chip front.protected) fault → IsFrontFault bytes fault
+first_in_counter chip bytes front image fault is passes failed =
+    let same = protected_values chip bytes front image counter_kind is in
+    let own = subst (λ (values : List (List ℕ)). IsCounterFault values fault) same failed in (
+      IsFirstFault.in_entries image (drop front.length bytes) is.begins (IsEntryFault.in_counter passes own),
+      counter_not_behind (values_at counter_kind chip front.protected) fault failed,
+    )
 
--- .. and that bytes follow the image.
-pub first_behind : (bytes : List ℕ) (front : Front) (image : Image) → IsFrontOf bytes front image → PassesEntries image
-    → front.length < length bytes → IsFirstFault bytes TrailingBytes
-first_behind bytes front image is passes longer =
-    let trailing = drop front.length bytes in
-    let some : 0 < length trailing = omega (arith, longer, length-drop front.length bytes) in
-    IsFirstFault.in_entries image trailing is.begins (IsEntryFault.behind passes some refl)
-
--- A front that passes all checks and reaches the end is an intact image.
-pub intact_front : (bytes : List ℕ) (front : Front) (image : Image) (digest : List ℕ)
-    (dependencies : ArrayVec Dependency) (counter : ℕ) → IsFrontOf bytes front image → digest ≡ sha256 front.hashed.now
+-- A front that passes all checks is an intact image, which the bytes begin with.
+pub intact_front : (chip : Chip) (bytes : List ℕ) (front : Front) (image : Image) (digest : List ℕ)
+    (dependencies : ArrayVec Dependency) (counter : ℕ) → IsFrontOf chip bytes front image
+    → digest ≡ sha256 (bytes_of chip front.hashed)
     → SpellDependencies (dependency_values image) dependencies.items → SpellCounter (counter_values image) counter
-    → PassesEntries image → length bytes ≤ front.length
-    → IsIntact bytes (desc front.header.version counter front.header.flags front.length dependencies.items digest)
-intact_front bytes front image digest dependencies counter is digest_is spelled counts passes whole = (
-  image,
-  subst (BeginsWithImage bytes image) (drop_all front.length bytes whole) is.begins,
-  record {
-    version = ap (λ (header : Header). header.version) is.header;
-    flags = ap (λ (header : Header). header.flags) is.header;
-    length_of = is.length_of;
-    digest = digest_is ∙ ap sha256 is.hashed;
-    dependencies = spelled;
-    counter = counts;
-  },
-  passes,
+    → PassesEntries image
+    → BeginsIntact bytes
+    (desc front.header.version counter front.header.flags front.length dependencies.items digest)
+intact_front chip bytes front image digest dependencies counter is digest_is spelled counts passes = (
+  image_bytes image,
+  drop front.length bytes,
+  is.begins.parts,
+  (
+    image,
+    record { formed = is.begins.formed; parts = sym (append-nil (image_bytes image)) },
+    record {
+      version = ap (λ (header : Header). header.version) is.header;
+      flags = ap (λ (header : Header). header.flags) is.header;
+      length_of = is.length_of;
+      digest = digest_is ∙ ap sha256 is.hashed;
+      dependencies = spelled;
+      counter = counts;
+    },
+    passes,
+  ),
 )
-
--- What a call passed on as a fault is no intact image's.
-pub only_fault : (bytes : List ℕ) (result : Result Desc ImageError) (fault : ImageError)
-    → IsErrAnd result (λ passed. passed ≡ fault) → IfErr result (IsFirstFault bytes)
-    → (description : Desc) → IsIntact bytes description → result ≡ Ok description
-only_fault bytes (Ok found) fault passed failed description intact = absurd passed
-only_fault bytes (Err first) fault passed failed description intact =
-    absurd (intact_has_no_fault bytes description first intact failed)

@@ -1,15 +1,12 @@
 -- Bytes have one first fault at most: the checks stand in a row, and the first that fails has its name.
-use Rattle.std.proofs.Common.{◌≡◌, ℕ, zero, suc, ◌+◌, ◌<◌, ◌≤◌, inl, inr, List, length, Option, None, Some, Result, Ok, Err, refl, sym, ap, subst, ◌∙◌, arith}
-use Rattle.std.specs.Result.{IsErrAnd, IfErr}
-use Rattle.common.specs.Checks.{FailsFirst, PassBefore}
-use Rattle.common.proofs.ChecksLaws.{FailsFirst-unique}
+use Rattle.std.proofs.Common.{◌≡◌, ℕ, zero, suc, ◌+◌, ◌<◌, ◌≤◌, inl, inr, List, length, Option, None, Some, refl, sym, ap, subst, ◌∙◌, arith}
+use Rattle.common.specs.Checks.{FailsFirst, FailsFirst-unique, PassBefore}
 use Rattle.common.specs.declared.limits.TheConstants.{MOST_DEPENDENCIES}
 use Rattle.image_header.specs.declared.header.Header.{Header}
 use Rattle.image_header.specs.declared.error.HeaderError.{HeaderError}
 use Rattle.image_header.specs.Header.{BeginsWith, IsHeaderFault}
 use Rattle.image_header.proofs.Faults.{accepted_has_no_fault, header_fault-unique}
 use Rattle.image_header.proofs.Laws.{header-unique}
-use Rattle.tlv.specs.declared.desc.Desc.{Desc}
 use Rattle.tlv.specs.declared.error.ImageError.{ImageError}
 use Rattle.tlv.specs.declared.error.ImageError.TheVariants.{Truncated, BadTlvMagic, BadTlvSize, NoDigest, TwoDigests, BadDigest, BadDependency, TooManyDependencies, TrailingBytes, BadCounter}
 use Rattle.tlv.specs.Area.{protected_magic, unprotected_magic}
@@ -242,11 +239,3 @@ first_fault-unique bytes first second a b =
             entry_fault-unique bytes image own trailing own_trailing first second begins own_begins entry own_entry
       ]
     ]
-
--- What a call passed on as the first fault is the only one.
-pub only_refusal : (bytes : List ℕ) (result : Result Desc ImageError) (fault : ImageError)
-    → IsErrAnd result (λ passed. passed ≡ fault) → IfErr result (IsFirstFault bytes)
-    → (other : ImageError) → IsFirstFault bytes other → result ≡ Err other
-only_refusal bytes (Ok found) fault passed failed other failed_too = absurd passed
-only_refusal bytes (Err first) fault passed failed other failed_too =
-    ap Err (first_fault-unique bytes first other failed failed_too)

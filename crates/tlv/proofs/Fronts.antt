@@ -1,16 +1,21 @@
 -- The image that lies where a header and areas pass their checks, and that no image lies where a check fails.
-use Rattle.std.proofs.Common.{◌≡◌, ℕ, ◌+◌, ◌-◌, ◌<◌, ◌≤◌, ◌⊎◌, inl, inr, List, [], ◌++◌, length, take, drop, Option, None, Some, refl, sym, ap, subst, ◌∙◌, append_assoc, arith}
+use Rattle.std.proofs.Common.{◌≡◌, ◌≢◌, ℕ, ◌+◌, ◌-◌, ◌<◌, ◌≤◌, ◌⊎◌, inl, inr, List, [], ◌++◌, length, take, drop, Option, None, Some, refl, sym, ap, subst, ◌∙◌, append_assoc, arith}
 use Rattle.std.proofs.lemmas.List.{length-append, length-drop, length-take-le, take-append-drop}
 use Rattle.image_header.specs.declared.header.Header.{Header}
-use Rattle.image_header.specs.Header.{BeginsWith, IsAccepted, header_bytes}
+use Rattle.image_header.specs.declared.error.HeaderError.{HeaderError}
+use Rattle.image_header.specs.declared.error.HeaderError.TheVariants as header_fault
+use Rattle.image_header.specs.Header.{BeginsWith, IsAccepted, IsHeaderFault, header_bytes}
 use Rattle.image_header.proofs.Laws.{header-unique, header_bytes-rest}
+use Rattle.flash_model.specs.Chip.{Chip}
 use Rattle.tlv.specs.declared.error.ImageError.{ImageError}
+use Rattle.tlv.specs.declared.error.ImageError.TheVariants.{TrailingBytes}
 use Rattle.tlv.specs.declared.front.Front.{Front}
 use Rattle.tlv.specs.Area.{Entry, FitsArea, area_bytes, entries_bytes, protected_magic, unprotected_magic}
 use Rattle.common.specs.Bytes.{IsBytes}
-use Rattle.tlv.specs.Fault.{HasProtectedArea, HasUnprotectedArea, IsProtectedFault, IsTotal, IsUnprotectedFault, protected_place, unprotected_place, total_at, entries_at}
+use Rattle.tlv.specs.Fault.{BeginsAccepted, HasProtectedArea, HasUnprotectedArea, IsAreaFault, IsFirstFault, IsFrontFault, IsProtectedFault, IsTotal, IsUnprotectedFault, image_fault, protected_place, unprotected_place, total_at, entries_at}
 use Rattle.tlv.specs.Front.{IsFront, IsProtected}
 use Rattle.tlv.specs.Image.{Image, BeginsWithImage, protected_bytes, hashed_bytes, image_bytes}
+use Rattle.tlv.specs.Span.{bytes_of}
 use Rattle.common.proofs.Items.{drop-from}
 use Rattle.tlv.proofs.Areas.{IsAreaOf, drop-area, area_of_entries, area_has_no_fault}
 use Rattle.tlv.proofs.ImageLaws.{parts_of_image, protected_bytes-absent, protected_bytes-there, image_has_protected_area, image_has_unprotected_area}
@@ -151,22 +156,22 @@ length-image bytes image place near begins =
     omega (arith, len, near)
 
 -- What was found is an image, by its parts.
-pub is_front : (bytes : List ℕ) (front : Front) → IsBytes bytes → BeginsWith bytes front.header
+pub is_front : (chip : Chip) (bytes : List ℕ) (front : Front) → IsBytes bytes → BeginsWith bytes front.header
     → IsAccepted front.header
-    → IsProtected bytes (protected_place front.header) front.header.protected_size front.protected.now
+    → IsProtected bytes (protected_place front.header) front.header.protected_size (bytes_of chip front.protected)
     → HasUnprotectedArea bytes front.header
-    → front.unprotected.now ≡ entries_at bytes (unprotected_place front.header)
-    → front.hashed.now ≡ take (unprotected_place front.header) bytes
-    → front.length ≡ unprotected_place front.header + 4 + length front.unprotected.now
-    → IsFront bytes front
-is_front bytes front fits begins accepted protected_is area unprotected_is hashed_is length_is =
+    → bytes_of chip front.unprotected ≡ entries_at bytes (unprotected_place front.header)
+    → bytes_of chip front.hashed ≡ take (unprotected_place front.header) bytes
+    → front.length ≡ unprotected_place front.header + 4 + length (bytes_of chip front.unprotected)
+    → IsFront chip bytes front
+is_front chip bytes front fits begins accepted protected_is area unprotected_is hashed_is length_is =
     let header = front.header in
-    let protected = found_protected bytes front.protected.now header protected_is in
+    let protected = found_protected bytes (bytes_of chip front.protected) header protected_is in
     let unprotected = area.1 in
     let place = unprotected_place header in
     let last = area_of_entries bytes place unprotected_magic None unprotected.0 area area.0.0.1 unprotected.2 in
     let image = front_image header bytes protected.0 unprotected.0 in
-    let entries : front.unprotected.now ≡ entries_bytes unprotected.0 = unprotected_is ∙ unprotected.2 in
+    let entries : bytes_of chip front.unprotected ≡ entries_bytes unprotected.0 = unprotected_is ∙ unprotected.2 in
     let end : unprotected_place header + total_at bytes (unprotected_place header) ≡ front.length =
     omega (arith, length_is, last.total, ap length entries) in
     let lies = image_from_areas bytes header protected.0 unprotected.0 fits begins accepted protected.1 protected.2
@@ -187,6 +192,44 @@ is_front bytes front fits begins accepted protected_is area unprotected_is hashe
     )
 
 -- ---- where a check fails
+
+-- No fault of a header or of an area is that bytes follow.
+header_not_behind : (own : HeaderError) → image_fault own ≢ TrailingBytes
+header_not_behind header_fault.Short = λ behind. cc
+header_not_behind header_fault.BadMagic = λ behind. cc
+header_not_behind header_fault.BadHeaderSize = λ behind. cc
+header_not_behind header_fault.UnsupportedFlags = λ behind. cc
+
+area_not_behind : (bytes : List ℕ) (place magic : ℕ) (expected : Option ℕ) (fault : ImageError)
+    → IsAreaFault bytes place magic expected fault → fault ≢ TrailingBytes
+area_not_behind bytes place magic expected fault failed =
+    elim failed [
+      | IsAreaFault.no_head no_head is ↦ λ behind. cc
+      | IsAreaFault.other_magic head other is ↦ λ behind. cc
+      | IsAreaFault.bad_total before bad is ↦ λ behind. cc
+      | IsAreaFault.cut_off before short is ↦ λ behind. cc
+      | IsAreaFault.not_filled before not_filled is ↦ λ behind. cc
+    ]
+
+-- What fails of the header, of the protected area ..
+pub front_in_header : (bytes : List ℕ) (own : HeaderError) → IsHeaderFault bytes own
+    → IsFrontFault bytes (image_fault own)
+front_in_header bytes own failed = (IsFirstFault.in_header own failed refl, header_not_behind own)
+
+pub front_in_protected : (bytes : List ℕ) (header : Header) (fault : ImageError) → BeginsAccepted bytes header
+    → 0 < header.protected_size → IsProtectedFault bytes header fault → IsFrontFault bytes fault
+front_in_protected bytes header fault begins some failed = (
+  IsFirstFault.in_protected header begins some failed,
+  area_not_behind bytes (protected_place header) protected_magic (Some header.protected_size) fault failed,
+)
+
+-- .. or of the unprotected one is the first fault, whatever may follow.
+pub front_in_unprotected : (bytes : List ℕ) (header : Header) (fault : ImageError) → BeginsAccepted bytes header
+    → HasProtectedArea bytes header → IsUnprotectedFault bytes header fault → IsFrontFault bytes fault
+front_in_unprotected bytes header fault begins before failed = (
+  IsFirstFault.in_unprotected header begins before failed,
+  area_not_behind bytes (unprotected_place header) unprotected_magic None fault failed,
+)
 
 -- A protected area that was found passes its checks.
 pub found_passes : (bytes found : List ℕ) (header : Header)

@@ -235,3 +235,16 @@ pub image_begins_no_other : (first second : Image) (more : List ℕ) → IsWellF
 image_begins_no_other first second more one two e =
     image-unique (image_bytes second) first second more [] (record { formed = one; parts = e })
     (record { formed = two; parts = sym (append-nil (image_bytes second)) })
+
+-- One front of bytes at most is an image.
+pub image_front-unique : (first second behind other : List ℕ) (one two : Image) → first ++ behind ≡ second ++ other
+    → BeginsWithImage first one [] → BeginsWithImage second two [] → (first ≡ second) × (one ≡ two)
+image_front-unique first second behind other one two e a b =
+    let first_is : first ≡ image_bytes one = a.parts ∙ append-nil (image_bytes one) in
+    let second_is : second ≡ image_bytes two = b.parts ∙ append-nil (image_bytes two) in
+    let begins_one : BeginsWithImage (first ++ behind) one behind =
+    record { formed = a.formed; parts = ap (λ (x : List ℕ). x ++ behind) first_is } in
+    let begins_two : BeginsWithImage (first ++ behind) two other =
+    record { formed = b.formed; parts = e ∙ ap (λ (x : List ℕ). x ++ other) second_is } in
+    let same = (image-unique (first ++ behind) one two behind other begins_one begins_two).0 in
+    (first_is ∙ ap image_bytes same ∙ sym second_is, same)

@@ -4,9 +4,13 @@ pub mod Dependencies
 pub mod Descriptions
 pub mod FieldLaws
 pub mod FirstFaults
+pub mod Answered
 pub mod Fronts
+pub mod Headers
 pub mod ImageLaws
 pub mod MakingLaws
 pub mod MakingSteps
 pub mod Parts
+pub mod Slots
+pub mod Spans
 pub mod Walks

@@ -54,14 +54,12 @@ only_walk area entries rest fits walk =
     let same = walked entries rest walk.fit (no_entry rest (first_entry rest) bytes walk.ended refl) in
     (same.0 ∙ ap entries_of (sym walk.parts), same.1 ∙ ap rest_of (sym walk.parts))
 
--- Entries fill an area where nothing is left once no entry is found
-pub IsFilled-from_walk : (area rest : List ℕ) (empty : Bool) → IsBytes area → first_entry rest ≡ None
-    → rest_of rest ≡ rest_of area → empty ≡ (length rest == 0)
-    → 4 + length area < 2 ^ 16 → IsTrue empty ↔ IsFilled area
-IsFilled-from_walk area rest empty fits ended goes is_empty short =
-    let law = IsFilled-rest_of area fits short in
-    let same : rest ≡ rest_of area = sym (rest_of-none rest ended) ∙ goes in (
-      λ yes. law.1 (sym same ∙ nil_from_length rest (eqb-true (length rest) 0 (sym is_empty ∙ yes))),
+-- Entries fill an area where nothing is left behind them.
+pub IsFilled-from_rest : (area left : List ℕ) (empty : Bool) → IsBytes area → left ≡ rest_of area
+    → empty ≡ (length left == 0) → 4 + length area < 2 ^ 16 → IsTrue empty ↔ IsFilled area
+IsFilled-from_rest area left empty fits same is_empty short =
+    let law = IsFilled-rest_of area fits short in (
+      λ yes. law.1 (sym same ∙ nil_from_length left (eqb-true (length left) 0 (sym is_empty ∙ yes))),
       λ filled.
-          is_empty ∙ eq-eqb (length rest) 0 (ap length (same ∙ law.0 filled)),
+          is_empty ∙ eq-eqb (length left) 0 (ap length (same ∙ law.0 filled)),
     )

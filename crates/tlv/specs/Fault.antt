@@ -143,3 +143,8 @@ pub data IsFirstFault (bytes : List ℕ) (fault : ImageError) : Type 0 where
       → IsUnprotectedFault bytes header fault → IsFirstFault bytes fault
   in_entries : (image : Image) (trailing : List ℕ) → BeginsWithImage bytes image trailing
       → IsEntryFault image trailing fault → IsFirstFault bytes fault
+
+-- The first check that fails of bytes that are to begin with an image: anything may follow it, so
+-- that the last check isn't made.
+abbrev pub IsFrontFault : List ℕ → ImageError → Type 0
+IsFrontFault bytes fault = IsFirstFault bytes fault × (fault ≢ TrailingBytes)

@@ -1,9 +1,11 @@
 -- The image that bytes begin with, whatever its entries say and whatever follows it.
 use Rattle.std.specs.Prelude.{◌≡◌, ℕ, ◌<◌, ◌≤◌, ◌⊎◌, List, [], length, drop, Some}
+use Rattle.flash_model.specs.Chip.{Chip}
 use Rattle.tlv.specs.declared.front.Front.{Front}
 use Rattle.tlv.specs.Area.{entries_bytes, protected_magic}
 use Rattle.tlv.specs.Fault.{IsArea, entries_at}
 use Rattle.tlv.specs.Image.{Image, BeginsWithImage, hashed_bytes, image_bytes}
+use Rattle.tlv.specs.Span.{CanRead, bytes_of}
 
 -- These are the bytes of the entries of a protected area that lies at a place ..
 abbrev pub LiesProtected : List ℕ → ℕ → ℕ → List ℕ → Type 0
@@ -15,15 +17,21 @@ abbrev pub IsProtected : List ℕ → ℕ → ℕ → List ℕ → Type 0
 IsProtected bytes place size entries =
     ((size ≡ 0) × (entries ≡ [])) ⊎ LiesProtected bytes place size entries
 
--- These are the parts of the image that bytes begin with.
-pub record IsFrontOf (bytes : List ℕ) (front : Front) (image : Image) : Type 0 where
+-- These are the parts of the image that bytes of a chip begin with.
+pub record IsFrontOf (chip : Chip) (bytes : List ℕ) (front : Front) (image : Image) : Type 0 where
   pub begins : BeginsWithImage bytes image (drop front.length bytes)
   pub header : front.header ≡ image.header
-  pub hashed : front.hashed.now ≡ hashed_bytes image
-  pub protected : front.protected.now ≡ entries_bytes image.protected
-  pub unprotected : front.unprotected.now ≡ entries_bytes image.unprotected
+  pub hashed : bytes_of chip front.hashed ≡ hashed_bytes image
+  pub protected : bytes_of chip front.protected ≡ entries_bytes image.protected
+  pub unprotected : bytes_of chip front.unprotected ≡ entries_bytes image.unprotected
   pub length_of : front.length ≡ length (image_bytes image)
   pub within : front.length ≤ length bytes
 
-abbrev pub IsFront : List ℕ → Front → Type 0
-IsFront bytes front = (image : Image) × IsFrontOf bytes front image
+abbrev pub IsFront : Chip → List ℕ → Front → Type 0
+IsFront chip bytes front = (image : Image) × IsFrontOf chip bytes front image
+
+-- The parts of a front can be read.
+pub record CanReadFront (chip : Chip) (front : Front) : Type 0 where
+  pub hashed : CanRead chip front.hashed
+  pub protected : CanRead chip front.protected
+  pub unprotected : CanRead chip front.unprotected

@@ -95,3 +95,8 @@ pub record Describes (image : Image) (description : Desc) : Type 0 where
 abbrev pub IsIntact : List ℕ → Desc → Type 0
 IsIntact bytes description = (image : Image)
     × BeginsWithImage bytes image [] × Describes image description × PassesEntries image
+
+-- Bytes begin with an intact image, of which this is the description, whatever follows it.
+abbrev pub BeginsIntact : List ℕ → Desc → Type 0
+BeginsIntact bytes description = (front : List ℕ) × (rest : List ℕ)
+    × (bytes ≡ front ++ rest) × IsIntact front description

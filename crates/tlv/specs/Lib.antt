@@ -6,5 +6,9 @@ pub mod Reading
 pub mod Walk
 pub mod Tlv
 pub mod Fields
+pub mod Span
+pub mod Memory
+pub mod SlotTlvs
 pub mod Front
+pub mod Slot
 pub mod Making

@@ -1,19 +1,21 @@
-//! What a whole file says of itself, where it is an intact image.
+//! What an image says of itself, where it is intact.
 
 ghost use Rattle.std.specs.Prelude.{◌≡◌, Err, IfErr, IfOk, Ok, OnOk};
 ghost use Rattle.sha2.specs.Sha256.{sha256};
-ghost use Rattle.tlv.specs.Fault.{IsFirstFault};
+ghost use Rattle.tlv.specs.Fault.{IsFirstFault, IsFrontFault};
 ghost use Rattle.tlv.specs.Fields.{IsDigestFault, SpellDigest, digest_kind};
-ghost use Rattle.tlv.specs.Image.{IsIntact};
-ghost use Rattle.tlv.specs.Reading.{values_read};
+ghost use Rattle.tlv.specs.Image.{BeginsIntact, IsIntact};
+ghost use Rattle.tlv.specs.SlotTlvs.{values_at};
+ghost use Rattle.tlv.specs.Span.{CanRead, bytes_of};
 ghost use Rattle.tlv.specs.declared.desc.Desc.{Desc};
 ghost use Rattle.tlv.specs.declared.error.ImageError.{ImageError};
 
 use crate::desc::Desc;
 use crate::error::ImageError;
-use crate::fields::{counter, dependencies, digest_value};
+use crate::fields::{counter, dependencies, digest_value, is_digest};
 use crate::front::Front;
-use sha2::{Digest, Sha256};
+use crate::medium::{Medium, Memory};
+use crate::span::Span;
 
 /// What the image says of itself that these bytes are, all of them. Does not allocate.
 ///
@@ -32,13 +34,38 @@ pub fn describe(bytes: &[u8]) -> Result<Desc, ImageError>
     // .. and where one fails first, that is the error.
     ensures refused { (fault : ImageError) → IsFirstFault bytes.now fault → result ≡ Err fault }
 {
-    let front = Front::read(bytes)?;
-    let digest = own_digest(front.hashed, front.unprotected)?;
-    let dependencies = dependencies(front.protected)?;
-    let counter = counter(front.protected)?;
-    if front.length < bytes.len() {
+    let whole = Span {
+        at: 0,
+        len: bytes.len(),
+    };
+    describe_whole(&mut Memory { bytes }, whole)
+}
+
+/// What the image says of itself that these bytes are, all of them.
+pub(crate) fn describe_whole<M: Medium>(medium: &mut M, bytes: Span) -> Result<Desc, ImageError>
+    requires { CanRead (M.chip medium.old) bytes }
+    ensures same { M.chip medium.new ≡ M.chip medium.old }
+    ensures described { IfOk result (IsIntact (bytes_of (M.chip medium.old) bytes)) }
+    ensures fault { IfErr result (IsFirstFault (bytes_of (M.chip medium.old) bytes)) }
+{
+    let description = describe_front(medium, bytes)?;
+    if description.length < bytes.len as u64 {
         return Err(ImageError::TrailingBytes);
     }
+    Ok(description)
+}
+
+/// What the image says of itself that these bytes begin with, whatever follows it.
+pub(crate) fn describe_front<M: Medium>(medium: &mut M, bytes: Span) -> Result<Desc, ImageError>
+    requires { CanRead (M.chip medium.old) bytes }
+    ensures same { M.chip medium.new ≡ M.chip medium.old }
+    ensures described { IfOk result (BeginsIntact (bytes_of (M.chip medium.old) bytes)) }
+    ensures fault { IfErr result (IsFrontFault (bytes_of (M.chip medium.old) bytes)) }
+{
+    let front = Front::read(medium, bytes)?;
+    let digest = own_digest(medium, front.hashed, front.unprotected)?;
+    let dependencies = dependencies(medium, front.protected)?;
+    let counter = counter(medium, front.protected)?;
     Ok(Desc {
         version: front.header.version,
         counter,
@@ -50,14 +77,23 @@ pub fn describe(bytes: &[u8]) -> Result<Desc, ImageError>
 }
 
 // The SHA-256 of the hashed bytes, where the one digest entry among the entries is that.
-fn own_digest(hashed: &[u8], entries: &[u8]) -> Result<[u8; 32], ImageError>
-    ensures own { IfOk result (λ digest. digest ≡ sha256 hashed.now) }
-    ensures entry { OnOk result (SpellDigest (values_read digest_kind entries.now) hashed.now) }
-    ensures fault { IfErr result (IsDigestFault (values_read digest_kind entries.now) hashed.now) }
+fn own_digest<M: Medium>(
+    medium: &mut M,
+    hashed: Span,
+    entries: Span,
+) -> Result<[u8; 32], ImageError>
+    requires hashed { CanRead (M.chip medium.old) hashed }
+    requires entries { CanRead (M.chip medium.old) entries }
+    ensures same { M.chip medium.new ≡ M.chip medium.old }
+    ensures own { IfOk result (λ digest. digest ≡ sha256 (bytes_of (M.chip medium.old) hashed)) }
+    ensures entry { OnOk result (SpellDigest
+        (values_at digest_kind (M.chip medium.old) entries) (bytes_of (M.chip medium.old) hashed)) }
+    ensures fault { IfErr result (IsDigestFault
+        (values_at digest_kind (M.chip medium.old) entries) (bytes_of (M.chip medium.old) hashed)) }
 {
-    let entry = digest_value(entries)?;
-    let digest = Sha256::digest(hashed);
-    if entry != digest.as_slice() {
+    let value = digest_value(medium, entries)?;
+    let digest = medium.digest(hashed);
+    if !is_digest(medium, value, &digest) {
         return Err(ImageError::BadDigest);
     }
     Ok(digest)

@@ -1,97 +1,113 @@
 //! The fields that entries hold: digest, dependencies and security counter.
 
-ghost use Rattle.std.specs.Prelude.{◌≡◌, ◌≢◌, ℕ, ◌≤◌, ◌∷◌, [], List, length, IfOk, IfErr, IfSome, IfNone};
+ghost use Rattle.std.specs.Prelude.{◌≡◌, ◌≢◌, ◌↔◌, ℕ, ◌≤◌, ◌∷◌, [], List, length, IsTrue, IfOk, IfErr, IfSome, IfNone};
 ghost use Rattle.tlv.specs.Fields.{FitsDependency, IsCounterFault, IsDependencyFault, IsDependencyForm, IsDigestFault, SpellCounter, SpellDependencies, counter_bytes, counter_kind, dependency_bytes, dependency_kind, digest_kind};
-ghost use Rattle.tlv.specs.Reading.{values_read};
-ghost use Rattle.tlv.specs.Tlv.{values_left};
+ghost use Rattle.tlv.specs.SlotTlvs.{values_at};
+ghost use Rattle.tlv.specs.Span.{CanRead, bytes_of};
 
 use crate::error::ImageError;
 use crate::format::{
-    COUNTER_KIND, COUNTER_LENGTH, DEPENDENCY_KIND, DEPENDENCY_LENGTH, DIGEST_KIND,
+    COUNTER_KIND, COUNTER_LENGTH, DEPENDENCY_KIND, DEPENDENCY_LENGTH, DIGEST_KIND, DIGEST_LENGTH,
 };
-use crate::tlvs::Tlvs;
+use crate::medium::Medium;
+use crate::slot_tlvs::SlotTlvs;
+use crate::span::Span;
+use crate::walk::next_value;
 use arrayvec::ArrayVec;
 use byteorder::{ByteOrder, LittleEndian};
 use common::limits::MOST_DEPENDENCIES;
 use version_order::{Dependency, Version};
 
-// The values of the entries of one type, in order.
-#[derive(Drop)]
-struct Values<'a> {
-    entries: Tlvs<'a>,
-    kind: u16,
-}
-
-impl<'a> Iterator for Values<'a> {
-    ghost use Rattle.std.specs.Iterator.{YieldsFirstRef, item_count};
-    ghost use Rattle.tlv.specs.Tlv.{values_left};
-
-    type Item = &'a [u8];
-
-    ghost next_gives = { YieldsFirstRef values_left };
-
-    ghost remaining = { item_count values_left };
-
-    fn next(&mut self) -> Option<&'a [u8]> {
-        while let Some(entry) = self.entries.next() {
-            if entry.kind == self.kind {
-                return Some(entry.value);
-            }
-        }
-        None
-    }
-}
-
-fn values_in(entries: &[u8], kind: u16) -> Values<'_>
-    ensures { values_left result ≡ values_read kind entries.now }
-{
-    Values {
-        entries: Tlvs::new(entries),
-        kind,
-    }
-}
-
-/// The value of the one digest entry among the entries that these bytes spell.
+/// Where the value of the one digest entry lies among the entries that these bytes spell.
 ///
 /// `NoDigest` where there is none, `TwoDigests` where there are two or more.
-pub(crate) fn digest_value(entries: &[u8]) -> Result<&[u8], ImageError>
-    ensures ok { IfOk result (λ value. values_read digest_kind entries.now ≡ value.now ∷ []) }
+pub(crate) fn digest_value<M: Medium>(medium: &mut M, entries: Span) -> Result<Span, ImageError>
+    requires { CanRead (M.chip medium.old) entries }
+    ensures same { M.chip medium.new ≡ M.chip medium.old }
+    ensures ok { IfOk result (λ value. values_at digest_kind (M.chip medium.old) entries
+        ≡ bytes_of (M.chip medium.old) value ∷ []) }
+    ensures readable { IfOk result (CanRead (M.chip medium.old)) }
     // These two faults come whatever the digest is to be.
     ensures err { (hashed : List ℕ)
-        → IfErr result (IsDigestFault (values_read digest_kind entries.now) hashed) }
+        → IfErr result (IsDigestFault (values_at digest_kind (M.chip medium.old) entries) hashed) }
 {
-    let mut digests = values_in(entries, DIGEST_KIND);
-    match (digests.next(), digests.next()) {
+    let mut entries = SlotTlvs::new(entries);
+    match (
+        next_value(medium, &mut entries, DIGEST_KIND),
+        next_value(medium, &mut entries, DIGEST_KIND),
+    ) {
         (None, _) => Err(ImageError::NoDigest),
         (Some(digest), None) => Ok(digest),
         (Some(_), Some(_)) => Err(ImageError::TwoDigests),
     }
 }
 
+/// Whether a value is this digest.
+pub(crate) fn is_digest<M: Medium>(medium: &mut M, value: Span, digest: &[u8; 32]) -> bool
+    requires { CanRead (M.chip medium.old) value }
+    ensures same { M.chip medium.new ≡ M.chip medium.old }
+    ensures is { IsTrue result ↔ (bytes_of (M.chip medium.old) value ≡ digest.now) }
+{
+    if value.len != DIGEST_LENGTH {
+        return false;
+    }
+    let mut own = [0; DIGEST_LENGTH];
+    medium.read(value, &mut own);
+    own == *digest
+}
+
 /// The security counter among the entries that these bytes spell, 0 where there is none.
 ///
 /// `BadCounter` where there are two or more, or its value isn't four bytes long.
-pub(crate) fn counter(entries: &[u8]) -> Result<u32, ImageError>
-    ensures ok { IfOk result (SpellCounter (values_read counter_kind entries.now)) }
-    ensures err { IfErr result (IsCounterFault (values_read counter_kind entries.now)) }
+pub(crate) fn counter<M: Medium>(medium: &mut M, entries: Span) -> Result<u32, ImageError>
+    requires { CanRead (M.chip medium.old) entries }
+    ensures same { M.chip medium.new ≡ M.chip medium.old }
+    ensures ok { IfOk result (SpellCounter (values_at counter_kind (M.chip medium.old) entries)) }
+    ensures err { IfErr result
+        (IsCounterFault (values_at counter_kind (M.chip medium.old) entries)) }
 {
-    let mut counters = values_in(entries, COUNTER_KIND);
-    match (counters.next(), counters.next()) {
+    let mut entries = SlotTlvs::new(entries);
+    match (
+        next_value(medium, &mut entries, COUNTER_KIND),
+        next_value(medium, &mut entries, COUNTER_KIND),
+    ) {
         (None, _) => Ok(0),
-        (Some(value), None) => counter_of(value).ok_or(ImageError::BadCounter),
+        (Some(value), None) => counter_at(medium, value).ok_or(ImageError::BadCounter),
         (Some(_), Some(_)) => Err(ImageError::BadCounter),
     }
 }
 
-// The counter that a value spells, if it has the length of one.
-fn counter_of(value: &[u8]) -> Option<u32>
-    ensures spelled { IfSome result (λ counter. value.now ≡ counter_bytes counter) }
-    ensures none { IfNone result (length value.now ≢ 4) }
+// The counter that the value at a place spells, if it has the length of one.
+fn counter_at<M: Medium>(medium: &mut M, value: Span) -> Option<u32>
+    requires { CanRead (M.chip medium.old) value }
+    ensures same { M.chip medium.new ≡ M.chip medium.old }
+    ensures spelled { IfSome result (λ counter.
+        bytes_of (M.chip medium.old) value ≡ counter_bytes counter) }
+    ensures none { IfNone result (length (bytes_of (M.chip medium.old) value) ≢ 4) }
 {
-    if value.len() != COUNTER_LENGTH {
+    if value.len != COUNTER_LENGTH {
         return None;
     }
-    Some(LittleEndian::read_u32(value))
+    let mut bytes = [0; COUNTER_LENGTH];
+    medium.read(value, &mut bytes);
+    Some(LittleEndian::read_u32(&bytes))
+}
+
+// The dependency that the value at a place spells, if it has the form of one.
+fn dependency_at<M: Medium>(medium: &mut M, value: Span) -> Option<Dependency>
+    requires { CanRead (M.chip medium.old) value }
+    ensures same { M.chip medium.new ≡ M.chip medium.old }
+    ensures fits { IfSome result FitsDependency }
+    ensures spelled { IfSome result (λ dependency.
+        bytes_of (M.chip medium.old) value ≡ dependency_bytes dependency) }
+    ensures none { IfNone result (IsDependencyForm (bytes_of (M.chip medium.old) value) → ⊥) }
+{
+    if value.len != DEPENDENCY_LENGTH {
+        return None;
+    }
+    let mut bytes = [0; DEPENDENCY_LENGTH];
+    medium.read(value, &mut bytes);
+    dependency_of(&bytes)
 }
 
 // The dependency that a value spells, if it has the form of one.
@@ -119,18 +135,23 @@ fn dependency_of(value: &[u8]) -> Option<Dependency>
 ///
 /// `BadDependency` where the value of one isn't 12 bytes long, or its three bytes after the image number aren't
 /// zero; `TooManyDependencies` where none is so, but there are more than [`MOST_DEPENDENCIES`].
-pub(crate) fn dependencies(
-    entries: &[u8],
+pub(crate) fn dependencies<M: Medium>(
+    medium: &mut M,
+    entries: Span,
 ) -> Result<ArrayVec<Dependency, MOST_DEPENDENCIES>, ImageError>
-    ensures ok { IfOk result (λ dependencies.
-        SpellDependencies (values_read dependency_kind entries.now) dependencies.items) }
+    requires { CanRead (M.chip medium.old) entries }
+    ensures same { M.chip medium.new ≡ M.chip medium.old }
+    ensures ok { IfOk result (λ dependencies. SpellDependencies
+        (values_at dependency_kind (M.chip medium.old) entries) dependencies.items) }
     ensures few { IfOk result (λ dependencies. length dependencies.items ≤ MOST_DEPENDENCIES) }
-    ensures err { IfErr result (IsDependencyFault (values_read dependency_kind entries.now)) }
+    ensures err { IfErr result
+        (IsDependencyFault (values_at dependency_kind (M.chip medium.old) entries)) }
 {
     let mut dependencies = ArrayVec::new();
     let mut too_many = false;
-    for value in values_in(entries, DEPENDENCY_KIND) {
-        let Some(dependency) = dependency_of(value) else {
+    let mut entries = SlotTlvs::new(entries);
+    while let Some(value) = next_value(medium, &mut entries, DEPENDENCY_KIND) {
+        let Some(dependency) = dependency_at(medium, value) else {
             return Err(ImageError::BadDependency);
         };
         if dependencies.is_full() {

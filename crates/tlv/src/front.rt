@@ -1,104 +1,140 @@
 //! The front of bytes: the image that they begin with.
 
-ghost use Rattle.std.specs.Prelude.{◌≡◌, ◌↔◌, ℕ, ◌^◌, ◌<◌, List, Some, IfOk, IfErr, IsOk, IsTrue, OnErr, OnOk};
+ghost use Rattle.std.specs.Prelude.{◌≡◌, ◌↔◌, ◌^◌, ◌<◌, Some, IfOk, IfErr, IsTrue, OnErr, OnOk};
+ghost use Rattle.image_header.specs.Header.{IsHeaderFault};
 ghost use Rattle.tlv.specs.Area.{protected_magic};
-ghost use Rattle.tlv.specs.Fault.{IsArea, IsAreaFault, IsFirstFault, IsTotal, entries_at};
-ghost use Rattle.tlv.specs.Front.{IsFront, IsProtected};
-ghost use Rattle.tlv.specs.Image.{Image, BeginsWithImage};
+ghost use Rattle.tlv.specs.Fault.{BeginsAccepted, IsArea, IsAreaFault, IsFrontFault, IsTotal, entries_at};
+ghost use Rattle.tlv.specs.Front.{CanReadFront, IsFront, IsProtected};
+ghost use Rattle.tlv.specs.Span.{CanRead, bytes_of};
 
 use crate::error::ImageError;
 use crate::format::{HEAD_LENGTH, PROTECTED_MAGIC, UNPROTECTED_MAGIC};
-use crate::tlvs::is_filled;
-use byteorder::{ByteOrder, LittleEndian};
-use image_header::Header;
+use crate::medium::Medium;
+use crate::span::Span;
+use crate::walk::{head, is_filled};
+use image_header::{HEADER_LENGTH, Header, HeaderError};
 
 /// The image that bytes begin with: header, body, protected area and unprotected area.
 #[derive(Clone, Copy)]
-pub(crate) struct Front<'a> {
+pub(crate) struct Front {
     /// The header.
     pub(crate) header: Header,
-    /// The bytes that the digest is taken of: header, body and protected area.
-    pub(crate) hashed: &'a [u8],
+    /// What the digest is taken of: header, body and protected area.
+    pub(crate) hashed: Span,
     /// The entries of the protected area, without the area's first four bytes; none where it is absent.
-    pub(crate) protected: &'a [u8],
+    pub(crate) protected: Span,
     /// The entries of the unprotected area, without the area's first four bytes.
-    pub(crate) unprotected: &'a [u8],
+    pub(crate) unprotected: Span,
     /// The length of the image in bytes.
     pub(crate) length: usize,
 }
 
-impl<'a> Front<'a> {
+impl Front {
     /// The image that bytes begin with, whatever its entries say and whatever follows it.
     ///
     /// # Errors
     ///
     /// The first check of header and areas that fails.
-    pub(crate) fn read(bytes: &'a [u8]) -> Result<Front<'a>, ImageError>
-        // What is found is an image, by its parts.
-        ensures found { IfOk result (IsFront bytes.now) }
-        // An image is found, whatever follows it.
-        ensures only { (image : Image) (trailing : List ℕ)
-            → BeginsWithImage bytes.now image trailing → IsOk result }
+    pub(crate) fn read<M: Medium>(medium: &mut M, bytes: Span) -> Result<Front, ImageError>
+        requires { CanRead (M.chip medium.old) bytes }
+        ensures same { M.chip medium.new ≡ M.chip medium.old }
+        // What is found is an image, by its parts, which can be read.
+        ensures found { IfOk result
+            (IsFront (M.chip medium.old) (bytes_of (M.chip medium.old) bytes)) }
+        ensures readable { IfOk result (CanReadFront (M.chip medium.old)) }
         // Which check fails.
-        ensures fault { IfErr result (IsFirstFault bytes.now) }
+        ensures fault { IfErr result (IsFrontFault (bytes_of (M.chip medium.old) bytes)) }
     {
-        let header = Header::read(bytes)?;
+        let header = header(medium, bytes)?;
         let protected_place = usize::from(header.header_size) + header.body_size as usize;
-        let protected = protected_entries(bytes, protected_place, header.protected_size)?;
+        let protected = protected_entries(medium, bytes, protected_place, header.protected_size)?;
         let unprotected_place = protected_place + usize::from(header.protected_size);
-        let unprotected = area_entries(bytes, unprotected_place, UNPROTECTED_MAGIC, None)?;
+        let unprotected = area_entries(medium, bytes, unprotected_place, UNPROTECTED_MAGIC, None)?;
         Ok(Front {
             header,
-            hashed: &bytes[..unprotected_place],
+            hashed: bytes.first(unprotected_place),
             protected,
             unprotected,
-            length: unprotected_place + HEAD_LENGTH + unprotected.len(),
+            length: unprotected_place + HEAD_LENGTH + unprotected.len,
         })
     }
 }
 
+// The header.
+fn header<M: Medium>(medium: &mut M, bytes: Span) -> Result<Header, HeaderError>
+    requires { CanRead (M.chip medium.old) bytes }
+    ensures same { M.chip medium.new ≡ M.chip medium.old }
+    ensures read { IfOk result (BeginsAccepted (bytes_of (M.chip medium.old) bytes)) }
+    ensures fault { IfErr result (IsHeaderFault (bytes_of (M.chip medium.old) bytes)) }
+{
+    if bytes.len < HEADER_LENGTH {
+        return Err(HeaderError::Short);
+    }
+    let mut header = [0; HEADER_LENGTH];
+    medium.read(bytes.first(HEADER_LENGTH), &mut header);
+    Header::read(&header)
+}
+
 // The entries of the protected area, which has `size` bytes: none where it is absent.
-fn protected_entries(bytes: &[u8], place: usize, size: u16) -> Result<&[u8], ImageError>
-    requires { place < 2 ^ 63 }
-    ensures found { IfOk result (λ entries. IsProtected bytes.now place size entries.now) }
+fn protected_entries<M: Medium>(
+    medium: &mut M,
+    bytes: Span,
+    place: usize,
+    size: u16,
+) -> Result<Span, ImageError>
+    requires readable { CanRead (M.chip medium.old) bytes }
+    requires near { place < 2 ^ 62 }
+    ensures same { M.chip medium.new ≡ M.chip medium.old }
+    ensures found { IfOk result (λ entries. IsProtected (bytes_of (M.chip medium.old) bytes)
+        place size (bytes_of (M.chip medium.old) entries)) }
+    ensures readable { IfOk result (CanRead (M.chip medium.old)) }
     ensures some { OnErr result (0 < size) }
-    ensures fault { IfErr result (IsAreaFault bytes.now place protected_magic (Some size)) }
+    ensures fault { IfErr result
+        (IsAreaFault (bytes_of (M.chip medium.old) bytes) place protected_magic (Some size)) }
 {
     if size == 0 {
-        return Ok(&[]);
+        return Ok(bytes.first(0));
     }
-    area_entries(bytes, place, PROTECTED_MAGIC, Some(size))
+    area_entries(medium, bytes, place, PROTECTED_MAGIC, Some(size))
 }
 
 // The entries of the area that begins at a place, with this magic number; its length is the one that is
 // expected, if any.
-fn area_entries(
-    bytes: &[u8],
+fn area_entries<M: Medium>(
+    medium: &mut M,
+    bytes: Span,
     place: usize,
     magic: u16,
     expected: Option<u16>,
-) -> Result<&[u8], ImageError>
-    requires { place < 2 ^ 63 }
-    ensures found { OnOk result (IsArea bytes.now place magic expected) }
-    ensures entries { IfOk result (λ entries. entries.now ≡ entries_at bytes.now place) }
-    ensures fault { IfErr result (IsAreaFault bytes.now place magic expected) }
+) -> Result<Span, ImageError>
+    requires readable { CanRead (M.chip medium.old) bytes }
+    requires near { place < 2 ^ 62 }
+    ensures same { M.chip medium.new ≡ M.chip medium.old }
+    ensures found { OnOk result
+        (IsArea (bytes_of (M.chip medium.old) bytes) place magic expected) }
+    ensures entries { IfOk result (λ entries. bytes_of (M.chip medium.old) entries
+        ≡ entries_at (bytes_of (M.chip medium.old) bytes) place) }
+    ensures readable { IfOk result (CanRead (M.chip medium.old)) }
+    ensures fault { IfErr result
+        (IsAreaFault (bytes_of (M.chip medium.old) bytes) place magic expected) }
 {
-    if bytes.len() < place + HEAD_LENGTH {
+    if bytes.len < place + HEAD_LENGTH {
         return Err(ImageError::Truncated);
     }
-    if LittleEndian::read_u16(&bytes[place..]) != magic {
+    let area = bytes.after(place);
+    let (own_magic, total) = head(medium, area);
+    if own_magic != magic {
         return Err(ImageError::BadTlvMagic);
     }
-    let total = LittleEndian::read_u16(&bytes[place + 2..]);
     if !is_total(expected, total) {
         return Err(ImageError::BadTlvSize);
     }
-    let end = place + usize::from(total);
-    if bytes.len() < end {
+    let total = usize::from(total);
+    if area.len < total {
         return Err(ImageError::Truncated);
     }
-    let entries = &bytes[place + HEAD_LENGTH..end];
-    if !is_filled(entries) {
+    let entries = area.after(HEAD_LENGTH).first(total - HEAD_LENGTH);
+    if !is_filled(medium, entries) {
         return Err(ImageError::BadTlvSize);
     }
     Ok(entries)

@@ -3,7 +3,7 @@
 ghost use Rattle.std.specs.Prelude.{◌≡◌, ◌++◌, ℕ, List, []};
 ghost use Rattle.common.specs.Bytes.{IsBytes};
 ghost use Rattle.tlv.specs.Area.{Entry};
-ghost use Rattle.tlv.specs.Image.{Image, IsWellFormed, image_bytes};
+ghost use Rattle.tlv.specs.Image.{BeginsWithImage, Image, IsWellFormed, image_bytes};
 ghost use Rattle.tlv.specs.Reading.{entries_of, rest_of};
 ghost use Rattle.tlv.specs.Walk.{IsWalk};
 
@@ -19,4 +19,12 @@ pub fn a_walk_gives_the_entries_of_its_area()
 pub fn no_image_begins_another()
     ensures { (first second : Image) (more : List ℕ) → IsWellFormed first → IsWellFormed second
         → image_bytes second ≡ image_bytes first ++ more → (first ≡ second) × (more ≡ []) }
+{}
+
+/// At most one front of bytes, as of a slot, is an image: where two fronts are images, the two are the same.
+pub fn one_front_is_an_image()
+    ensures { (first second behind other : List ℕ) (one two : Image)
+        → first ++ behind ≡ second ++ other
+        → BeginsWithImage first one [] → BeginsWithImage second two []
+        → (first ≡ second) × (one ≡ two) }
 {}

@@ -2,9 +2,13 @@
 //! design document, "Image format").
 //!
 //! Promises: an area is walked entry by entry; a file is described exactly where its bytes are an intact image,
-//! and its description ([`Desc`]) lists what that image says of itself; each refusal is the first check that
-//! fails; of the values that an image is to have ([`ImageSpec`]) the intact image is made that has them. Does not
-//! allocate but to make an image. `boot_cli` and `bench_exports` call it.
+//! and its description ([`Desc`]) lists what that image says of itself; a slot is described exactly where it begins
+//! with an intact image; each refusal is the first check that fails; a flash that is off is told from a slot
+//! without an image, and no flash is changed; of the values that an image is to have ([`ImageSpec`]) the intact image
+//! is made that has them. Does not allocate but to make an image.
+//!
+//! One reader serves bytes in memory, a file in a slot and the front of a slot, and has one proof: it reads span by
+//! span ([`Span`]), and hashes a flash by pieces of 256 bytes. `boot_cli` and `bench_exports` call the crate.
 #![tactic(auto)]
 
 mod desc;
@@ -15,13 +19,23 @@ mod format;
 mod front;
 mod laws;
 mod make;
+mod medium;
+mod slot;
+mod slot_tlvs;
+mod span;
 #[cfg(test)]
 mod tests;
 mod tlvs;
+mod walk;
 
 pub use desc::Desc;
 pub use describing::describe;
-pub use error::ImageError;
-pub use laws::{a_walk_gives_the_entries_of_its_area, no_image_begins_another};
+pub use error::{ImageError, SlotError};
+pub use laws::{
+    a_walk_gives_the_entries_of_its_area, no_image_begins_another, one_front_is_an_image,
+};
 pub use make::{ImageSpec, MakeError, make_image};
+pub use slot::{describe_file, describe_slot, digest_file};
+pub use slot_tlvs::{SlotTlv, SlotTlvs};
+pub use span::Span;
 pub use tlvs::{Tlv, Tlvs};

@@ -1,8 +1,7 @@
 //! The entries of an area, one after the other.
 
-ghost use Rattle.std.specs.Prelude.{◌≡◌, ◌+◌, ◌^◌, ◌<◌, ◌↔◌, IsTrue, IfNone, ⊤, length};
+ghost use Rattle.std.specs.Prelude.{◌≡◌, IfNone, ⊤};
 ghost use Rattle.std.specs.Option.{option_map};
-ghost use Rattle.tlv.specs.Fault.{IsFilled};
 ghost use Rattle.tlv.specs.Reading.{first_entry};
 ghost use Rattle.tlv.specs.Tlv.{tlv_view, tlvs_rest};
 
@@ -81,15 +80,4 @@ fn first_tlv(bytes: &[u8]) -> Option<(Tlv<'_>, &[u8])>
     }
     let (value, rest) = rest.split_at(size);
     Some((Tlv { kind, value }, rest))
-}
-
-/// Whether entries fill these bytes exactly: an area's without its magic number and length.
-pub(crate) fn is_filled(area: &[u8]) -> bool
-    ensures { 4 + length area.now < 2 ^ 16 → (IsTrue result ↔ IsFilled area.now) }
-{
-    let mut rest = area;
-    while let Some((_, after)) = first_tlv(rest) {
-        rest = after;
-    }
-    rest.is_empty()
 }

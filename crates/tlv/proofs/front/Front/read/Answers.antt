@@ -1,81 +1,67 @@
-use Rattle.std.proofs.Common.{◌≡◌, ℕ, ◌+◌, Some, None, take, refl, ap, subst, arith}
+use Rattle.std.proofs.Common.{◌≡◌, ℕ, ◌+◌, Some, None, take, ap, subst, ◌∙◌, arith}
 use Rattle.common.proofs.Results.{IfErr-passed}
 use Rattle.tlv.specs.Area.{protected_magic, unprotected_magic}
-use Rattle.tlv.specs.Fault.{IsArea, IsAreaFault, IsFirstFault, entries_at, protected_place, unprotected_place}
+use Rattle.tlv.specs.Fault.{IsArea, IsAreaFault, entries_at, protected_place, unprotected_place}
 use Rattle.tlv.specs.Front.{IsProtected}
-use Rattle.tlv.proofs.Fronts.{found_passes, is_front, no_image_in_protected, no_image_in_unprotected}
+use Rattle.tlv.specs.Span.{bytes_of}
+use Rattle.tlv.proofs.Fronts.{found_passes, front_in_header, front_in_protected, front_in_unprotected, is_front}
+use Rattle.tlv.proofs.Spans.{IsBytes-bytes_of}
 use Rattle.tlv.proofs.front.Front.read.Goals as goal
 
 pub returns-in_err-header-clause-fault : goal.returns-in_err-header-clause-fault
-returns-in_err-header-clause-fault c =
-    IfErr-passed _ _ _ c.from_residual.ensures.1 (IsFirstFault.in_header _ c.in_err-header.ensures.fault refl)
-
-pub returns-in_err-protected-clause-only : goal.returns-in_err-protected-clause-only
-returns-in_err-protected-clause-only c = λ image trailing begins.
-    let header = c.in_ok-header.header in
-    let bytes = c.args.bytes.now in
-    let fault = c.in_err-protected.field-0.0 in
-    let at : c.from.result + header.body_size ≡ protected_place header = omega (arith, c.from.ensures) in
-    let size = Some header.protected_size in
-    let failed = subst (λ (place : ℕ). IsAreaFault bytes place protected_magic size fault) at
-    c.in_err-protected.ensures.fault in
-    absurd (no_image_in_protected bytes header fault c.in_ok-header.ensures.read.0 c.in_err-protected.ensures.some
-    failed image trailing begins)
+returns-in_err-header-clause-fault g c =
+    let bytes = bytes_of (g.M.Medium.chip c.args.medium.now) c.args.bytes in
+    IfErr-passed _ _ _ c.from_residual.ensures.1 (front_in_header bytes _ c.in_err-header.ensures.fault)
 
 pub returns-in_err-protected-clause-fault : goal.returns-in_err-protected-clause-fault
-returns-in_err-protected-clause-fault c =
+returns-in_err-protected-clause-fault g c =
+    let bytes = bytes_of (g.M.Medium.chip c.args.medium.now) c.args.bytes in
     let header = c.in_ok-header.header in
-    let bytes = c.args.bytes.now in
     let fault = c.in_err-protected.field-0.0 in
     let at : c.from.result + header.body_size ≡ protected_place header = omega (arith, c.from.ensures) in
     let size = Some header.protected_size in
-    let failed = subst (λ (place : ℕ). IsAreaFault bytes place protected_magic size fault) at
-    c.in_err-protected.ensures.fault in
-    let begins = c.in_ok-header.ensures.read in
+    let own = rw c.header.ensures.same at c.in_err-protected.ensures.fault in
+    let failed = subst (λ (place : ℕ). IsAreaFault bytes place protected_magic size fault) at own in
     IfErr-passed _ _ _ c.from_residual-in_err-protected.ensures.1
-    (IsFirstFault.in_protected header (begins.0, begins.1) c.in_err-protected.ensures.some failed)
-
-pub returns-in_err-unprotected-clause-only : goal.returns-in_err-unprotected-clause-only
-returns-in_err-unprotected-clause-only c = λ image trailing begins.
-    let header = c.in_ok-header.header in
-    let bytes = c.args.bytes.now in
-    let fault = c.in_err-unprotected.field-0.0 in
-    let at : c.from.result + header.body_size + c.from-2.result ≡ unprotected_place header =
-    omega (arith, c.from.ensures, c.from-2.ensures) in
-    let failed = subst (λ (place : ℕ). IsAreaFault bytes place unprotected_magic None fault) at
-    c.in_err-unprotected.ensures.fault in
-    absurd (no_image_in_unprotected bytes header fault c.in_ok-header.ensures.read.0 failed image trailing begins)
+    (front_in_protected bytes header fault c.in_ok-header.ensures.read c.in_err-protected.ensures.some failed)
 
 pub returns-in_err-unprotected-clause-fault : goal.returns-in_err-unprotected-clause-fault
-returns-in_err-unprotected-clause-fault c =
+returns-in_err-unprotected-clause-fault g c =
+    let chip = g.M.Medium.chip c.args.medium.now in
+    let bytes = bytes_of chip c.args.bytes in
     let header = c.in_ok-header.header in
-    let bytes = c.args.bytes.now in
     let fault = c.in_err-unprotected.field-0.0 in
     let at : c.from.result + header.body_size + c.from-2.result ≡ unprotected_place header =
     omega (arith, c.from.ensures, c.from-2.ensures) in
-    let failed = subst (λ (place : ℕ). IsAreaFault bytes place unprotected_magic None fault) at
-    c.in_err-unprotected.ensures.fault in
+    let own = rw (c.protected_entries.ensures.same, c.header.ensures.same) at c.in_err-unprotected.ensures.fault in
+    let failed = subst (λ (place : ℕ). IsAreaFault bytes place unprotected_magic None fault) at own in
     let before : c.from.result + header.body_size ≡ protected_place header = omega (arith, c.from.ensures) in
-    let entries = c.in_ok-protected.protected.now in
-    let protected = subst (λ (place : ℕ). IsProtected bytes place header.protected_size entries) before
-    c.in_ok-protected.ensures.found in
-    let begins = c.in_ok-header.ensures.read in
+    let entries = bytes_of chip c.in_ok-protected.protected in
+    let found = rw c.header.ensures.same at c.in_ok-protected.ensures.found in
+    let protected = subst (λ (place : ℕ). IsProtected bytes place header.protected_size entries) before found in
     let passes = found_passes bytes entries header protected in
     IfErr-passed _ _ _ c.from_residual-in_err-unprotected.ensures.1
-    (IsFirstFault.in_unprotected header (begins.0, begins.1) passes failed)
+    (front_in_unprotected bytes header fault c.in_ok-header.ensures.read passes failed)
 
 pub returns-clause-found : goal.returns-clause-found
-returns-clause-found c =
+returns-clause-found g c =
+    let chip = g.M.Medium.chip c.args.medium.now in
+    let bytes = bytes_of chip c.args.bytes in
     let header = c.in_ok-header.header in
-    let bytes = c.args.bytes.now in
+    let begins = c.in_ok-header.ensures.read in
     let before : c.from.result + header.body_size ≡ protected_place header = omega (arith, c.from.ensures) in
     let at : c.from.result + header.body_size + c.from-2.result ≡ unprotected_place header =
     omega (arith, c.from.ensures, c.from-2.ensures) in
-    let protected =
-    subst (λ (place : ℕ). IsProtected bytes place header.protected_size c.in_ok-protected.protected.now) before
-    c.in_ok-protected.ensures.found in
-    let area = subst (λ (place : ℕ). IsArea bytes place unprotected_magic None) at c.in_ok-unprotected.ensures.found in
-    let own = c.in_ok-unprotected.unprotected.now in
-    let entries = subst (λ (place : ℕ). own ≡ entries_at bytes place) at c.in_ok-unprotected.ensures.entries in
-    is_front bytes _ (λ i. omega (arith, c.type_inv.bytes i)) c.in_ok-header.ensures.read.0
-    c.in_ok-header.ensures.read.1 protected area entries (ap (λ (n : ℕ). take n bytes) at) (omega (arith, at))
+    let first = bytes_of chip c.in_ok-protected.protected in
+    let found = rw c.header.ensures.same at c.in_ok-protected.ensures.found in
+    let protected = subst (λ (place : ℕ). IsProtected bytes place header.protected_size first) before found in
+    let last = c.in_ok-unprotected.ensures in
+    let passes = rw (c.protected_entries.ensures.same, c.header.ensures.same) at last.found in
+    let area = subst (λ (place : ℕ). IsArea bytes place unprotected_magic None) at passes in
+    let own = bytes_of chip c.in_ok-unprotected.unprotected in
+    let read = rw (c.protected_entries.ensures.same, c.header.ensures.same) at last.entries in
+    let entries = subst (λ (place : ℕ). own ≡ entries_at bytes place) at read in
+    let can = rw (c.protected_entries.ensures.same, c.header.ensures.same) at last.readable in
+    let fits = IsBytes-bytes_of chip c.args.bytes (g.met.M.Medium.bytes c.args.medium.now) in
+    is_front chip bytes _ fits begins.0 begins.1 protected area entries
+    (c.first.ensures.bytes chip ∙ ap (λ (n : ℕ). take n bytes) at) (omega (arith, at, can.whole))

@@ -1,0 +1,35 @@
+-- Entries in a flash as their reader gives them, and what it hasn't given yet.
+use Rattle.std.specs.Prelude.{◌≡◌, ℕ, List, [], ◌∷◌, Option}
+use Rattle.std.specs.Option.{option_map_or}
+use Rattle.flash_model.specs.Chip.{Chip}
+use Rattle.tlv.specs.declared.slot_tlvs.SlotTlv.{SlotTlv}
+use Rattle.tlv.specs.declared.slot_tlvs.SlotTlvs.{SlotTlvs}
+use Rattle.tlv.specs.declared.span.Span.{Span}
+use Rattle.tlv.specs.Area.{Entry, values_of}
+use Rattle.tlv.specs.Reading.{entries_of, values_read}
+use Rattle.tlv.specs.Span.{bytes_of}
+
+-- The entry, with the bytes of its value.
+abbrev pub slot_tlv_view : Chip → SlotTlv → Entry
+slot_tlv_view chip tlv = record { kind = tlv.kind; value = bytes_of chip tlv.value }
+
+-- Where the bytes after the entries given so far lie ..
+abbrev pub slot_tlvs_rest : SlotTlvs → Span
+slot_tlvs_rest tlvs = tlvs.rest
+
+-- .. and the entries in them.
+abbrev pub slot_tlvs_left : Chip → SlotTlvs → List Entry
+slot_tlvs_left chip tlvs = entries_of (bytes_of chip (slot_tlvs_rest tlvs))
+
+-- A step gives the first of the entries that were left, and leaves the others, or there was none.
+abbrev pub IsStep : Chip → SlotTlvs → SlotTlvs → Option SlotTlv → Type 0
+IsStep chip old new given = slot_tlvs_left chip old
+    ≡ option_map_or (λ tlv. slot_tlv_view chip tlv ∷ slot_tlvs_left chip new) given []
+
+-- The values of one type that haven't been given yet.
+abbrev pub slot_values_left : ℕ → Chip → SlotTlvs → List (List ℕ)
+slot_values_left kind chip tlvs = values_of kind (slot_tlvs_left chip tlvs)
+
+-- The values of one type among the entries in a span.
+abbrev pub values_at : ℕ → Chip → Span → List (List ℕ)
+values_at kind chip span = values_read kind (bytes_of chip span)

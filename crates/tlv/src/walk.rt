@@ -1,0 +1,96 @@
+//! Walks over the entries of an area, wherever the area lies.
+
+ghost use Rattle.std.specs.Prelude.{◌≡◌, ◌+◌, ◌^◌, ◌<◌, ◌≤◌, ◌↔◌, ◌∷◌, [], IsTrue, IfSome, drop};
+ghost use Rattle.std.specs.Option.{option_map, option_map_or};
+ghost use Rattle.byteorder.specs.Endian.{little_number};
+ghost use Rattle.tlv.specs.Fault.{IsFilled};
+ghost use Rattle.tlv.specs.Reading.{first_entry};
+ghost use Rattle.tlv.specs.SlotTlvs.{slot_tlv_view, slot_tlvs_rest, slot_values_left};
+ghost use Rattle.tlv.specs.Span.{CanRead, bytes_of};
+
+use crate::format::HEAD_LENGTH;
+use crate::medium::Medium;
+use crate::slot_tlvs::{SlotTlv, SlotTlvs};
+use crate::span::Span;
+use byteorder::{ByteOrder, LittleEndian};
+
+/// The two numbers of a head: an area's magic number and its length, or an entry's type and the length of its
+/// value.
+pub(crate) fn head<M: Medium>(medium: &mut M, bytes: Span) -> (u16, u16)
+    requires readable { CanRead (M.chip medium.old) bytes }
+    requires long { 4 ≤ bytes.len }
+    ensures same { M.chip medium.new ≡ M.chip medium.old }
+    ensures first { result.0 ≡ little_number 2 (bytes_of (M.chip medium.old) bytes) }
+    ensures second { result.1 ≡ little_number 2 (drop 2 (bytes_of (M.chip medium.old) bytes)) }
+{
+    let mut head = [0; HEAD_LENGTH];
+    medium.read(bytes.first(HEAD_LENGTH), &mut head);
+    (
+        LittleEndian::read_u16(&head),
+        LittleEndian::read_u16(&head[2..]),
+    )
+}
+
+/// The first entry, if one fits, and where the bytes after it lie. No byte of its value is read.
+pub(crate) fn first_slot_tlv<M: Medium>(medium: &mut M, bytes: Span) -> Option<(SlotTlv, Span)>
+    requires { CanRead (M.chip medium.old) bytes }
+    ensures same { M.chip medium.new ≡ M.chip medium.old }
+    ensures first { option_map (λ found. (
+      slot_tlv_view (M.chip medium.old) found.0,
+      bytes_of (M.chip medium.old) found.1,
+    )) result ≡ first_entry (bytes_of (M.chip medium.old) bytes) }
+    ensures readable { IfSome result (λ found.
+        CanRead (M.chip medium.old) found.0.value × CanRead (M.chip medium.old) found.1) }
+    ensures shorter { IfSome result (λ found. found.1.len < bytes.len) }
+{
+    if bytes.len < HEAD_LENGTH {
+        return None;
+    }
+    let (kind, size) = head(medium, bytes);
+    let size = usize::from(size);
+    let rest = bytes.after(HEAD_LENGTH);
+    if rest.len < size {
+        return None;
+    }
+    let tlv = SlotTlv {
+        kind,
+        value: rest.first(size),
+    };
+    Some((tlv, rest.after(size)))
+}
+
+/// Whether entries fill these bytes exactly: an area's without its magic number and length.
+pub(crate) fn is_filled<M: Medium>(medium: &mut M, area: Span) -> bool
+    requires { CanRead (M.chip medium.old) area }
+    ensures same { M.chip medium.new ≡ M.chip medium.old }
+    ensures filled { 4 + area.len < 2 ^ 16
+        → (IsTrue result ↔ IsFilled (bytes_of (M.chip medium.old) area)) }
+{
+    let mut entries = SlotTlvs::new(area);
+    while let Some(_) = entries.step(medium) {}
+    entries.rest().len == 0
+}
+
+/// Where the value of the next entry of a type lies. The entries before it are passed over.
+pub(crate) fn next_value<M: Medium>(
+    medium: &mut M,
+    entries: &mut SlotTlvs,
+    kind: u16,
+) -> Option<Span>
+    requires { CanRead (M.chip medium.old) (slot_tlvs_rest entries.old) }
+    ensures same { M.chip medium.new ≡ M.chip medium.old }
+    ensures readable { CanRead (M.chip medium.old) (slot_tlvs_rest entries.new) }
+    ensures steps { slot_values_left kind (M.chip medium.old) entries.old ≡ option_map_or (λ value.
+        bytes_of (M.chip medium.old) value ∷ slot_values_left kind (M.chip medium.old) entries.new)
+        result [] }
+    ensures value { IfSome result (CanRead (M.chip medium.old)) }
+    ensures shorter { IfSome result (λ _.
+        (slot_tlvs_rest entries.new).len < (slot_tlvs_rest entries.old).len) }
+{
+    while let Some(entry) = entries.step(medium) {
+        if entry.kind == kind {
+            return Some(entry.value);
+        }
+    }
+    None
+}
