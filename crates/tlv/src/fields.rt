@@ -88,9 +88,9 @@ fn counter_at<M: Medium>(medium: &mut M, value: Span) -> Option<u32>
     if value.len != COUNTER_LENGTH {
         return None;
     }
-    let mut bytes = [0; COUNTER_LENGTH];
-    medium.read(value, &mut bytes);
-    Some(LittleEndian::read_u32(&bytes))
+    let mut counter = [0; COUNTER_LENGTH];
+    medium.read(value, &mut counter);
+    Some(LittleEndian::read_u32(&counter))
 }
 
 // The dependency that the value at a place spells, if it has the form of one.
@@ -105,18 +105,19 @@ fn dependency_at<M: Medium>(medium: &mut M, value: Span) -> Option<Dependency>
     if value.len != DEPENDENCY_LENGTH {
         return None;
     }
-    let mut bytes = [0; DEPENDENCY_LENGTH];
-    medium.read(value, &mut bytes);
-    dependency_of(&bytes)
+    let mut dependency = [0; DEPENDENCY_LENGTH];
+    medium.read(value, &mut dependency);
+    dependency_of(&dependency)
 }
 
-// The dependency that a value spells, if it has the form of one.
+// The dependency that twelve bytes spell, if they have the form of one.
 fn dependency_of(value: &[u8]) -> Option<Dependency>
+    requires { length value.now ≡ 12 }
     ensures fits { IfSome result FitsDependency }
     ensures spelled { IfSome result (λ dependency. value.now ≡ dependency_bytes dependency) }
     ensures none { IfNone result (IsDependencyForm value.now → ⊥) }
 {
-    if value.len() != DEPENDENCY_LENGTH || value[1] != 0 || value[2] != 0 || value[3] != 0 {
+    if value[1] != 0 || value[2] != 0 || value[3] != 0 {
         return None;
     }
     let minimum = Version {
