@@ -20,6 +20,8 @@ mod front;
 mod laws;
 mod make;
 mod medium;
+#[cfg(test)]
+mod samples;
 mod slot;
 mod slot_tlvs;
 mod span;
