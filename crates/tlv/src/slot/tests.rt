@@ -356,3 +356,94 @@ fn walked<L: Ledger>(rt: &impl Abort, alloc: Global, blank: Blank) -> Result<(),
 fn entries_in_a_flash_are_given_by_place(rt: HostRuntime) -> Result<(), Fail> {
     walked::<Brand>(&rt, rt.alloc(), Blank::new(2))
 }
+
+/// A flash that tells how many bytes were read of it, and how many at once at most.
+#[derive(Drop)]
+struct Counting<F> {
+    flash: F,
+    read: u64,
+    most: usize,
+}
+
+impl<F: Flash> Flash for Counting<F> {
+    ghost chip = { λ counting. F.chip counting.flash };
+
+    ghost whole = { λ counting. F.whole counting.flash };
+
+    ghost addressed = { λ counting. F.addressed counting.flash };
+
+    ghost bytes = { λ counting. F.bytes counting.flash };
+
+    fn sector_size(&self) -> u32 {
+        self.flash.sector_size()
+    }
+
+    fn sectors(&self) -> u32 {
+        self.flash.sectors()
+    }
+
+    fn read(&mut self, at: u32, out: &mut [u8]) -> Result<(), FlashError> {
+        self.read = self.read.saturating_add(out.len() as u64);
+        self.most = self.most.max(out.len());
+        self.flash.read(at, out)
+    }
+
+    fn program(&mut self, at: u32, bytes: &[u8]) -> Result<(), FlashError> {
+        self.flash.program(at, bytes)
+    }
+
+    fn erase(&mut self, sector: u32) -> Result<(), FlashError> {
+        self.flash.erase(sector)
+    }
+
+    fn restart(&mut self) {
+        self.flash.restart();
+    }
+}
+
+/// How many bytes `describe_slot` reads of a slot that holds this image, and how many at once at most.
+fn counted<L: Ledger>(
+    rt: &impl Abort,
+    alloc: Global,
+    blank: Blank,
+    image: &[u8],
+) -> Result<(u64, usize), Fail>
+    requires name { blank.name ≡ L.name }
+    requires parts { blank.parts ≡ L.parts }
+    requires two { L.parts ≡ 2 }
+{
+    let map = SectorMap::new(512, &[2, 1])?;
+    let mut bytes = Vec::new(alloc);
+    bytes.extend_from_slice(image)?;
+    bytes.resize(7168, 0xff)?;
+    assert!(rt; bytes.len() == 7168);
+    let mut flash = Counting {
+        flash: MemFlash::<L>::from_bytes(alloc, blank, 512, bytes),
+        read: 0,
+        most: 0,
+    };
+    assert!(rt; map.images == 2);
+    assert!(rt; map.fits(&flash));
+    assert_eq!(rt; fault_of(&describe_slot(&mut flash, &map, 0, Side::Primary)), 0);
+    Ok((flash.read, flash.most))
+}
+
+fn bytes_read(rt: &impl Abort, alloc: Global, image: &[u8]) -> Result<(u64, usize), Fail> {
+    counted::<Brand>(rt, alloc, Blank::new(2), image)
+}
+
+#[test]
+fn header_and_body_are_read_once_for_the_digest(rt: HostRuntime) -> Result<(), Fail> {
+    // The header, each area's head, once more the heads of its entries to see that they fill it, then the digest's
+    // head, the 932 hashed bytes, and the digest.
+    let image = letters(rt.alloc(), 900)?;
+    let (read, most) = bytes_read(&rt, rt.alloc(), image.as_slice())?;
+    assert_eq!(rt; read, 32 + 4 + 4 + 4 + 932 + 32);
+    assert_eq!(rt; most, 256);
+    // The same, where the protected area has two entries more, whose heads are read for the dependencies and for the
+    // counter.
+    let (read, most) = bytes_read(&rt, rt.alloc(), &COUNTED)?;
+    assert_eq!(rt; read, 32 + (4 + 8) + (4 + 4) + 4 + 64 + 32 + (8 + 12) + (8 + 4));
+    assert_eq!(rt; most, 64);
+    Ok(())
+}
