@@ -1,5 +1,5 @@
 -- Entries in a flash as their reader gives them, and what it hasn't given yet.
-use Rattle.std.specs.Prelude.{◌≡◌, ℕ, List, [], ◌∷◌, Option}
+use Rattle.std.specs.Prelude.{◌≡◌, ℕ, ◌+◌, List, [], ◌∷◌, Option, Some, None}
 use Rattle.std.specs.Option.{option_map_or}
 use Rattle.flash_model.specs.Chip.{Chip}
 use Rattle.tlv.specs.declared.slot_tlvs.SlotTlv.{SlotTlv}
@@ -25,6 +25,18 @@ slot_tlvs_left chip tlvs = entries_of (bytes_of chip (slot_tlvs_rest tlvs))
 abbrev pub IsStep : Chip → SlotTlvs → SlotTlvs → Option SlotTlv → Type 0
 IsStep chip old new given = slot_tlvs_left chip old
     ≡ option_map_or (λ tlv. slot_tlv_view chip tlv ∷ slot_tlvs_left chip new) given []
+
+-- An entry lies first in a span, and the rest behind it: its value behind the head of four bytes, and
+-- the rest behind the value, to the end of the span.
+pub record LiesFirst (span : Span) (tlv : SlotTlv) (rest : Span) : Type 0 where
+  pub value : tlv.value.at ≡ span.at + 4
+  pub rest_at : rest.at ≡ tlv.value.at + tlv.value.len
+  pub end : rest.at + rest.len ≡ span.at + span.len
+
+-- An entry that a step gives lies first in what was left, and where there was none, the rest stays.
+abbrev pub LiesAtStep : SlotTlvs → SlotTlvs → Option SlotTlv → Type 0
+LiesAtStep old new (Some tlv) = LiesFirst (slot_tlvs_rest old) tlv (slot_tlvs_rest new)
+LiesAtStep old new None = new ≡ old
 
 -- The values of one type that haven't been given yet.
 abbrev pub slot_values_left : ℕ → Chip → SlotTlvs → List (List ℕ)

@@ -4,7 +4,7 @@ ghost use Rattle.std.specs.Prelude.{◌≡◌, ◌<◌, ◌∷◌, [], IfErr, If
 ghost use Rattle.std.specs.Option.{option_map_or};
 ghost use Rattle.flash_model.specs.Chip.{Ends};
 ghost use Rattle.tlv.specs.Reading.{rest_of};
-ghost use Rattle.tlv.specs.SlotTlvs.{IsStep, slot_tlv_view, slot_tlvs_left, slot_tlvs_rest};
+ghost use Rattle.tlv.specs.SlotTlvs.{IsStep, LiesAtStep, slot_tlv_view, slot_tlvs_left, slot_tlvs_rest};
 ghost use Rattle.tlv.specs.Span.{CanRead, IsInside, bytes_of};
 
 use crate::medium::Medium;
@@ -53,6 +53,8 @@ impl SlotTlvs {
         ensures inside { IsInside (F.chip flash.old) (slot_tlvs_rest self.new) }
         // The entries that were left are this one and those that are left now.
         ensures ok { IfOk result (IsStep (F.chip flash.old) self.old self.new) }
+        // It lies where they began.
+        ensures lies { IfOk result (LiesAtStep self.old self.new) }
         ensures err { OnErr result (self.new ≡ self.old) }
         ensures erases { OnOk result ((F.chip flash.new).erases ≡ (F.chip flash.old).erases) }
         ensures ends { Ends result (F.chip flash.old) (F.chip flash.new) }
@@ -72,6 +74,7 @@ impl SlotTlvs {
             ≡ rest_of (bytes_of (M.chip medium.old) (slot_tlvs_rest self.old)) }
         ensures ended { IfNone result (bytes_of (M.chip medium.old) (slot_tlvs_rest self.new)
             ≡ rest_of (bytes_of (M.chip medium.old) (slot_tlvs_rest self.old))) }
+        ensures lies { LiesAtStep self.old self.new result }
         ensures shorter { IfSome result (λ _.
             (slot_tlvs_rest self.new).len < (slot_tlvs_rest self.old).len) }
         ensures value { IfSome result (λ tlv. CanRead (M.chip medium.old) tlv.value) }

@@ -19,6 +19,7 @@ impl Span {
         requires { n ≤ self.len }
         ensures bytes { (chip : Chip) → bytes_of chip result ≡ take n (bytes_of chip self) }
         ensures readable { (chip : Chip) → CanRead chip self → CanRead chip result }
+        ensures at { result.at ≡ self.at }
         ensures len { result.len ≡ n }
     {
         Span {
@@ -33,6 +34,7 @@ impl Span {
         requires addressed { self.at + self.len < 2 ^ 63 }
         ensures bytes { (chip : Chip) → bytes_of chip result ≡ drop n (bytes_of chip self) }
         ensures readable { (chip : Chip) → CanRead chip self → CanRead chip result }
+        ensures at { result.at ≡ self.at + n }
         ensures len { n + result.len ≡ self.len }
     {
         Span {

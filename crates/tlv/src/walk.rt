@@ -5,7 +5,7 @@ ghost use Rattle.std.specs.Option.{option_map, option_map_or};
 ghost use Rattle.byteorder.specs.Endian.{little_number};
 ghost use Rattle.tlv.specs.Fault.{IsFilled};
 ghost use Rattle.tlv.specs.Reading.{first_entry};
-ghost use Rattle.tlv.specs.SlotTlvs.{slot_tlv_view, slot_tlvs_rest, slot_values_left};
+ghost use Rattle.tlv.specs.SlotTlvs.{LiesFirst, slot_tlv_view, slot_tlvs_rest, slot_values_left};
 ghost use Rattle.tlv.specs.Span.{CanRead, bytes_of};
 
 use crate::format::HEAD_LENGTH;
@@ -41,6 +41,7 @@ pub(crate) fn first_slot_tlv<M: Medium>(medium: &mut M, bytes: Span) -> Option<(
     )) result ≡ first_entry (bytes_of (M.chip medium.old) bytes) }
     ensures readable { IfSome result (λ found.
         CanRead (M.chip medium.old) found.0.value × CanRead (M.chip medium.old) found.1) }
+    ensures lies { IfSome result (λ found. LiesFirst bytes found.0 found.1) }
     ensures shorter { IfSome result (λ found. found.1.len < bytes.len) }
 {
     if bytes.len < HEAD_LENGTH {

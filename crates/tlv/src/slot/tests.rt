@@ -424,7 +424,10 @@ fn counted<L: Ledger>(
     };
     assert!(rt; map.images == 2);
     assert!(rt; map.fits(&flash));
-    assert_eq!(rt; fault_of(&describe_slot(&mut flash, &map, 0, Side::Primary)), 0);
+    assert_eq!(rt;
+        fault_of(&describe_slot(&mut flash, &map, 0, Side::Primary)),
+        0
+    );
     Ok((flash.read, flash.most))
 }
 
@@ -443,7 +446,10 @@ fn header_and_body_are_read_once_for_the_digest(rt: HostRuntime) -> Result<(), F
     // The same, where the protected area has two entries more, whose heads are read for the dependencies and for the
     // counter.
     let (read, most) = bytes_read(&rt, rt.alloc(), &COUNTED)?;
-    assert_eq!(rt; read, 32 + (4 + 8) + (4 + 4) + 4 + 64 + 32 + (8 + 12) + (8 + 4));
+    assert_eq!(rt;
+        read,
+        32 + (4 + 8) + (4 + 4) + 4 + 64 + 32 + (8 + 12) + (8 + 4)
+    );
     assert_eq!(rt; most, 64);
     Ok(())
 }
