@@ -1,0 +1,65 @@
+use Rattle.std.proofs.Common.{rules, arith, refl, ap, subst, ◌+◌, ◌∙◌, ◌≡◌}
+use Rattle.sector_map.proofs.Parts.{keeps_refl, keeps_trans, laid_out_kept}
+use Rattle.swap_scratch.specs.Used.{steps_of}
+use Rattle.swap_scratch.specs.Swap.{sum_over}
+use Rattle.swap_scratch.proofs.Taking.{fields_refl, fields_trans}
+use Rattle.swap_scratch.proofs.Members.{begun}
+use Rattle.swap_scratch.proofs.Sums.{sum_none, sum_more, share_same, counts_are}
+use Rattle.swap_scratch.proofs.Contents.{swapped_one}
+use Rattle.swap_scratch.proofs.swapping.swap_set.Goals as goal
+
+pub loop-image-init : goal.loop-image-init
+loop-image-init g c = record {
+  laid_out = c.requires.laid_out;
+  outside = keeps_refl _ _ _;
+  fields = fields_refl _ _ _;
+  none = λ no_member. refl;
+  place = λ counts x y at. begun _ _ _ _ counts x y at;
+  erases = λ counts x y at. omega (arith, sum_none);
+  uncut = search rules;
+  asleep = search rules;
+}
+
+pub returns-in_err-swap_member-clause-fields : goal.returns-in_err-swap_member-clause-fields
+returns-in_err-swap_member-clause-fields g c = fields_trans _ _ _ _ _ c.requires.laid_out
+    c.loop-image.invariant.laid_out c.loop-image.invariant.fields c.swap_member.ensures.fields
+
+pub loop-image-preserved : goal.loop-image-preserved
+loop-image-preserved g c =
+    let kept = c.loop-image.invariant in
+    record {
+      laid_out = laid_out_kept _ _ _ _ kept.laid_out c.swap_member.ensures.outside;
+      outside = keeps_trans _ _ _ _ _ kept.outside c.swap_member.ensures.outside;
+      fields = fields_trans _ _ _ _ _ c.requires.laid_out kept.laid_out kept.fields c.swap_member.ensures.fields;
+      none = λ no_member. c.swap_member.ensures.other (no_member c.loop-image.image) ∙ kept.none no_member;
+      place = λ counts x y at. c.in_ok-swap_member.ensures.done counts x y (kept.place counts x y at);
+      erases = λ counts x y at. omega (
+        arith,
+        kept.erases counts x y at,
+        c.in_ok-swap_member.ensures.erases counts x y (kept.place counts x y at),
+        sum_more,
+        share_same _ c.args.side c.args.mask c.loop-image.image _ _ c.requires.laid_out kept.laid_out kept.fields
+            (omega arith),
+      );
+      uncut = search rules;
+      asleep = search rules;
+    }
+
+pub returns-clause-swapped : goal.returns-clause-swapped
+returns-clause-swapped g c =
+    let kept = c.loop-image.invariant in
+    λ x y at i member.
+    let below = kept.place at.counts x y at.place in
+    let lt = c.requires.within i member in
+    swapped_one _ _ _ i (x i) (y i) (below.now i) kept.laid_out (below.done i (omega arith) member)
+    (below.place.each i member)
+
+pub returns-clause-erases : goal.returns-clause-erases
+returns-clause-erases g c = λ x y at.
+    let all : c.loop-image.image ≡ c.args.map.now.images = omega arith in
+    ap (λ n. (g.F.Flash.chip c.loop-image.flash).erases + n)
+    (counts_are c.args.map.now (g.F.Flash.chip c.args.flash.now) c.args.side c.args.mask x y at)
+    ∙ subst (λ n. (g.F.Flash.chip c.loop-image.flash).erases + sum_over c.args.mask at.counts n
+    ≡ (g.F.Flash.chip c.args.flash.now).erases
+    + sum_over c.args.mask (λ i. steps_of c.args.map.now (g.F.Flash.chip c.args.flash.now) c.args.side i) n)
+    all (c.loop-image.invariant.erases at.counts x y at.place)

@@ -1,0 +1,3 @@
+pub mod Used
+pub mod Place
+pub mod Swap

@@ -1,0 +1,42 @@
+//! How much of each slot a swap moves.
+
+ghost use Rattle.std.specs.Prelude.{◌≡◌, ◌+◌, ◌*◌, ◌<◌, ◌≤◌, OnOk, IfOk, IfSome, Option};
+ghost use Rattle.flash_model.specs.Chip.{Ends};
+ghost use Rattle.sector_map.specs.Map.{IsLaidOut, slot_sectors};
+ghost use Rattle.swap_scratch.specs.Used.{sectors_for, used_of};
+
+use flash_model::{Flash, FlashError};
+use sector_map::{SectorMap, Side};
+use trailer::read_size;
+
+/// The sectors that a size takes, and all of the slot where there is none.
+fn sectors_for(map: &SectorMap, image: u8, size: Option<u32>) -> u32
+    requires there { image < map.now.images }
+    requires some { IfSome size (λ n. 0 < n) }
+    ensures { result ≡ sectors_for (slot_sectors map.now image) map.now.sector_size size }
+{
+    match size {
+        Some(size) => (size - 1) / map.sector_size + 1,
+        None => map.slot_sectors(image),
+    }
+}
+
+/// How many sectors of each slot of an image a swap moves.
+#[tactic(auto, using(crate::proofs::Sizes::used_is, crate::proofs::Sizes::some_size))]
+pub(crate) fn used_sectors<F: Flash>(
+    flash: &mut F,
+    map: &SectorMap,
+    image: u8,
+    side: Side,
+) -> Result<u32, FlashError>
+    requires laid_out { IsLaidOut map.now (F.chip flash.old) }
+    requires there { image < map.now.images }
+    ensures same { F.chip flash.new ≡ F.chip flash.old }
+    ensures ok { IfOk result (λ used. used ≡ used_of map.now (F.chip flash.old) side image) }
+    ensures few { IfOk result (λ used. used ≤ slot_sectors map.now image) }
+    ensures erases { OnOk result ((F.chip flash.new).erases ≡ (F.chip flash.old).erases) }
+    ensures ends { Ends result (F.chip flash.old) (F.chip flash.new) }
+{
+    let size = read_size(flash, map, image, side)?;
+    Ok(sectors_for(map, image, size))
+}
