@@ -14,7 +14,7 @@ use Rattle.trailer.specs.Fields.{fields_at}
 use Rattle.trailer.specs.Status.{status_count_of}
 use Rattle.swap_scratch.specs.Used.{used_of, used_bytes, steps_of}
 use Rattle.swap_scratch.specs.Place.{in_sectors, IsImagePlace}
-use Rattle.swap_scratch.specs.Swap.{IsSetPlace, IsSwapAt, Starts, AreSwapped}
+use Rattle.swap_scratch.specs.Swap.{IsSetPlace, IsSwapAt, IsAllCounted, Starts, AreSwapped}
 use Rattle.swap_scratch.proofs.Status.{counted_fresh}
 use Rattle.swap_scratch.proofs.Sizes.{used_within}
 
@@ -73,11 +73,12 @@ swapped_one map chip side i x y c laid is at =
 -- .. and so are all of a mask
 pub done_swapped : (map : SectorMap) (chip : Chip) (side : Side) (mask : ℕ) (x y : ℕ → List ℕ) → IsLaidOut map chip
     → IsSwapAt map chip side mask x y
-    → ((i : ℕ) → is_member mask i ≡ true → status_count_of map chip i side ≡ steps_of map chip side i)
+    → ((i : ℕ) → is_member mask i ≡ true → IsAllCounted map chip side i)
     → AreSwapped map chip mask x y
 done_swapped map chip side mask x y laid at full = λ i member.
     let stands = at.place.each i member in
-    swapped_one map chip side i (x i) (y i) (at.counts i) laid (sym stands.counted.is ∙ full i member) stands
+    swapped_one map chip side i (x i) (y i) (at.counts i) laid
+    (omega (arith, stands.bound, stands.counted.is, full i member)) stands
 
 -- a slot's sectors have the contents that stand in it
 sector_stands : (map : SectorMap) (chip : Chip) (i m q : ℕ) (side : Side) → IsLaidOut map chip → q < m

@@ -6,13 +6,14 @@ use Rattle.flash_model.specs.Chip.{Chip}
 use Rattle.sector_map.specs.declared.layout.SectorMap.{SectorMap}
 use Rattle.sector_map.specs.declared.layout.Side.{Side}
 use Rattle.sector_map.specs.Part.{Slot, TrailerOf, Scratch, same_side, swap_one, is_member}
-use Rattle.sector_map.specs.Map.{IsWithin, IsLaidOut, Keeps}
+use Rattle.sector_map.specs.Map.{slot_sectors, IsWithin, IsLaidOut, Keeps}
 use Rattle.sector_map.proofs.Parts.{laid_out_kept}
+use Rattle.trailer.specs.Fields.{trailer_bytes}
+use Rattle.trailer.specs.Status.{set_units, status_count_of}
 use Rattle.swap_scratch.specs.Used.{used_of, steps_of}
 use Rattle.swap_scratch.specs.Place.{IsImagePlace, KeepsFields}
-use Rattle.swap_scratch.specs.Swap.{IsSetPlace, IsDoneBelow, IsSwapAt}
-use Rattle.trailer.specs.Status.{status_count_of}
-use Rattle.swap_scratch.proofs.Sizes.{used_kept}
+use Rattle.swap_scratch.specs.Swap.{IsSetPlace, IsAllCounted, IsDoneBelow, IsSwapAt}
+use Rattle.swap_scratch.proofs.Sizes.{used_kept, used_trailer}
 use Rattle.swap_scratch.proofs.ImagePlaces.{image_stays}
 
 false_true : false ≡ true → ⊥
@@ -91,7 +92,7 @@ module _ (map : SectorMap) (old new : Chip) (side : Side) (mask image : ℕ) (la
       }
 
   ahead : (counts : ℕ → ℕ) (x y : ℕ → List ℕ) (d : ℕ) (below : IsDoneBelow map old side mask counts x y image)
-      → (steps_of map old side image ≤ status_count_of map old image side → new ≡ old)
+      → (IsAllCounted map old side image → new ≡ old)
       → below.now image ≤ d → IsImagePlace map new side image (x image) (y image) d
       → IsAhead map new side mask below.now x y image d
   ahead counts x y d below idle le at = ⊎_elim
@@ -121,7 +122,7 @@ module _ (map : SectorMap) (old new : Chip) (side : Side) (mask image : ℕ) (la
 
   -- the mask is at a place when the swap of an image ends, however it does ..
   pub resumed : (counts : ℕ → ℕ) (x y : ℕ → List ℕ) → IsDoneBelow map old side mask counts x y image
-      → (steps_of map old side image ≤ status_count_of map old image side → new ≡ old)
+      → (IsAllCounted map old side image → new ≡ old)
       → ((x y : List ℕ) (c : ℕ) → IsImagePlace map old side image x y c
       → (d : ℕ) × (c ≤ d) × IsImagePlace map new side image x y d)
       → IsSwapAt map new side mask x y
@@ -132,7 +133,7 @@ module _ (map : SectorMap) (old new : Chip) (side : Side) (mask image : ℕ) (la
 
   -- .. and that image is done where it isn't cut
   pub finished : (counts : ℕ → ℕ) (x y : ℕ → List ℕ) → IsDoneBelow map old side mask counts x y image
-      → (steps_of map old side image ≤ status_count_of map old image side → new ≡ old)
+      → (IsAllCounted map old side image → new ≡ old)
       → ((x y : List ℕ) (c : ℕ) → IsImagePlace map old side image x y c
       → IsImagePlace map new side image x y (steps_of map old side image))
       → IsDoneBelow map new side mask counts x y (image + 1)
@@ -141,20 +142,24 @@ module _ (map : SectorMap) (old new : Chip) (side : Side) (mask image : ℕ) (la
       done_more counts x y below
       (ahead counts x y _ below idle at.bound (swapped (x image) (y image) (below.now image) at))
 
--- an image that isn't in the mask is passed over
-pub passed : (map : SectorMap) (old new : Chip) (side : Side) (mask image : ℕ) (counts : ℕ → ℕ) (x y : ℕ → List ℕ)
-    → new ≡ old → is_member mask image ≡ false → IsDoneBelow map old side mask counts x y image
-    → IsDoneBelow map new side mask counts x y (image + 1)
-passed map old new side mask image counts x y same other below =
-    subst (λ chip. IsDoneBelow map chip side mask counts x y (image + 1)) (sym same) (record {
-      now = below.now;
-      place = below.place;
-      done = λ i lt in_mask. ⊎_elim
-          (λ (is : i ≡ image). absurd (false_true (sym other ∙ ap (λ k. is_member mask k) (sym is) ∙ in_mask)))
-          (λ (ne : i ≢ image). below.done i (omega arith) in_mask)
-          (cases_eq i image);
-      left = λ i le. below.left i (omega arith);
-    })
+-- the other trailers count what they counted
+still_counted : (map : SectorMap) (old new : Chip) (side : Side) (i : ℕ)
+    → trailer_bytes map new i side ≡ trailer_bytes map old i side → IsAllCounted map old side i → IsAllCounted map new side i
+still_counted map old new side i same was =
+    let count : status_count_of map new i side ≡ status_count_of map old i side =
+    ap (λ (bytes : List ℕ). set_units bytes (3 * slot_sectors map i)) same in
+    omega (arith, was, count, used_trailer map side old new i same)
+
+pub counted_on : (map : SectorMap) (old new : Chip) (side : Side) (mask image : ℕ) → Keeps map (swap_one image side) old new
+    → IsAllCounted map new side image
+    → ((i : ℕ) → i < image → is_member mask i ≡ true → IsAllCounted map old side i)
+    → (i : ℕ) → i < image + 1 → is_member mask i ≡ true → IsAllCounted map new side i
+counted_on map old new side mask image keeps here was i lt in_mask = ⊎_elim
+    (λ (is : i ≡ image). subst (λ k. IsAllCounted map new side k) (sym is) here)
+    (λ (other : i ≢ image).
+    let apart : ((i == image) && same_side side side) ≡ false = grind (arith, nat_tests, other) in
+    still_counted map old new side i (keeps.parts (TrailerOf i side) apart) (was i (omega arith) in_mask))
+    (cases_eq i image)
 
 pub begun : (map : SectorMap) (chip : Chip) (side : Side) (mask : ℕ) (counts : ℕ → ℕ) (x y : ℕ → List ℕ)
     → IsSetPlace map chip side mask counts x y → IsDoneBelow map chip side mask counts x y 0

@@ -4,9 +4,9 @@ ghost use Rattle.std.specs.Prelude.{◌≡◌, ℕ, ◌+◌, ◌<◌, ◌≤◌,
 ghost use Rattle.flash_model.specs.Chip.{Ends};
 ghost use Rattle.sector_map.specs.Map.{IsLaidOut, Keeps};
 ghost use Rattle.sector_map.specs.Part.{swap_one};
-ghost use Rattle.trailer.specs.Status.{status_count_of};
 ghost use Rattle.swap_scratch.specs.Used.{steps_of};
 ghost use Rattle.swap_scratch.specs.Place.{IsImagePlace, KeepsFields};
+ghost use Rattle.swap_scratch.specs.Swap.{IsAllCounted};
 
 use crate::steps::next_step;
 use crate::used::used_sectors;
@@ -26,8 +26,7 @@ pub(crate) fn swap_image<F: Flash>(
     requires there { image < map.now.images }
     ensures outside { Keeps map.now (swap_one image side) (F.chip flash.old) (F.chip flash.new) }
     ensures fields { KeepsFields map.now side (F.chip flash.old) (F.chip flash.new) }
-    ensures idle { steps_of map.now (F.chip flash.old) side image
-        ≤ status_count_of map.now (F.chip flash.old) image side
+    ensures idle { IsAllCounted map.now (F.chip flash.old) side image
         → F.chip flash.new ≡ F.chip flash.old }
     ensures resumes { (x y : List ℕ) (c : ℕ)
         → IsImagePlace map.now (F.chip flash.old) side image x y c
@@ -36,6 +35,7 @@ pub(crate) fn swap_image<F: Flash>(
         → IsImagePlace map.now (F.chip flash.old) side image x y c
         → IsImagePlace map.now (F.chip flash.new) side image x y
         (steps_of map.now (F.chip flash.old) side image)) }
+    ensures counted { OnOk result (IsAllCounted map.now (F.chip flash.new) side image) }
     ensures erases { OnOk result ((x y : List ℕ) (c : ℕ)
         → IsImagePlace map.now (F.chip flash.old) side image x y c
         → (F.chip flash.new).erases + c

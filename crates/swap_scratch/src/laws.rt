@@ -7,9 +7,8 @@ ghost use Rattle.sector_map.specs.Part.{Part, Slot, swap_of, is_member};
 ghost use Rattle.sector_map.specs.declared.layout.Side.{Side};
 ghost use Rattle.sector_map.specs.declared.layout.Side.TheVariants.{Primary, Secondary};
 ghost use Rattle.trailer.specs.Fields.{fields_at};
-ghost use Rattle.trailer.specs.Status.{status_count_of};
-ghost use Rattle.swap_scratch.specs.Used.{used_of, used_bytes, steps_of};
-ghost use Rattle.swap_scratch.specs.Swap.{AreSwapped, IsSwapAt};
+ghost use Rattle.swap_scratch.specs.Used.{used_of, used_bytes};
+ghost use Rattle.swap_scratch.specs.Swap.{AreSwapped, IsAllCounted, IsSwapAt};
 
 use sector_map::SectorMap;
 
@@ -17,7 +16,7 @@ use sector_map::SectorMap;
 /// - where no status unit of the mask's trailers is set, a swap of what stands in the slots begins;
 /// - a size in a trailer moves as many bytes at least, and no swap moves more than the slot;
 /// - a place survives every call that touches none of the parts of the swap;
-/// - where the status counts are those of all steps, each slot begins with what stood in the other one.
+/// - where the trailers count all steps, each slot begins with what stood in the other one.
 pub fn swap_laws(map: &SectorMap)
     ensures begins { (chip : Chip) (side : Side) (mask : ℕ) → IsLaidOut map.now chip
         → IsWithin map.now mask
@@ -36,7 +35,6 @@ pub fn swap_laws(map: &SectorMap)
         → IsSwapAt map.now old side mask x y → IsSwapAt map.now new side mask x y }
     ensures done { (chip : Chip) (side : Side) (mask : ℕ) (x y : ℕ → List ℕ)
         → IsLaidOut map.now chip → IsWithin map.now mask → IsSwapAt map.now chip side mask x y
-        → ((i : ℕ) → is_member mask i ≡ true
-        → status_count_of map.now chip i side ≡ steps_of map.now chip side i)
+        → ((i : ℕ) → is_member mask i ≡ true → IsAllCounted map.now chip side i)
         → AreSwapped map.now chip mask x y }
 {}

@@ -1,12 +1,12 @@
 //! The swap of the slots of the images of a mask.
 
-ghost use Rattle.std.specs.Prelude.{◌≡◌, ℕ, ◌+◌, ◌<◌, List, true, false, OnOk};
+ghost use Rattle.std.specs.Prelude.{◌≡◌, ℕ, ◌+◌, ◌<◌, List, true, OnOk};
 ghost use Rattle.flash_model.specs.Chip.{Ends};
 ghost use Rattle.sector_map.specs.Map.{IsLaidOut, IsWithin, Keeps};
 ghost use Rattle.sector_map.specs.Part.{swap_of, is_member};
 ghost use Rattle.swap_scratch.specs.Used.{steps_of};
 ghost use Rattle.swap_scratch.specs.Place.{KeepsFields};
-ghost use Rattle.swap_scratch.specs.Swap.{AreSwapped, IsDoneBelow, IsSwapAt, share, steps_done, steps_in_all};
+ghost use Rattle.swap_scratch.specs.Swap.{AreSwapped, IsAllCounted, IsDoneBelow, IsSwapAt, share, steps_done, steps_in_all};
 
 use crate::images::swap_image;
 use flash_model::{Flash, FlashError};
@@ -25,13 +25,18 @@ fn swap_member<F: Flash>(
     requires there { image < map.now.images }
     ensures outside { Keeps map.now (swap_of mask side) (F.chip flash.old) (F.chip flash.new) }
     ensures fields { KeepsFields map.now side (F.chip flash.old) (F.chip flash.new) }
-    ensures other { is_member mask image ≡ false → F.chip flash.new ≡ F.chip flash.old }
+    ensures idle { (is_member mask image ≡ true → IsAllCounted map.now (F.chip flash.old) side image)
+        → F.chip flash.new ≡ F.chip flash.old }
     ensures resumes { (counts : ℕ → ℕ) (x y : ℕ → List ℕ)
         → IsDoneBelow map.now (F.chip flash.old) side mask counts x y image
         → IsSwapAt map.now (F.chip flash.new) side mask x y }
     ensures done { OnOk result ((counts : ℕ → ℕ) (x y : ℕ → List ℕ)
         → IsDoneBelow map.now (F.chip flash.old) side mask counts x y image
         → IsDoneBelow map.now (F.chip flash.new) side mask counts x y (image + 1)) }
+    ensures counted { OnOk result (
+        ((i : ℕ) → i < image → is_member mask i ≡ true → IsAllCounted map.now (F.chip flash.old) side i)
+        → (i : ℕ) → i < image + 1 → is_member mask i ≡ true
+        → IsAllCounted map.now (F.chip flash.new) side i) }
     ensures erases { OnOk result ((counts : ℕ → ℕ) (x y : ℕ → List ℕ)
         → IsDoneBelow map.now (F.chip flash.old) side mask counts x y image
         → (F.chip flash.new).erases + share mask counts image
@@ -48,8 +53,7 @@ fn swap_member<F: Flash>(
 /// Swaps the primary and the secondary slot of each image of a mask through scratch, in ascending order, begun or
 /// interrupted anywhere.
 ///
-/// The map is laid out on the flash, and the mask names images of the map only; a mask of none writes nothing.
-/// Progress stands in the status units of the images' trailers of `side`, where it is read. The size in such a
+/// The map is laid out on the flash, and the mask names images of the map only. Progress stands in the status units of the images' trailers of `side`, where it is read. The size in such a
 /// trailer says how many bytes of each slot of its image are moved, rounded up to whole sectors; where it holds no
 /// size all sectors are. Another call with the same mask and side goes on where the last one ended, and erases one
 /// sector for each step that is left. Does not allocate.
@@ -68,12 +72,15 @@ pub fn swap_set<F: Flash>(
     requires within { IsWithin map.now mask }
     ensures outside { Keeps map.now (swap_of mask side) (F.chip flash.old) (F.chip flash.new) }
     ensures fields { KeepsFields map.now side (F.chip flash.old) (F.chip flash.new) }
-    ensures none { ((i : ℕ) → is_member mask i ≡ false) → F.chip flash.new ≡ F.chip flash.old }
+    ensures idle { ((i : ℕ) → is_member mask i ≡ true → IsAllCounted map.now (F.chip flash.old) side i)
+        → F.chip flash.new ≡ F.chip flash.old }
     ensures resumes { (x y : ℕ → List ℕ) → IsSwapAt map.now (F.chip flash.old) side mask x y
         → IsSwapAt map.now (F.chip flash.new) side mask x y }
     ensures swapped { OnOk result ((x y : ℕ → List ℕ)
         → IsSwapAt map.now (F.chip flash.old) side mask x y
         → AreSwapped map.now (F.chip flash.new) mask x y) }
+    ensures counted { OnOk result ((i : ℕ) → is_member mask i ≡ true
+        → IsAllCounted map.now (F.chip flash.new) side i) }
     ensures erases { OnOk result ((x y : ℕ → List ℕ)
         → IsSwapAt map.now (F.chip flash.old) side mask x y
         → (F.chip flash.new).erases + steps_done map.now (F.chip flash.old) side mask

@@ -1,7 +1,7 @@
-use Rattle.std.proofs.Common.{rules, arith, refl, ap, subst, ◌+◌, ◌∙◌, ◌≡◌}
+use Rattle.std.proofs.Common.{rules, arith, refl, sym, ap, subst, ◌+◌, ◌∙◌, ◌≡◌}
 use Rattle.sector_map.proofs.Parts.{keeps_refl, keeps_trans, laid_out_kept}
 use Rattle.swap_scratch.specs.Used.{steps_of}
-use Rattle.swap_scratch.specs.Swap.{sum_over}
+use Rattle.swap_scratch.specs.Swap.{IsAllCounted, sum_over}
 use Rattle.swap_scratch.proofs.Taking.{fields_refl, fields_trans}
 use Rattle.swap_scratch.proofs.Members.{begun}
 use Rattle.swap_scratch.proofs.Sums.{sum_none, sum_more, share_same, counts_are}
@@ -13,7 +13,8 @@ loop-image-init g c = record {
   laid_out = c.requires.laid_out;
   outside = keeps_refl _ _ _;
   fields = fields_refl _ _ _;
-  none = λ no_member. refl;
+  idle = λ done. refl;
+  counted = λ i lt in_mask. absurd (omega arith);
   place = λ counts x y at. begun _ _ _ _ counts x y at;
   erases = λ counts x y at. omega (arith, sum_none);
   uncut = search rules;
@@ -31,7 +32,12 @@ loop-image-preserved g c =
       laid_out = laid_out_kept _ _ _ _ kept.laid_out c.swap_member.ensures.outside;
       outside = keeps_trans _ _ _ _ _ kept.outside c.swap_member.ensures.outside;
       fields = fields_trans _ _ _ _ _ c.requires.laid_out kept.laid_out kept.fields c.swap_member.ensures.fields;
-      none = λ no_member. c.swap_member.ensures.other (no_member c.loop-image.image) ∙ kept.none no_member;
+      idle = λ done.
+          let here = kept.idle done in
+          c.swap_member.ensures.idle (λ member. subst
+          (λ chip. IsAllCounted c.args.map.now chip c.args.side c.loop-image.image) (sym here)
+          (done c.loop-image.image member)) ∙ here;
+      counted = c.in_ok-swap_member.ensures.counted kept.counted;
       place = λ counts x y at. c.in_ok-swap_member.ensures.done counts x y (kept.place counts x y at);
       erases = λ counts x y at. omega (
         arith,
