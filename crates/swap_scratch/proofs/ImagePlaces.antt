@@ -1,21 +1,21 @@
 -- The swap of one image among the parts of a flash.
-use Rattle.std.proofs.Common.{◌≡◌, ◌⊎◌, ◌≢◌, ℕ, zero, suc, ◌+◌, ◌-◌, ◌*◌, ◌/◌, ◌%◌, ◌<◌, ◌≤◌, ◌==◌, ◌&&◌, Bool, false, true, arith, sym, ◌∙◌, ap, subst, refl, inl, inr, ⊎_elim, List, length, slice_index}
-use Rattle.std.proofs.lemmas.Bool.{cases_lt, cases_eq}
+use Rattle.std.proofs.Common.{◌≡◌, ◌⊎◌, ◌≢◌, ℕ, zero, suc, ◌+◌, ◌*◌, ◌/◌, ◌%◌, ◌<◌, ◌≤◌, ◌==◌, ◌&&◌, Bool, false, arith, sym, ◌∙◌, ap, subst, refl, inl, inr, ⊎_elim, List, slice_index}
+use Rattle.std.proofs.lemmas.Bool.{cases_eq}
 use Rattle.std.proofs.lemmas.Bool.Decides.{nat_tests}
 use Rattle.flash_model.specs.Chip.{Chip, SameOutside}
 use Rattle.sector_map.specs.declared.layout.SectorMap.{SectorMap}
 use Rattle.sector_map.specs.declared.layout.Side.{Side}
 use Rattle.sector_map.specs.declared.layout.Side.TheVariants.{Primary, Secondary}
 use Rattle.sector_map.specs.Part.{Part, Slot, TrailerOf, Scratch, Log, only, same_side, swap_one}
-use Rattle.sector_map.specs.Map.{slot_sectors, first_of, start_of, length_of, sectors_of, IsMap, IsLaidOut, IsIn, Keeps}
-use Rattle.sector_map.proofs.Places.{before_lt, within}
-use Rattle.sector_map.proofs.Parts.{sector_of_keeps, laid_out_kept, keeps_wider, keeps_trans}
+use Rattle.sector_map.specs.Map.{slot_sectors, first_of, start_of, IsMap, IsLaidOut, Keeps}
+use Rattle.sector_map.proofs.Places.{before_lt}
+use Rattle.sector_map.proofs.Parts.{sector_of_keeps, laid_out_kept, keeps_wider}
 use Rattle.sector_map.proofs.PartBytes.{keeps_erase, part_kept_at}
-use Rattle.sector_map.proofs.Touched.{LeavesLess, trailer_of_swap}
+use Rattle.sector_map.proofs.Touched.{LeavesLess}
 use Rattle.trailer.specs.Fields.{trailer_bytes}
 use Rattle.trailer.specs.Status.{status_count_of}
 use Rattle.trailer.proofs.Places.{trailer_size}
-use Rattle.swap_scratch.specs.Used.{used_of, used_bytes, steps_of}
+use Rattle.swap_scratch.specs.Used.{used_of, steps_of}
 use Rattle.swap_scratch.specs.Place.{sectors_of_swap, moved_of, in_sectors, IsMove, IsPartway, IsCounted, IsImagePlace, KeepsFields}
 use Rattle.swap_scratch.proofs.Status.{counted_same, counted_torn, counted_set}
 use Rattle.swap_scratch.proofs.Sizes.{used_within, used_trailer, used_kept}

@@ -1,16 +1,16 @@
 -- The swap of a mask goes on by an image.
-use Rattle.std.proofs.Common.{◌≡◌, ◌≢◌, ℕ, ◌+◌, ◌*◌, ◌%◌, ◌<◌, ◌≤◌, ◌==◌, ◌&&◌, Bool, true, false, arith, sym, ◌∙◌, ap, subst, refl, inl, inr, ⊎_elim, List, if◌then◌else◌}
+use Rattle.std.proofs.Common.{◌≡◌, ◌≢◌, ℕ, ◌+◌, ◌*◌, ◌%◌, ◌<◌, ◌≤◌, ◌==◌, ◌&&◌, true, false, arith, sym, ◌∙◌, ap, subst, refl, inl, inr, ⊎_elim, List, if◌then◌else◌}
 use Rattle.std.proofs.lemmas.Bool.{cases_lt, cases_eq}
 use Rattle.std.proofs.lemmas.Bool.Decides.{nat_tests}
 use Rattle.flash_model.specs.Chip.{Chip}
 use Rattle.sector_map.specs.declared.layout.SectorMap.{SectorMap}
 use Rattle.sector_map.specs.declared.layout.Side.{Side}
-use Rattle.sector_map.specs.Part.{Slot, TrailerOf, Scratch, same_side, swap_one, is_member}
+use Rattle.sector_map.specs.Part.{TrailerOf, same_side, swap_one, is_member}
 use Rattle.sector_map.specs.Map.{slot_sectors, IsWithin, IsLaidOut, Keeps}
 use Rattle.sector_map.proofs.Parts.{laid_out_kept}
 use Rattle.trailer.specs.Fields.{trailer_bytes}
 use Rattle.trailer.specs.Status.{set_units, status_count_of}
-use Rattle.swap_scratch.specs.Used.{used_of, steps_of}
+use Rattle.swap_scratch.specs.Used.{steps_of}
 use Rattle.swap_scratch.specs.Place.{IsImagePlace, KeepsFields}
 use Rattle.swap_scratch.specs.Swap.{IsSetPlace, IsAllCounted, IsDoneBelow, IsSwapAt}
 use Rattle.swap_scratch.proofs.Sizes.{used_kept, used_trailer}

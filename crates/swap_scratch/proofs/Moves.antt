@@ -2,7 +2,7 @@
 use Rattle.std.proofs.Common.{zero, suc, ◌≡◌, ◌≢◌, ℕ, ◌+◌, ◌*◌, ◌/◌, ◌%◌, ◌<◌, ◌≤◌, arith, sym, subst, refl, ⊎_elim}
 use Rattle.std.proofs.lemmas.Bool.{cases_lt}
 use Rattle.flash_model.specs.Chip.{Chip, SameOutside, SameSector, SectorIs, IsCopy}
-use Rattle.flash_model.proofs.Frame.{same_sector, sector_kept, sector_kept_outside}
+use Rattle.flash_model.proofs.Frame.{same_sector, sector_kept}
 use Rattle.flash_model.proofs.Copies.{sector_copied}
 use Rattle.swap_scratch.specs.Place.{Sectors, IsMove, IsPartway}
 

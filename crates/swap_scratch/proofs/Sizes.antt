@@ -1,19 +1,19 @@
 -- How much of each slot a swap moves.
-use Rattle.std.proofs.Common.{◌≡◌, ℕ, ◌+◌, ◌-◌, ◌*◌, ◌/◌, ◌%◌, ◌^◌, ◌<◌, ◌≤◌, arith, sym, ◌∙◌, ap, subst, refl, ⊎_elim, List, slice_index, slice_range, Option, Some, None}
+use Rattle.std.proofs.Common.{◌≡◌, ℕ, ◌+◌, ◌-◌, ◌*◌, ◌/◌, ◌%◌, ◌^◌, ◌<◌, ◌≤◌, arith, sym, ◌∙◌, ap, subst, refl, ⊎_elim, List, Option, Some, None}
 use Rattle.std.proofs.lemmas.Bool.{cases_lt}
 use Rattle.std.proofs.lemmas.Bool.Decides.{nat_tests}
 use Rattle.flash_model.specs.Chip.{Chip}
-use Rattle.flash_model.proofs.Frame.{product_le, mul_le}
+use Rattle.flash_model.proofs.Frame.{mul_le}
 use Rattle.flash_model.proofs.Ranges.{range_same}
 use Rattle.sector_map.specs.declared.layout.SectorMap.{SectorMap}
 use Rattle.sector_map.specs.declared.layout.Side.{Side}
 use Rattle.sector_map.specs.Part.{Slot}
-use Rattle.sector_map.specs.Map.{slot_sectors, first_of, sectors_of, IsMap, IsLaidOut}
+use Rattle.sector_map.specs.Map.{slot_sectors, first_of, IsMap, IsLaidOut}
 use Rattle.sector_map.proofs.Places.{first_fits}
 use Rattle.trailer.specs.Fields.{trailer_bytes, bytes_at, fields_at, fields_in, size_in}
 use Rattle.trailer.proofs.SizeUnits.{size_is}
 use Rattle.trailer.proofs.Erased.{trailer_length}
-use Rattle.swap_scratch.specs.Used.{sectors_for, used_of, used_bytes, steps_of}
+use Rattle.swap_scratch.specs.Used.{sectors_for, used_of, used_bytes}
 use Rattle.swap_scratch.specs.Place.{KeepsFields}
 
 pub used_is : (map : SectorMap) (chip : Chip) (side : Side) (i : ℕ)

@@ -1,5 +1,5 @@
 -- The count of a trailer's status units, and the writes that change it.
-use Rattle.std.proofs.Common.{◌≡◌, ◌≢◌, ◌⊎◌, ℕ, ◌+◌, ◌-◌, ◌*◌, ◌<◌, ◌≤◌, Bool, true, false, arith, sym, ◌∙◌, ap, refl, inl, inr, ⊎_elim, List, length, slice_index, slice_range}
+use Rattle.std.proofs.Common.{◌≡◌, ◌≢◌, ◌⊎◌, ℕ, ◌+◌, ◌-◌, ◌*◌, ◌<◌, ◌≤◌, Bool, true, false, arith, sym, ◌∙◌, ap, refl, inl, inr, ⊎_elim, List, slice_index, slice_range}
 use Rattle.std.proofs.lemmas.Bool.{cases_lt, cases_eq}
 use Rattle.flash_model.specs.Chip.{Chip, SameOutside}
 use Rattle.flash_model.proofs.Ranges.{length_range, range_at}

@@ -1,5 +1,5 @@
 -- A step that is taken: a sector is copied, then a status unit is written.
-use Rattle.std.proofs.Common.{◌≡◌, ◌⊎◌, ℕ, ◌+◌, ◌*◌, ◌/◌, ◌%◌, ◌<◌, ◌≤◌, arith, sym, ◌∙◌, ap, subst, refl, List, slice_index}
+use Rattle.std.proofs.Common.{◌≡◌, ◌⊎◌, ℕ, ◌+◌, ◌*◌, ◌/◌, ◌%◌, ◌<◌, arith, sym, ◌∙◌, ap, subst, refl, List, slice_index}
 use Rattle.flash_model.specs.Chip.{Chip, SameOutside}
 use Rattle.sector_map.specs.declared.layout.SectorMap.{SectorMap}
 use Rattle.sector_map.specs.declared.layout.Side.{Side}
@@ -10,7 +10,7 @@ use Rattle.sector_map.proofs.Touched.{trailer_of_swap}
 use Rattle.trailer.specs.Fields.{trailer_bytes}
 use Rattle.trailer.specs.Status.{set_units, status_count_of}
 use Rattle.swap_scratch.specs.Used.{used_of, steps_of}
-use Rattle.swap_scratch.specs.Place.{sectors_of_swap, moved_of, in_sectors, IsPartway, IsImagePlace, KeepsFields}
+use Rattle.swap_scratch.specs.Place.{sectors_of_swap, moved_of, IsPartway, IsImagePlace, KeepsFields}
 use Rattle.swap_scratch.proofs.Status.{counted_same}
 use Rattle.swap_scratch.proofs.Sizes.{used_within, used_trailer, used_kept}
 use Rattle.swap_scratch.proofs.ImagePlaces.{image_placed, move_of_swap, unit_fields, place_torn, place_set}

@@ -10,7 +10,12 @@ const PIECE: usize = 256;
 
 /// Copies as many bytes as the buffer has, through it.
 #[tactic(auto, using(flash_model::proofs::Copies::copy_of_reads))]
-fn copy_piece<F: Flash>(flash: &mut F, from: u32, to: u32, piece: &mut [u8]) -> Result<(), FlashError>
+fn copy_piece<F: Flash>(
+    flash: &mut F,
+    from: u32,
+    to: u32,
+    piece: &mut [u8],
+) -> Result<(), FlashError>
     requires from_inside { from + length piece.old ≤ size_of (F.chip flash.old) }
     requires to_inside { to + length piece.old ≤ size_of (F.chip flash.old) }
     requires erased { IsErased (F.chip flash.old) to (length piece.old) }

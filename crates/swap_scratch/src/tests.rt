@@ -35,7 +35,8 @@ fn old_byte(sector: u8, offset: u16) -> u8 {
 fn trailer_byte(sector_size: u16, count: u8, swap_size: u16, offset: u16) -> u8 {
     if offset < 8 * u16::from(count) {
         if offset % 8 == 0 { 0x01 } else { 0xff }
-    } else if swap_size > 0 && u32::from(offset) + 48 >= u32::from(sector_size)
+    } else if swap_size > 0
+        && u32::from(offset) + 48 >= u32::from(sector_size)
         && u32::from(offset) + 40 < u32::from(sector_size)
     {
         match u32::from(offset) + 48 - u32::from(sector_size) {
@@ -228,7 +229,15 @@ fn end_from(
 fn a_swap_ends_from_every_place(rt: HostRuntime) -> Result<(), Fail> {
     // No size and one of 513 bytes move two sectors, sizes of 1, 96 and 512 bytes one; a number past the slot's 1024
     // bytes is none.
-    for (sectors, swap_size) in [(2, 0), (2, 513), (2, 1024), (2, 1025), (1, 1), (1, 96), (1, 512)] {
+    for (sectors, swap_size) in [
+        (2, 0),
+        (2, 513),
+        (2, 1024),
+        (2, 1025),
+        (1, 1),
+        (1, 96),
+        (1, 512),
+    ] {
         for count in 0..7 {
             if count <= 3 * sectors {
                 end_from(&rt, rt.alloc(), [count, 0], sectors, swap_size)?;
@@ -307,7 +316,15 @@ fn end_after_cuts(
     requires early { first.0 < 200 }
     requires soon { second.0 < 200 }
 {
-    ended_after_cuts::<Brand>(rt, alloc, Blank::new(2), sector_size, swap_size, first, second)
+    ended_after_cuts::<Brand>(
+        rt,
+        alloc,
+        Blank::new(2),
+        sector_size,
+        swap_size,
+        first,
+        second,
+    )
 }
 
 #[test]
