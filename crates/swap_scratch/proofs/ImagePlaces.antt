@@ -76,23 +76,30 @@ pub step_inside : (map : SectorMap) (chip : Chip) (i used status from to : ℕ) 
     → (from < chip.sectors) × (to < chip.sectors) × (from ≢ to)
 step_inside map chip i used status from to laid lt le below move = at (status % 3) refl move
   where
+    order : IsInOrder (sectors_of_swap map i used)
+    order = order_of map i used laid.is_map lt le
+
+    fits : first_of map Scratch < chip.sectors
+    fits = omega (arith, laid.sectors)
+
     at : (step : ℕ) → step ≡ status % 3 → IsMove (sectors_of_swap map i used) (status / 3) step from to
         → (from < chip.sectors) × (to < chip.sectors) × (from ≢ to)
-    at step eq move =
-        let order = order_of map i used laid.is_map lt le in
-        let fits : first_of map Scratch < chip.sectors = omega (arith, laid.sectors) in
-        by step eq move order fits
-      where
-        by : (step : ℕ) → step ≡ status % 3 → IsMove (sectors_of_swap map i used) (status / 3) step from to
-            → IsInOrder (sectors_of_swap map i used) → first_of map Scratch < chip.sectors
-            → (from < chip.sectors) × (to < chip.sectors) × (from ≢ to)
-        by zero eq move order fits = let m = move.to_scratch refl in
-            (omega (arith, m, order.scratch, order.slots), omega (arith, m), λ e. omega (arith, m, order.scratch, order.slots))
-        by (suc zero) eq move order fits = let m = move.to_secondary refl in
-            (omega (arith, m, order.scratch, order.slots), omega (arith, m, order.scratch, order.slots), λ e. omega (arith, m, order.scratch, order.slots))
-        by (suc (suc zero)) eq move order fits = let m = move.to_primary refl in
-            (omega (arith, m), omega (arith, m, order.scratch, order.slots), λ e. omega (arith, m, order.scratch, order.slots))
-        by (suc (suc (suc step))) eq move order fits = absurd (omega arith)
+    at zero eq move =
+        let m = move.to_scratch refl in
+        (omega (arith, m, order.scratch, fits), omega (arith, m, fits), λ e. omega (arith, m, order.scratch))
+    at (suc zero) eq move =
+        let m = move.to_secondary refl in (
+          omega (arith, m, order.slots, order.scratch, fits),
+          omega (arith, m, order.scratch, fits),
+          λ e. omega (arith, m, order.slots),
+        )
+    at (suc (suc zero)) eq move =
+        let m = move.to_primary refl in (
+          omega (arith, m, fits),
+          omega (arith, m, order.slots, order.scratch, fits),
+          λ e. omega (arith, m, order.slots, order.scratch),
+        )
+    at (suc (suc (suc step))) eq move = absurd (omega arith)
 
 -- the place of an image, by new counts and contents
 pub image_placed : (map : SectorMap) (side : Side) (i : ℕ) (x y : List ℕ) (c d : ℕ) (old new : Chip)
@@ -151,8 +158,8 @@ module _ (map : SectorMap) (old new : Chip) (side : Side) (i at c : ℕ) (laid :
   pub unit_fields : KeepsFields map side old new
   unit_fields = record {
     each = λ j o there low high. ⊎_elim
-        (λ (here : j ≡ i). subst (λ k. slice_index (trailer_bytes map new k side) o ≡ slice_index (trailer_bytes map old k side) o)
-        (sym here)
+        (λ (here : j ≡ i).
+        subst (λ k. slice_index (trailer_bytes map new k side) o ≡ slice_index (trailer_bytes map old k side) o) (sym here)
         (part_kept_at map (TrailerOf i side) at 8 o old new same
         (omega (arith, trailer_size map i side laid.is_map lt))
         (let behind : 8 * (3 * used_of map old side i) ≤ o =
@@ -172,8 +179,8 @@ module _ (map : SectorMap) (old new : Chip) (side : Side) (i at c : ℕ) (laid :
       → IsPartway old (sectors_of_swap map i (used_of map old side i)) (in_sectors map.sector_size x)
       (in_sectors map.sector_size y) (d / 3) (d % 3) → IsImagePlace map new side i x y d
   moved_on x y p d was le counted contents = image_placed map side i x y p d old new used_unit was le counted
-      (partway_stays map i (used_of map old side i) _ _ _ _ _ old new laid (used_within map old side i laid.is_map) keeps
-      refl refl (λ some. refl) contents)
+      (partway_stays map i (used_of map old side i) _ _ _ _ _ old new laid (used_within map old side i laid.is_map)
+      keeps refl refl (λ some. refl) contents)
 
   -- the flash stands before the step or after it, by what became of the unit
   pub place_torn : (x y : List ℕ) (p : ℕ) → IsImagePlace map old side i x y p → IsCounted map old side i c

@@ -69,9 +69,10 @@ module _ (map : SectorMap) (old new : Chip) (side : Side) (mask image : ℕ) (la
         later = with_count now image d;
         place = record {
           each = λ i in_mask. ⊎_elim
-              (λ (is : i ≡ image). subst (λ k. IsImagePlace map new side k (x k) (y k) (with_count now image d k)) (sym is)
-              (subst (λ c. IsImagePlace map new side image (x image) (y image) c) (sym (count_here now image d image refl))
-              at))
+              (λ (is : i ≡ image).
+              subst (λ k. IsImagePlace map new side k (x k) (y k) (with_count now image d k)) (sym is)
+              (subst (λ c. IsImagePlace map new side image (x image) (y image) c)
+              (sym (count_here now image d image refl)) at))
               (λ (other : i ≢ image). subst (λ c. IsImagePlace map new side i (x i) (y i) c)
               (sym (count_else now image d i other))
               (whole_stays i (x i) (y i) (now i) other
@@ -144,14 +145,15 @@ module _ (map : SectorMap) (old new : Chip) (side : Side) (mask image : ℕ) (la
 
 -- the other trailers count what they counted
 still_counted : (map : SectorMap) (old new : Chip) (side : Side) (i : ℕ)
-    → trailer_bytes map new i side ≡ trailer_bytes map old i side → IsAllCounted map old side i → IsAllCounted map new side i
+    → trailer_bytes map new i side ≡ trailer_bytes map old i side → IsAllCounted map old side i
+    → IsAllCounted map new side i
 still_counted map old new side i same was =
     let count : status_count_of map new i side ≡ status_count_of map old i side =
     ap (λ (bytes : List ℕ). set_units bytes (3 * slot_sectors map i)) same in
     omega (arith, was, count, used_trailer map side old new i same)
 
-pub counted_on : (map : SectorMap) (old new : Chip) (side : Side) (mask image : ℕ) → Keeps map (swap_one image side) old new
-    → IsAllCounted map new side image
+pub counted_on : (map : SectorMap) (old new : Chip) (side : Side) (mask image : ℕ)
+    → Keeps map (swap_one image side) old new → IsAllCounted map new side image
     → ((i : ℕ) → i < image → is_member mask i ≡ true → IsAllCounted map old side i)
     → (i : ℕ) → i < image + 1 → is_member mask i ≡ true → IsAllCounted map new side i
 counted_on map old new side mask image keeps here was i lt in_mask = ⊎_elim

@@ -65,8 +65,8 @@ module _ (map : SectorMap) (side : Side) (i used status : ℕ) (old mid : Chip) 
   pub move_kept : ((x y : ℕ → ℕ → ℕ) → IsPartway old (sectors_of_swap map i used) x y (status / 3) (status % 3)
       → IsPartway mid (sectors_of_swap map i used) x y (status / 3) (status % 3))
       → (x y : List ℕ) → IsImagePlace map old side i x y status → IsImagePlace map mid side i x y status
-  move_kept kept x y was = image_placed map side i x y status status old mid (used_trailer map side old mid i (trailer_same i))
-      was was.bound (counted_same map side i status old mid (trailer_same i) was.counted)
+  move_kept kept x y was = image_placed map side i x y status status old mid
+      (used_trailer map side old mid i (trailer_same i)) was was.bound (counted_same map side i status old mid (trailer_same i) was.counted)
       (in_used _ _ mid _ _ (kept _ _ (out_used _ _ old _ _ was.contents)))
 
   -- then its status unit was written
@@ -99,8 +99,8 @@ module _ (map : SectorMap) (side : Side) (i used status : ℕ) (old mid : Chip) 
         → IsImagePlace map new side i x y status ⊎ IsImagePlace map new side i x y (status + 1)
     step_torn kept goes x y was =
         let stands = move_kept kept x y was in
-        place_torn map mid new side i _ status laid_mid lt unit at_unit below_mid pushed x y status stands stands.counted
-        stands.contents (to_mid _ _ _ _ (goes _ _ (out_used _ _ old _ _ was.contents)))
+        place_torn map mid new side i _ status laid_mid lt unit at_unit below_mid pushed x y status stands
+        stands.counted stands.contents (to_mid _ _ _ _ (goes _ _ (out_used _ _ old _ _ was.contents)))
 
     pub step_taken : ((x y : ℕ → ℕ → ℕ) → IsPartway old (sectors_of_swap map i used) x y (status / 3) (status % 3)
         → IsPartway mid (sectors_of_swap map i used) x y (status / 3) (status % 3))

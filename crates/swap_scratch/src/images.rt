@@ -8,7 +8,7 @@ ghost use Rattle.swap_scratch.specs.Used.{steps_of};
 ghost use Rattle.swap_scratch.specs.Place.{IsImagePlace, KeepsFields};
 ghost use Rattle.swap_scratch.specs.Swap.{IsAllCounted};
 
-use crate::steps::next_step;
+use crate::steps::take_step;
 use crate::used::used_sectors;
 use flash_model::{Flash, FlashError};
 use sector_map::{SectorMap, Side};
@@ -45,7 +45,8 @@ pub(crate) fn swap_image<F: Flash>(
     let used = used_sectors(flash, map, image, side)?;
     let mut status = status_count(flash, map, image, side)?;
     while status < 3 * used {
-        status = next_step(flash, map, image, side, used, status)?;
+        take_step(flash, map, image, side, used, status)?;
+        status = status_count(flash, map, image, side)?;
     }
     Ok(())
 }

@@ -1,6 +1,6 @@
 //! The steps of the swap of one image: each copies a sector, and is then counted by a status unit.
 
-ghost use Rattle.std.specs.Prelude.{◌≡◌, ◌⊎◌, ℕ, ◌+◌, ◌*◌, ◌/◌, ◌%◌, ◌<◌, ◌≤◌, List, OnOk, IfOk};
+ghost use Rattle.std.specs.Prelude.{◌≡◌, ◌⊎◌, ℕ, ◌+◌, ◌*◌, ◌/◌, ◌%◌, ◌<◌, ◌≤◌, List, OnOk};
 ghost use Rattle.flash_model.specs.Chip.{Ends};
 ghost use Rattle.sector_map.specs.Map.{IsLaidOut, Keeps, slot_sectors};
 ghost use Rattle.sector_map.specs.Part.{swap_one};
@@ -11,7 +11,7 @@ ghost use Rattle.swap_scratch.specs.Place.{sectors_of_swap, moved_of, IsMove, Is
 use crate::copying::copy_sector;
 use flash_model::{Flash, FlashError};
 use sector_map::{SectorMap, Side};
-use trailer::{push_status, status_count};
+use trailer::push_status;
 
 /// The sectors that the step after so many copies from and to. The indices go from the highest of the used ones
 /// to the lowest.
@@ -64,8 +64,9 @@ fn move_sector<F: Flash>(
     Ok(())
 }
 
-/// Takes the step after so many, and counts it.
-fn take_step<F: Flash>(
+/// Takes the step after so many, and counts it. Where the flash is at no place of a swap, units behind the first
+/// erased one may be set; then the count goes up by more than one.
+pub(crate) fn take_step<F: Flash>(
     flash: &mut F,
     map: &SectorMap,
     image: u8,
@@ -95,38 +96,4 @@ fn take_step<F: Flash>(
     move_sector(flash, map, image, used, status)?;
     push_status(flash, map, image, side)?;
     Ok(())
-}
-
-/// Takes the step after so many, counts it, and answers the count. Where the flash isn't at a place of a swap,
-/// units behind the first erased one may be set, and the count goes up by more than one.
-pub(crate) fn next_step<F: Flash>(
-    flash: &mut F,
-    map: &SectorMap,
-    image: u8,
-    side: Side,
-    used: u32,
-    status: u32,
-) -> Result<u32, FlashError>
-    requires laid_out { IsLaidOut map.now (F.chip flash.old) }
-    requires there { image < map.now.images }
-    requires used { used ≡ used_of map.now (F.chip flash.old) side image }
-    requires count { status ≡ status_count_of map.now (F.chip flash.old) image side }
-    requires below { status < 3 * used }
-    ensures outside { Keeps map.now (swap_one image side) (F.chip flash.old) (F.chip flash.new) }
-    ensures fields { KeepsFields map.now side (F.chip flash.old) (F.chip flash.new) }
-    ensures resumes { (x y : List ℕ)
-        → IsImagePlace map.now (F.chip flash.old) side image x y status
-        → IsImagePlace map.now (F.chip flash.new) side image x y status
-        ⊎ IsImagePlace map.now (F.chip flash.new) side image x y (status + 1) }
-    ensures taken { OnOk result ((x y : List ℕ)
-        → IsImagePlace map.now (F.chip flash.old) side image x y status
-        → IsImagePlace map.now (F.chip flash.new) side image x y (status + 1)) }
-    ensures counted { IfOk result (λ count. (status < count)
-        × (count ≡ status_count_of map.now (F.chip flash.new) image side)) }
-    ensures erases { OnOk result ((F.chip flash.new).erases ≡ (F.chip flash.old).erases + 1) }
-    ensures ends { Ends result (F.chip flash.old) (F.chip flash.new) }
-{
-    take_step(flash, map, image, side, used, status)?;
-    let count = status_count(flash, map, image, side)?;
-    Ok(count)
 }

@@ -25,7 +25,8 @@ fn swap_member<F: Flash>(
     requires there { image < map.now.images }
     ensures outside { Keeps map.now (swap_of mask side) (F.chip flash.old) (F.chip flash.new) }
     ensures fields { KeepsFields map.now side (F.chip flash.old) (F.chip flash.new) }
-    ensures idle { (is_member mask image ≡ true → IsAllCounted map.now (F.chip flash.old) side image)
+    ensures idle { (is_member mask image ≡ true
+        → IsAllCounted map.now (F.chip flash.old) side image)
         → F.chip flash.new ≡ F.chip flash.old }
     ensures resumes { (counts : ℕ → ℕ) (x y : ℕ → List ℕ)
         → IsDoneBelow map.now (F.chip flash.old) side mask counts x y image
@@ -34,7 +35,8 @@ fn swap_member<F: Flash>(
         → IsDoneBelow map.now (F.chip flash.old) side mask counts x y image
         → IsDoneBelow map.now (F.chip flash.new) side mask counts x y (image + 1)) }
     ensures counted { OnOk result (
-        ((i : ℕ) → i < image → is_member mask i ≡ true → IsAllCounted map.now (F.chip flash.old) side i)
+        ((i : ℕ) → i < image → is_member mask i ≡ true
+        → IsAllCounted map.now (F.chip flash.old) side i)
         → (i : ℕ) → i < image + 1 → is_member mask i ≡ true
         → IsAllCounted map.now (F.chip flash.new) side i) }
     ensures erases { OnOk result ((counts : ℕ → ℕ) (x y : ℕ → List ℕ)
@@ -53,10 +55,12 @@ fn swap_member<F: Flash>(
 /// Swaps the primary and the secondary slot of each image of a mask through scratch, in ascending order, begun or
 /// interrupted anywhere.
 ///
-/// The map is laid out on the flash, and the mask names images of the map only. Progress stands in the status units of the images' trailers of `side`, where it is read. The size in such a
-/// trailer says how many bytes of each slot of its image are moved, rounded up to whole sectors; where it holds no
-/// size all sectors are. Another call with the same mask and side goes on where the last one ended, and erases one
-/// sector for each step that is left. Does not allocate.
+/// The map is laid out on the flash, and the mask, an image a bit, names images of the map only. Progress is counted
+/// in the status units of the images' trailers of `side`. The size in such a trailer says how many bytes of each
+/// slot of its image are moved, rounded up to whole sectors; where it holds no size all sectors are. Another call
+/// with the same mask and side goes on where the last one ended, and erases one sector for each step that is left;
+/// where none is, as of a mask of no image, nothing changes. Bytes are copied through a buffer of 256. Does not
+/// allocate.
 ///
 /// # Errors
 /// `Cut` where power failed in the midst of a write. The flash then stands at a place of the same swap: each byte
@@ -72,7 +76,8 @@ pub fn swap_set<F: Flash>(
     requires within { IsWithin map.now mask }
     ensures outside { Keeps map.now (swap_of mask side) (F.chip flash.old) (F.chip flash.new) }
     ensures fields { KeepsFields map.now side (F.chip flash.old) (F.chip flash.new) }
-    ensures idle { ((i : ℕ) → is_member mask i ≡ true → IsAllCounted map.now (F.chip flash.old) side i)
+    ensures idle { ((i : ℕ) → is_member mask i ≡ true
+        → IsAllCounted map.now (F.chip flash.old) side i)
         → F.chip flash.new ≡ F.chip flash.old }
     ensures resumes { (x y : ℕ → List ℕ) → IsSwapAt map.now (F.chip flash.old) side mask x y
         → IsSwapAt map.now (F.chip flash.new) side mask x y }

@@ -42,7 +42,8 @@ returns-clause-kept g c = λ x y was.
 pub returns-clause-moved : goal.returns-clause-moved
 returns-clause-moved g c = λ x y was.
     next _ x y _ _ _ _ _ _ _ c.args.status refl (record {
-      order = order_of c.args.map.now c.args.image c.args.used c.requires.laid_out.is_map c.requires.there c.requires.few;
+      order = order_of c.args.map.now c.args.image c.args.used c.requires.laid_out.is_map c.requires.there
+          c.requires.few;
       below = omega arith;
       move = c.sectors_of_step-from.ensures;
       copied = c.in_ok-copy_sector.ensures.ok;
