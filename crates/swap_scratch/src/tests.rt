@@ -344,9 +344,11 @@ fn a_swap_ends_after_a_cut_of_any_write(rt: HostRuntime) -> Result<(), Fail> {
 fn a_swap_ends_after_a_cut_of_any_write_of_its_recovery(rt: HostRuntime) -> Result<(), Fail> {
     for write in 1..49 {
         for later in write + 1..49 {
-            let first = (write, torn(rt.alloc(), later)?);
-            let second = (later, torn(rt.alloc(), write / 5 + later)?);
-            assert_eq!(rt; end_after_cuts(&rt, rt.alloc(), 512, 0, first, second)?, 2);
+            for which in 0..25 {
+                let first = (write, torn(rt.alloc(), which / 5)?);
+                let second = (later, torn(rt.alloc(), which)?);
+                assert_eq!(rt; end_after_cuts(&rt, rt.alloc(), 512, 0, first, second)?, 2);
+            }
         }
     }
     Ok(())
@@ -361,4 +363,104 @@ fn sectors_of_576_bytes_are_copied_to_their_last_piece(rt: HostRuntime) -> Resul
         assert_eq!(rt; cuts, if write < 61 { 1 } else { 0 });
     }
     Ok(())
+}
+
+/// The bytes of a flash of which image 1 was swapped by so many steps, which are counted in its secondary trailer,
+/// sector 11, with any bytes in its primary one.
+fn counted_aside(rt: &impl Abort, alloc: Global, count: u8) -> Result<Vec<u8>, Fail> {
+    let mut bytes = bytes_of(alloc, 512, &after_steps([0, count], 2, 0))?;
+    assert_eq!(rt; bytes.len(), 8192);
+    bytes[2560..3072].copy_from_slice(&[0x5a; 512]);
+    for offset in 0..512u16 {
+        assert_eq!(rt; bytes.len(), 8192);
+        bytes[5632 + usize::from(offset)] = trailer_byte(512, count, 0, offset);
+    }
+    Ok(bytes)
+}
+
+/// Swaps image 1 with the progress in its secondary trailer.
+fn swapped_on_the_other_side<L: Ledger>(
+    rt: &impl Abort,
+    alloc: Global,
+    blank: Blank,
+) -> Result<(), Fail>
+    requires name { blank.name ≡ L.name }
+    requires parts { blank.parts ≡ L.parts }
+    requires two { L.parts ≡ 2 }
+{
+    let map = SectorMap::new(512, &[2, 2])?;
+    let bytes = counted_aside(rt, alloc, 0)?;
+    let wanted = counted_aside(rt, alloc, 6)?;
+    assert_eq!(rt; bytes.len(), 8192);
+    let mut flash = MemFlash::<L>::from_bytes(alloc, blank, 512, bytes);
+    assert!(rt; map.fits(&flash));
+    assert!(rt; is_within(&map, 0b10));
+    swap_set(&mut flash, &map, 0b10, Side::Secondary)?;
+    assert_eq!(rt; flash.erases(), 6);
+    assert_stands(rt, flash.bytes(), &wanted, 512);
+    Ok(())
+}
+
+#[test]
+fn progress_is_counted_on_the_side_that_is_named(rt: HostRuntime) -> Result<(), Fail> {
+    swapped_on_the_other_side::<Brand>(&rt, rt.alloc(), Blank::new(2))
+}
+
+/// Swaps image 0 on a flash that is off since the erase of the first step was cut.
+fn refused_when_off<L: Ledger>(rt: &impl Abort, alloc: Global, blank: Blank) -> Result<(), Fail>
+    requires name { blank.name ≡ L.name }
+    requires parts { blank.parts ≡ L.parts }
+    requires two { L.parts ≡ 2 }
+{
+    let map = SectorMap::new(512, &[2, 2])?;
+    let begun = after_steps([0, 0], 2, 0);
+    let bytes = bytes_of(alloc, 512, &begun)?;
+    let wanted = bytes_of(alloc, 512, &begun)?;
+    assert_eq!(rt; bytes.len(), 8192);
+    let mut flash = MemFlash::<L>::from_bytes(alloc, blank, 512, bytes);
+    flash.arm(1, Torn::Keep)?;
+    for error in [FlashError::Cut, FlashError::Off, FlashError::Off] {
+        assert!(rt; map.fits(&flash));
+        assert!(rt; is_within(&map, 0b01));
+        let end = swap_set(&mut flash, &map, 0b01, Side::Primary);
+        assert_eq!(rt; end, Err(error));
+        assert_eq!(rt; flash.writes(), 1);
+        assert!(rt; flash.bytes() == wanted.as_slice());
+    }
+    Ok(())
+}
+
+#[test]
+fn a_flash_that_is_off_stays_as_it_is(rt: HostRuntime) -> Result<(), Fail> {
+    refused_when_off::<Brand>(&rt, rt.alloc(), Blank::new(2))
+}
+
+/// Swaps image 0 on a flash at no place of a swap: its second status unit is set, and the first is erased.
+fn ended_at_no_place<L: Ledger>(rt: &impl Abort, alloc: Global, blank: Blank) -> Result<(), Fail>
+    requires name { blank.name ≡ L.name }
+    requires parts { blank.parts ≡ L.parts }
+    requires two { L.parts ≡ 2 }
+{
+    let map = SectorMap::new(512, &[2, 2])?;
+    let mut bytes = bytes_of(alloc, 512, &after_steps([0, 0], 2, 0))?;
+    assert_eq!(rt; bytes.len(), 8192);
+    bytes[1032] = 0x00;
+    let mut flash = MemFlash::<L>::from_bytes(alloc, blank, 512, bytes);
+    assert!(rt; map.fits(&flash));
+    assert!(rt; is_within(&map, 0b01));
+    swap_set(&mut flash, &map, 0b01, Side::Primary)?;
+    // The second step isn't made, and its unit isn't written.
+    assert_eq!(rt; flash.erases(), 5);
+    assert_eq!(rt; flash.writes(), 20);
+    assert_eq!(rt; flash.bytes().len(), 8192);
+    assert_eq!(rt; flash.bytes()[1032], 0x00);
+    assert!(rt; map.images == 2);
+    assert!(rt; map.fits(&flash));
+    assert_eq!(rt; status_count(&mut flash, &map, 0, Side::Primary)?, 6);
+    Ok(())
+}
+
+#[test]
+fn a_unit_that_is_set_behind_an_erased_one_is_not_written(rt: HostRuntime) -> Result<(), Fail> {
+    ended_at_no_place::<Brand>(&rt, rt.alloc(), Blank::new(2))
 }
