@@ -29,12 +29,11 @@ pub fn swap_laws(map: &SectorMap)
     ensures moves_slots { (chip : Chip) (side : Side) (i : ℕ)
         → used_of map.now chip side i ≤ slot_sectors map.now i }
     ensures stays { (side : Side) (mask : ℕ) (touched : Part → Bool) (old new : Chip)
-        (x y : ℕ → List ℕ) → IsLaidOut map.now old → IsWithin map.now mask
-        → Keeps map.now touched old new
+        (x y : ℕ → List ℕ) → IsLaidOut map.now old → Keeps map.now touched old new
         → ((part : Part) → swap_of mask side part ≡ true → touched part ≡ false)
         → IsSwapAt map.now old side mask x y → IsSwapAt map.now new side mask x y }
     ensures done { (chip : Chip) (side : Side) (mask : ℕ) (x y : ℕ → List ℕ)
-        → IsLaidOut map.now chip → IsWithin map.now mask → IsSwapAt map.now chip side mask x y
+        → IsLaidOut map.now chip → IsSwapAt map.now chip side mask x y
         → ((i : ℕ) → is_member mask i ≡ true → IsAllCounted map.now chip side i)
         → AreSwapped map.now chip mask x y }
 {}

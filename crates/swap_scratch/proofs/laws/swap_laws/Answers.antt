@@ -14,9 +14,7 @@ pub returns-clause-moves_slots : goal.returns-clause-moves_slots
 returns-clause-moves_slots c = λ chip side i. used_within c.args.map.now chip side i c.args.map.now.is_map
 
 pub returns-clause-stays : goal.returns-clause-stays
-returns-clause-stays c = λ side mask touched old new x y laid within keeps apart at.
-    stays c.args.map.now side mask touched old new x y laid keeps apart at
+returns-clause-stays c = stays c.args.map.now
 
 pub returns-clause-done : goal.returns-clause-done
-returns-clause-done c = λ chip side mask x y laid within at full.
-    done_swapped c.args.map.now chip side mask x y laid at full
+returns-clause-done c = done_swapped c.args.map.now
