@@ -1,0 +1,22 @@
+-- The names in an object and the values of an array, beside the map and the list that hold them.
+use Rattle.std.proofs.Common.{◌≡◌, ℕ, List, [], ◌∷◌, Option, Some, None, String, Vec, Global, Bor, map, string_bytes, refl, ap}
+use Rattle.std.specs.Prelude.{option_map}
+use Rattle.serde_json.specs.Data.{Data}
+use Rattle.serde_json.specs.View.{items_view, members_view, view}
+use Rattle.serde_json.specs.declared.value.Value.{Value}
+use Rattle.manifest.specs.Json.{names_of, values_of}
+
+-- the names of an object are the keys of its map
+pub names_of-members_view : (entries : List (String Global × Value)) → names_of (members_view entries) ≡ map (λ entry. string_bytes entry.0) entries
+names_of-members_view [] = refl
+names_of-members_view (entry ∷ entries) = ap (λ names. string_bytes entry.0 ∷ names) (names_of-members_view entries)
+
+-- the values of an array are those of its list
+pub values_of-items_view : (values : List Value) → values_of (items_view values) ≡ map view values
+values_of-items_view [] = refl
+values_of-items_view (value ∷ values) = ap (λ rest. view value ∷ rest) (values_of-items_view values)
+
+-- the same of an array that may be there
+pub array_values : (found : Option (Bor (Vec Value Global))) → option_map (λ values. map view values.now.items) found ≡ option_map values_of (option_map (λ values. items_view values.now.items) found)
+array_values None = refl
+array_values (Some values) = ap Some (rw (values_of-items_view values.now.items))

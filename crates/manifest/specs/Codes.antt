@@ -1,0 +1,26 @@
+-- The numbers and names of refusals.
+use Rattle.std.specs.Prelude.{ℕ, List, codes}
+use Rattle.manifest.specs.declared.error.ManifestError.{ManifestError}
+use Rattle.manifest.specs.declared.error.ManifestError.TheVariants.{NotJson, BadKey, BadValue, WrongVendor, WrongClass, NoComponent, RepeatedComponent, NoMemory}
+
+-- The numbers, in the order in which the lowest is told.
+abbrev pub code_of : ManifestError → ℕ
+code_of NotJson = 1
+code_of BadKey = 2
+code_of BadValue = 3
+code_of WrongVendor = 4
+code_of WrongClass = 5
+code_of NoComponent = 6
+code_of RepeatedComponent = 7
+code_of NoMemory = 8
+
+-- The names, as a program prints them.
+abbrev pub name_of : ManifestError → List ℕ
+name_of NotJson = codes "NotJson"
+name_of BadKey = codes "BadKey"
+name_of BadValue = codes "BadValue"
+name_of WrongVendor = codes "WrongVendor"
+name_of WrongClass = codes "WrongClass"
+name_of NoComponent = codes "NoComponent"
+name_of RepeatedComponent = codes "RepeatedComponent"
+name_of NoMemory = codes "NoMemory"

@@ -1,0 +1,62 @@
+-- The lowest refusal that applies to bytes that are to be a manifest.
+use Rattle.std.specs.Prelude.{◌≡◌, ℕ, List}
+use Rattle.serde_json.specs.Data.{Data}
+use Rattle.manifest.specs.declared.error.ManifestError.{ManifestError}
+use Rattle.manifest.specs.declared.error.ManifestError.TheVariants.{NotJson, BadKey, BadValue, WrongVendor, WrongClass, NoComponent, RepeatedComponent, NoMemory}
+use Rattle.manifest.specs.declared.identity.Identity.{Identity}
+use Rattle.manifest.specs.declared.manifest.Manifest.{Manifest}
+use Rattle.manifest.specs.Json.{IsJson}
+use Rattle.manifest.specs.Manifest.{HasKeys, IsOfClass, IsOfVendor, Means, NamesEachOnce, NamesImages, Spells}
+
+-- The demands on a value in the order of the refusals. Each name says that its own demand is met,
+-- and all before it: the keys are those of the tables, and the values at them spell this
+-- manifest ..
+abbrev pub MeetsTables : Data → Manifest → Type 0
+MeetsTables value manifest = HasKeys value × Spells value manifest
+
+-- .. it is of the device's vendor ..
+abbrev pub MeetsVendor : Identity → Data → Manifest → Type 0
+MeetsVendor identity value manifest = MeetsTables value manifest × IsOfVendor identity value
+
+-- .. and of its class ..
+abbrev pub MeetsClass : Identity → Data → Manifest → Type 0
+MeetsClass identity value manifest =
+    MeetsVendor identity value manifest × IsOfClass identity value
+
+-- .. and names images of the device alone.
+abbrev pub MeetsImages : Identity → Data → Manifest → Type 0
+MeetsImages identity value manifest =
+    MeetsClass identity value manifest × NamesImages identity manifest
+
+-- The lowest refusal that applies to a value: its own demand isn't met, and all before it are.
+-- That bytes are no JSON, or that memory runs out, is no property of a value.
+abbrev pub IsLowestFault : Identity → Data → ManifestError → Type 0
+IsLowestFault identity value NotJson = ⊥
+IsLowestFault identity value BadKey = HasKeys value → ⊥
+IsLowestFault identity value BadValue =
+    HasKeys value × ((manifest : Manifest) → Spells value manifest → ⊥)
+IsLowestFault identity value WrongVendor =
+    (manifest : Manifest) × MeetsTables value manifest × (IsOfVendor identity value → ⊥)
+IsLowestFault identity value WrongClass =
+    (manifest : Manifest) × MeetsVendor identity value manifest
+    × (IsOfClass identity value → ⊥)
+IsLowestFault identity value NoComponent =
+    (manifest : Manifest) × MeetsClass identity value manifest
+    × (NamesImages identity manifest → ⊥)
+IsLowestFault identity value RepeatedComponent =
+    (manifest : Manifest) × MeetsImages identity value manifest × (NamesEachOnce manifest → ⊥)
+IsLowestFault identity value NoMemory = ⊥
+
+-- Bytes are the JSON text of a value that means this manifest.
+pub record IsManifest (identity : Identity) (bytes : List ℕ) (manifest : Manifest) : Type 0 where
+  pub value : Data
+  pub json : IsJson bytes value
+  pub meaning : Means identity value manifest
+
+-- The lowest refusal that applies to bytes: they are the JSON text of no value, or of one to which
+-- it applies.
+pub data IsRefusal (identity : Identity) (bytes : List ℕ) (fault : ManifestError) : Type 0 where
+  no_json : ((value : Data) → IsJson bytes value → ⊥)
+      → fault ≡ NotJson → IsRefusal identity bytes fault
+  of_value : (value : Data) → IsJson bytes value
+      → IsLowestFault identity value fault → IsRefusal identity bytes fault

@@ -1,0 +1,6 @@
+pub mod Json
+pub mod Component
+pub mod Manifest
+pub mod Fault
+pub mod Ids
+pub mod Codes

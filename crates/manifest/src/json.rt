@@ -1,0 +1,81 @@
+//! What stands at the keys of a JSON object.
+
+ghost use Rattle.std.specs.Prelude.{◌≡◌, ◌≢◌, ◌⊎◌, ◌↔◌, ℕ, ◌^◌, ◌<◌, Some, IfErr, IfNone, IfOk, IfSome, IsTrue, List, map, option_map};
+ghost use Rattle.serde_json.specs.Data.{Data};
+ghost use Rattle.serde_json.specs.View.{items_view, view};
+ghost use Rattle.manifest.specs.Json.{HasNames, IsJson, array_at, digest_at, number_at, text_at, uuid_at, values_of};
+
+use crate::error::ManifestError;
+use hex::FromHex;
+use serde_json::Value;
+use std::alloc::Global;
+use uuid::Uuid;
+
+/// The value of a JSON text.
+pub(crate) fn json_of(alloc: Global, bytes: &[u8]) -> Result<Value, ManifestError>
+    ensures read { IfOk result (λ value. IsJson bytes.now (view value)) }
+    ensures refused { (result ≡ Err ManifestError.NotJson) → (value : Data)
+        → IsJson bytes.now value → ⊥ }
+    ensures only { IfErr result
+        (λ error. (error ≡ ManifestError.NotJson) ⊎ (error ≡ ManifestError.NoMemory)) }
+{
+    match Value::from_slice(alloc, bytes) {
+        Ok(value) => Ok(value),
+        Err(error) if error.is_memory() => Err(ManifestError::NoMemory),
+        Err(_) => Err(ManifestError::NotJson),
+    }
+}
+
+/// Whether a value is an object with these names and no other. They are given in the order of their bytes.
+pub(crate) fn has_names(value: &Value, names: &[&str]) -> bool
+    ensures { IsTrue result ↔ HasNames (map (λ name. name.now) names.now) (view value.now) }
+{
+    match value.as_object() {
+        Some(members) => {
+            members.len() == names.len()
+                && members
+                    .keys()
+                    .zip(names)
+                    .all(|(name, known)| name.as_str() == *known)
+        }
+        None => false,
+    }
+}
+
+/// The number below 2^32 at a key.
+pub(crate) fn number(value: &Value, key: &str) -> Option<u32>
+    ensures found { IfSome result (λ number. number_at key.now (view value.now) ≡ Some number) }
+    ensures other { IfNone result ((number : ℕ) → number < 2 ^ 32
+        → number_at key.now (view value.now) ≢ Some number) }
+{
+    u32::try_from(value.get(key)?.as_u64()?).ok()
+}
+
+/// The text at a key.
+pub(crate) fn text<'v>(value: &'v Value, key: &str) -> Option<&'v str>
+    ensures { option_map (λ text. text.now) result ≡ text_at key.now (view value.now) }
+{
+    value.get(key)?.as_str()
+}
+
+/// The array at a key.
+pub(crate) fn array<'v>(value: &'v Value, key: &str) -> Option<&'v Vec<Value>>
+    ensures { option_map (λ values. map view values.now.items) result
+        ≡ array_at key.now (view value.now) }
+{
+    value.get(key)?.as_array()
+}
+
+/// The UUID that the text at a key spells.
+pub(crate) fn uuid(value: &Value, key: &str) -> Option<Uuid>
+    ensures { result ≡ uuid_at key.now (view value.now) }
+{
+    Uuid::parse_str(text(value, key)?).ok()
+}
+
+/// The 32 bytes that the text at a key spells.
+pub(crate) fn digest(value: &Value, key: &str) -> Option<[u8; 32]>
+    ensures { result ≡ digest_at key.now (view value.now) }
+{
+    <[u8; 32]>::from_hex(text(value, key)?).ok()
+}

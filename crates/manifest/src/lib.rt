@@ -1,0 +1,22 @@
+//! Intake, first part: manifests, which say what may come to a device (RFC 9019 and RFC 9124, in a JSON spelling of
+//! this project's own).
+//!
+//! Promises: a manifest is read exactly where the bytes are JSON that means it to a device of the given identity, and
+//! a refusal is the lowest one that applies to the JSON value, whatever is met first. The identifiers of vendors and
+//! classes are UUIDs of version 5. Allocates to read a manifest, and for nothing else. Whoever takes updates calls it.
+#![tactic(auto)]
+
+mod components;
+mod error;
+mod ids;
+mod identity;
+mod json;
+mod manifest;
+mod reading;
+#[cfg(test)]
+mod tests;
+
+pub use error::ManifestError;
+pub use identity::Identity;
+pub use ids::{class_id, vendor_id};
+pub use manifest::{Component, MOST_COMPONENTS, Manifest};
