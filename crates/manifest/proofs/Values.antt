@@ -1,13 +1,16 @@
 -- The names in an object and the values of an array, beside the map and the list that hold them.
-use Rattle.std.proofs.Common.{◌≡◌, ℕ, List, [], ◌∷◌, Option, Some, None, String, Vec, Global, Bor, map, string_bytes, refl, ap}
-use Rattle.std.specs.Prelude.{option_map}
+use Rattle.std.proofs.Common.{◌≡◌, ◌↔◌, ℕ, List, [], ◌∷◌, Option, Some, None, Result, Ok, Err, String, Vec, Global, Bor, map, string_bytes, refl, ap}
+use Rattle.std.specs.Prelude.{IsOk, IfOk, option_map}
+use Rattle.std.specs.Map.{keys_of}
+use Rattle.std.specs.Result.{result_ok}
+use Rattle.std.proofs.lemmas.Bool.{false≢true}
 use Rattle.serde_json.specs.Data.{Data}
 use Rattle.serde_json.specs.View.{items_view, members_view, view}
 use Rattle.serde_json.specs.declared.value.Value.{Value}
 use Rattle.manifest.specs.Json.{names_of, values_of}
 
 -- the names of an object are the keys of its map
-pub names_of-members_view : (entries : List (String Global × Value)) → names_of (members_view entries) ≡ map (λ entry. string_bytes entry.0) entries
+pub names_of-members_view : (entries : List (String Global × Value)) → names_of (members_view entries) ≡ map string_bytes (keys_of entries)
 names_of-members_view [] = refl
 names_of-members_view (entry ∷ entries) = ap (λ names. string_bytes entry.0 ∷ names) (names_of-members_view entries)
 
@@ -20,3 +23,9 @@ values_of-items_view (value ∷ values) = ap (λ rest. view value ∷ rest) (val
 pub array_values : (found : Option (Bor (Vec Value Global))) → option_map (λ values. map view values.now.items) found ≡ option_map values_of (option_map (λ values. items_view values.now.items) found)
 array_values None = refl
 array_values (Some values) = ap Some (rw (values_of-items_view values.now.items))
+
+-- what was parsed is what the text spells
+pub found_uuid : {E : Type 0} (result : Result (List ℕ) E) (spelled : Option (List ℕ)) → (IsOk result ↔ ((uuid : List ℕ) × (spelled ≡ Some uuid))) → IfOk result (λ uuid. Some uuid ≡ spelled) → result_ok result ≡ spelled
+found_uuid (Ok uuid) spelled ok is = is
+found_uuid (Err error) None ok is = refl
+found_uuid (Err error) (Some uuid) ok is = absurd (false≢true (ok.1 (uuid, refl)))

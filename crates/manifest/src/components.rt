@@ -37,7 +37,7 @@ fn has_component_keys(value: &Value) -> bool
 pub(crate) fn have_component_keys(values: &[Value]) -> bool
     ensures { IsTrue result ↔ AllByRecursion HasComponentKeys (map view values.now) }
 {
-    values.iter().all(has_component_keys)
+    values.iter().all(|value| has_component_keys(value))
 }
 
 /// The number of the image, 0 to 255.
@@ -99,9 +99,12 @@ pub(crate) fn components(values: &[Value]) -> Option<ArrayVec<Component, MOST_CO
         → AllZip IsComponent (map view values.now) components
         → length components ≤ MOST_COMPONENTS → ⊥) }
 {
+    if values.len() > MOST_COMPONENTS {
+        return None;
+    }
     let mut components = ArrayVec::new();
     for value in values {
-        components.try_push(component(value)?).ok()?;
+        components.push(component(value)?);
     }
     Some(components)
 }

@@ -2,12 +2,12 @@
 
 ghost use Rattle.std.specs.Prelude.{◌≡◌, ◌≢◌, ◌⊎◌, ◌↔◌, ℕ, ◌^◌, ◌<◌, Some, IfErr, IfNone, IfOk, IfSome, IsTrue, List, map, option_map};
 ghost use Rattle.serde_json.specs.Data.{Data};
-ghost use Rattle.serde_json.specs.View.{items_view, view};
-ghost use Rattle.manifest.specs.Json.{HasNames, IsJson, array_at, digest_at, number_at, text_at, uuid_at, values_of};
+ghost use Rattle.serde_json.specs.View.{members_view, view};
+ghost use Rattle.manifest.specs.Json.{HasNames, IsJson, array_at, digest_at, names_of, number_at, text_at, uuid_at};
 
 use crate::error::ManifestError;
 use hex::FromHex;
-use serde_json::Value;
+use serde_json::{Map, Value};
 use std::alloc::Global;
 use uuid::Uuid;
 
@@ -26,18 +26,27 @@ pub(crate) fn json_of(alloc: Global, bytes: &[u8]) -> Result<Value, ManifestErro
     }
 }
 
+/// Whether the names in an object are these. They are given in the order of their bytes.
+fn are_names(members: &Map<String, Value>, names: &[&str]) -> bool
+    ensures { IsTrue result ↔ (names_of (members_view members.now.entries)
+        ≡ map (λ name. name.now) names.now) }
+{
+    let mut own = members.keys();
+    for name in names {
+        match own.next() {
+            Some(next) if next.as_str() == *name => {}
+            _ => return false,
+        }
+    }
+    own.next().is_none()
+}
+
 /// Whether a value is an object with these names and no other. They are given in the order of their bytes.
 pub(crate) fn has_names(value: &Value, names: &[&str]) -> bool
     ensures { IsTrue result ↔ HasNames (map (λ name. name.now) names.now) (view value.now) }
 {
     match value.as_object() {
-        Some(members) => {
-            members.len() == names.len()
-                && members
-                    .keys()
-                    .zip(names)
-                    .all(|(name, known)| name.as_str() == *known)
-        }
+        Some(members) => are_names(members, names),
         None => false,
     }
 }

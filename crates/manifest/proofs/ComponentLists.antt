@@ -1,0 +1,56 @@
+-- Components that are read one after another, and compared with each other.
+use Rattle.std.proofs.Common.{◌≡◌, ◌≢◌, ℕ, zero, suc, ◌+◌, ◌<◌, List, [], ◌∷◌, ◌++◌, map, length, get_or, take, refl, sym, ap, subst, ◌∙◌, add-one, arith}
+use Rattle.std.specs.Prelude.{Any, AllPairs, All}
+use Rattle.std.specs.List.{AllByRecursion, AllZip}
+use Rattle.std.proofs.Math.Seq.{take-suc}
+use Rattle.std.proofs.lemmas.List.{get_or-take, get_or_default, length-take, map-append}
+use Rattle.std.proofs.lemmas.List.Quantifiers.{all_pairs_push}
+use Rattle.manifest.specs.declared.manifest.Component.{Component}
+
+-- what holds of each item holds of each mapped one ..
+pub AllByRecursion-map : {X Y : Type 0} (P : Y → Type 0) (f : X → Y) (xs : List X) → All (λ x. P (f x)) xs → AllByRecursion P (map f xs)
+AllByRecursion-map P f [] each = tt
+AllByRecursion-map P f (x ∷ xs) each = (each 0 x (omega arith), AllByRecursion-map P f xs (λ k d within. each (suc k) d (omega arith)))
+
+-- .. and the other way round
+pub All-from_AllByRecursion-map : {X Y : Type 0} (P : Y → Type 0) (f : X → Y) (xs : List X) → AllByRecursion P (map f xs) → All (λ x. P (f x)) xs
+All-from_AllByRecursion-map P f [] each k d within = absurd (omega arith)
+All-from_AllByRecursion-map P f (x ∷ xs) each zero d within = each.0
+All-from_AllByRecursion-map P f (x ∷ xs) each (suc k) d within = All-from_AllByRecursion-map P f xs each.1 k d (omega arith)
+
+-- what holds of each pair, and of one more
+AllZip-push : {A B : Type 0} (R : A → B → Type 0) (xs : List A) (ys : List B) (x : A) (y : B) → AllZip R xs ys → R x y → AllZip R (xs ++ x ∷ []) (ys ++ y ∷ [])
+AllZip-push R [] [] x y each holds = (holds, tt)
+AllZip-push R [] (z ∷ ys) x y each holds = absurd each
+AllZip-push R (z ∷ xs) [] x y each holds = absurd each
+AllZip-push R (w ∷ xs) (z ∷ ys) x y each holds = (each.0, AllZip-push R xs ys x y each.1 holds)
+
+-- the same of the next item of a list
+pub AllZip-more : {X A B : Type 0} (R : A → B → Type 0) (f : X → A) (xs : List X) (ys : List B) (place : ℕ) (x : X) (y : B) → place < length xs → x ≡ get_or xs place x → AllZip R (map f (take place xs)) ys → R (f x) y → AllZip R (map f (take (place + 1) xs)) (ys ++ y ∷ [])
+AllZip-more R f xs ys place x y within is each holds =
+    rw (add-one, take-suc xs place x within, ← is, map-append) (AllZip-push R (map f (take place xs)) ys (f x) y each holds)
+
+-- each item has a partner
+pub AllZip-at : {X A B : Type 0} (R : A → B → Type 0) (f : X → A) (xs : List X) (ys : List B) (place : ℕ) (x : X) → place < length xs → x ≡ get_or xs place x → AllZip R (map f xs) ys → (y : B) × R (f x) y
+AllZip-at R f [] ys place x within is each = absurd (omega arith)
+AllZip-at R f (z ∷ xs) [] place x within is each = absurd each
+AllZip-at R f (z ∷ xs) (y ∷ ys) zero x within is each = (y, subst (λ w. R (f w) y) (sym is) each.0)
+AllZip-at R f (z ∷ xs) (y ∷ ys) (suc place) x within is each = AllZip-at R f xs ys place x (omega arith) is each.1
+
+-- two components are for different images
+abbrev pub IsOther : Component → Component → Type 0
+IsOther one other = one.image ≢ other.image
+
+-- one component more, for an image that none before it is for
+pub once_more : (xs : List Component) (place : ℕ) (d : Component) → place < length xs → AllPairs IsOther (take place xs) → (Any (λ x. x.image ≡ (get_or xs place d).image) (take place xs) → ⊥) → AllPairs IsOther (take (place + 1) xs)
+once_more xs place d within once new =
+    rw (add-one, take-suc xs place d within) (all_pairs_push IsOther (take place xs) (get_or xs place d) once
+      (λ k e short same. new (k, get_or (take place xs) k e, short, get_or_default (take place xs) k _ e short, same)))
+
+-- one that an earlier component is for too
+pub repeated : (xs : List Component) (place : ℕ) (d : Component) → place < length xs → AllPairs IsOther xs → Any (λ x. x.image ≡ (get_or xs place d).image) (take place xs) → ⊥
+repeated xs place d within once (k, x, short, here, same) =
+    let before : k < place = omega (arith, length-take place xs) in
+    let at : get_or xs k x ≡ x = sym (get_or-take place xs k x before) ∙ here in
+    let default : get_or xs place d ≡ get_or xs place x = get_or_default xs place d x within in
+    once k place x before within (ap (λ (c : Component). c.image) at ∙ same ∙ ap (λ (c : Component). c.image) default)

@@ -1,0 +1,23 @@
+-- Names that are compared one after another.
+use Rattle.std.proofs.Common.{◌≡◌, ◌↔◌, ℕ, ◌+◌, ◌<◌, List, ◌∷◌, String, Global, Bor, map, length, get_or, drop, string_bytes, sym, ap, ◌∙◌, add-one, drop-cons}
+use Rattle.common.proofs.Items.{same_cons}
+
+-- a fact holds exactly where the names that are left are those that are left to compare with
+abbrev pub IsLeft : Type 0 → List (String Global) → List (Bor (List ℕ)) → ℕ → Type 0
+IsLeft P own names place = P ↔ (map string_bytes own ≡ map (λ name. name.now) (drop place names))
+
+-- the name to compare with, before those that are left then
+first_left : (names : List (Bor (List ℕ))) (place : ℕ) (d : Bor (List ℕ)) → place < length names → map (λ name. name.now) (drop place names) ≡ (get_or names place d).now ∷ map (λ name. name.now) (drop (place + 1) names)
+first_left names place d within = rw (add-one, drop-cons names place d within)
+
+-- one name more is the same
+pub left_more : (P : Type 0) (own later : List (String Global)) (next : String Global) (names : List (Bor (List ℕ))) (place : ℕ) (d : Bor (List ℕ)) → IsLeft P own names place → own ≡ next ∷ later → place < length names → string_bytes next ≡ (get_or names place d).now → IsLeft P later names (place + 1)
+left_more P own later next names place d left is within same =
+    let here = first_left names place d within in
+    ( λ p. (same_cons _ _ _ _ (sym (ap (map string_bytes) is) ∙ left.0 p ∙ here)).1,
+      λ rest. left.1 (ap (map string_bytes) is ∙ cc (same, rest) ∙ sym here) )
+
+-- the next name is another
+pub left_other : (P : Type 0) (own later : List (String Global)) (next : String Global) (names : List (Bor (List ℕ))) (place : ℕ) (d : Bor (List ℕ)) → IsLeft P own names place → own ≡ next ∷ later → place < length names → (string_bytes next ≡ (get_or names place d).now → ⊥) → P → ⊥
+left_other P own later next names place d left is within other p =
+    other (same_cons _ _ _ _ (sym (ap (map string_bytes) is) ∙ left.0 p ∙ first_left names place d within)).0
