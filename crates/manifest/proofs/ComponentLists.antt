@@ -1,5 +1,5 @@
 -- Components that are read one after another, and compared with each other.
-use Rattle.std.proofs.Common.{◌≡◌, ◌≢◌, ℕ, zero, suc, ◌+◌, ◌<◌, List, [], ◌∷◌, ◌++◌, map, length, get_or, take, refl, sym, ap, subst, ◌∙◌, add-one, arith}
+use Rattle.std.proofs.Common.{◌≡◌, ◌≢◌, ℕ, zero, suc, ◌+◌, ◌<◌, List, [], ◌∷◌, ◌++◌, map, length, get_or, take, sym, ap, subst, ◌∙◌, add-one, arith}
 use Rattle.std.specs.Prelude.{Any, AllPairs, All}
 use Rattle.std.specs.List.{AllByRecursion, AllZip}
 use Rattle.std.proofs.Math.Seq.{take-suc}
@@ -45,7 +45,7 @@ IsOther one other = one.image ≢ other.image
 pub once_more : (xs : List Component) (place : ℕ) (d : Component) → place < length xs → AllPairs IsOther (take place xs) → (Any (λ x. x.image ≡ (get_or xs place d).image) (take place xs) → ⊥) → AllPairs IsOther (take (place + 1) xs)
 once_more xs place d within once new =
     rw (add-one, take-suc xs place d within) (all_pairs_push IsOther (take place xs) (get_or xs place d) once
-      (λ k e short same. new (k, get_or (take place xs) k e, short, get_or_default (take place xs) k _ e short, same)))
+    (λ k e short same. new (k, get_or (take place xs) k e, short, get_or_default (take place xs) k _ e short, same)))
 
 -- one that an earlier component is for too
 pub repeated : (xs : List Component) (place : ℕ) (d : Component) → place < length xs → AllPairs IsOther xs → Any (λ x. x.image ≡ (get_or xs place d).image) (take place xs) → ⊥

@@ -13,9 +13,10 @@ first_left names place d within = rw (add-one, drop-cons names place d within)
 -- one name more is the same
 pub left_more : (P : Type 0) (own later : List (String Global)) (next : String Global) (names : List (Bor (List ℕ))) (place : ℕ) (d : Bor (List ℕ)) → IsLeft P own names place → own ≡ next ∷ later → place < length names → string_bytes next ≡ (get_or names place d).now → IsLeft P later names (place + 1)
 left_more P own later next names place d left is within same =
-    let here = first_left names place d within in
-    ( λ p. (same_cons _ _ _ _ (sym (ap (map string_bytes) is) ∙ left.0 p ∙ here)).1,
-      λ rest. left.1 (ap (map string_bytes) is ∙ cc (same, rest) ∙ sym here) )
+    let here = first_left names place d within in (
+      λ p. (same_cons _ _ _ _ (sym (ap (map string_bytes) is) ∙ left.0 p ∙ here)).1,
+      λ rest. left.1 (ap (map string_bytes) is ∙ cc (same, rest) ∙ sym here),
+    )
 
 -- the next name is another
 pub left_other : (P : Type 0) (own later : List (String Global)) (next : String Global) (names : List (Bor (List ℕ))) (place : ℕ) (d : Bor (List ℕ)) → IsLeft P own names place → own ≡ next ∷ later → place < length names → (string_bytes next ≡ (get_or names place d).now → ⊥) → P → ⊥

@@ -4,7 +4,6 @@ use Rattle.std.specs.Prelude.{IsOk, IfOk, option_map}
 use Rattle.std.specs.Map.{keys_of}
 use Rattle.std.specs.Result.{result_ok}
 use Rattle.std.proofs.lemmas.Bool.{false≢true}
-use Rattle.serde_json.specs.Data.{Data}
 use Rattle.serde_json.specs.View.{items_view, members_view, view}
 use Rattle.serde_json.specs.declared.value.Value.{Value}
 use Rattle.manifest.specs.Json.{names_of, values_of}

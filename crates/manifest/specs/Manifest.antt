@@ -5,7 +5,6 @@ use Rattle.std.specs.List.{AllByRecursion, AllZip}
 use Rattle.serde_json.specs.Data.{Data}
 use Rattle.manifest.specs.declared.manifest.TheConstants.{MOST_COMPONENTS}
 use Rattle.manifest.specs.declared.identity.Identity.{Identity}
-use Rattle.manifest.specs.declared.manifest.Component.{Component}
 use Rattle.manifest.specs.declared.manifest.Manifest.{Manifest}
 use Rattle.manifest.specs.Component.{HasComponentKeys, IsComponent}
 use Rattle.manifest.specs.Json.{HasNames, array_at, number_at, uuid_at}

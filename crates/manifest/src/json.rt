@@ -1,6 +1,6 @@
 //! What stands at the keys of a JSON object.
 
-ghost use Rattle.std.specs.Prelude.{◌≡◌, ◌≢◌, ◌⊎◌, ◌↔◌, ℕ, ◌^◌, ◌<◌, Some, IfErr, IfNone, IfOk, IfSome, IsTrue, List, map, option_map};
+ghost use Rattle.std.specs.Prelude.{◌≡◌, ◌≢◌, ◌⊎◌, ◌↔◌, ℕ, ◌^◌, ◌<◌, Some, IfErr, IfNone, IfOk, IfSome, IsErrOf, IsTrue, length, map, option_map};
 ghost use Rattle.serde_json.specs.Data.{Data};
 ghost use Rattle.serde_json.specs.View.{members_view, view};
 ghost use Rattle.manifest.specs.Json.{HasNames, IsJson, array_at, digest_at, names_of, number_at, text_at, uuid_at};
@@ -18,6 +18,7 @@ pub(crate) fn json_of(alloc: Global, bytes: &[u8]) -> Result<Value, ManifestErro
         → IsJson bytes.now value → ⊥ }
     ensures only { IfErr result
         (λ error. (error ≡ ManifestError.NotJson) ⊎ (error ≡ ManifestError.NoMemory)) }
+    ensures memory { IsErrOf result ManifestError.NoMemory → 0 < length bytes.now }
 {
     match Value::from_slice(alloc, bytes) {
         Ok(value) => Ok(value),

@@ -8,8 +8,8 @@
 
 mod components;
 mod error;
-mod ids;
 mod identity;
+mod ids;
 mod json;
 mod manifest;
 mod reading;

@@ -1,7 +1,6 @@
 //! Reading a manifest.
 
-ghost use Rattle.std.specs.Prelude.{◌≡◌, ◌≢◌, ◌⊎◌, ◌↔◌, ◌<◌, IfErr, IfNone, IfOk, IfSome, IsErrOf, IsTrue, Err, Ok, length};
-ghost use Rattle.serde_json.specs.Data.{Data};
+ghost use Rattle.std.specs.Prelude.{◌≡◌, ◌≢◌, ◌⊎◌, ◌↔◌, ◌<◌, IfErr, IfNone, IfOk, IfSome, IsErrOf, IsTrue, length};
 ghost use Rattle.serde_json.specs.View.{view};
 ghost use Rattle.manifest.specs.Fault.{IsLowestFault, IsManifest, IsRefusal};
 ghost use Rattle.manifest.specs.Manifest.{HasKeys, Means, Spells};
@@ -103,6 +102,7 @@ impl Manifest {
             → (result ≡ Err fault) ⊎ (result ≡ Err ManifestError.NoMemory) }
         ensures only { IfErr result (λ error. (error ≢ ManifestError.NoMemory)
             → IsRefusal identity.now bytes.now error) }
+        ensures memory { IsErrOf result ManifestError.NoMemory → 0 < length bytes.now }
     {
         let value = json_of(alloc, bytes)?;
         meant(&value, identity)

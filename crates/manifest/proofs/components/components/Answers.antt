@@ -1,4 +1,4 @@
-use Rattle.std.proofs.Common.{length, map, take, arith}
+use Rattle.std.proofs.Common.{take, arith}
 use Rattle.std.proofs.lemmas.List.{length-map, length-take}
 use Rattle.std.proofs.lemmas.Slice.Zip.{AllZip-long}
 use Rattle.serde_json.specs.View.{view}
@@ -13,8 +13,8 @@ returns-then-values-gt-MOST_COMPONENTS-clause-other c =
 pub returns-in_err-component-clause-other : goal.returns-in_err-component-clause-other
 returns-in_err-component-clause-other c =
     rw c.from_residual.ensures (λ components each most.
-      let found = AllZip-at IsComponent view c.args.values.now components c.loop-value.value-index c.value-item.result c.loop-value-test.true c.value-item.is each in
-      c.in_err-component.ensures.other found.0 found.1)
+    let found = AllZip-at IsComponent view c.args.values.now components c.loop-value.value-index c.value-item.result c.loop-value-test.true c.value-item.is each in
+    c.in_err-component.ensures.other found.0 found.1)
 
 pub push-requires : goal.push-requires
 push-requires c =

@@ -1,0 +1,30 @@
+use Rattle.std.proofs.Common.{refl, rules}
+use Rattle.std.proofs.lemmas.Bool.{false≢true}
+use Rattle.serde_json.specs.View.{view}
+use Rattle.manifest.specs.Manifest.{IsOfClass, IsOfVendor}
+use Rattle.manifest.proofs.reading.meant.Goals as goal
+
+pub returns-then-not-name_images_below-clause-fault :
+    goal.returns-then-not-name_images_below-clause-fault
+returns-then-not-name_images_below-clause-fault c =
+    let keys = c.if-not-has_keys.ensures.0 refl in
+    let spells = rw c.in_ok-manifest.ensures.ok_part at c.spelled.ensures.found in
+    let vendor : IsOfVendor c.args.identity.now (view c.args.value.now) = search rules in
+    let class : IsOfClass c.args.identity.now (view c.args.value.now) = search rules in (
+      c.in_ok-manifest.manifest,
+      (((keys, spells), vendor), class),
+      λ below. false≢true (c.if-not-name_images_below.ensures.1 (rw c.as_slice.ensures.value below)),
+    )
+
+pub returns-then-not-name_each_once-clause-fault :
+    goal.returns-then-not-name_each_once-clause-fault
+returns-then-not-name_each_once-clause-fault c =
+    let keys = c.if-not-has_keys.ensures.0 refl in
+    let spells = rw c.in_ok-manifest.ensures.ok_part at c.spelled.ensures.found in
+    let vendor : IsOfVendor c.args.identity.now (view c.args.value.now) = search rules in
+    let class : IsOfClass c.args.identity.now (view c.args.value.now) = search rules in
+    let images = rw c.as_slice.ensures.value at (c.if-not-name_images_below.ensures.0 refl) in (
+      c.in_ok-manifest.manifest,
+      ((((keys, spells), vendor), class), images),
+      λ once. false≢true (c.if-not-name_each_once.ensures.1 (rw c.as_slice-2.ensures.value once)),
+    )
