@@ -84,14 +84,16 @@ fn meant(value: &Value, identity: &Identity) -> Result<Manifest, ManifestError>
 }
 
 impl Manifest {
-    /// The manifest that bytes are to a device.
+    /// The manifest that a file is to a device.
     ///
-    /// The bytes are a JSON text (RFC 8259) of one object with exactly the keys of a manifest; docs/FORMATS.md has
-    /// them.
+    /// `bytes` are the whole file, of any length: a JSON text (RFC 8259) of one object with exactly the keys of a
+    /// manifest, which docs/FORMATS.md lists. `identity` is what the device is. `alloc` is where the JSON value is
+    /// held while it is read; what is answered doesn't allocate.
     ///
     /// # Errors
-    /// The lowest refusal that applies to the value of the text, whatever is met first. `NoMemory` comes where memory
-    /// is refused while the text is read, and only there.
+    /// The lowest refusal that applies to the value of the text, whatever is met first: 1 where the bytes are no
+    /// JSON text, 2 and 3 where the value isn't a manifest's, 4 to 7 where it is one for another device. `NoMemory`
+    /// comes where memory is refused while the text is read, and only there.
     pub fn read(alloc: Global, bytes: &[u8], identity: &Identity) -> Result<Manifest, ManifestError>
         ensures means { IfOk result (IsManifest identity.now bytes.now) }
         ensures read { (manifest : Manifest) → IsManifest identity.now bytes.now manifest

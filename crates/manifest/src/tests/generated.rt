@@ -231,7 +231,8 @@ fn ten_thousand_generated_texts_are_judged_by_their_pieces(rt: HostRuntime) -> R
         let answer = Manifest::read(rt.alloc(), bytes.as_slice(), &identity);
         let code = answer.err().map_or(0, |error| error.code());
         assert_eq!(rt; code, text.lowest, "{turn} {text}", text = text.text);
-        told[usize::from(code) % 9] += 1;
+        let count = &mut told[usize::from(code) % 9];
+        *count = count.saturating_add(1);
         if !bytes.is_empty() {
             let place = dice.below(bytes.len());
             bytes[place] = dice.below(256) as u8;
