@@ -1,0 +1,41 @@
+//! Why the log gives no state.
+
+ghost use Rattle.std.specs.Prelude.{◌≡◌};
+ghost use Rattle.set_log.specs.Codes.{code_of, name_of};
+
+use flash_model::FlashError;
+use thiserror::Error;
+
+/// Why the log gives no state. The numbers are 1 and 2, in this order.
+#[derive(Clone, Copy, Debug, PartialEq, Eq, Error)]
+pub enum LogError {
+    /// The log has no state: no sector is active, the active one has no gated record, or its last gated record
+    /// breaks the table of records.
+    #[error("the log has no state")]
+    NoLog,
+    /// A call on the flash failed. Reading never answers `Cut`.
+    #[error("{0}")]
+    Flash(FlashError),
+}
+
+impl LogError {
+    /// The number of the kind, 1 or 2.
+    pub fn code(self) -> u8
+        ensures { result ≡ code_of self }
+    {
+        match self {
+            LogError::NoLog => 1,
+            LogError::Flash(_) => 2,
+        }
+    }
+
+    /// The name of the kind, as it is printed.
+    pub fn name(self) -> &'static str
+        ensures { result.now ≡ name_of self }
+    {
+        match self {
+            LogError::NoLog => "NoLog",
+            LogError::Flash(_) => "Flash",
+        }
+    }
+}

@@ -1,0 +1,14 @@
+//! Records on flash, second part: the set log, a register that survives cuts.
+//!
+//! Promises: the state is a function of the bytes of the log's three sectors, and `read_state` is that function; a
+//! write that power cuts leaves the old state or the new one, over any bytes that it tears; nothing but the log is
+//! touched; and how many sectors are erased is known exactly. Does not allocate. `upload` and `boot_core` call it.
+#![tactic(auto)]
+
+mod error;
+mod record;
+mod state;
+
+pub use error::LogError;
+pub use record::records_are_read_back;
+pub use state::{Kind, State};

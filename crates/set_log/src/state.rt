@@ -1,0 +1,117 @@
+//! The state of a device that is kept through its boots.
+
+ghost use Rattle.std.specs.Prelude.{◌≡◌, ◌<◌, ◌≤◌, ◌^◌, ◌==◌, ℕ, length, drop, slice_index};
+ghost use Rattle.std.specs.List.{list_all};
+ghost use Rattle.set_log.specs.Record.{fits, kind_fits, kind_number, kind_of};
+
+use common::limits::MOST_IMAGES;
+
+/// What a device is in the midst of. The numbers in records are 1 to 6, in this order.
+#[derive(Clone, Copy, Debug, PartialEq, Eq)]
+pub enum Kind {
+    /// Nothing: the running images stay.
+    Steady,
+    /// The images of the set are being swapped in.
+    Swap,
+    /// They are swapped in, and their trailers are being settled.
+    Settle,
+    /// They are tried.
+    Trial,
+    /// They are being swapped back.
+    Back,
+    /// They are swapped back, and their trailers are being settled.
+    BackSettle,
+}
+
+/// The state of a device that is kept through its boots. A record of the log is one such state; it *fits* a number
+/// of images where it keeps the table of records (`fits`).
+#[derive(Clone, Copy, Debug, PartialEq, Eq)]
+pub struct State {
+    /// What the device is in the midst of.
+    pub kind: Kind,
+    /// The set of images that this is about: bit i for image i.
+    pub mask: u8,
+    /// Whether the set is to stay without a trial.
+    pub permanent: bool,
+    /// The sequence number of the last manifest that was accepted.
+    pub sequence: u32,
+    /// The least security counter that each image may have; 0 past the last image.
+    pub floors: [u32; MOST_IMAGES],
+    /// In a trial, how many boots more it lasts, 0 to 6; else 0.
+    pub left: u8,
+}
+
+impl Kind {
+    /// The number of a kind in a record.
+    pub(crate) fn number(self) -> u8
+        ensures { result ≡ kind_number self }
+    {
+        match self {
+            Kind::Steady => 1,
+            Kind::Swap => 2,
+            Kind::Settle => 3,
+            Kind::Trial => 4,
+            Kind::Back => 5,
+            Kind::BackSettle => 6,
+        }
+    }
+
+    /// The kind of a number.
+    pub(crate) fn from_number(number: u8) -> Option<Kind>
+        ensures { result ≡ kind_of number }
+    {
+        match number {
+            1 => Some(Kind::Steady),
+            2 => Some(Kind::Swap),
+            3 => Some(Kind::Settle),
+            4 => Some(Kind::Trial),
+            5 => Some(Kind::Back),
+            6 => Some(Kind::BackSettle),
+            _ => None,
+        }
+    }
+}
+
+/// Whether all numbers are 0.
+fn are_zero(numbers: &[u32]) -> bool
+    ensures { result ≡ list_all (λ number. number == 0) numbers.now }
+{
+    numbers.iter().all(|number| *number == 0)
+}
+
+/// Whether the floors of images that aren't there are 0.
+fn has_no_floor_from(floors: &[u32; MOST_IMAGES], images: u8) -> bool
+    requires { images ≤ MOST_IMAGES }
+    ensures { result ≡ list_all (λ floor. floor == 0) (drop images floors.now) }
+{
+    are_zero(&floors[images as usize..])
+}
+
+impl State {
+    /// Whether the state keeps the table of records, on a device of so many images, at most 8: the set is of
+    /// images of the device; `Steady` has no set, isn't permanent and has no boots left; each other kind has a set,
+    /// with 0 to 6 boots left in `Trial` and none in the others; and the floors past the last image are 0.
+    ///
+    /// Does not allocate.
+    pub fn fits(&self, images: u8) -> bool
+        requires { images ≤ MOST_IMAGES }
+        ensures { result ≡ fits images self.now }
+    {
+        u32::from(self.mask) < 1 << images
+            && self.fits_kind()
+            && has_no_floor_from(&self.floors, images)
+    }
+
+    /// Whether set, permanence and boots left are those of the kind.
+    fn fits_kind(&self) -> bool
+        ensures { result ≡ kind_fits self.now.kind self.now.mask self.now.permanent self.now.left }
+    {
+        match self.kind {
+            Kind::Steady => self.mask == 0 && !self.permanent && self.left == 0,
+            Kind::Trial => self.mask != 0 && self.left <= 6,
+            Kind::Swap | Kind::Settle | Kind::Back | Kind::BackSettle => {
+                self.mask != 0 && self.left == 0
+            }
+        }
+    }
+}
