@@ -1,2 +1,4 @@
 mod Words
 pub mod Spelled
+mod Blank
+mod View

@@ -1,2 +1,4 @@
 pub mod Codes
 pub mod Record
+pub mod Ring
+pub mod Log

@@ -6,6 +6,7 @@
 #![tactic(auto)]
 
 mod error;
+mod places;
 mod record;
 mod state;
 

@@ -1,0 +1,41 @@
+use Rattle.std.proofs.Common.{◌≡◌, ◌%◌, arith, ap, sym, ◌∙◌, not}
+use Rattle.flash_model.specs.Units.{IsSet}
+use Rattle.std.proofs.lemmas.Result.{on_ok_weaker}
+use Rattle.sector_map.proofs.Parts.{laid_out_kept}
+use Rattle.set_log.proofs.View.{at_closing, at_inside, flash_erased_of, unit_aligned, log_alone, log_same, log_set, open_reads, closed_by}
+use Rattle.set_log.proofs.places.close.Goals as goal
+
+pub set_unit-requires-clause-erased : goal.set_unit-requires-clause-erased
+set_unit-requires-clause-erased g c =
+    let map = c.args.map.now in
+    flash_erased_of map _ _ _ 8 c.requires.laid_out (open_reads _ _ _ c.requires.stays_open)
+    (at_closing map _ c.args.sector c.requires.laid_out.is_map c.requires.sector c.closing_unit.ensures)
+
+pub set_unit-requires-clause-place : goal.set_unit-requires-clause-place
+set_unit-requires-clause-place g c =
+    omega (
+      arith,
+      c.closing_unit.ensures,
+      unit_aligned c.args.map.now c.args.sector c.requires.laid_out.is_map,
+    )
+
+pub returns-clause-outside : goal.returns-clause-outside
+returns-clause-outside g c =
+    let map = c.args.map.now in
+    log_alone map _ _ _ _ 8 c.requires.laid_out c.set_unit.ensures.outside
+    (at_closing map _ c.args.sector c.requires.laid_out.is_map c.requires.sector c.closing_unit.ensures)
+
+pub returns-clause-within : goal.returns-clause-within
+returns-clause-within g c =
+    let map = c.args.map.now in
+    log_same map _ _ _ _ 8 c.requires.laid_out c.set_unit.ensures.outside
+    (at_closing map _ c.args.sector c.requires.laid_out.is_map c.requires.sector c.closing_unit.ensures)
+
+pub returns-clause-ok : goal.returns-clause-ok
+returns-clause-ok g c =
+    let map = c.args.map.now in
+    on_ok_weaker c.set_unit.result
+    (λ (set : IsSet (g.F.Flash.chip c.set_unit.new.flash) c.closing_unit.result). closed_by _ _ _
+    (log_set map _ _ _ (laid_out_kept map _ _ _ c.requires.laid_out (returns-clause-outside g c)) set
+    (at_closing map _ c.args.sector c.requires.laid_out.is_map c.requires.sector c.closing_unit.ensures)))
+    c.set_unit.ensures.ok

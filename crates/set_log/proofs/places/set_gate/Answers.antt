@@ -1,0 +1,52 @@
+use Rattle.std.proofs.Common.{◌≡◌, ◌%◌, ◌+◌, arith, ap}
+use Rattle.flash_model.specs.Units.{IsSet}
+use Rattle.std.proofs.lemmas.Result.{on_ok_weaker}
+use Rattle.sector_map.proofs.Parts.{laid_out_kept}
+use Rattle.set_log.proofs.View.{at_gate, at_inside, flash_erased, place_aligned, log_alone, log_same, log_set}
+use Rattle.set_log.proofs.places.set_gate.Goals as goal
+
+pub set_unit-requires-clause-inside : goal.set_unit-requires-clause-inside
+set_unit-requires-clause-inside g c =
+    let map = c.args.map.now in
+    at_inside map _ _ _ 8 c.requires.laid_out
+    (at_gate map _ c.args.sector c.args.place c.requires.laid_out.is_map c.requires.sector c.requires.place
+    (ap (λ a. a + 56) c.record_start.ensures))
+
+pub set_unit-requires-clause-erased : goal.set_unit-requires-clause-erased
+set_unit-requires-clause-erased g c =
+    let map = c.args.map.now in
+    flash_erased map _ _ _ 8 c.requires.erased
+    (at_gate map _ c.args.sector c.args.place c.requires.laid_out.is_map c.requires.sector c.requires.place
+    (ap (λ a. a + 56) c.record_start.ensures))
+
+pub set_unit-requires-clause-place : goal.set_unit-requires-clause-place
+set_unit-requires-clause-place g c =
+    omega (
+      arith,
+      c.record_start.ensures,
+      place_aligned c.args.map.now c.args.sector c.args.place c.requires.laid_out.is_map,
+    )
+
+pub returns-clause-outside : goal.returns-clause-outside
+returns-clause-outside g c =
+    let map = c.args.map.now in
+    log_alone map _ _ _ _ 8 c.requires.laid_out c.set_unit.ensures.outside
+    (at_gate map _ c.args.sector c.args.place c.requires.laid_out.is_map c.requires.sector c.requires.place
+    (ap (λ a. a + 56) c.record_start.ensures))
+
+pub returns-clause-within : goal.returns-clause-within
+returns-clause-within g c =
+    let map = c.args.map.now in
+    log_same map _ _ _ _ 8 c.requires.laid_out c.set_unit.ensures.outside
+    (at_gate map _ c.args.sector c.args.place c.requires.laid_out.is_map c.requires.sector c.requires.place
+    (ap (λ a. a + 56) c.record_start.ensures))
+
+pub returns-clause-ok : goal.returns-clause-ok
+returns-clause-ok g c =
+    let map = c.args.map.now in
+    on_ok_weaker c.set_unit.result
+    (λ (set : IsSet (g.F.Flash.chip c.set_unit.new.flash) (c.record_start.result + 56)). log_set map _ _ _
+    (laid_out_kept map _ _ _ c.requires.laid_out (returns-clause-outside g c)) set
+    (at_gate map _ c.args.sector c.args.place c.requires.laid_out.is_map c.requires.sector c.requires.place
+    (ap (λ a. a + 56) c.record_start.ensures)))
+    c.set_unit.ensures.ok
