@@ -2,3 +2,5 @@ mod Words
 pub mod Spelled
 mod Blank
 mod View
+mod Last
+mod Turns

@@ -189,3 +189,12 @@ pub closed_by : (e : ℕ) (log : List ℕ) (sector : ℕ) → reads_erased log (
     → is_closed e log sector ≡ true
 unfolding is_closed
 closed_by e log sector is = ap not is
+
+-- A place that reads as erased is erased.
+pub place_reads : (map : SectorMap) (chip : Chip) (sector place : ℕ) → IsLaidOut map chip → sector < 3
+    → place < places_in map.sector_size
+    → reads_erased (log_bytes map chip) (sector * map.sector_size + 64 * place) 64 ≡ true
+    → IsErased (log_of map chip) (sector * map.sector_size + 64 * place) 64
+place_reads map chip sector place laid lt below reads =
+    let here = at_place map (place_of_record map sector place) sector place laid.is_map lt below refl in
+    erased_of_reads (log_of map chip) _ 64 reads (omega (arith, here.inside, length_part map chip Log laid))

@@ -6,10 +6,14 @@
 #![tactic(auto)]
 
 mod error;
+mod log;
 mod places;
+mod reading;
 mod record;
 mod state;
+mod writing;
 
 pub use error::LogError;
+pub use log::{append, read_state, start};
 pub use record::records_are_read_back;
 pub use state::{Kind, State};

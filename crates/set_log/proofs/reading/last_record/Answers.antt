@@ -1,0 +1,35 @@
+use Rattle.std.proofs.Common.{◌≡◌, ◌*◌, ◌+◌, ◌-◌, arith, ap, refl, sym, ◌∙◌, not, true, false, suc, Some}
+use Rattle.set_log.specs.Log.{log_bytes}
+use Rattle.set_log.specs.Ring.{reads_erased, places_in}
+use Rattle.set_log.proofs.Last.{last_step, last_here, last_none, last_of_is}
+use Rattle.set_log.proofs.reading.last_record.Goals as goal
+
+pub loop-place-init : goal.loop-place-init
+loop-place-init g c = record {
+  same = refl;
+  below = omega (arith, c.record_places-place.ensures);
+  last = last_of_is _ _ c.args.sector _ c.record_places-place.ensures;
+}
+
+pub loop-place-preserved : goal.loop-place-preserved
+loop-place-preserved g c =
+    let map = c.args.map.now in
+    let reads : reads_erased (log_bytes map (g.F.Flash.chip c.args.flash.now))
+    (c.args.sector * map.sector_size + 64 * (c.loop-place.place - 1) + 56) 8 ≡ true =
+    rw c.loop-place.invariant.same at (c.in_ok-is_gated.ensures.ok ∙ ap not c.if-branch.false) in
+    let next : c.loop-place.place ≡ suc (c.loop-place.place - 1) = omega arith in
+    record {
+      same = c.is_gated.ensures.same ∙ c.loop-place.invariant.same;
+      below = omega (arith, c.loop-place.invariant.below);
+      last = c.loop-place.invariant.last ∙ last_step _ _ _ _ next reads;
+    }
+
+pub returns-then-branch-clause-ok : goal.returns-then-branch-clause-ok
+returns-then-branch-clause-ok g c =
+    let map = c.args.map.now in
+    let reads : reads_erased (log_bytes map (g.F.Flash.chip c.args.flash.now))
+    (c.args.sector * map.sector_size + 64 * (c.loop-place.place - 1) + 56) 8 ≡ false =
+    rw c.loop-place.invariant.same at (c.in_ok-is_gated.ensures.ok ∙ ap not c.if-branch.true) in
+    let next : c.loop-place.place ≡ suc (c.loop-place.place - 1) = omega arith in
+    let body = rw (c.is_gated.ensures.same, c.loop-place.invariant.same) at c.in_ok-body.ensures.ok in
+    sym (c.loop-place.invariant.last ∙ last_here _ _ _ _ next reads ∙ ap Some (sym body))
