@@ -4,3 +4,5 @@ mod Blank
 mod View
 mod Last
 mod Turns
+mod Moves
+mod Said

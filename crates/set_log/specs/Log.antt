@@ -1,5 +1,5 @@
 -- The state that the log has.
-use Rattle.std.specs.Prelude.{◌≡◌, ℕ, Bool, false, List, Option, Some, None, Result, Ok, Err}
+use Rattle.std.specs.Prelude.{◌≡◌, ℕ, Bool, true, false, List, Option, Some, None, Result, Ok, Err}
 use Rattle.flash_model.specs.Chip.{Chip}
 use Rattle.flash_model.specs.declared.error.FlashError.TheVariants.{Off}
 use Rattle.sector_map.specs.declared.layout.SectorMap.{SectorMap}
@@ -39,8 +39,8 @@ state_of map chip = state_said map.images (record_of map chip)
 abbrev pub is_place_free : SectorMap → Chip → Bool
 is_place_free map chip = has_free_place map.sector_size (log_bytes map chip)
 
--- What reading the log answers: the state that stands; that none stands; or the flash was off.
+-- What reading the log answers: on a flash that is on, the state that stands, or that none stands.
 abbrev pub Answers : Result State LogError → Option State → Bool → Type 0
-Answers (Ok state) stands on = stands ≡ Some state
-Answers (Err NoLog) stands on = stands ≡ None
+Answers (Ok state) stands on = (stands ≡ Some state) × (on ≡ true)
+Answers (Err NoLog) stands on = (stands ≡ None) × (on ≡ true)
 Answers (Err (Flash error)) stands on = (error ≡ Off) × (on ≡ false)

@@ -41,6 +41,7 @@ fn is_active<F: Flash>(
     ensures same { F.chip flash.new ≡ F.chip flash.old }
     ensures ok { IfOk result (λ yes. yes
         ≡ is_active map.now.sector_size (log_bytes map.now (F.chip flash.old)) sector) }
+    ensures on { OnOk result ((F.chip flash.old).is_on ≡ true) }
     ensures ends { Ends result (F.chip flash.old) (F.chip flash.new) }
 {
     let closed = is_closed(flash, map, sector)?;
@@ -59,6 +60,7 @@ pub(crate) fn find_active<F: Flash>(
         (active_of map.now.sector_size (log_bytes map.now (F.chip flash.old)) ≡ None)
         (λ sector. IsActive map.now.sector_size
         (log_bytes map.now (F.chip flash.old)) sector)) }
+    ensures on { OnOk result ((F.chip flash.old).is_on ≡ true) }
     ensures ends { Ends result (F.chip flash.old) (F.chip flash.new) }
 {
     for sector in 0..SECTORS {
@@ -101,6 +103,7 @@ pub(crate) fn read_record<F: Flash>(
     requires { IsLaidOut map.now (F.chip flash.old) }
     ensures same { F.chip flash.new ≡ F.chip flash.old }
     ensures ok { IfOk result (λ found. found ≡ record_of map.now (F.chip flash.old)) }
+    ensures on { OnOk result ((F.chip flash.old).is_on ≡ true) }
     ensures ends { Ends result (F.chip flash.old) (F.chip flash.new) }
 {
     let Some(active) = find_active(flash, map)? else {

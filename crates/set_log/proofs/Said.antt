@@ -1,0 +1,53 @@
+-- The state of the log follows the record that stands.
+use Rattle.std.proofs.Common.{◌≡◌, ◌≢◌, ◌⊎◌, ℕ, ◌+◌, ◌/◌, ◌^◌, ◌<◌, ◌≤◌, ◌&&◌, Bool, true, false, List, Option, Some, None, nat_lt, arith, refl, sym, ◌∙◌, ap, inl, inr, ⊎_elim}
+use Rattle.std.proofs.lemmas.Bool.Decides.{Decides-ltb}
+use Rattle.std.proofs.Math.Nat.{div-eq_of_lt}
+use Rattle.flash_model.specs.Chip.{Chip}
+use Rattle.sector_map.specs.declared.layout.SectorMap.{SectorMap}
+use Rattle.sector_map.specs.Map.{IsWithin}
+use Rattle.sector_map.proofs.Masks.{below_shift}
+use Rattle.set_log.specs.declared.state.State.{State}
+use Rattle.set_log.specs.Record.{fits, state_from}
+use Rattle.set_log.specs.Log.{record_of, state_of, state_said}
+use Rattle.set_log.proofs.Spelled.{spells_of}
+
+pub said : (map : SectorMap) (chip : Chip) (found : Option (List ℕ)) → record_of map chip ≡ found
+    → state_of map chip ≡ state_said map.images found
+unfolding state_of
+said map chip found is = ap (state_said map.images) is
+
+pub said_either : (map : SectorMap) (body : List ℕ) (s : State) (old new : Chip)
+    → state_from map.images body ≡ Some s
+    → (record_of map new ≡ record_of map old) ⊎ (record_of map new ≡ Some body)
+    → (state_of map new ≡ state_of map old) ⊎ (state_of map new ≡ Some s)
+said_either map body s old new back either = ⊎_elim
+    (λ kept. inl (said map new _ kept ∙ sym (said map old _ refl)))
+    (λ put. inr (said map new _ put ∙ back))
+    either
+
+pub has_record : (map : SectorMap) (chip : Chip) → state_of map chip ≢ None → record_of map chip ≢ None
+has_record map chip has none = has (said map chip None none)
+
+said_fits : (images : ℕ) (found : Option (List ℕ)) (s : State) → state_said images found ≡ Some s
+    → fits images s ≡ true
+said_fits images None s is = let wrong : None ≡ Some s = is in absurd (cc wrong)
+said_fits images (Some body) s is = (spells_of images body s is).kept
+
+-- A state of the log keeps the table ..
+pub state_fits : (map : SectorMap) (chip : Chip) (s : State) → state_of map chip ≡ Some s
+    → fits map.images s ≡ true
+unfolding state_of
+state_fits map chip s is = said_fits map.images (record_of map chip) s is
+
+first_true : (a b : Bool) → (a && b) ≡ true → a ≡ true
+first_true true b is = refl
+first_true false b is = is
+
+small_mask : (mask n : ℕ) → nat_lt mask (2 ^ n) ≡ true → mask / 2 ^ n ≡ 0
+small_mask mask n lt = div-eq_of_lt ((Decides-ltb mask (2 ^ n)).0 lt)
+
+-- .. so its set is of images of the map.
+pub state_within : (map : SectorMap) (chip : Chip) (s : State) → state_of map chip ≡ Some s → IsWithin map s.mask
+state_within map chip s is i member =
+    below_shift s.mask map.images i
+    (small_mask s.mask map.images (first_true _ _ (state_fits map chip s is))) member
