@@ -1,9 +1,9 @@
 -- When bytes of the log are erased.
-use Rattle.std.proofs.Common.{◌≡◌, ℕ, zero, suc, ◌+◌, ◌-◌, ◌*◌, ◌<◌, ◌≤◌, Bool, true, false, List, [], ◌∷◌, ◌==◌, ◌&&◌, length, slice_range, slice_index, get_or, arith, refl, sym, ◌∙◌, ap, subst, ⊎_elim}
+use Rattle.std.proofs.Common.{◌≡◌, ℕ, zero, suc, ◌+◌, ◌-◌, ◌*◌, ◌<◌, ◌≤◌, Bool, true, false, List, [], ◌∷◌, ◌==◌, length, slice_range, slice_index, get_or, arith, refl, sym, ◌∙◌, ap, subst, ⊎_elim}
 use Rattle.std.proofs.lemmas.Bool.{cases_lt}
 use Rattle.std.proofs.lemmas.Bool.Decides.{nat_tests}
 use Rattle.std.specs.List.{list_all}
-use Rattle.flash_model.specs.Chip.{Chip, IsErased, Reads, SameOutside}
+use Rattle.flash_model.specs.Chip.{Chip, IsErased}
 use Rattle.flash_model.proofs.Ranges.{length_range, range_at, range_same}
 use Rattle.set_log.specs.Ring.{reads_erased}
 

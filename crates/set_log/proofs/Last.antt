@@ -1,5 +1,5 @@
 -- The last gated record of a sector, and what writes leave of it.
-use Rattle.std.proofs.Common.{◌≡◌, ◌≢◌, ◌⊎◌, ℕ, zero, suc, ◌+◌, ◌-◌, ◌*◌, ◌/◌, ◌<◌, ◌≤◌, Bool, true, false, List, Option, Some, None, length, slice_range, slice_index, arith, refl, sym, ◌∙◌, ap, subst, inl, inr, ⊎_elim}
+use Rattle.std.proofs.Common.{◌≡◌, ◌≢◌, ◌⊎◌, ℕ, zero, suc, ◌+◌, ◌-◌, ◌*◌, ◌<◌, ◌≤◌, Bool, true, false, List, Some, None, length, slice_range, slice_index, arith, refl, sym, ◌∙◌, ap, subst, inl, inr, ⊎_elim}
 use Rattle.std.proofs.lemmas.Bool.{cases_eq}
 use Rattle.flash_model.specs.Chip.{Chip, IsErased, Reads, SameOutside}
 use Rattle.flash_model.proofs.Frame.{reads_kept, same_outside_joined, same_outside_wider}
@@ -80,9 +80,9 @@ record_kept : (at n p : ℕ) (old new : Chip) → FreeAt old at n p → SameOuts
 record_kept at n p old new free same gate =
     let free_new : (q : ℕ) → p ≤ q → q < n → reads_erased new.bytes (at + 64 * q + 56) 8 ≡ true =
     λ q low high. ⊎_elim
-        (λ (eq : p ≡ q). subst (λ j. reads_erased new.bytes (at + 64 * j + 56) 8 ≡ true) eq gate)
-        (λ (ne : p ≢ q). gate_after at n p q old new free same (omega arith) high)
-        (cases_eq p q) in
+    (λ (eq : p ≡ q). subst (λ j. reads_erased new.bytes (at + 64 * j + 56) 8 ≡ true) eq gate)
+    (λ (ne : p ≢ q). gate_after at n p q old new free same (omega arith) high)
+    (cases_eq p q) in
     erased_above new.bytes at n p (omega (arith, free.within)) free_new
     ∙ last_same old.bytes new.bytes at p same.size (λ k low lt. same.before k lt)
     ∙ sym (erased_above old.bytes at n p (omega (arith, free.within))

@@ -1,16 +1,16 @@
 -- What stands in the log while records are written.
-use Rattle.std.proofs.Common.{◌≡◌, ◌≢◌, ◌⊎◌, ℕ, ◌+◌, ◌-◌, ◌*◌, ◌/◌, ◌<◌, ◌≤◌, Bool, true, false, List, Option, Some, None, if◌then◌else◌, length, arith, refl, sym, ◌∙◌, ap, subst, inl, inr, ⊎_elim}
+use Rattle.std.proofs.Common.{◌≡◌, ◌⊎◌, ℕ, ◌+◌, ◌-◌, ◌*◌, ◌<◌, true, false, List, Some, if◌then◌else◌, length, arith, refl, sym, ◌∙◌, ap, subst, inl, inr, ⊎_elim}
 use Rattle.flash_model.specs.Chip.{Chip, IsErased, Reads, SameOutside}
 use Rattle.flash_model.proofs.Frame.{product_le, same_outside_trans, same_outside_wider}
 use Rattle.sector_map.specs.declared.layout.SectorMap.{SectorMap}
 use Rattle.sector_map.specs.Part.{Log}
 use Rattle.sector_map.specs.Map.{IsMap, IsLaidOut}
 use Rattle.sector_map.proofs.PartBytes.{length_part}
-use Rattle.set_log.specs.Ring.{reads_erased, places_in, is_closed, last_of, next_of, register, has_room, IsActive, IsFree}
+use Rattle.set_log.specs.Ring.{is_closed, last_of, next_of, register, has_room, IsActive, IsFree}
 use Rattle.set_log.specs.Log.{is_place_free, log_bytes, log_of, record_of}
 use Rattle.set_log.proofs.Blank.{reads_erased_of}
 use Rattle.set_log.proofs.Last.{Written}
-use Rattle.set_log.proofs.Turns.{HasPlaces, active_by_next, active_by_place, active_is, closed_same, closing_decides, closing_moves, erased_open, free_is, places_same, register_by_next, register_is}
+use Rattle.set_log.proofs.Turns.{HasPlaces, active_by_next, active_by_place, closed_same, closing_decides, closing_moves, erased_open, free_is, places_same, register_by_next, register_is}
 
 pub has_places : (map : SectorMap) → IsMap map → HasPlaces map.sector_size
 has_places map fits = record {

@@ -1,5 +1,5 @@
 -- States are read back from the bytes that spell them.
-use Rattle.std.proofs.Common.{◌≡◌, ◌↔◌, ℕ, ◌<◌, Bool, true, false, List, ◌++◌, Option, Some, None, length, replicate, slice_index, arith, refl, sym, ◌∙◌, ap, subst, ◌==◌, if◌then◌else◌}
+use Rattle.std.proofs.Common.{◌≡◌, ℕ, Bool, true, false, List, ◌++◌, Option, Some, None, length, replicate, slice_index, arith, refl, sym, ◌∙◌, ap, subst, ◌==◌, if◌then◌else◌}
 use Rattle.std.proofs.lemmas.Slice.Eq.{bytes_eq-Decides}
 use Rattle.std.specs.Str.{bytes_eq}
 use Rattle.byteorder.specs.Endian.{little_bytes, little_number}
@@ -48,6 +48,7 @@ checked_spells images bytes s found is = by _ refl _ refl
   where
     none : checked images bytes s ≡ None → Spells images bytes found
     none empty = let wrong : None ≡ Some found = sym empty ∙ is in absurd (cc wrong)
+
     by : (fit : Bool) → fits images s ≡ fit → (same : Bool) → bytes_eq bytes (record_bytes s) ≡ same
         → Spells images bytes found
     by true fit true same =

@@ -1,8 +1,8 @@
 -- Which sector is active, and what writes leave of it.
-use Rattle.std.proofs.Common.{◌≡◌, ◌≢◌, ◌⊎◌, ℕ, zero, suc, ◌+◌, ◌-◌, ◌*◌, ◌/◌, ◌%◌, ◌<◌, ◌≤◌, Bool, true, false, not, ◌&&◌, List, [], ◌∷◌, Option, Some, None, find, if◌then◌else◌, length, slice_index, arith, refl, sym, ◌∙◌, ap, inl, inr, ⊎_elim}
+use Rattle.std.proofs.Common.{◌≡◌, ◌≢◌, ◌⊎◌, ℕ, zero, suc, ◌+◌, ◌-◌, ◌*◌, ◌/◌, ◌<◌, ◌≤◌, Bool, true, false, not, ◌&&◌, List, Option, Some, None, if◌then◌else◌, arith, refl, sym, ◌∙◌, ap, inl, inr}
 use Rattle.flash_model.specs.Chip.{Chip, IsErased, SameOutside}
 use Rattle.flash_model.proofs.Frame.{products_apart}
-use Rattle.set_log.specs.Ring.{active_of, is_active, is_closed, next_of, previous_of, last_in, last_of, register, has_room, has_room_in, has_free_place, places_in, reads_erased, IsActive}
+use Rattle.set_log.specs.Ring.{active_of, is_active, is_closed, next_of, previous_of, last_in, last_of, register, has_room, has_room_in, has_free_place, places_in, IsActive}
 use Rattle.set_log.proofs.Blank.{reads_erased_of, same_reads}
 use Rattle.set_log.proofs.Last.{last_same}
 

@@ -1,5 +1,5 @@
 -- The log as a flash of its own: what stands there stands in the flash, and the other way round.
-use Rattle.std.proofs.Common.{◌≡◌, ◌↔◌, ◌⊎◌, ℕ, ◌+◌, ◌-◌, ◌*◌, ◌/◌, ◌%◌, ◌<◌, ◌≤◌, Bool, true, false, not, IsTrue, List, length, slice_index, slice_range, arith, refl, sym, ◌∙◌, ap, subst, inl, inr, ⊎_elim}
+use Rattle.std.proofs.Common.{◌≡◌, ◌↔◌, ℕ, ◌+◌, ◌-◌, ◌*◌, ◌/◌, ◌%◌, ◌<◌, ◌≤◌, Bool, true, false, not, IsTrue, List, length, slice_index, slice_range, arith, refl, sym, ◌∙◌, ap, subst, inl, inr, ⊎_elim}
 use Rattle.std.proofs.lemmas.Bool.{cases_lt}
 use Rattle.std.proofs.lemmas.List.{get_or_past}
 use Rattle.flash_model.specs.Chip.{Chip, IsErased, Reads, SameOutside, size_of}
@@ -8,11 +8,10 @@ use Rattle.flash_model.proofs.Ranges.{range_of_reads}
 use Rattle.flash_model.proofs.Units.{aligned}
 use Rattle.sector_map.specs.declared.layout.SectorMap.{SectorMap}
 use Rattle.sector_map.specs.Part.{Log, only}
-use Rattle.sector_map.specs.Map.{first_of, start_of, length_of, sectors_of, places_of, place_of_record, closing_unit, part_of, IsMap, IsLaidOut, IsIn, Keeps}
+use Rattle.sector_map.specs.Map.{first_of, start_of, length_of, place_of_record, closing_unit, IsMap, IsLaidOut, Keeps}
 use Rattle.sector_map.proofs.LogPlaces.{places_fill, place_in_log, unit_in_log, unit_fits_log}
-use Rattle.sector_map.proofs.Products.{mul_le}
 use Rattle.sector_map.proofs.Parts.{laid_out_kept}
-use Rattle.sector_map.proofs.PartBytes.{length_part, part_at, part_kept_at, part_reads, part_erased_at, part_inside, keeps_write, keeps_erase}
+use Rattle.sector_map.proofs.PartBytes.{length_part, part_at, part_kept_at, part_reads, part_erased_at, part_inside, keeps_write}
 use Rattle.flash_model.proofs.Frame.{product_le}
 use Rattle.set_log.specs.Ring.{reads_erased, places_in, is_closed}
 use Rattle.set_log.specs.Log.{log_bytes, log_of}

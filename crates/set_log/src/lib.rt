@@ -17,3 +17,6 @@ pub use error::LogError;
 pub use log::{append, read_state, start};
 pub use record::records_are_read_back;
 pub use state::{Kind, State};
+
+#[cfg(test)]
+mod tests;

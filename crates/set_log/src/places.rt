@@ -142,11 +142,7 @@ pub(crate) fn set_gate<F: Flash>(
 }
 
 /// Closes a sector that is open.
-pub(crate) fn close<F: Flash>(
-    flash: &mut F,
-    map: &SectorMap,
-    sector: u32,
-) -> Result<(), FlashError>
+pub(crate) fn close<F: Flash>(flash: &mut F, map: &SectorMap, sector: u32) -> Result<(), FlashError>
     requires laid_out { IsLaidOut map.now (F.chip flash.old) }
     requires sector { sector < 3 }
     requires stays_open { is_closed map.now.sector_size

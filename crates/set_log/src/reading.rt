@@ -31,11 +31,7 @@ fn previous_of(sector: u32) -> u32
 }
 
 /// Whether a sector is open, and the one before it closed.
-fn is_active<F: Flash>(
-    flash: &mut F,
-    map: &SectorMap,
-    sector: u32,
-) -> Result<bool, FlashError>
+fn is_active<F: Flash>(flash: &mut F, map: &SectorMap, sector: u32) -> Result<bool, FlashError>
     requires laid_out { IsLaidOut map.now (F.chip flash.old) }
     requires sector { sector < 3 }
     ensures same { F.chip flash.new ≡ F.chip flash.old }

@@ -1,8 +1,8 @@
-use Rattle.std.proofs.Common.{◌≡◌, ◌%◌, arith, ap, sym, ◌∙◌, not}
+use Rattle.std.proofs.Common.{arith}
 use Rattle.flash_model.specs.Units.{IsSet}
 use Rattle.std.proofs.lemmas.Result.{on_ok_weaker}
 use Rattle.sector_map.proofs.Parts.{laid_out_kept}
-use Rattle.set_log.proofs.View.{at_closing, at_inside, flash_erased_of, unit_aligned, log_alone, log_same, log_set, open_reads, closed_by}
+use Rattle.set_log.proofs.View.{at_closing, flash_erased_of, unit_aligned, log_alone, log_same, log_set, open_reads, closed_by}
 use Rattle.set_log.proofs.places.close.Goals as goal
 
 pub set_unit-requires-clause-erased : goal.set_unit-requires-clause-erased

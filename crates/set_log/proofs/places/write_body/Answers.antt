@@ -1,4 +1,4 @@
-use Rattle.std.proofs.Common.{◌≡◌, ◌%◌, arith, sym, subst, length}
+use Rattle.std.proofs.Common.{arith, sym, subst}
 use Rattle.flash_model.specs.Chip.{IsErased, Reads, SameOutside}
 use Rattle.std.proofs.lemmas.Result.{on_ok_weaker}
 use Rattle.set_log.proofs.View.{at_body, at_inside, flash_erased, place_aligned, log_alone, log_same, log_reads}

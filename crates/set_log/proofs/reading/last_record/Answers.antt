@@ -1,7 +1,7 @@
 use Rattle.std.proofs.Common.{◌≡◌, ◌*◌, ◌+◌, ◌-◌, arith, ap, refl, sym, ◌∙◌, not, true, false, suc, Some}
 use Rattle.set_log.specs.Log.{log_bytes}
-use Rattle.set_log.specs.Ring.{reads_erased, places_in}
-use Rattle.set_log.proofs.Last.{last_step, last_here, last_none, last_of_is}
+use Rattle.set_log.specs.Ring.{reads_erased}
+use Rattle.set_log.proofs.Last.{last_step, last_here, last_of_is}
 use Rattle.set_log.proofs.reading.last_record.Goals as goal
 
 pub loop-place-init : goal.loop-place-init

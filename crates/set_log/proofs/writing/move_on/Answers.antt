@@ -1,4 +1,4 @@
-use Rattle.std.proofs.Common.{◌≡◌, inl, inr}
+use Rattle.std.proofs.Common.{inl, inr}
 use Rattle.set_log.specs.Log.{log_of}
 use Rattle.set_log.proofs.Moves.{Moved, has_places, erased_keeps, moved_keeps, moved_active, closing_torn, closing_done}
 use Rattle.set_log.proofs.writing.move_on.Goals as goal

@@ -1,5 +1,4 @@
-use Rattle.std.proofs.Common.{arith}
-use Rattle.set_log.proofs.Moves.{Started, has_places, third_open, started}
+use Rattle.set_log.proofs.Moves.{has_places, third_open, started}
 use Rattle.set_log.proofs.writing.start_record.Goals as goal
 
 pub close-requires-clause-stays_open : goal.close-requires-clause-stays_open

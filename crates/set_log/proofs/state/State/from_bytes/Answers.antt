@@ -25,8 +25,8 @@ returns c =
     (sym c.from_number.ensures ∙ c.in_ok-kind.was)
     ∙ ap (checked c.args.images c.args.bytes.now) (sym c.from_fields-state.ensures) in
     elim c.else-fits.branch [
-      else-fits-via-then-fits+else-eq w ↦ sym (start ∙ checked_other _ _ _ (sym c.fits.ensures ∙ w.if-fits.true)
-        (λ same. let wrong : false ≡ true = sym w.if-eq.false
-        ∙ (slice_eq-Decides Decides-eqb _ _ _ w.eq.ensures).1 (same ∙ sym w.to_bytes.ensures.is) in cc wrong))
+      | else-fits-via-then-fits+else-eq w ↦ sym (start ∙ checked_other _ _ _ (sym c.fits.ensures ∙ w.if-fits.true)
+          (λ same. let wrong : false ≡ true = sym w.if-eq.false
+          ∙ (slice_eq-Decides Decides-eqb _ _ _ w.eq.ensures).1 (same ∙ sym w.to_bytes.ensures.is) in cc wrong))
       | else-fits-via-else-fits w ↦ sym (start ∙ checked_unfit _ _ _ (sym c.fits.ensures ∙ w.if-fits.false))
     ]

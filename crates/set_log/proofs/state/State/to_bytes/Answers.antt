@@ -29,4 +29,4 @@ returns-clause-back c =
       floors = c.fit_words.ensures;
     } in
     λ images fit. state_from_back images c.loop-i.out c.args.self.now sized
-        (record { spelled = returns-clause-is c; kept = fit })
+    (record { spelled = returns-clause-is c; kept = fit })
