@@ -1,5 +1,5 @@
 -- Masks that have no image from some number on: nothing is left of them when they are shifted by it.
-use Rattle.std.proofs.Common.{◌≡◌, ℕ, zero, suc, ◌+◌, ◌-◌, ◌/◌, ◌%◌, ◌^◌, ◌<◌, ◌≤◌, Bool, true, false, arith, ap, ⊎_elim, sym, ◌∙◌, refl}
+use Rattle.std.proofs.Common.{◌≡◌, ℕ, zero, suc, ◌+◌, ◌-◌, ◌/◌, ◌%◌, ◌^◌, ◌<◌, ◌≤◌, Bool, true, false, ◌*◌, ◌==◌, List, [], ◌∷◌, length, get_or, if◌then◌else◌, arith, ap, ⊎_elim, sym, ◌∙◌, refl}
 use Rattle.std.proofs.lemmas.Bool.{cases_lt}
 use Rattle.std.proofs.lemmas.Bool.Decides.{nat_tests}
 use Rattle.std.proofs.lemmas.Nat.{pow-add}
@@ -46,3 +46,66 @@ shift_below mask n small all = no_bits 8 (mask / 2 ^ n) (omega (arith, div-le_se
     at : (i : ℕ) (b : Bool) → is_member mask (n + i) ≡ b → mask / 2 ^ (n + i) % 2 ≡ 0
     at i true member = absurd (omega (arith, all (n + i) member))
     at i false member = not_member mask (n + i) false member refl
+
+-- The number whose bits, from the lowest on, are those of a list.
+abbrev pub mask_in : List Bool → ℕ
+mask_in [] = 0
+mask_in (b ∷ bs) = 2 * mask_in bs + (if b then 1 else 0)
+
+bit_small : (b : Bool) → (if b then 1 else 0) < 2
+bit_small true = omega arith
+bit_small false = omega arith
+
+-- It is below the power of its length.
+pub mask_below : (n : ℕ) (bs : List Bool) → length bs ≤ n → mask_in bs < 2 ^ n
+mask_below zero [] le = omega arith
+mask_below zero (b ∷ bs) le = absurd (omega (arith, le))
+mask_below (suc n) [] le = omega (arith, mask_below n [] (omega arith), pow-succ' 2 n)
+mask_below (suc n) (b ∷ bs) le =
+    omega (arith, mask_below n bs (omega (arith, le)), pow-succ' 2 n, bit_small b)
+
+bit_told : (b : Bool) (m : ℕ) → ((2 * m + (if b then 1 else 0)) / 2 ^ 0 % 2 == 1) ≡ b
+bit_told true m =
+    let odd : (2 * m + 1) / 2 ^ 0 % 2 ≡ 1 = ap (λ x. x % 2) (div-one (2 * m + 1)) ∙ omega arith in
+    ap (λ x. x == 1) odd
+bit_told false m =
+    let even : (2 * m + 0) / 2 ^ 0 % 2 ≡ 0 = ap (λ x. x % 2) (div-one (2 * m + 0)) ∙ omega arith in
+    ap (λ x. x == 1) even
+
+none_behind : (i : ℕ) → get_or {A = Bool} [] i false ≡ false
+none_behind zero = refl
+none_behind (suc i) = refl
+
+-- Its members are those of the list.
+pub members_in : (bs : List Bool) (i : ℕ) → is_member (mask_in bs) i ≡ get_or bs i false
+unfolding is_member
+members_in [] i =
+    let none : 0 / 2 ^ i ≡ 0 = omega (arith, div-le_self 0 (2 ^ i)) in
+    ap (λ q. q % 2 == 1) none ∙ sym (none_behind i)
+members_in (b ∷ bs) zero = bit_told b (mask_in bs)
+members_in (b ∷ bs) (suc i) =
+    let half : (2 * mask_in bs + (if b then 1 else 0)) / 2 ≡ mask_in bs = omega (arith, bit_small b) in
+    let shift : (2 * mask_in bs + (if b then 1 else 0)) / 2 ^ suc i ≡ mask_in bs / 2 ^ i =
+    ap (λ p. (2 * mask_in bs + (if b then 1 else 0)) / p) (pow-succ' 2 i)
+    ∙ sym (div-div-eq-div-mul (2 * mask_in bs + (if b then 1 else 0)) 2 (2 ^ i)) ∙ ap (λ q. q / 2 ^ i) half in
+    ap (λ q. q % 2 == 1) shift ∙ members_in bs i
+
+same_bit : (x y : ℕ) → (x % 2 == 1) ≡ (y % 2 == 1) → x % 2 ≡ y % 2
+same_bit x y is = grind (arith, nat_tests, is)
+
+-- Numbers with the same bits are the same.
+same_bits : (k a b : ℕ) → a < 2 ^ k → b < 2 ^ k → ((i : ℕ) → (a / 2 ^ i % 2 == 1) ≡ (b / 2 ^ i % 2 == 1)) → a ≡ b
+same_bits zero a b small less same = omega arith
+same_bits (suc k) a b small less same =
+    let last : a % 2 ≡ b % 2 =
+    same_bit a b (ap (λ x. x % 2 == 1) (sym (div-one a)) ∙ same 0 ∙ ap (λ x. x % 2 == 1) (div-one b)) in
+    let half : a / 2 ≡ b / 2 = same_bits k (a / 2) (b / 2) (omega (arith, pow-succ' 2 k)) (omega (arith, pow-succ' 2 k))
+    (λ i. ap (λ x. x % 2 == 1) (shift a i) ∙ same (suc i) ∙ sym (ap (λ x. x % 2 == 1) (shift b i))) in
+    omega arith
+  where
+    shift : (x i : ℕ) → x / 2 / 2 ^ i ≡ x / 2 ^ suc i
+    shift x i = div-div-eq-div-mul x 2 (2 ^ i) ∙ ap (λ p. x / p) (sym (pow-succ' 2 i))
+
+pub same_members : (a b : ℕ) → a < 2 ^ 8 → b < 2 ^ 8 → ((i : ℕ) → is_member a i ≡ is_member b i) → a ≡ b
+unfolding is_member
+same_members a b small less same = same_bits 8 a b small less same

@@ -2,7 +2,7 @@
 
 ghost use Rattle.std.specs.Prelude.{◌<◌};
 
-use crate::{MapError, SectorMap, Side, is_member, is_within, parts_lie_apart};
+use crate::{MapError, SectorMap, Side, is_member, is_within, mask_of, parts_lie_apart};
 use std::test::Fail;
 
 /// The name of the fault, or "Ok".
@@ -105,6 +105,15 @@ fn a_mask_is_within_the_images_of_a_map(rt: HostRuntime) -> Result<(), Fail> {
     assert!(rt; is_within(&eight, 0b1111_1111));
     assert!(rt; is_member(0b100, 2));
     assert!(rt; !is_member(0b100, 1));
+    Ok(())
+}
+
+#[test]
+fn a_mask_has_the_images_of_a_list(rt: HostRuntime) -> Result<(), Fail> {
+    assert_eq!(rt; mask_of(&[]), 0);
+    assert_eq!(rt; mask_of(&[true, false, true]), 0b101);
+    assert_eq!(rt; mask_of(&[false, true]), 0b10);
+    assert_eq!(rt; mask_of(&[true; 8]), 0b1111_1111);
     Ok(())
 }
 

@@ -5,4 +5,5 @@ mod View
 mod Last
 mod Turns
 mod Moves
+pub mod Table
 mod Said

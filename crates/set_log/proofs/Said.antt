@@ -10,6 +10,7 @@ use Rattle.set_log.specs.declared.state.State.{State}
 use Rattle.set_log.specs.Record.{fits, state_from}
 use Rattle.set_log.specs.Log.{record_of, state_of, state_said}
 use Rattle.set_log.proofs.Spelled.{spells_of}
+use Rattle.set_log.proofs.Table.{fits_within}
 
 pub said : (map : SectorMap) (chip : Chip) (found : Option (List ℕ)) → record_of map chip ≡ found
     → state_of map chip ≡ state_said map.images found
@@ -39,15 +40,6 @@ pub state_fits : (map : SectorMap) (chip : Chip) (s : State) → state_of map ch
 unfolding state_of
 state_fits map chip s is = said_fits map.images (record_of map chip) s is
 
-first_true : (a b : Bool) → (a && b) ≡ true → a ≡ true
-first_true true b is = refl
-first_true false b is = is
-
-small_mask : (mask n : ℕ) → nat_lt mask (2 ^ n) ≡ true → mask / 2 ^ n ≡ 0
-small_mask mask n lt = div-eq_of_lt ((Decides-ltb mask (2 ^ n)).0 lt)
-
 -- .. so its set is of images of the map.
 pub state_within : (map : SectorMap) (chip : Chip) (s : State) → state_of map chip ≡ Some s → IsWithin map s.mask
-state_within map chip s is i member =
-    below_shift s.mask map.images i
-    (small_mask s.mask map.images (first_true _ _ (state_fits map chip s is))) member
+state_within map chip s is = fits_within map s (state_fits map chip s is)
