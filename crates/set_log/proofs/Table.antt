@@ -45,7 +45,7 @@ fits_floors images s fit i le =
 
 small_of_none : (x k : ℕ) → 0 < k → x / k ≡ 0 → x < k
 small_of_none x k some none =
-    omega (arith, (div-lt_iff_lt-mul {k} {x} {1} some).0 (omega (arith, none)))
+    omega (arith, (div-lt_iff_lt-mul {k = k} {x = x} {y = 1} some).0 (omega (arith, none)))
 
 -- These three are all.
 pub fits_of : (map : SectorMap) (s : State) → s.mask < 2 ^ 8 → IsWithin map s.mask
