@@ -71,6 +71,21 @@ pub record Moved (e sector next : ℕ) (old erased mid : Chip) : Type 0 where
   pub blank : IsErased erased (next * e) e
   pub second : SameOutside (next * e + 64 * 0) 64 erased mid
 
+pub moved : (map : SectorMap) (sector next : ℕ) (old erased mid : Chip) → IsMap map
+    → IsActive map.sector_size (log_bytes map old) sector → next ≡ next_of sector
+    → SameOutside (next * map.sector_size) map.sector_size (log_of map old) (log_of map erased)
+    → IsErased (log_of map erased) (next * map.sector_size) map.sector_size
+    → SameOutside (next * map.sector_size + 64 * 0) 64 (log_of map erased) (log_of map mid)
+    → Moved map.sector_size sector next (log_of map old) (log_of map erased) (log_of map mid)
+moved map sector next old erased mid fits active is first blank second = record {
+  sized = has_places map fits;
+  active = active;
+  is_next = is;
+  first = first;
+  blank = blank;
+  second = second;
+}
+
 -- Up to there the record stands that stood.
 pub erased_keeps : (e sector next : ℕ) (old new : Chip) → HasPlaces e → IsActive e old.bytes sector
     → next ≡ next_of sector → SameOutside (next * e) e old new → register e new.bytes ≡ register e old.bytes

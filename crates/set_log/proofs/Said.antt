@@ -1,11 +1,8 @@
 -- The state of the log follows the record that stands.
-use Rattle.std.proofs.Common.{◌≡◌, ◌≢◌, ◌⊎◌, ℕ, ◌/◌, ◌^◌, ◌&&◌, Bool, true, false, List, Option, Some, None, nat_lt, refl, sym, ◌∙◌, ap, inl, inr, ⊎_elim}
-use Rattle.std.proofs.lemmas.Bool.Decides.{Decides-ltb}
-use Rattle.std.proofs.Math.Nat.{div-eq_of_lt}
+use Rattle.std.proofs.Common.{◌≡◌, ◌≢◌, ◌⊎◌, ℕ, true, List, Option, Some, None, refl, sym, ◌∙◌, ap, inl, inr, ⊎_elim}
 use Rattle.flash_model.specs.Chip.{Chip}
 use Rattle.sector_map.specs.declared.layout.SectorMap.{SectorMap}
 use Rattle.sector_map.specs.Map.{IsWithin}
-use Rattle.sector_map.proofs.Masks.{below_shift}
 use Rattle.set_log.specs.declared.state.State.{State}
 use Rattle.set_log.specs.Record.{fits, state_from}
 use Rattle.set_log.specs.Log.{record_of, state_of, state_said}
