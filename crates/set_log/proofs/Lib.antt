@@ -7,3 +7,4 @@ mod Turns
 mod Moves
 pub mod Table
 mod Said
+pub mod Kept

@@ -1,5 +1,5 @@
 -- The state of the log follows the record that stands.
-use Rattle.std.proofs.Common.{◌≡◌, ◌≢◌, ◌⊎◌, ℕ, true, List, Option, Some, None, refl, sym, ◌∙◌, ap, inl, inr, ⊎_elim}
+use Rattle.std.proofs.Common.{◌≡◌, ◌≢◌, ◌⊎◌, ℕ, false, true, List, Option, Some, None, IsSome, subst, refl, sym, ◌∙◌, ap, inl, inr, ⊎_elim}
 use Rattle.flash_model.specs.Chip.{Chip}
 use Rattle.sector_map.specs.declared.layout.SectorMap.{SectorMap}
 use Rattle.sector_map.specs.Map.{IsWithin}
@@ -23,8 +23,10 @@ said_either map body s old new back either = ⊎_elim
     (λ put. inr (said map new _ put ∙ back))
     either
 
-pub has_record : (map : SectorMap) (chip : Chip) → state_of map chip ≢ None → record_of map chip ≢ None
-has_record map chip has none = has (said map chip None none)
+pub has_record : (map : SectorMap) (chip : Chip) → IsSome (state_of map chip) → record_of map chip ≢ None
+has_record map chip has none =
+    let wrong : false ≡ true = subst (λ state. IsSome state) (said map chip None none) has in
+    absurd (cc wrong)
 
 said_fits : (images : ℕ) (found : Option (List ℕ)) (s : State) → state_said images found ≡ Some s
     → fits images s ≡ true

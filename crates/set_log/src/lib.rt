@@ -1,11 +1,12 @@
 //! Records on flash, second part: the set log, a register that survives cuts.
 //!
-//! Promises: the state is a function of the bytes of the log's three sectors, and `read_state` is that function; a
-//! write that power cuts leaves the old state or the new one, over any bytes that it tears; nothing but the log is
+//! Promises: the state is a function of the bytes of the log's three sectors, and `read_state` is that function; an
+//! append that power cuts leaves the old state or the new one, over any bytes that it tears; nothing but the log is
 //! touched; and how many sectors are erased is known exactly. Does not allocate. `upload` and `boot_core` call it.
 #![tactic(auto)]
 
 mod error;
+mod laws;
 mod log;
 mod places;
 mod reading;
@@ -14,6 +15,7 @@ mod state;
 mod writing;
 
 pub use error::LogError;
+pub use laws::{a_log_that_is_left_keeps_its_state, one_sector_is_active};
 pub use log::{append, read_state, start};
 pub use record::records_are_read_back;
 pub use state::{Kind, State};

@@ -1,6 +1,6 @@
 //! The state of the log: read, written, and begun.
 
-ghost use Rattle.std.specs.Prelude.{◌≡◌, ◌≢◌, ◌⊎◌, ℕ, ◌+◌, ◌<◌, ◌≤◌, Some, None, true, OnOk, IfOk, if◌then◌else◌};
+ghost use Rattle.std.specs.Prelude.{◌≡◌, ◌⊎◌, ℕ, ◌+◌, ◌<◌, ◌≤◌, Some, None, true, OnOk, IsSome, if◌then◌else◌};
 ghost use Rattle.flash_model.specs.Chip.{Chip, Ends};
 ghost use Rattle.sector_map.specs.Map.{IsLaidOut, IsWithin, Keeps};
 ghost use Rattle.sector_map.specs.Part.{Log, only};
@@ -60,7 +60,7 @@ pub fn read_state<F: Flash>(flash: &mut F, map: &SectorMap) -> Result<State, Log
 /// parts are as they were. `Off` where the flash was off before: nothing changed.
 pub fn append<F: Flash>(flash: &mut F, map: &SectorMap, state: &State) -> Result<(), FlashError>
     requires laid_out { IsLaidOut map.now (F.chip flash.old) }
-    requires has_state { state_of map.now (F.chip flash.old) ≢ None }
+    requires has_state { IsSome (state_of map.now (F.chip flash.old)) }
     requires fits { fits map.now.images state.now ≡ true }
     ensures outside { Keeps map.now (only Log) (F.chip flash.old) (F.chip flash.new) }
     // Whatever happened, and whatever bytes a cut left, the old state stands or the new one.

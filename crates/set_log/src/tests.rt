@@ -274,6 +274,7 @@ fn is_recorded(rt: &impl Abort, alloc: Global, state: &State, wanted: &[u8]) -> 
 
 #[test]
 fn a_record_has_these_bytes(rt: HostRuntime) -> Result<(), Fail> {
+    records_are_read_back();
     let mut wanted = [0; 56];
     wanted[0] = 1;
     wanted[12] = 5;
@@ -544,6 +545,8 @@ fn read_both_ways(
 #[test]
 fn ten_thousand_logs_of_any_bytes_are_read_as_plainly(rt: HostRuntime) -> Result<(), Fail> {
     let map = two_images(&rt)?;
+    a_log_that_is_left_keeps_its_state(&map);
+    one_sector_is_active();
     let mut chance = Chance { seed: 7 };
     let mut states = 0u32;
     for _ in 0..10_000 {
