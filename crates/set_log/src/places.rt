@@ -12,7 +12,7 @@ use flash_model::{Flash, FlashError, is_erased, is_unit_erased, set_unit};
 use sector_map::SectorMap;
 
 /// How many bytes a place has: those of a record and its gate.
-pub(crate) const PLACE: u32 = 64;
+const PLACE: u32 = 64;
 
 /// Where the gate of a place stands in it.
 const GATE: u32 = 56;
