@@ -125,6 +125,7 @@ fn swapped<L: Ledger>(
     requires two { L.parts ≡ 2 }
 {
     let map = SectorMap::new(512, &[2, 2])?;
+    swap_laws(&map);
     let bytes = bytes_of(alloc, 512, from)?;
     let wanted = bytes_of(alloc, 512, wanted)?;
     assert_eq!(rt; bytes.len(), 8192);
