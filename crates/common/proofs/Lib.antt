@@ -5,6 +5,7 @@ pub mod Cuts
 pub mod Items
 pub mod LinesLaws
 pub mod Lists
+pub mod Mapped
 pub mod Numbered
 pub mod Numbers
 pub mod Options

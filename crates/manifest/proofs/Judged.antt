@@ -37,12 +37,14 @@ kind_text-unique false false e = refl
 no_digest : (key : List ℕ) (value : Data) (digest : List ℕ) → get key value ≡ None → digest_at key value ≡ Some digest → ⊥
 no_digest key value digest none found = none-some digest (rw none at found)
 
+-- a value names one precursor at most
 IsPrecursor-unique : (value : Data) (one other : Option (List ℕ)) → IsPrecursor value one → IsPrecursor value other → one ≡ other
 IsPrecursor-unique value None None a b = refl
 IsPrecursor-unique value None (Some y) a b = absurd (no_digest (codes "precursor-digest") value y a b)
 IsPrecursor-unique value (Some x) None a b = absurd (no_digest (codes "precursor-digest") value x b a)
 IsPrecursor-unique value (Some x) (Some y) a b = ap Some (same_found _ x y a b)
 
+-- a value spells one component at most
 IsComponent-unique : (value : Data) (one other : Component) → IsComponent value one → IsComponent value other → one ≡ other
 IsComponent-unique value one other a b =
     let image = same_found _ _ _ a.image b.image in
@@ -52,6 +54,7 @@ IsComponent-unique value one other a b =
     let precursor = IsPrecursor-unique value _ _ a.precursor b.precursor in
     λ i. record { image = image i; permanent = permanent i; size = size i; digest = digest i; precursor = precursor i }
 
+-- values spell one list of components at most
 components-unique : (values : List Data) (one other : List Component) → AllZip IsComponent values one → AllZip IsComponent values other → one ≡ other
 components-unique [] [] [] a b = refl
 components-unique [] [] (y ∷ ys) a b = absurd b
@@ -68,6 +71,7 @@ found_components-unique : (found : Option (List Data)) (one other : List Compone
 found_components-unique None one other a b = absurd a
 found_components-unique (Some values) one other a b = components-unique values one other a b
 
+-- a value spells one manifest at most
 pub Spells-unique : (value : Data) (one other : Manifest) → Spells value one → Spells value other → one ≡ other
 Spells-unique value one other a b =
     let sequence = same_found _ _ _ a.sequence b.sequence in
@@ -116,6 +120,7 @@ fault_at (suc (suc (suc (suc (suc zero))))) = RepeatedComponent
 fault_at (suc (suc (suc (suc (suc (suc zero)))))) = NotJson
 fault_at (suc (suc (suc (suc (suc (suc (suc k))))))) = NoMemory
 
+-- each refusal is that at its place
 fault_at-place_of : (fault : ManifestError) → fault_at (place_of fault) ≡ fault
 fault_at-place_of NotJson = refl
 fault_at-place_of BadKey = refl
@@ -143,11 +148,13 @@ fails_first identity value RepeatedComponent h =
     ((((((tt, h.1.0.0.0.0), (h.0, h.1.0.0.0.1)), h.1.0.0.1), h.1.0.1), (h.0, h.1.0.0.0.1, h.1.1)), never value h.0 NamesEachOnce h.1.0.0.0.1 h.2)
 fails_first identity value NoMemory h = absurd h
 
+-- a value has one lowest refusal at most
 pub IsLowestFault-unique : (identity : Identity) (value : Data) (one other : ManifestError) → IsLowestFault identity value one → IsLowestFault identity value other → one ≡ other
 IsLowestFault-unique identity value one other a b =
     let place = FailsFirst-unique (checked identity value) (place_of one) (place_of other) (fails_first identity value one a) (fails_first identity value other b) in
     sym (fault_at-place_of one) ∙ ap fault_at place ∙ fault_at-place_of other
 
+-- what is meant has no lowest refusal
 pub means_or_fails : (identity : Identity) (value : Data) (manifest : Manifest) (fault : ManifestError) → Means identity value manifest → IsLowestFault identity value fault → ⊥
 means_or_fails identity value manifest fault means fails = (fails_first identity value fault fails).1 (passes identity value manifest means (place_of fault))
 

@@ -1,4 +1,4 @@
 pub mod Values
 pub mod Names
-pub mod ComponentLists
+pub mod NamedOnce
 pub mod Judged

@@ -3,7 +3,7 @@ use Rattle.std.proofs.lemmas.List.{length-map, length-take}
 use Rattle.std.proofs.lemmas.Slice.Zip.{AllZip-long}
 use Rattle.serde_json.specs.View.{view}
 use Rattle.manifest.specs.Component.{IsComponent}
-use Rattle.manifest.proofs.ComponentLists.{AllZip-at, AllZip-more}
+use Rattle.common.proofs.Mapped.{AllZip-at, AllZip-more}
 use Rattle.manifest.proofs.components.components.Goals as goal
 
 pub returns-then-values-gt-MOST_COMPONENTS-clause-other : goal.returns-then-values-gt-MOST_COMPONENTS-clause-other

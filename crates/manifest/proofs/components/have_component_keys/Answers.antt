@@ -3,7 +3,7 @@ use Rattle.std.specs.Prelude.{All, IsTrue}
 use Rattle.std.proofs.lemmas.Grind.{common_steps}
 use Rattle.serde_json.specs.View.{view}
 use Rattle.manifest.specs.Component.{HasComponentKeys}
-use Rattle.manifest.proofs.ComponentLists.{AllByRecursion-map, All-from_AllByRecursion-map}
+use Rattle.common.proofs.Mapped.{AllByRecursion-map, All-from_AllByRecursion-map}
 use Rattle.manifest.proofs.components.have_component_keys.Goals as goal
 
 pub returns : goal.returns

@@ -1,7 +1,7 @@
 use Rattle.std.proofs.Common.{refl}
 use Rattle.std.proofs.lemmas.List.{take_all}
 use Rattle.std.proofs.lemmas.Bool.{false≢true}
-use Rattle.manifest.proofs.ComponentLists.{once_more, repeated}
+use Rattle.manifest.proofs.NamedOnce.{once_more, repeated}
 use Rattle.manifest.proofs.components.name_each_once.Goals as goal
 
 pub returns-then-is_named : goal.returns-then-is_named

@@ -1,11 +1,9 @@
--- Components that are read one after another, and compared with each other.
-use Rattle.std.proofs.Common.{◌≡◌, ◌≢◌, ℕ, zero, suc, ◌+◌, ◌<◌, List, [], ◌∷◌, ◌++◌, map, length, get_or, take, sym, ap, subst, ◌∙◌, add-one, arith}
-use Rattle.std.specs.Prelude.{Any, AllPairs, All}
+-- Facts of each item of a list that was mapped, alone and beside an item of another list.
+use Rattle.std.proofs.Common.{◌≡◌, ℕ, zero, suc, ◌+◌, ◌<◌, List, [], ◌∷◌, ◌++◌, map, length, get_or, take, sym, subst, add-one, arith}
+use Rattle.std.specs.Prelude.{All}
 use Rattle.std.specs.List.{AllByRecursion, AllZip}
 use Rattle.std.proofs.Math.Seq.{take-suc}
-use Rattle.std.proofs.lemmas.List.{get_or-take, get_or_default, length-take, map-append}
-use Rattle.std.proofs.lemmas.List.Quantifiers.{all_pairs_push}
-use Rattle.manifest.specs.declared.manifest.Component.{Component}
+use Rattle.std.proofs.lemmas.List.{map-append}
 
 -- what holds of each item holds of each mapped one ..
 pub AllByRecursion-map : {X Y : Type 0} (P : Y → Type 0) (f : X → Y) (xs : List X) → All (λ x. P (f x)) xs → AllByRecursion P (map f xs)
@@ -36,21 +34,3 @@ AllZip-at R f [] ys place x within is each = absurd (omega arith)
 AllZip-at R f (z ∷ xs) [] place x within is each = absurd each
 AllZip-at R f (z ∷ xs) (y ∷ ys) zero x within is each = (y, subst (λ w. R (f w) y) (sym is) each.0)
 AllZip-at R f (z ∷ xs) (y ∷ ys) (suc place) x within is each = AllZip-at R f xs ys place x (omega arith) is each.1
-
--- two components are for different images
-abbrev pub IsOther : Component → Component → Type 0
-IsOther one other = one.image ≢ other.image
-
--- one component more, for an image that none before it is for
-pub once_more : (xs : List Component) (place : ℕ) (d : Component) → place < length xs → AllPairs IsOther (take place xs) → (Any (λ x. x.image ≡ (get_or xs place d).image) (take place xs) → ⊥) → AllPairs IsOther (take (place + 1) xs)
-once_more xs place d within once new =
-    rw (add-one, take-suc xs place d within) (all_pairs_push IsOther (take place xs) (get_or xs place d) once
-    (λ k e short same. new (k, get_or (take place xs) k e, short, get_or_default (take place xs) k _ e short, same)))
-
--- one that an earlier component is for too
-pub repeated : (xs : List Component) (place : ℕ) (d : Component) → place < length xs → AllPairs IsOther xs → Any (λ x. x.image ≡ (get_or xs place d).image) (take place xs) → ⊥
-repeated xs place d within once (k, x, short, here, same) =
-    let before : k < place = omega (arith, length-take place xs) in
-    let at : get_or xs k x ≡ x = sym (get_or-take place xs k x before) ∙ here in
-    let default : get_or xs place d ≡ get_or xs place x = get_or_default xs place d x within in
-    once k place x before within (ap (λ (c : Component). c.image) at ∙ same ∙ ap (λ (c : Component). c.image) default)
