@@ -91,6 +91,13 @@ fn component(value: &Value) -> Option<Component>
     })
 }
 
+/// Whether there are no more values than a manifest has components.
+fn are_few(values: &[Value]) -> bool
+    ensures { IsTrue result ↔ (length values.now ≤ MOST_COMPONENTS) }
+{
+    values.len() <= MOST_COMPONENTS
+}
+
 /// The components that values spell, at most [`MOST_COMPONENTS`].
 pub(crate) fn components(values: &[Value]) -> Option<ArrayVec<Component, MOST_COMPONENTS>>
     ensures found { IfSome result
@@ -99,7 +106,7 @@ pub(crate) fn components(values: &[Value]) -> Option<ArrayVec<Component, MOST_CO
         → AllZip IsComponent (map view values.now) components
         → length components ≤ MOST_COMPONENTS → ⊥) }
 {
-    if values.len() > MOST_COMPONENTS {
+    if !are_few(values) {
         return None;
     }
     let mut components = ArrayVec::new();

@@ -1,14 +1,17 @@
-use Rattle.std.proofs.Common.{take, arith}
+use Rattle.std.proofs.Common.{take, refl, arith}
 use Rattle.std.proofs.lemmas.List.{length-map, length-take}
+use Rattle.std.proofs.lemmas.Bool.{false≢true}
 use Rattle.std.proofs.lemmas.Slice.Zip.{AllZip-long}
 use Rattle.serde_json.specs.View.{view}
 use Rattle.manifest.specs.Component.{IsComponent}
 use Rattle.common.proofs.Mapped.{AllZip-at, AllZip-more}
 use Rattle.manifest.proofs.components.components.Goals as goal
 
-pub returns-then-values-gt-MOST_COMPONENTS-clause-other : goal.returns-then-values-gt-MOST_COMPONENTS-clause-other
-returns-then-values-gt-MOST_COMPONENTS-clause-other c =
-    λ components each most. omega (arith, AllZip-long IsComponent _ components each, length-map c.args.values.now view, c.if-values-gt-MOST_COMPONENTS.true)
+pub returns-then-not-are_few-clause-other : goal.returns-then-not-are_few-clause-other
+returns-then-not-are_few-clause-other c =
+    λ components each most.
+    let long = AllZip-long IsComponent _ components each in
+    false≢true (c.if-not-are_few.ensures.1 (omega (arith, long, length-map c.args.values.now view, most)))
 
 pub returns-in_err-component-clause-other : goal.returns-in_err-component-clause-other
 returns-in_err-component-clause-other c =
@@ -19,7 +22,8 @@ returns-in_err-component-clause-other c =
 pub push-requires : goal.push-requires
 push-requires c =
     let long = AllZip-long IsComponent _ c.loop-value.components.items c.loop-value.invariant in
-    omega (arith, long, length-map (take c.loop-value.value-index c.args.values.now) view, length-take c.loop-value.value-index c.args.values.now, c.if-values-gt-MOST_COMPONENTS.false, c.loop-value-test.true)
+    let few = c.if-not-are_few.ensures.0 refl in
+    omega (arith, long, length-map (take c.loop-value.value-index c.args.values.now) view, length-take c.loop-value.value-index c.args.values.now, few, c.loop-value-test.true)
 
 pub loop-value-preserved : goal.loop-value-preserved
 loop-value-preserved c =
