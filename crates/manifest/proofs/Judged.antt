@@ -3,7 +3,8 @@ use Rattle.std.proofs.Common.{◌≡◌, ◌≢◌, ℕ, zero, suc, List, [], �
 use Rattle.std.specs.Prelude.{IsSomeAnd}
 use Rattle.std.specs.List.{AllZip}
 use Rattle.std.proofs.lemmas.Option.{none-some, same_Some}
-use Rattle.common.specs.Checks.{FailsFirst, FailsFirst-unique}
+use Rattle.common.specs.Checks.{FailsFirst}
+use Rattle.common.proofs.ChecksLaws.{FailsFirst-unique}
 use Rattle.serde_json.specs.Data.{Data}
 use Rattle.serde_json.specs.Find.{get}
 use Rattle.manifest.specs.declared.error.ManifestError.{ManifestError}
