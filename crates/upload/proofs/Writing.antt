@@ -1,0 +1,121 @@
+-- Writing and erasing a secondary slot.
+use Rattle.std.proofs.Common.{◌≡◌, ℕ, ◌+◌, ◌-◌, ◌*◌, ◌/◌, ◌%◌, ◌<◌, ◌≤◌, List, [], ◌++◌, length, take, drop, replicate, slice_index, arith, refl, sym, ◌∙◌, ap, subst, append_assoc, length-append, inl, inr}
+use Rattle.std.proofs.lemmas.List.{append-nil, length-replicate, get_or-replicate, get_or-append_right, drop-replicate, nil_from_length}
+use Rattle.std.proofs.Math.Seq.{take-append_seam, drop-append_seam}
+use Rattle.std.proofs.lemmas.List.{drop-drop}
+use Rattle.flash_model.specs.Chip.{Chip, IsErased, Reads, SameOutside, IsUncut, size_of}
+use Rattle.flash_model.proofs.Erased.{erased_kept, erased_joined, erased_none}
+use Rattle.flash_model.proofs.Units.{aligned}
+use Rattle.sector_map.specs.declared.layout.SectorMap.{SectorMap}
+use Rattle.sector_map.specs.declared.layout.Side.TheVariants.{Secondary}
+use Rattle.sector_map.specs.Part.{Part, Slot, only}
+use Rattle.sector_map.specs.Map.{IsIn, IsLaidOut, IsMap, Keeps, count_of, first_of, length_of, part_of, sectors_of, slot_sectors, start_of}
+use Rattle.sector_map.proofs.Places.{units_of, within}
+use Rattle.sector_map.proofs.PartBytes.{length_part, part_at, keeps_write, keeps_erase, range_inside}
+use Rattle.sector_map.proofs.PartLists.{part_written, part_erased}
+use Rattle.upload.specs.Sessions.{IsWritten}
+
+abbrev slot_of : SectorMap → Chip → ℕ → List ℕ
+slot_of map chip image = part_of map chip (Slot image Secondary)
+
+-- what is left of a slot
+left_is : (slot front : List ℕ) (was : IsWritten slot front) → length slot ≡ length front + was.left
+left_is slot front was = ap length was.is ∙ length-append front (replicate was.left 0xff)
+    ∙ ap (λ n. length front + n) (length-replicate was.left 0xff)
+
+behind_at : (slot front : List ℕ) (was : IsWritten slot front) (o : ℕ) → length front ≤ o → o < length slot
+    → slice_index slot o ≡ 0xff
+behind_at slot front was o le lt = ap (λ l. slice_index l o) was.is
+    ∙ get_or-append_right front (replicate was.left 0xff) (length front) o 0 refl le
+    ∙ get_or-replicate was.left (o - length front) 0xff 0 (omega (arith, left_is slot front was))
+
+-- behind what is written a slot is erased
+pub behind_erased : (map : SectorMap) (chip : Chip) (image at n : ℕ) (front : List ℕ) → IsLaidOut map chip
+    → length front ≡ at → IsWritten (slot_of map chip image) front → at + n ≤ length_of map (Slot image Secondary)
+    → IsErased chip (start_of map (Slot image Secondary) + at) n
+behind_erased map chip image at n front laid long was room = record { each = λ k low high. at_k k low high } where
+  at_k : (k : ℕ) → start_of map (Slot image Secondary) + at ≤ k → k < start_of map (Slot image Secondary) + at + n
+      → slice_index chip.bytes k ≡ 0xff
+  at_k k low high =
+      let start = start_of map (Slot image Secondary) in
+      let below : k - start < length_of map (Slot image Secondary) = omega arith in
+      let is : start + (k - start) ≡ k = omega arith in
+      sym (ap (λ j. slice_index chip.bytes j) is) ∙ sym (part_at map chip (Slot image Secondary) (k - start) below)
+      ∙ behind_at (slot_of map chip image) front was (k - start) (omega (arith, long))
+      (omega (arith, length_part map chip (Slot image Secondary) laid))
+
+-- a whole unit of a slot lies at a whole unit of the flash
+pub slot_aligned : (map : SectorMap) (image at k : ℕ) → IsMap map → at ≡ 8 * k
+    → (start_of map (Slot image Secondary) + at) % 8 ≡ 0
+slot_aligned map image at k fits is =
+    let start = aligned (first_of map (Slot image Secondary)) map.sector_size (units_of map fits) in
+    omega (arith, start)
+
+-- nothing is written
+pub written_none : (slot front bytes : List ℕ) → length bytes ≡ 0 → IsWritten slot front → IsWritten slot (front ++ bytes)
+written_none slot front bytes none was =
+    subst (λ l. IsWritten slot l) (sym (ap (λ l. front ++ l) (nil_from_length bytes none) ∙ append-nil front)) was
+
+-- bytes are written behind what is written
+pub written_more : (map : SectorMap) (old new : Chip) (image at place : ℕ) (front bytes : List ℕ) → IsLaidOut map old
+    → SameOutside place (length bytes) old new → Reads new place bytes
+    → place ≡ start_of map (Slot image Secondary) + at → at + length bytes ≤ length_of map (Slot image Secondary)
+    → length front ≡ at → IsWritten (slot_of map old image) front → IsWritten (slot_of map new image) (front ++ bytes)
+written_more map old new image at place front bytes laid same reads is room long was =
+    let after = part_written map (Slot image Secondary) at place bytes old new laid same reads is room in
+    let first : take at (slot_of map old image) ≡ front =
+        ap (λ l. take at l) was.is ∙ ap (λ n. take n (front ++ replicate was.left 0xff)) (sym long)
+        ∙ take-append_seam front (replicate was.left 0xff) in
+    let rest : drop (at + length bytes) (slot_of map old image) ≡ replicate (was.left - length bytes) 0xff =
+        ap (λ l. drop (at + length bytes) l) was.is
+        ∙ ap (λ n. drop (n + length bytes) (front ++ replicate was.left 0xff)) (sym long)
+        ∙ sym (drop-drop (length bytes) (length front) (front ++ replicate was.left 0xff))
+        ∙ ap (λ l. drop (length bytes) l) (drop-append_seam front (replicate was.left 0xff))
+        ∙ drop-replicate (length bytes) was.left 0xff in
+    record {
+      left = was.left - length bytes;
+      is = after ∙ ap (λ l. l ++ (bytes ++ drop (at + length bytes) (slot_of map old image))) first
+          ∙ ap (λ l. front ++ (bytes ++ l)) rest
+          ∙ sym (append_assoc front bytes (replicate (was.left - length bytes) 0xff));
+    }
+
+-- a slot that is erased throughout
+pub slot_erased : (map : SectorMap) (chip : Chip) (image : ℕ) → IsLaidOut map chip
+    → IsErased chip (start_of map (Slot image Secondary)) (length_of map (Slot image Secondary))
+    → IsWritten (slot_of map chip image) []
+slot_erased map chip image laid erased =
+    record { left = length_of map (Slot image Secondary); is = part_erased map chip (Slot image Secondary) laid erased }
+
+-- a sector of a slot
+pub in_slot : (map : SectorMap) (image index : ℕ) → index < slot_sectors map image
+    → IsIn map (Slot image Secondary) (first_of map (Slot image Secondary) + index)
+in_slot map image index lt = record { low = omega arith; high = omega arith }
+
+pub slot_sector : (map : SectorMap) (image index : ℕ) → IsMap map → index < slot_sectors map image
+    → first_of map (Slot image Secondary) + index < sectors_of map
+slot_sector map image index fits lt =
+    within map (Slot image Secondary) (first_of map (Slot image Secondary) + index) fits (in_slot map image index lt)
+
+-- where a sector of a slot lies
+pub sector_place : (map : SectorMap) (image index : ℕ)
+    → (first_of map (Slot image Secondary) + index) * map.sector_size
+    ≡ start_of map (Slot image Secondary) + index * map.sector_size
+sector_place map image index = grind arith
+
+pub next_sector : (map : SectorMap) (index : ℕ) → (index + 1) * map.sector_size
+    ≡ index * map.sector_size + map.sector_size
+next_sector map index = grind arith
+
+-- one more sector of a slot is erased
+pub erased_more : (map : SectorMap) (old new : Chip) (image index : ℕ)
+    → IsErased old (start_of map (Slot image Secondary)) (index * map.sector_size)
+    → SameOutside ((first_of map (Slot image Secondary) + index) * map.sector_size) map.sector_size old new
+    → IsErased new ((first_of map (Slot image Secondary) + index) * map.sector_size) map.sector_size
+    → IsErased new (start_of map (Slot image Secondary)) ((index + 1) * map.sector_size)
+erased_more map old new image index was same now =
+    let start = start_of map (Slot image Secondary) in
+    let at = sector_place map image index in
+    let before = erased_kept start (index * map.sector_size) _ map.sector_size old new was same (inl (omega (arith, at))) in
+    let here = subst (λ k. IsErased new k map.sector_size) at now in
+    subst (λ n. IsErased new start n) (sym (next_sector map index))
+    (erased_joined new start (index * map.sector_size) map.sector_size before here)

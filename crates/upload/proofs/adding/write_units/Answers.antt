@@ -1,0 +1,103 @@
+use Rattle.std.proofs.Common.{rules, ◌≡◌, ◌⊎◌, ◌+◌, ◌-◌, ◌*◌, ◌++◌, ◌<◌, ◌≤◌, ℕ, Option, Some, None, length, List, ◌/◌, ◌%◌, Bool, true, false, arith, refl, sym, ◌∙◌, ap, subst, take, drop, length-append}
+use Rattle.std.proofs.lemmas.List.{take-append-drop}
+use Rattle.sector_map.specs.declared.layout.Side.TheVariants.{Secondary}
+use Rattle.sector_map.specs.Part.{Slot, only}
+use Rattle.sector_map.proofs.Parts.{laid_out_kept}
+use Rattle.sector_map.proofs.PartBytes.{length_part}
+use Rattle.trailer.specs.Standing.{incoming_slot}
+use Rattle.upload.specs.Sessions.{IsWritten}
+use Rattle.upload.specs.declared.sessions.Upload.{Upload}
+use Rattle.upload.proofs.Views.{view_kept, long_kept}
+use Rattle.upload.proofs.Added.{IsHeld, added}
+use Rattle.upload.proofs.adding.write_units.Goals as goal
+
+whole : (l a b : List ℕ) (n : ℕ) → a ≡ take n l → b ≡ drop n l → l ≡ a ++ b
+whole l a b n first second =
+    sym (take-append-drop n l) ∙ ap (λ x. x ++ drop n l) (sym first) ∙ ap (λ x. a ++ x) (sym second)
+
+pub write_slot-requires-clause-units : goal.write_slot-requires-clause-units
+write_slot-requires-clause-units g c =
+    let was = c.requires.open.1 in
+    let n = c.len.ensures.value in
+    let m = ap length (c.as_slice.ensures.value ∙ c.extend.ensures)
+    ∙ length-append c.take-unit.result.items c.split_at.result.0.now in
+    let h = ap (λ v. length v.items) c.take-unit.ensures.value in
+    (1, omega (arith, m, h, n, c.split_at.ensures.front_len, was.few))
+
+pub write_slot-requires-clause-room : goal.write_slot-requires-clause-room
+write_slot-requires-clause-room g c =
+    let was = c.requires.open.1 in
+    let n = c.len.ensures.value in
+    let m = ap length (c.as_slice.ensures.value ∙ c.extend.ensures)
+    ∙ length-append c.take-unit.result.items c.split_at.result.0.now in
+    let h = ap (λ v. length v.items) c.take-unit.ensures.value in
+    let long = length_part c.args.map.now (g.F.Flash.chip c.args.flash.now) (Slot c.args.image Secondary)
+    c.requires.laid_out in
+    omega (arith, m, h, n, long, c.split_at.ensures.front_len, was.few, was.count, was.room, c.requires.fits,
+    c.requires.enough)
+
+pub write_slot-requires-2-clause-place : goal.write_slot-requires-2-clause-place
+write_slot-requires-2-clause-place g c =
+    let was = c.requires.open.1 in
+    (was.units.0 + 1, omega (arith, was.units.1, c.len.ensures.value, was.count))
+
+pub write_slot-requires-2-clause-room : goal.write_slot-requires-2-clause-room
+write_slot-requires-2-clause-room g c =
+    let was = c.requires.open.1 in
+    let n = c.len.ensures.value in
+    let long = length_part c.args.map.now (g.F.Flash.chip c.args.flash.now) (Slot c.args.image Secondary)
+    c.requires.laid_out in
+    omega (arith, n, c.len-2.ensures.value, long, was.few, was.count, was.room, c.requires.fits, c.requires.enough,
+    c.split_at.ensures.front_len, c.split_at.ensures.back_len, c.split_at-2.ensures.front_len,
+    c.split_at-2.ensures.back_len, c.whole_units.ensures.least)
+
+pub write_slot-requires-2-clause-written : goal.write_slot-requires-2-clause-written
+write_slot-requires-2-clause-written g c =
+    let was = c.requires.open.1 in
+    let n = c.len.ensures.value in
+    let m = ap length (c.as_slice.ensures.value ∙ c.extend.ensures)
+    ∙ length-append c.take-unit.result.items c.split_at.result.0.now in
+    let h = ap (λ v. length v.items) c.take-unit.ensures.value in
+    let l = length-append c.requires.open.0 c.as_slice.result.now in
+    (c.requires.open.0 ++ c.as_slice.result.now,
+      omega (arith, l, m, h, n, c.split_at.ensures.front_len, was.few, was.count),
+      c.in_ok-write_slot.ensures.ok c.requires.open.0 (omega (arith, n, was.count)) was.slot)
+
+pub returns-clause-ok : goal.returns-clause-ok
+returns-clause-ok g c =
+    let map = c.args.map.now in
+    let first = c.write_slot.ensures.outside in
+    let second = c.write_slot-2.ensures.outside in
+    let laid = laid_out_kept map (only (Slot c.args.image Secondary)) _ (g.F.Flash.chip c.write_slot.new.flash)
+    c.requires.laid_out first in
+    let was = c.requires.open.1 in
+    let n = c.len.ensures.value in
+    let n2 = c.len-2.ensures.value in
+    let h = ap (λ v. v.items) c.take-unit.ensures.value in
+    let unit = c.as_slice.ensures.value ∙ c.extend.ensures ∙ ap (λ l. l ++ c.split_at.result.0.now) h in
+    let parts : c.args.bytes.now ≡ c.split_at.result.0.now ++ (c.split_at-2.result.0.now ++ c.split_at-2.result.1.now) =
+    sym (take-append-drop (8 - c.len-2.result) c.args.bytes.now)
+    ∙ ap (λ l. l ++ drop (8 - c.len-2.result) c.args.bytes.now) (sym c.split_at.ensures.front)
+    ∙ ap (λ l. c.split_at.result.0.now ++ l) (sym c.split_at.ensures.back
+    ∙ whole _ _ _ c.whole_units.result c.split_at-2.ensures.front c.split_at-2.ensures.back) in
+    let held : IsHeld c.args.upload.now c.hold.new.upload (length c.args.bytes.now) c.split_at-2.result.1.now = record {
+      size = ap (λ (v : Upload). v.size) c.hold.ensures.rest;
+      digest = ap (λ (v : Upload). v.digest) c.hold.ensures.rest;
+      kind = ap (λ (v : Upload). v.kind) c.hold.ensures.rest;
+      received = omega (arith, ap (λ (v : Upload). v.received) c.hold.ensures.rest, c.split_at.ensures.back_len,
+          c.split_at-2.ensures.back_len);
+      held = c.hold.ensures.held ∙ ap (λ l. l ++ c.split_at-2.result.1.now) c.take-unit.ensures.after;
+    } in
+    added c.args.image _ _ _ c.args.upload.now c.hold.new.upload c.args.bytes.now _ _ _ held parts
+    (omega (arith, n, n2, was.few, c.split_at.ensures.front_len))
+    (c.whole_units.ensures.units.0, c.split_at-2.ensures.front_len ∙ c.whole_units.ensures.units.1)
+    (omega (arith, c.split_at-2.ensures.back_len, c.split_at-2.ensures.front_len, c.whole_units.ensures.most))
+    c.requires.fits (view_kept map _ _ _ first) (view_kept map _ _ _ second)
+    (long_kept map _ _ _ (Slot c.args.image Secondary) c.requires.laid_out first)
+    (long_kept map _ _ _ (Slot c.args.image Secondary) laid second)
+    (c.args.upload.now.received - c.len.result) (c.args.upload.now.received - c.len.result + 8)
+    (omega (arith, n, was.count)) refl
+    (λ front long written. subst
+    (λ l. IsWritten (incoming_slot map (g.F.Flash.chip c.write_slot.new.flash) c.args.image) (front ++ l)) unit
+    (c.in_ok-write_slot.ensures.ok front long written))
+    c.in_ok-write_slot-2.ensures.ok

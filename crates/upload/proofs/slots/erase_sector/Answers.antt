@@ -1,0 +1,48 @@
+use Rattle.std.proofs.Common.{◌≡◌, ◌+◌, ◌*◌, ◌≤◌, ◌<◌, arith, ap, subst, sym}
+use Rattle.flash_model.proofs.Frame.{product_le}
+use Rattle.sector_map.specs.declared.layout.Side.TheVariants.{Secondary}
+use Rattle.sector_map.specs.Part.{Slot, only}
+use Rattle.sector_map.specs.Map.{IsIn, IsLaidOut, Keeps, sectors_of}
+use Rattle.sector_map.proofs.Places.{addressed}
+use Rattle.sector_map.proofs.Products.{mul_le}
+use Rattle.sector_map.proofs.PartBytes.{keeps_erase}
+use Rattle.upload.proofs.Writing.{in_slot, slot_sector}
+use Rattle.upload.proofs.slots.erase_sector.Goals as goal
+
+pub overflow_add-sector : goal.overflow_add-sector
+overflow_add-sector g c =
+    let there = slot_sector c.args.map.now c.args.image c.args.index c.requires.laid_out.is_map c.requires.within in
+    omega (arith, there, c.slot.ensures, addressed c.args.map.now c.requires.laid_out.is_map)
+
+pub sector_start-requires : goal.sector_start-requires
+sector_start-requires g c =
+    let there = slot_sector c.args.map.now c.args.image c.args.index c.requires.laid_out.is_map c.requires.within in
+    omega (arith, there, c.slot.ensures)
+
+pub is_erased-requires : goal.is_erased-requires
+is_erased-requires g c =
+    let laid = c.requires.laid_out in
+    let there = slot_sector c.args.map.now c.args.image c.args.index laid.is_map c.requires.within in
+    let chip = g.F.Flash.chip c.args.flash.now in
+    let size = c.args.map.now.sector_size in
+    let last = product_le (c.slot.result + c.args.index) (sectors_of c.args.map.now) size
+    (omega (arith, there, c.slot.ensures)) in
+    let all = mul_le (sectors_of c.args.map.now) chip.sectors size laid.sectors in
+    omega (arith, last, all, ap (λ e. chip.sectors * e) laid.sector_size, c.sector_start.ensures)
+
+pub erase-requires : goal.erase-requires
+erase-requires g c =
+    let there = slot_sector c.args.map.now c.args.image c.args.index c.requires.laid_out.is_map c.requires.within in
+    omega (arith, there, c.slot.ensures, c.requires.laid_out.sectors, ap (λ chip. chip.sectors) c.is_erased.ensures.same)
+
+pub returns-clause-outside : goal.returns-clause-outside
+returns-clause-outside g c =
+    let map = c.args.map.now in
+    let part = Slot c.args.image Secondary in
+    let same = c.is_erased.ensures.same in
+    subst (λ chip. Keeps map (only part) chip (g.F.Flash.chip c.erase.new.self)) same
+    (keeps_erase map part (c.slot.result + c.args.index) (g.F.Flash.chip c.is_erased.new.flash)
+    (g.F.Flash.chip c.erase.new.self) (subst (λ chip. IsLaidOut map chip) (sym same) c.requires.laid_out)
+    c.erase.ensures.outside
+    (subst (λ first. IsIn map part (first + c.args.index)) (sym c.slot.ensures)
+    (in_slot map c.args.image c.args.index c.requires.within)))

@@ -1,0 +1,15 @@
+use Rattle.std.proofs.Common.{◌≡◌, ◌+◌, ◌*◌, ◌≤◌, false}
+use Rattle.flash_model.specs.Chip.{IsErased, IsUncut}
+use Rattle.sector_map.specs.declared.layout.Side.TheVariants.{Secondary}
+use Rattle.sector_map.specs.Part.{Slot, only}
+use Rattle.sector_map.specs.Map.{Keeps, start_of}
+use Rattle.upload.proofs.slots.erase_slot.Given as goal
+
+abbrev pub invariant-loop-index : goal.invariant-loop-index
+invariant-loop-index g l = record {
+  outside : Keeps l.map (only (Slot l.image Secondary)) (g.F.Flash.chip l.initial.flash) (g.F.Flash.chip l.flash);
+  erased : IsErased (g.F.Flash.chip l.flash) (start_of l.map (Slot l.image Secondary)) (l.index * l.map.sector_size);
+  uncut : IsUncut (g.F.Flash.chip l.initial.flash) (g.F.Flash.chip l.flash);
+  erases : (g.F.Flash.chip l.flash).erases ≤ (g.F.Flash.chip l.initial.flash).erases + l.index;
+  asleep : (g.F.Flash.chip l.initial.flash).is_on ≡ false → g.F.Flash.chip l.flash ≡ g.F.Flash.chip l.initial.flash;
+}

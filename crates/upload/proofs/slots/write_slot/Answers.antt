@@ -1,0 +1,47 @@
+use Rattle.std.proofs.Common.{rules, ◌≡◌, ◌+◌, ◌≤◌, ◌<◌, length, arith, ap, subst, sym}
+use Rattle.std.proofs.lemmas.Result.{on_ok_weaker}
+use Rattle.sector_map.specs.declared.layout.Side.TheVariants.{Secondary}
+use Rattle.sector_map.specs.Part.{Slot}
+use Rattle.sector_map.proofs.PartBytes.{keeps_write, range_inside}
+use Rattle.flash_model.specs.Chip.{IsErased}
+use Rattle.upload.proofs.Writing.{behind_erased, slot_aligned, written_more, written_none}
+use Rattle.upload.proofs.slots.write_slot.Goals as goal
+
+pub overflow_add-slot_start : goal.overflow_add-slot_start
+overflow_add-slot_start g c =
+    let some : 0 < length c.args.bytes.now = search rules in
+    let inside = range_inside c.args.map.now (g.F.Flash.chip c.args.flash.now) (Slot c.args.image Secondary) c.args.at
+    (length c.args.bytes.now) c.requires.laid_out c.requires.room some in
+    omega (arith, inside, c.requires.laid_out.size, c.slot_start.ensures)
+
+pub program-requires-clause-inside : goal.program-requires-clause-inside
+program-requires-clause-inside g c =
+    let some : 0 < length c.args.bytes.now = search rules in
+    let inside = range_inside c.args.map.now (g.F.Flash.chip c.args.flash.now) (Slot c.args.image Secondary) c.args.at
+    (length c.args.bytes.now) c.requires.laid_out c.requires.room some in
+    omega (arith, inside, c.slot_start.ensures)
+
+pub program-requires-clause-erased : goal.program-requires-clause-erased
+program-requires-clause-erased g c =
+    subst (λ k. IsErased (g.F.Flash.chip c.args.flash.now) (k + c.args.at) (length c.args.bytes.now))
+    (sym c.slot_start.ensures)
+    (behind_erased c.args.map.now (g.F.Flash.chip c.args.flash.now) c.args.image c.args.at (length c.args.bytes.now)
+    c.requires.written.0 c.requires.laid_out c.requires.written.1 c.requires.written.2 c.requires.room)
+
+pub program-requires-clause-place : goal.program-requires-clause-place
+program-requires-clause-place g c =
+    let unit = slot_aligned c.args.map.now c.args.image c.args.at c.requires.place.0 c.requires.laid_out.is_map
+    c.requires.place.1 in
+    omega (arith, unit, c.slot_start.ensures)
+
+pub returns-clause-outside : goal.returns-clause-outside
+returns-clause-outside g c =
+    keeps_write c.args.map.now (Slot c.args.image Secondary) c.args.at (c.slot_start.result + c.args.at)
+    (length c.args.bytes.now) (g.F.Flash.chip c.args.flash.now) (g.F.Flash.chip c.program.new.self)
+    c.requires.laid_out c.program.ensures.outside (ap (λ k. k + c.args.at) c.slot_start.ensures) c.requires.room
+
+pub returns-clause-ok : goal.returns-clause-ok
+returns-clause-ok g c = on_ok_weaker c.program.result (λ reads. λ front long was.
+    written_more c.args.map.now (g.F.Flash.chip c.args.flash.now) (g.F.Flash.chip c.program.new.self) c.args.image
+    c.args.at (c.slot_start.result + c.args.at) front c.args.bytes.now c.requires.laid_out c.program.ensures.outside
+    reads (ap (λ k. k + c.args.at) c.slot_start.ensures) c.requires.room long was) c.program.ensures.ok

@@ -1,0 +1,182 @@
+-- The step of a machine that takes a manifest.
+use Rattle.std.specs.Prelude.{◌≡◌, ◌⊎◌, ℕ, ◌<◌, ◌≤◌, ◌==◌, ◌&&◌, Bool, true, false, List, [], ◌∷◌, length, Option, Some, None, Result, Ok, Err, All, if◌then◌else◌}
+use Rattle.sector_map.specs.declared.layout.SectorMap.{SectorMap}
+use Rattle.sector_map.specs.declared.layout.Side.{Side}
+use Rattle.sector_map.specs.declared.layout.Side.TheVariants.{Primary, Secondary}
+use Rattle.sector_map.specs.Part.{Part, Slot, TrailerOf, Scratch, Log, same_side}
+use Rattle.sector_map.specs.Map.{length_of}
+use Rattle.trailer.specs.Fields.{erased_fields}
+use Rattle.trailer.specs.Standing.{kind_of}
+use Rattle.tlv.specs.declared.desc.Desc.{Desc}
+use Rattle.tlv.specs.Image.{IsIntact}
+use Rattle.manifest.specs.declared.manifest.Component.{Component}
+use Rattle.upload.specs.declared.error.UploadError.{UploadError}
+use Rattle.upload.specs.declared.error.UploadError.TheVariants as no
+use Rattle.upload.specs.declared.sessions.Upload.{Upload}
+use Rattle.upload.specs.View.{View}
+use Rattle.upload.specs.Device.{DeviceState, Machine, Session, Wanted, closed}
+use Rattle.upload.specs.Steady.{Starts}
+use Rattle.upload.specs.Sessions.{IsWritten, upload_at}
+use Rattle.upload.specs.Withdrawal.{IsKeptOrGone}
+
+-- ---- what a manifest names
+
+abbrev pub or_else : Option Component → Option Component → Option Component
+or_else None other = other
+or_else (Some c) other = Some c
+
+-- The last component that names an image.
+abbrev pub latest : List Component → ℕ → Option Component
+latest [] i = None
+latest (c ∷ cs) i = or_else (latest cs i) (if c.image == i then Some c else None)
+
+abbrev pub is_some : Option Component → Bool
+is_some None = false
+is_some (Some c) = true
+
+-- A component names the image.
+abbrev pub is_named : List Component → ℕ → Bool
+is_named cs i = is_some (latest cs i)
+
+-- The secondary slots of the named images and their trailers.
+abbrev pub named_parts : List Component → Part → Bool
+named_parts cs (Slot i side) = is_named cs i && same_side side Secondary
+named_parts cs (TrailerOf i side) = is_named cs i && same_side side Secondary
+named_parts cs Scratch = false
+named_parts cs Log = false
+
+-- Those, and the log.
+abbrev pub accepted_parts : List Component → Part → Bool
+accepted_parts cs (Slot i side) = is_named cs i && same_side side Secondary
+accepted_parts cs (TrailerOf i side) = is_named cs i && same_side side Secondary
+accepted_parts cs Scratch = false
+accepted_parts cs Log = true
+
+-- ---- what is asked of a manifest
+
+-- Each component names an image of the map.
+abbrev pub AreThere : SectorMap → List Component → Type 0
+AreThere map cs = All (λ c. c.image < map.images) cs
+
+-- Each component fits the slot of its image.
+abbrev pub AllFit : SectorMap → List Component → Type 0
+AllFit map cs = All (λ c. c.size ≤ length_of map (Slot c.image Secondary)) cs
+
+-- These bytes are an intact image with this digest entry.
+abbrev pub HasDigest : List ℕ → List ℕ → Type 0
+HasDigest bytes digest = (description : Desc) × IsIntact bytes description
+    × (description.digest ≡ digest)
+
+-- An image of this digest entry runs, where one is asked for (RFC 9124, "Precursor Image Digest Condition").
+abbrev pub IsPrecursor : Option (List ℕ) → Option (List ℕ) → Type 0
+IsPrecursor None running = Unit
+IsPrecursor (Some digest) None = ⊥
+IsPrecursor (Some digest) (Some bytes) = HasDigest bytes digest
+
+-- Each component follows the image that runs.
+abbrev pub AllFollow : DeviceState → List Component → Type 0
+AllFollow s cs = All (λ c. IsPrecursor c.precursor (s.running c.image)) cs
+
+-- The same of what stands at the front of a slot.
+abbrev pub FrontHasDigest : List ℕ → Option (List ℕ) → Type 0
+FrontHasDigest slot None = Unit
+FrontHasDigest slot (Some digest) =
+    (bytes : List ℕ) × Starts slot bytes × HasDigest bytes digest
+
+abbrev pub AllFollowAt : View → List Component → Type 0
+AllFollowAt w cs = All (λ c. FrontHasDigest (w.slot c.image Primary) c.precursor) cs
+
+-- ---- the step
+
+-- The session that is open for a component.
+abbrev pub opened : Component → Session
+opened c = record {
+  size = c.size;
+  digest = c.digest;
+  kind = kind_of c.permanent;
+  received = [];
+}
+
+abbrev pub session_after : Option Component → Option Session → Option Session
+session_after None before = before
+session_after (Some c) before = Some (opened c)
+
+abbrev pub request_after : Option Component → Option Wanted → Option Wanted
+request_after None before = before
+request_after (Some c) before = None
+
+-- The manifest is taken: its sequence stands, and each named image has no request and an empty session.
+abbrev pub accepted : Machine → ℕ → List Component → Machine
+accepted m sequence cs = record m {
+  kept = record m.kept {
+    sequence = sequence;
+    request = λ i. request_after (latest cs i) (m.kept.request i);
+  };
+  session = λ i. session_after (latest cs i) (m.session i);
+}
+
+-- Taking it was cut: the old sequence and each request as it was, or the new one and each request of a named image as
+-- it was or gone.
+pub record IsAcceptCut (s : DeviceState) (sequence : ℕ) (cs : List Component) (next : DeviceState)
+    : Type 0 where
+  pub rest : next ≡ record s { sequence = next.sequence; request = next.request }
+  pub others : (i : ℕ) → latest cs i ≡ None → next.request i ≡ s.request i
+  pub either : ((next.sequence ≡ s.sequence) × ((i : ℕ) → next.request i ≡ s.request i))
+      ⊎ ((next.sequence ≡ sequence)
+      × ((i : ℕ) → (next.request i ≡ s.request i) ⊎ (next.request i ≡ None)))
+
+-- The manifest is taken, or the first check that fails is answered, each made of all components: its sequence isn't
+-- below the last one; each image fits its slot; each follows the image that runs. Where the flash stops the call all
+-- sessions are closed.
+abbrev pub Accepts : SectorMap → Machine → ℕ → List Component → Result Unit UploadError → Machine
+    → Type 0
+Accepts map m sequence cs (Ok done) next = (m.kept.sequence ≤ sequence) × AllFit map cs
+    × AllFollow m.kept cs × (next ≡ accepted m sequence cs)
+Accepts map m sequence cs (Err no.OldSequence) next =
+    (sequence < m.kept.sequence) × (next ≡ m)
+Accepts map m sequence cs (Err no.TooBig) next =
+    (m.kept.sequence ≤ sequence) × (AllFit map cs → ⊥) × (next ≡ m)
+Accepts map m sequence cs (Err no.WrongPrecursor) next =
+    (m.kept.sequence ≤ sequence) × AllFit map cs × (AllFollow m.kept cs → ⊥) × (next ≡ m)
+Accepts map m sequence cs (Err (no.Flash error)) next =
+    IsAcceptCut m.kept sequence cs next.kept × (next ≡ closed m next.kept)
+Accepts map m sequence cs (Err no.NoSession) next = ⊥
+Accepts map m sequence cs (Err no.TooMuch) next = ⊥
+Accepts map m sequence cs (Err no.SizeWrong) next = ⊥
+Accepts map m sequence cs (Err no.DigestWrong) next = ⊥
+Accepts map m sequence cs (Err (no.NotAnImage fault)) next = ⊥
+Accepts map m sequence cs (Err no.NothingRequested) next = ⊥
+Accepts map m sequence cs (Err no.NoMemory) next = ⊥
+
+-- ---- what opening sessions leaves
+
+-- A new upload for a component.
+pub record IsFresh (c : Component) (upload : Upload) : Type 0 where
+  pub size : upload.size ≡ c.size
+  pub digest : upload.digest ≡ c.digest
+  pub kind : upload.kind ≡ kind_of c.permanent
+  pub received : upload.received ≡ 0
+  pub held : upload.held.items ≡ []
+
+-- The upload of an image after a component named it, or none did.
+abbrev pub OpenedAt : Option Upload → Option Upload → Option Component → Type 0
+OpenedAt now before None = now ≡ before
+OpenedAt now before (Some c) = (upload : Upload) × (now ≡ Some upload) × IsFresh c upload
+
+-- Images that aren't named are as they were, and the request of each is as it was or gone.
+pub record IsOpening (old new : View) (named : ℕ → Option Component) : Type 0 where
+  pub images : new.images ≡ old.images
+  pub log : new.log ≡ old.log
+  pub primary : (j : ℕ) → new.slot j Primary ≡ old.slot j Primary
+  pub slots : (j : ℕ) → named j ≡ None → new.slot j Secondary ≡ old.slot j Secondary
+  pub trailers : (j : ℕ) → named j ≡ None → new.trailer j Secondary ≡ old.trailer j Secondary
+  pub long : (j : ℕ) → length (new.slot j Secondary) ≡ length (old.slot j Secondary)
+  pub either : (j : ℕ) → IsKeptOrGone old new j
+
+-- Each named image has an erased slot and trailer, and a new upload.
+pub record IsOpened (old new : View) (told tnew : List (Option Upload))
+    (named : ℕ → Option Component) : Type 0 where
+  pub opening : IsOpening old new named
+  pub empty : (j : ℕ) (c : Component) → named j ≡ Some c
+      → (new.trailer j Secondary ≡ erased_fields) × IsWritten (new.slot j Secondary) []
+  pub table : (j : ℕ) → OpenedAt (upload_at tnew j) (upload_at told j) (named j)

@@ -1,0 +1,48 @@
+-- The state of a device, over whole images: what its flash keeps, and what it holds itself.
+use Rattle.std.specs.Prelude.{ℕ, Bool, List, Option, None}
+use Rattle.trailer.specs.declared.kinds.Kind.{Kind}
+
+-- What is requested: the bytes of an intact image, or none where they are damaged.
+pub record Wanted : Type 0 where
+  pub bytes : Option (List ℕ)
+  pub kind : Kind
+
+-- An upload that is open: how long the file is to be, its digest, how it will be requested, and the bytes that came.
+pub record Session : Type 0 where
+  pub size : ℕ
+  pub digest : List ℕ
+  pub kind : Kind
+  pub received : List ℕ
+
+-- A set on trial: its images, those confirmed, what ran before, and how many more boots it has.
+pub record Trial : Type 0 where
+  pub set : ℕ
+  pub confirmed : ℕ → Bool
+  pub old : ℕ → List ℕ
+  pub left : ℕ
+
+-- What a device's flash keeps.
+pub record DeviceState : Type 0 where
+  pub images : ℕ
+  -- the bytes of the image that runs, or none where it is damaged
+  pub running : ℕ → Option (List ℕ)
+  pub request : ℕ → Option Wanted
+  -- the floors of the security counters, eight of them
+  pub floors : List ℕ
+  -- the sequence number of the last manifest that was accepted
+  pub sequence : ℕ
+  pub trial : Option Trial
+
+-- A device: what its flash keeps, its sessions, and whether it is up.
+pub record Machine : Type 0 where
+  pub kept : DeviceState
+  pub session : ℕ → Option Session
+  pub is_up : Bool
+
+-- No session is open.
+abbrev pub no_session : ℕ → Option Session
+no_session image = None
+
+-- Sessions are closed, and the flash keeps this.
+abbrev pub closed : Machine → DeviceState → Machine
+closed machine kept = record machine { kept = kept; session = no_session }

@@ -1,0 +1,44 @@
+-- The step of a machine that takes a piece of an upload.
+use Rattle.std.specs.Prelude.{◌≡◌, ℕ, ◌+◌, ◌<◌, ◌≤◌, ◌==◌, List, ◌++◌, length, Option, Some, None, Result, Ok, Err, if◌then◌else◌}
+use Rattle.upload.specs.View.{View}
+use Rattle.upload.specs.Sessions.{IsUploadAt, session_of}
+use Rattle.upload.specs.declared.sessions.Upload.{Upload}
+use Rattle.upload.specs.declared.error.UploadError.{UploadError}
+use Rattle.upload.specs.declared.error.UploadError.TheVariants as no
+use Rattle.upload.specs.Device.{DeviceState, Machine, Session, closed}
+
+-- The machine with another session of an image.
+abbrev pub with_session : Machine → ℕ → Option Session → Machine
+with_session m i session = record m { session = λ j. if j == i then session else m.session j }
+
+-- A session to which bytes came.
+abbrev pub appended : Session → List ℕ → Session
+appended session bytes = record session { received = session.received ++ bytes }
+
+-- An upload that stands on the flash took these bytes, and stands there.
+abbrev pub TakesMore : View → View → ℕ → Upload → Upload → List ℕ → Type 0
+TakesMore old new i before after bytes = (written : List ℕ) → IsUploadAt old i before written
+    → (more : List ℕ) × IsUploadAt new i after more
+    × (session_of after more ≡ appended (session_of before written) bytes)
+
+-- The bytes are appended; or the image has no session; or they are more than its size allows, and the session is
+-- closed. Where the flash stops the call all sessions are closed, and what the flash keeps stays: nothing was
+-- requested for the image.
+abbrev pub Pieces : Machine → ℕ → List ℕ → Result Unit UploadError → Machine → Type 0
+Pieces m i bytes (Ok done) next = (session : Session) × (m.session i ≡ Some session)
+    × (length session.received + length bytes ≤ session.size)
+    × (next ≡ with_session m i (Some (appended session bytes)))
+Pieces m i bytes (Err no.NoSession) next = (m.session i ≡ None) × (next ≡ m)
+Pieces m i bytes (Err no.TooMuch) next = (session : Session) × (m.session i ≡ Some session)
+    × (session.size < length session.received + length bytes)
+    × (next ≡ with_session m i None)
+Pieces m i bytes (Err (no.Flash error)) next =
+    (m.kept.request i ≡ None) × (next ≡ closed m m.kept)
+Pieces m i bytes (Err no.OldSequence) next = ⊥
+Pieces m i bytes (Err no.TooBig) next = ⊥
+Pieces m i bytes (Err no.SizeWrong) next = ⊥
+Pieces m i bytes (Err no.DigestWrong) next = ⊥
+Pieces m i bytes (Err (no.NotAnImage fault)) next = ⊥
+Pieces m i bytes (Err no.WrongPrecursor) next = ⊥
+Pieces m i bytes (Err no.NothingRequested) next = ⊥
+Pieces m i bytes (Err no.NoMemory) next = ⊥

@@ -1,0 +1,63 @@
+-- What ties a flash to a state of the device, where no swap or trial is under way.
+use Rattle.std.specs.Prelude.{◌≡◌, ℕ, ◌<◌, Bool, false, List, ◌++◌, Option, Some, None, option_map}
+use Rattle.sector_map.specs.declared.layout.Side.TheVariants.{Primary, Secondary}
+use Rattle.trailer.specs.Fields.{Fields, trailer_of}
+use Rattle.trailer.specs.Standing.{first_is_set, standing_kind}
+use Rattle.trailer.specs.declared.kinds.Kind as request
+use Rattle.set_log.specs.declared.state.Kind.{Kind}
+use Rattle.set_log.specs.declared.state.Kind.TheVariants.{Steady}
+use Rattle.set_log.specs.declared.state.State.{State}
+use Rattle.tlv.specs.declared.desc.Desc.{Desc}
+use Rattle.tlv.specs.Image.{IsIntact}
+use Rattle.upload.specs.View.{View}
+use Rattle.upload.specs.Device.{DeviceState, Wanted}
+
+-- Bytes begin with these.
+abbrev pub Starts : List ℕ → List ℕ → Type 0
+Starts whole front = (rest : List ℕ) × (whole ≡ front ++ rest)
+
+-- Bytes are an intact image.
+abbrev pub IsImage : List ℕ → Type 0
+IsImage bytes = (description : Desc) × IsIntact bytes description
+
+-- What stands at the front of some bytes: an intact image, or none.
+pub record IsFront (whole : List ℕ) (held : Option (List ℕ)) : Type 0 where
+  pub image : (bytes : List ℕ) → held ≡ Some bytes → Starts whole bytes × IsImage bytes
+  pub none : held ≡ None → (bytes : List ℕ) (description : Desc) → Starts whole bytes
+      → IsIntact bytes description → ⊥
+
+-- The request that the fields of a trailer tell of, with the bytes of its slot.
+abbrev pub told_by : Fields → List ℕ → Option request.Kind
+told_by fields slot = standing_kind (trailer_of fields) (first_is_set slot)
+
+-- The request that stands for an image.
+abbrev pub request_in : View → ℕ → Option request.Kind
+request_in w i = told_by (w.trailer i Secondary) (w.slot i Secondary)
+
+-- What is requested for an image.
+pub record IsRequested (fields : Fields) (slot : List ℕ) (wanted : Option Wanted) : Type 0 where
+  pub kind : told_by fields slot ≡ option_map (λ w. w.kind) wanted
+  pub front : (w : Wanted) → wanted ≡ Some w → IsFront slot w.bytes
+
+-- An image that no swap or trial has to do with: what runs, and what is requested.
+pub record IsImageAt (w : View) (s : DeviceState) (i : ℕ) : Type 0 where
+  pub running : IsFront (w.slot i Primary) (s.running i)
+  pub request : IsRequested (w.trailer i Secondary) (w.slot i Secondary) (s.request i)
+
+-- The state that the log has of a device that is in the midst of this.
+abbrev pub logged : Kind → ℕ → Bool → ℕ → DeviceState → State
+logged kind mask permanent left s = record {
+  kind = kind;
+  mask = mask;
+  permanent = permanent;
+  left = left;
+  sequence = s.sequence;
+  floors = s.floors;
+}
+
+-- At rest without a trial.
+pub record IsSteadyAt (w : View) (s : DeviceState) : Type 0 where
+  pub trial : s.trial ≡ None
+  pub images : w.images ≡ s.images
+  pub log : w.log ≡ Some (logged Steady 0 false 0 s)
+  pub each : (i : ℕ) → i < s.images → IsImageAt w s i

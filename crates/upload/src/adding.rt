@@ -1,0 +1,103 @@
+//! Bytes that come for an open upload: whole units are written, and the rest is held back.
+
+ghost use Rattle.std.specs.Prelude.{◌≡◌, ◌+◌, ◌*◌, ◌++◌, ◌<◌, ◌≤◌, ℕ, length, List, OnOk};
+ghost use Rattle.flash_model.specs.Chip.{Chip, Ends};
+ghost use Rattle.sector_map.specs.Map.{IsLaidOut, Keeps};
+ghost use Rattle.sector_map.specs.Part.{Slot, only};
+ghost use Rattle.sector_map.specs.declared.layout.Side.TheVariants.{Secondary};
+ghost use Rattle.upload.specs.View.{view};
+ghost use Rattle.upload.specs.Sessions.{IsOpenAt};
+ghost use Rattle.upload.specs.Piece.{TakesMore};
+
+use crate::sessions::{UNIT, Upload};
+use crate::slots::write_slot;
+use arrayvec::ArrayVec;
+use flash_model::{Flash, FlashError};
+use sector_map::SectorMap;
+
+/// Bytes are appended to those of a unit, where there is room for them.
+pub(crate) fn extend(held: &mut ArrayVec<u8, UNIT>, bytes: &[u8])
+    requires { length held.old.items + length bytes.now ≤ 8 }
+    ensures { held.new.items ≡ held.old.items ++ bytes.now }
+{
+    if held.try_extend_from_slice(bytes).is_err() {
+        unreachable!();
+    }
+}
+
+/// How many of so many bytes make whole units.
+fn whole_units(count: usize) -> usize
+    ensures units { (k : ℕ) × (result ≡ 8 * k) }
+    ensures least { result ≤ count }
+    ensures most { count < result + 8 }
+{
+    count / UNIT * UNIT
+}
+
+/// Holds bytes back that make no whole unit.
+fn hold(upload: &mut Upload, bytes: &[u8])
+    requires few { length upload.old.held.items + length bytes.now < 8 }
+    requires fits { upload.old.received + length bytes.now ≤ upload.old.size }
+    ensures rest { upload.new ≡ record upload.old
+        { received = upload.old.received + length bytes.now; held = upload.new.held } }
+    ensures held { upload.new.held.items ≡ upload.old.held.items ++ bytes.now }
+{
+    extend(&mut upload.held, bytes);
+    upload.received += bytes.len() as u32;
+}
+
+/// Writes the bytes that complete a unit and the whole units behind them, and holds the rest back.
+fn write_units<F: Flash>(
+    flash: &mut F,
+    map: &SectorMap,
+    image: u8,
+    upload: &mut Upload,
+    bytes: &[u8],
+) -> Result<(), FlashError>
+    requires laid_out { IsLaidOut map.now (F.chip flash.old) }
+    requires open { IsOpenAt (view map.now (F.chip flash.old)) image upload.old }
+    requires enough { 8 ≤ length upload.old.held.items + length bytes.now }
+    requires fits { upload.old.received + length bytes.now ≤ upload.old.size }
+    ensures outside { Keeps map.now (only (Slot image Secondary))
+        (F.chip flash.old) (F.chip flash.new) }
+    ensures ok { OnOk result (TakesMore (view map.now (F.chip flash.old))
+        (view map.now (F.chip flash.new)) image upload.old upload.new bytes.now) }
+    ensures erases { OnOk result ((F.chip flash.new).erases ≡ (F.chip flash.old).erases) }
+    ensures ends { Ends result (F.chip flash.old) (F.chip flash.new) }
+{
+    let start = upload.received - upload.held.len() as u32;
+    let (first, rest) = bytes.split_at(UNIT - upload.held.len());
+    let (units, last) = rest.split_at(whole_units(rest.len()));
+    let mut unit = upload.held.take();
+    extend(&mut unit, first);
+    write_slot(flash, map, image, start, unit.as_slice())?;
+    write_slot(flash, map, image, start + 8, units)?;
+    upload.received += (bytes.len() - last.len()) as u32;
+    hold(upload, last);
+    Ok(())
+}
+
+/// Adds bytes to an open upload.
+pub(crate) fn add_bytes<F: Flash>(
+    flash: &mut F,
+    map: &SectorMap,
+    image: u8,
+    upload: &mut Upload,
+    bytes: &[u8],
+) -> Result<(), FlashError>
+    requires laid_out { IsLaidOut map.now (F.chip flash.old) }
+    requires open { IsOpenAt (view map.now (F.chip flash.old)) image upload.old }
+    requires fits { upload.old.received + length bytes.now ≤ upload.old.size }
+    ensures outside { Keeps map.now (only (Slot image Secondary))
+        (F.chip flash.old) (F.chip flash.new) }
+    ensures ok { OnOk result (TakesMore (view map.now (F.chip flash.old))
+        (view map.now (F.chip flash.new)) image upload.old upload.new bytes.now) }
+    ensures erases { OnOk result ((F.chip flash.new).erases ≡ (F.chip flash.old).erases) }
+    ensures ends { Ends result (F.chip flash.old) (F.chip flash.new) }
+{
+    if upload.held.len() + bytes.len() < UNIT {
+        hold(upload, bytes);
+        return Ok(());
+    }
+    write_units(flash, map, image, upload, bytes)
+}

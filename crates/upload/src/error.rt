@@ -1,0 +1,86 @@
+//! Why an upload is refused.
+
+ghost use Rattle.std.specs.Prelude.{◌≡◌};
+ghost use Rattle.upload.specs.Codes.{code_of, name_of};
+
+use flash_model::FlashError;
+use thiserror::Error;
+use tlv::ImageError;
+
+/// Why a call of [`Uploads`](crate::Uploads) is refused. The numbers are 1 to 11, in this order.
+#[derive(Clone, Copy, Debug, PartialEq, Eq, Error)]
+pub enum UploadError {
+    /// The manifest has a lower sequence number than the last one that was accepted.
+    #[error("a manifest of an older sequence number was accepted last")]
+    OldSequence,
+    /// An image of the manifest is longer than its slot.
+    #[error("an image that is longer than its slot")]
+    TooBig,
+    /// No upload of the image is open, or there is no such image.
+    #[error("no upload of this image is open")]
+    NoSession,
+    /// More bytes came than the manifest said.
+    #[error("more bytes than the manifest said")]
+    TooMuch,
+    /// Fewer bytes came than the manifest said.
+    #[error("fewer bytes than the manifest said")]
+    SizeWrong,
+    /// The SHA-256 of the bytes isn't the manifest's.
+    #[error("another digest than the manifest said")]
+    DigestWrong,
+    /// The bytes are no intact image: the first check that fails.
+    #[error("{0}")]
+    NotAnImage(ImageError),
+    /// The image that runs isn't the one that the manifest asks for.
+    #[error("the running image isn't the one that the manifest asks for")]
+    WrongPrecursor,
+    /// No request stands for the image, or there is no such image.
+    #[error("nothing is requested for this image")]
+    NothingRequested,
+    /// A call on the flash failed.
+    #[error("{0}")]
+    Flash(FlashError),
+    /// Memory ran out. No call answers it: none allocates.
+    #[error("no memory for the upload")]
+    NoMemory,
+}
+
+impl UploadError {
+    /// The number of the kind, 1 to 11.
+    pub fn code(self) -> u8
+        ensures { result ≡ code_of self }
+    {
+        match self {
+            UploadError::OldSequence => 1,
+            UploadError::TooBig => 2,
+            UploadError::NoSession => 3,
+            UploadError::TooMuch => 4,
+            UploadError::SizeWrong => 5,
+            UploadError::DigestWrong => 6,
+            UploadError::NotAnImage(_) => 7,
+            UploadError::WrongPrecursor => 8,
+            UploadError::NothingRequested => 9,
+            UploadError::Flash(_) => 10,
+            UploadError::NoMemory => 11,
+        }
+    }
+
+    /// The name of the kind, as it is printed.
+    pub fn name(self) -> &'static str
+        ensures { result.now ≡ name_of self }
+    {
+        match self {
+            UploadError::OldSequence => "OldSequence",
+            UploadError::TooBig => "TooBig",
+            UploadError::NoSession => "NoSession",
+            UploadError::TooMuch => "TooMuch",
+            UploadError::SizeWrong => "SizeWrong",
+            UploadError::DigestWrong => "DigestWrong",
+            UploadError::NotAnImage(_) => "NotAnImage",
+            UploadError::WrongPrecursor => "WrongPrecursor",
+            UploadError::NothingRequested => "NothingRequested",
+            UploadError::Flash(_) => "Flash",
+            UploadError::NoMemory => "NoMemory",
+        }
+    }
+}

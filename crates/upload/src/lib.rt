@@ -1,0 +1,17 @@
+//! Intake, second part: uploads. A manifest opens a session for each image that it names, pieces fill the secondary
+//! slot, and a finished upload requests its image.
+//!
+//! Promises: a request stands only for a whole image that has the digest and the length of its manifest; each call is
+//! a step of a machine that knows whole images only (`specs/`), and where power fails in the midst of it, a cut step;
+//! sessions of different images don't disturb one another. Does not allocate. The device above calls it.
+#![tactic(auto)]
+
+mod adding;
+mod error;
+mod pieces;
+mod sessions;
+mod slots;
+mod withdrawing;
+
+pub use error::UploadError;
+pub use sessions::{Upload, Uploads};

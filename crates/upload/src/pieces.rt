@@ -1,0 +1,70 @@
+//! Taking a piece of an upload.
+
+ghost use Rattle.std.specs.Prelude.{◌≡◌, ◌≤◌, ◌<◌, ℕ, Some, List, OnOk};
+ghost use Rattle.sector_map.specs.Map.{IsLaidOut, Keeps};
+ghost use Rattle.sector_map.specs.Part.{Slot, only};
+ghost use Rattle.sector_map.specs.declared.layout.Side.TheVariants.{Secondary};
+ghost use Rattle.upload.specs.View.{view};
+ghost use Rattle.upload.specs.Device.{Machine};
+ghost use Rattle.upload.specs.Sessions.{AllOpenAt, IsOpenAt, IsUpAt, upload_at};
+ghost use Rattle.upload.specs.Ending.{EndsUpload};
+ghost use Rattle.upload.specs.Piece.{Pieces};
+ghost use Rattle.upload.specs.declared.sessions.Upload.{Upload};
+
+use crate::adding::add_bytes;
+use crate::error::UploadError;
+use crate::sessions::Uploads;
+use flash_model::Flash;
+use sector_map::SectorMap;
+
+impl Uploads {
+    /// Appends bytes to the upload of an image, which is told by its number from 0. Whole units are programmed into
+    /// the secondary slot; the bytes of a unit that isn't whole are held back.
+    ///
+    /// The map is laid out on the flash and is that of the [`accept`](Self::accept) which opened the upload, and slot
+    /// and trailer stand as the calls before left them: what is written, and erased behind it.
+    ///
+    /// # Errors
+    /// `NoSession` where no upload of the image is open: nothing changed. `TooMuch` where more bytes came in all than
+    /// the manifest said: the upload is closed, and nothing is requested. `Flash` with `Cut` where power failed or
+    /// with `Off` where the flash was off: all uploads are closed, and nothing is requested for the image.
+    pub fn piece<F: Flash>(
+        &mut self,
+        flash: &mut F,
+        map: &SectorMap,
+        image: u8,
+        bytes: &[u8],
+    ) -> Result<(), UploadError>
+        requires laid_out { IsLaidOut map.now (F.chip flash.old) }
+        requires open { (u : Upload) → upload_at self.old.sessions image ≡ Some u
+            → IsOpenAt (view map.now (F.chip flash.old)) image u }
+        ensures outside { Keeps map.now (only (Slot image Secondary))
+            (F.chip flash.old) (F.chip flash.new) }
+        ensures all_open { AllOpenAt (view map.now (F.chip flash.old)) self.old.sessions
+            → AllOpenAt (view map.now (F.chip flash.new)) self.new.sessions }
+        ensures row { (m : Machine)
+            → IsUpAt (view map.now (F.chip flash.old)) self.old.sessions m
+            → (next : Machine) × Pieces m image bytes.now result next
+            × IsUpAt (view map.now (F.chip flash.new)) self.new.sessions next }
+        ensures erases { OnOk result ((F.chip flash.new).erases ≡ (F.chip flash.old).erases) }
+        ensures ends { EndsUpload result (F.chip flash.old) (F.chip flash.new) }
+    {
+        let Some(mut upload) = self.take(image) else {
+            return Err(UploadError::NoSession);
+        };
+        let room = (upload.size - upload.received) as usize;
+        if room < bytes.len() {
+            return Err(UploadError::TooMuch);
+        }
+        match add_bytes(flash, map, image, &mut upload, bytes) {
+            Ok(()) => {
+                self.put(image, upload);
+                Ok(())
+            }
+            Err(error) => {
+                self.close();
+                Err(UploadError::Flash(error))
+            }
+        }
+    }
+}

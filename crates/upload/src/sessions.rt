@@ -1,0 +1,86 @@
+//! The uploads that are open.
+
+ghost use Rattle.std.specs.Prelude.{◌≡◌, ◌<◌, ◌≤◌, ◌==◌, ℕ, Option, Some, None, length, if◌then◌else◌};
+ghost use Rattle.upload.specs.Ending.{IsClosedAfter};
+ghost use Rattle.upload.specs.Sessions.{AllClosed, IsWith, upload_at};
+ghost use Rattle.upload.specs.declared.sessions.Upload.{Upload};
+
+use crate::error::UploadError;
+use arrayvec::ArrayVec;
+use common::limits::MOST_IMAGES;
+use trailer::Kind;
+
+/// The length of a unit in bytes.
+pub(crate) const UNIT: usize = 8;
+
+/// An upload that is open.
+#[derive(Clone, Debug, Drop, PartialEq, Eq)]
+pub struct Upload {
+    /// How many bytes the file is to have.
+    pub size: u32,
+    /// Which SHA-256 it is to have.
+    pub digest: [u8; 32],
+    /// How the image will be requested.
+    pub kind: Kind,
+    /// How many bytes came.
+    pub received: u32,
+    /// The last of them, which make no whole unit yet and aren't written.
+    pub held: ArrayVec<u8, UNIT>,
+}
+
+/// The uploads that are open: at most one an image, told by its number. The field is public since the contracts of all
+/// calls speak of it.
+#[derive(Debug, Drop)]
+pub struct Uploads {
+    /// The upload of each image, if one is open.
+    pub sessions: [Option<Upload>; MOST_IMAGES],
+}
+
+impl Uploads {
+    /// No upload is open.
+    pub fn new() -> Self
+        ensures { AllClosed result.sessions }
+    {
+        Uploads {
+            sessions: [None, None, None, None, None, None, None, None],
+        }
+    }
+
+    /// Takes the upload of an image out of the table.
+    pub(crate) fn take(&mut self, image: u8) -> Option<Upload>
+        ensures value { result ≡ upload_at self.old.sessions image }
+        ensures rest { IsWith image None self.old.sessions self.new.sessions }
+        ensures within { (u : Upload) → result ≡ Some u → image < 8 }
+    {
+        let index = usize::from(image);
+        if index < MOST_IMAGES {
+            self.sessions[index].take()
+        } else {
+            None
+        }
+    }
+
+    /// Puts an upload of an image into the table.
+    pub(crate) fn put(&mut self, image: u8, upload: Upload)
+        requires { image < 8 }
+        ensures { IsWith image (Some upload) self.old.sessions self.new.sessions }
+    {
+        self.sessions[usize::from(image)] = Some(upload);
+    }
+
+    /// Closes all uploads where a call stopped at the flash.
+    pub(crate) fn close_after(&mut self, answer: &Result<(), UploadError>)
+        ensures { IsClosedAfter answer.now self.old.sessions self.new.sessions }
+    {
+        if let Err(UploadError::Flash(_)) = answer {
+            self.close();
+        }
+    }
+
+    /// Closes all uploads.
+    pub(crate) fn close(&mut self)
+        ensures { AllClosed self.new.sessions }
+    {
+        *self = Uploads::new();
+    }
+}
