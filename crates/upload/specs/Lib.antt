@@ -6,3 +6,4 @@ pub mod Codes
 pub mod Ending
 pub mod Piece
 pub mod Withdrawal
+pub mod Accepted
