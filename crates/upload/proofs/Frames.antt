@@ -59,15 +59,15 @@ module _ (i : ℕ) (old new : View) (keeps : IsOthersKept i old new) where
   at_image : (s : DeviceState) (request : ℕ → Option Wanted) (j : ℕ) (b : Bool) → (j == i) ≡ b → ((j == i) ≡ false → request j ≡ s.request j) → IsRequested (new.trailer i Secondary) (new.slot i Secondary) (request i)
       → IsImageAt old s j → IsImageAt new (record s { request = request }) j
   at_image s request j true same others asked was =
-    let here : j ≡ i = eqb-true j i same in
-    record {
-      running = subst (λ l. IsFront l (s.running j)) (sym (keeps.primary j)) was.running;
-      request = subst (λ k. IsRequested (new.trailer k Secondary) (new.slot k Secondary) (request k)) (sym here) asked;
-    }
+      let here : j ≡ i = eqb-true j i same in
+      record {
+        running = subst (λ l. IsFront l (s.running j)) (sym (keeps.primary j)) was.running;
+        request = subst (λ k. IsRequested (new.trailer k Secondary) (new.slot k Secondary) (request k)) (sym here) asked;
+      }
   at_image s request j false same others asked was = record {
     running = subst (λ l. IsFront l (s.running j)) (sym (keeps.primary j)) was.running;
     request = subst (λ wanted. IsRequested (new.trailer j Secondary) (new.slot j Secondary) wanted) (sym (others same))
-      (subst (λ l. IsRequested (new.trailer j Secondary) l (s.request j)) (sym (keeps.slots j same))
+        (subst (λ l. IsRequested (new.trailer j Secondary) l (s.request j)) (sym (keeps.slots j same))
         (subst (λ t. IsRequested t (old.slot j Secondary) (s.request j)) (sym (keeps.trailers j same)) was.request));
   }
 
@@ -84,31 +84,37 @@ module _ (i : ℕ) (old new : View) (keeps : IsOthersKept i old new) where
   pub steady_unasked : (s : DeviceState) → i < old.images → told_by (old.trailer i Secondary) (old.slot i Secondary) ≡ None
       → told_by (new.trailer i Secondary) (new.slot i Secondary) ≡ None → IsSteadyAt old s → (s.request i ≡ None) × IsSteadyAt new s
   steady_unasked s lt none still was =
-    let asked = not_asked (old.trailer i Secondary) (old.slot i Secondary) (s.request i) none (was.each i (subst (λ n. i < n) was.images lt)).request in
-    (asked, steady_to s s.request (λ j e. refl) (subst (λ wanted. IsRequested (new.trailer i Secondary) (new.slot i Secondary) wanted) (sym asked)
-      (unasked (new.trailer i Secondary) (new.slot i Secondary) still)) was)
+      let asked = not_asked (old.trailer i Secondary) (old.slot i Secondary) (s.request i) none (was.each i (subst (λ n. i < n) was.images lt)).request in (
+        asked,
+        steady_to s s.request (λ j e. refl) (subst (λ wanted. IsRequested (new.trailer i Secondary) (new.slot i Secondary) wanted) (sym asked)
+            (unasked (new.trailer i Secondary) (new.slot i Secondary) still)) was,
+      )
 
   pub session_same : (j : ℕ) (o : Option Upload) (s : Option Session) → new.slot j Secondary ≡ old.slot j Secondary → new.trailer j Secondary ≡ old.trailer j Secondary → HasSession old j o s → HasSession new j o s
   session_same j None None slot trailer was = tt
   session_same j None (Some s) slot trailer was = was
   session_same j (Some u) None slot trailer was = was
-  session_same j (Some u) (Some s) slot trailer (written, was, is) = (written, record {
-    there = subst (λ n. j < n) (sym keeps.images) was.there;
-    units = was.units;
-    slot = subst (λ l. IsWritten l written) (sym slot) was.slot;
-    trailer = trailer ∙ was.trailer;
-    few = was.few;
-    count = was.count;
-    fits = was.fits;
-    room = subst (λ l. u.size ≤ length l) (sym slot) was.room;
-  }, is)
+  session_same j (Some u) (Some s) slot trailer (written, was, is) = (
+    written,
+    record {
+      there = subst (λ n. j < n) (sym keeps.images) was.there;
+      units = was.units;
+      slot = subst (λ l. IsWritten l written) (sym slot) was.slot;
+      trailer = trailer ∙ was.trailer;
+      few = was.few;
+      count = was.count;
+      fits = was.fits;
+      room = subst (λ l. u.size ≤ length l) (sym slot) was.room;
+    },
+    is,
+  )
 
   with_session_at : (told tnew : List (Option Upload)) (o : Option Upload) (s : Option Session) (session : ℕ → Option Session) (j : ℕ) (b : Bool) → (j == i) ≡ b
       → upload_at tnew j ≡ (if b then o else upload_at told j) → HasSession new i o s → HasSession old j (upload_at told j) (session j) → HasSession new j (upload_at tnew j) (if b then s else session j)
   with_session_at told tnew o s session j true same now at was =
-    subst (λ u. HasSession new j u s) (sym now) (subst (λ k. HasSession new k o s) (sym (eqb-true j i same)) at)
+      subst (λ u. HasSession new j u s) (sym now) (subst (λ k. HasSession new k o s) (sym (eqb-true j i same)) at)
   with_session_at told tnew o s session j false same now at was =
-    subst (λ u. HasSession new j u (session j)) (sym now) (session_same j (upload_at told j) (session j) (keeps.slots j same) (keeps.trailers j same) was)
+      subst (λ u. HasSession new j u (session j)) (sym now) (session_same j (upload_at told j) (session j) (keeps.slots j same) (keeps.trailers j same) was)
 
   pub sessions_to : (told tnew : List (Option Upload)) (o : Option Upload) (s : Option Session) (session : ℕ → Option Session) → IsWith i o told tnew → HasSession new i o s
       → HasSessions old told session → HasSessions new tnew (λ j. if j == i then s else session j)

@@ -1,7 +1,15 @@
 pub mod Views
+pub mod Ends
 pub mod Writing
 pub mod Frames
 pub mod OpenOnes
 pub mod Added
 pub mod PieceRow
 pub mod WithdrawRow
+pub mod Images
+pub mod Precursors
+pub mod Opened
+pub mod AcceptRow
+pub mod TakenRow
+pub mod Finished
+pub mod FinishRow

@@ -30,29 +30,32 @@ module _ (i : ℕ) (old new : View) (keeps : KeepsView (only (Slot i Secondary))
   -- the slot of an open upload may be written
   pub rests : (m : Machine) → IsUpAt old told m → (m.kept.request i ≡ None) × IsSteadyAt new m.kept
   rests m up =
-    let (written, at, is) = session_here old i u told m here up in
-    steady_unasked i old new (others_slot i old new keeps) m.kept at.there (erased_stands (old.trailer i Secondary) (old.slot i Secondary) at.trailer)
+      let (written, at, is) = session_here old i u told m here up in
+      steady_unasked i old new (others_slot i old new keeps) m.kept at.there (erased_stands (old.trailer i Secondary) (old.slot i Secondary) at.trailer)
       (erased_stands (new.trailer i Secondary) (new.slot i Secondary) (keeps.trailers i Secondary refl ∙ at.trailer)) up.rest
 
   pub piece_done : (v : Upload) (bytes : List ℕ) (tmid tnew : List (Option Upload)) → IsWith i None told tmid → IsWith i (Some v) tmid tnew → u.received + length bytes ≤ u.size
       → TakesMore old new i u v bytes
       → (m : Machine) → IsUpAt old told m → (next : Machine) × Pieces m i bytes (Ok tt) next × IsUpAt new tnew next
   piece_done v bytes tmid tnew out back fits adds m up =
-    let (written, at, is) = session_here old i u told m here up in
-    let (more, now, same) = adds written at in
-    let long = long_session u written old i at in
-    (with_session m i (Some (appended (session_of u written) bytes)), (session_of u written, is, omega (arith, long, fits), refl), record {
-      up = up.up;
-      rest = (rests m up).1;
-      open_ones = sessions_to i old new (others_slot i old new keeps) told tnew (Some v) (Some (appended (session_of u written) bytes)) m.session
-        (with_with i None (Some v) told tmid tnew out back) (more, now, sym same) up.open_ones;
-    })
+      let (written, at, is) = session_here old i u told m here up in
+      let (more, now, same) = adds written at in
+      let long = long_session u written old i at in (
+        with_session m i (Some (appended (session_of u written) bytes)),
+        (session_of u written, is, omega (arith, long, fits), refl),
+        record {
+          up = up.up;
+          rest = (rests m up).1;
+          open_ones = sessions_to i old new (others_slot i old new keeps) told tnew (Some v) (Some (appended (session_of u written) bytes)) m.session
+              (with_with i None (Some v) told tmid tnew out back) (more, now, sym same) up.open_ones;
+        },
+      )
 
   pub piece_cut : (bytes : List ℕ) (error : FlashError) (tnew : List (Option Upload)) → AllClosed tnew → (m : Machine) → IsUpAt old told m
       → (next : Machine) × Pieces m i bytes (Err (no.Flash error)) next × IsUpAt new tnew next
   piece_cut bytes error tnew none m up =
-    let (asked, rest) = rests m up in
-    (closed m m.kept, (asked, refl), record { up = up.up; rest = rest; open_ones = sessions_closed new tnew none })
+      let (asked, rest) = rests m up in
+      (closed m m.kept, (asked, refl), record { up = up.up; rest = rest; open_ones = sessions_closed new tnew none })
 
 same_with : (i : ℕ) (told tnew : List (Option Upload)) (o : Option Upload) → o ≡ upload_at told i → IsWith i o told tnew → (j : ℕ) → upload_at tnew j ≡ upload_at told j
 same_with i told tnew o is now j = by_case (j == i) refl (now j) where
@@ -82,6 +85,6 @@ session_out i w told tnew out m up = record {
 pub piece_more : (i : ℕ) (w : View) (told tnew : List (Option Upload)) (u : Upload) (bytes : List ℕ) → Some u ≡ upload_at told i → IsWith i None told tnew → u.size < u.received + length bytes → (m : Machine) → IsUpAt w told m
     → (next : Machine) × Pieces m i bytes (Err no.TooMuch) next × IsUpAt w tnew next
 piece_more i w told tnew u bytes is out more m up =
-  let (written, at, here) = session_here w i u told m is up in
-  let long = long_session u written w i at in
-  (with_session m i None, (session_of u written, here, omega (arith, long, more), refl), session_out i w told tnew out m up)
+    let (written, at, here) = session_here w i u told m is up in
+    let long = long_session u written w i at in
+    (with_session m i None, (session_of u written, here, omega (arith, long, more), refl), session_out i w told tnew out m up)

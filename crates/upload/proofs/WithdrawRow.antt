@@ -36,22 +36,22 @@ module _ (i : ℕ) (old new : View) (lt : i < old.images) (keeps : KeepsView (in
   sessions_still session stands was = record { each = λ j. by_case j (j == i) refl } where
     by_case : (j : ℕ) (b : Bool) → (j == i) ≡ b → HasSession new j (upload_at told j) (session j)
     by_case j true same =
-      let here : j ≡ i = eqb-true j i same in
-      still_none old new j (upload_at told j) (session j) (λ u is.
+        let here : j ≡ i = eqb-true j i same in
+        still_none old new j (upload_at told j) (session j) (λ u is.
         stands (erased_stands (old.trailer i Secondary) (old.slot i Secondary)
-          (subst (λ k. old.trailer k Secondary ≡ erased_fields) here (has_trailer old j u (session j) (subst (λ o. HasSession old j o (session j)) is (was.each j)))))) (was.each j)
+        (subst (λ k. old.trailer k Secondary ≡ erased_fields) here (has_trailer old j u (session j) (subst (λ o. HasSession old j o (session j)) is (was.each j)))))) (was.each j)
     by_case j false same = session_same i old new (others_kept i old new keeps) j (upload_at told j) (session j)
-      ((others_kept i old new keeps).slots j same) ((others_kept i old new keeps).trailers j same) (was.each j)
+        ((others_kept i old new keeps).slots j same) ((others_kept i old new keeps).trailers j same) (was.each j)
 
   steady_gone : (s : DeviceState) → request_in new i ≡ None → IsSteadyAt old s → IsSteadyAt new (with_request s i None)
   steady_gone s none was = steady_to i old new (others_kept i old new keeps) s (λ j. if j == i then None else s.request j)
-    (λ j e. ap (λ b. if b then None else s.request j) e)
-    (subst (λ b. IsRequested (new.trailer i Secondary) (new.slot i Secondary) (if b then None else s.request i)) (sym (eq-eqb i i refl))
+      (λ j e. ap (λ b. if b then None else s.request j) e)
+      (subst (λ b. IsRequested (new.trailer i Secondary) (new.slot i Secondary) (if b then None else s.request i)) (sym (eq-eqb i i refl))
       (unasked (new.trailer i Secondary) (new.slot i Secondary) none)) was
 
   steady_kept : (s : DeviceState) → new.slot i Secondary ≡ old.slot i Secondary → new.trailer i Secondary ≡ old.trailer i Secondary → IsSteadyAt old s → IsSteadyAt new s
   steady_kept s slot trailer was = steady_to i old new (others_kept i old new keeps) s s.request (λ j e. refl)
-    (subst (λ l. IsRequested (new.trailer i Secondary) l (s.request i)) (sym slot)
+      (subst (λ l. IsRequested (new.trailer i Secondary) l (s.request i)) (sym slot)
       (subst (λ t. IsRequested t (old.slot i Secondary) (s.request i)) (sym trailer) (was.each i (subst (λ n. i < n) was.images lt)).request)) was
 
   none_stands : (s : DeviceState) → IsSteadyAt old s → s.request i ≡ None → request_in old i ≡ None
@@ -59,21 +59,26 @@ module _ (i : ℕ) (old new : View) (lt : i < old.images) (keeps : KeepsView (in
 
   pub withdraw_row : (result : Result Unit UploadError) → EndsWithdraw old new i result → IsClosedAfter result told tnew
       → (m : Machine) → IsUpAt old told m → (next : Machine) × Withdraws m i result next × IsUpAt new tnew next
-  withdraw_row (Ok done) (stands, trailer) after m up =
-    (record m { kept = with_request m.kept i None }, ((λ none. stands (none_stands m.kept up.rest none)), refl), record {
+  withdraw_row (Ok done) (stands, trailer) after m up = (
+    record m { kept = with_request m.kept i None },
+    ((λ none. stands (none_stands m.kept up.rest none)), refl),
+    record {
       up = up.up;
       rest = steady_gone m.kept (erased_stands (new.trailer i Secondary) (new.slot i Secondary) trailer) up.rest;
       open_ones = subst (λ t. HasSessions new t m.session) (sym (after.same refl)) (sessions_still m.session stands up.open_ones);
-    })
-  withdraw_row (Err no.NothingRequested) (none, same) after m up =
-    (m, ((λ le. not_asked (old.trailer i Secondary) (old.slot i Secondary) (m.kept.request i) none (up.rest.each i le).request), refl),
-      subst (λ w. IsUpAt w tnew m) (sym same) (subst (λ t. IsUpAt old t m) (sym (after.same refl)) up))
+    },
+  )
+  withdraw_row (Err no.NothingRequested) (none, same) after m up = (
+    m,
+    ((λ le. not_asked (old.trailer i Secondary) (old.slot i Secondary) (m.kept.request i) none (up.rest.each i le).request), refl),
+    subst (λ w. IsUpAt w tnew m) (sym same) (subst (λ t. IsUpAt old t m) (sym (after.same refl)) up),
+  )
   withdraw_row (Err (no.Flash error)) either after m up = ⊎_elim
-    (λ (same : (new.slot i Secondary ≡ old.slot i Secondary) × (new.trailer i Secondary ≡ old.trailer i Secondary)).
+      (λ (same : (new.slot i Secondary ≡ old.slot i Secondary) × (new.trailer i Secondary ≡ old.trailer i Secondary)).
       (closed m m.kept, inl refl, record { up = up.up; rest = steady_kept m.kept same.0 same.1 up.rest; open_ones = sessions_closed new tnew (after.closed refl) }))
-    (λ (none : request_in new i ≡ None).
+      (λ (none : request_in new i ≡ None).
       (closed m (with_request m.kept i None), inr refl, record { up = up.up; rest = steady_gone m.kept none up.rest; open_ones = sessions_closed new tnew (after.closed refl) }))
-    either
+      either
   withdraw_row (Err no.OldSequence) ends after m up = absurd ends
   withdraw_row (Err no.TooBig) ends after m up = absurd ends
   withdraw_row (Err no.NoSession) ends after m up = absurd ends

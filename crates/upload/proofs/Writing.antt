@@ -1,6 +1,6 @@
 -- Writing and erasing a secondary slot.
-use Rattle.std.proofs.Common.{◌≡◌, ℕ, ◌+◌, ◌-◌, ◌*◌, ◌/◌, ◌%◌, ◌<◌, ◌≤◌, List, [], ◌++◌, length, take, drop, replicate, slice_index, arith, refl, sym, ◌∙◌, ap, subst, append_assoc, length-append, inl, inr}
-use Rattle.std.proofs.lemmas.List.{append-nil, length-replicate, get_or-replicate, get_or-append_right, drop-replicate, nil_from_length}
+use Rattle.std.proofs.Common.{◌≡◌, ℕ, zero, suc, ◌+◌, ◌-◌, ◌*◌, ◌/◌, ◌%◌, ◌<◌, ◌≤◌, List, [], ◌∷◌, ◌++◌, length, take, drop, replicate, slice_index, arith, refl, sym, ◌∙◌, ap, subst, append_assoc, length-append, inl, inr}
+use Rattle.std.proofs.lemmas.List.{append-nil, length-replicate, get_or-replicate, get_or-append_right, drop-replicate, take-replicate, nil_from_length}
 use Rattle.std.proofs.Math.Seq.{take-append_seam, drop-append_seam}
 use Rattle.std.proofs.lemmas.List.{drop-drop}
 use Rattle.flash_model.specs.Chip.{Chip, IsErased, Reads, SameOutside, IsUncut, size_of}
@@ -64,14 +64,14 @@ pub written_more : (map : SectorMap) (old new : Chip) (image at place : ℕ) (fr
 written_more map old new image at place front bytes laid same reads is room long was =
     let after = part_written map (Slot image Secondary) at place bytes old new laid same reads is room in
     let first : take at (slot_of map old image) ≡ front =
-        ap (λ l. take at l) was.is ∙ ap (λ n. take n (front ++ replicate was.left 0xff)) (sym long)
-        ∙ take-append_seam front (replicate was.left 0xff) in
+    ap (λ l. take at l) was.is ∙ ap (λ n. take n (front ++ replicate was.left 0xff)) (sym long)
+    ∙ take-append_seam front (replicate was.left 0xff) in
     let rest : drop (at + length bytes) (slot_of map old image) ≡ replicate (was.left - length bytes) 0xff =
-        ap (λ l. drop (at + length bytes) l) was.is
-        ∙ ap (λ n. drop (n + length bytes) (front ++ replicate was.left 0xff)) (sym long)
-        ∙ sym (drop-drop (length bytes) (length front) (front ++ replicate was.left 0xff))
-        ∙ ap (λ l. drop (length bytes) l) (drop-append_seam front (replicate was.left 0xff))
-        ∙ drop-replicate (length bytes) was.left 0xff in
+    ap (λ l. drop (at + length bytes) l) was.is
+    ∙ ap (λ n. drop (n + length bytes) (front ++ replicate was.left 0xff)) (sym long)
+    ∙ sym (drop-drop (length bytes) (length front) (front ++ replicate was.left 0xff))
+    ∙ ap (λ l. drop (length bytes) l) (drop-append_seam front (replicate was.left 0xff))
+    ∙ drop-replicate (length bytes) was.left 0xff in
     record {
       left = was.left - length bytes;
       is = after ∙ ap (λ l. l ++ (bytes ++ drop (at + length bytes) (slot_of map old image))) first
@@ -119,3 +119,36 @@ erased_more map old new image index was same now =
     let here = subst (λ k. IsErased new k map.sector_size) at now in
     subst (λ n. IsErased new start n) (sym (next_sector map index))
     (erased_joined new start (index * map.sector_size) map.sector_size before here)
+
+-- a slot has whole units
+pub slot_units : (map : SectorMap) (image : ℕ) → IsMap map
+    → (k : ℕ) × (length_of map (Slot image Secondary) ≡ 8 * k)
+slot_units map image fits =
+    let unit = aligned (slot_sectors map image) map.sector_size (units_of map fits) in
+    (length_of map (Slot image Secondary) / 8, omega (arith, unit))
+
+-- so many erased bytes
+abbrev pub filler : ℕ → List ℕ
+filler n = replicate n 0xff
+
+filled_twice : (a b : ℕ) → filler a ++ filler b ≡ filler (a + b)
+filled_twice zero b = let e : b ≡ 0 + b = omega arith in ap filler e
+filled_twice (suc a) b =
+    let e : suc (a + b) ≡ suc a + b = omega arith in ap (λ l. 0xff ∷ l) (filled_twice a b) ∙ ap filler e
+
+pub length_filler : (n : ℕ) → length (filler n) ≡ n
+length_filler n = length-replicate {A = ℕ} n 0xff
+
+-- of a unit that was filled up, what isn't filler is written
+pub written_less : (slot front bytes all : List ℕ) (n : ℕ) → all ≡ bytes ++ filler n
+    → IsWritten slot (front ++ all) → IsWritten slot (front ++ bytes)
+written_less slot front bytes all n is was = record {
+  left = n + was.left;
+  is = was.is ∙ ap (λ l. (front ++ l) ++ filler was.left) is
+      ∙ ap (λ l. l ++ filler was.left) (sym (append_assoc front bytes (filler n)))
+      ∙ append_assoc (front ++ bytes) (filler n) (filler was.left)
+      ∙ ap (λ l. (front ++ bytes) ++ l) (filled_twice n was.left);
+}
+
+pub take_filler : (k n : ℕ) → k ≤ n → take k (filler n) ≡ filler k
+take_filler k n le = take-replicate k n 0xff le

@@ -8,7 +8,7 @@ use Rattle.upload.specs.declared.sessions.Upload.{Upload}
 use Rattle.upload.specs.Sessions.{AllClosed}
 
 -- Whether a call stopped at the flash.
-abbrev pub is_flash : Result Unit UploadError → Bool
+abbrev pub is_flash : {T : Type 0} → Result T UploadError → Bool
 is_flash (Ok done) = false
 is_flash (Err no.OldSequence) = false
 is_flash (Err no.TooBig) = false
@@ -23,7 +23,8 @@ is_flash (Err (no.Flash error)) = true
 is_flash (Err no.NoMemory) = false
 
 -- A call that doesn't stop at the flash leaves the power as it was; one that is cut is so in its last write.
-pub record EndsUpload (result : Result Unit UploadError) (old new : Chip) : Type 0 where
+pub record EndsUpload {T : Type 0} (result : Result T UploadError) (old new : Chip)
+    : Type 0 where
   -- A flash that is off stays as it is.
   pub asleep : old.is_on ≡ false → new ≡ old
   pub uncut : is_flash result ≡ false → IsUncut old new

@@ -7,3 +7,5 @@ pub mod Ending
 pub mod Piece
 pub mod Withdrawal
 pub mod Accepted
+pub mod Taking
+pub mod Finish

@@ -6,8 +6,12 @@
 //! sessions of different images don't disturb one another. Does not allocate. The device above calls it.
 #![tactic(auto)]
 
+mod accepting;
 mod adding;
 mod error;
+mod finishing;
+mod judging;
+mod opening;
 mod pieces;
 mod sessions;
 mod slots;

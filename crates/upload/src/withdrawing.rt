@@ -17,11 +17,7 @@ use sector_map::SectorMap;
 use trailer::{standing, withdraw};
 
 /// Takes back the request of an image, where one stands.
-fn withdraw_standing<F: Flash>(
-    flash: &mut F,
-    map: &SectorMap,
-    image: u8,
-) -> Result<(), UploadError>
+fn withdraw_standing<F: Flash>(flash: &mut F, map: &SectorMap, image: u8) -> Result<(), UploadError>
     requires laid_out { IsLaidOut map.now (F.chip flash.old) }
     requires there { image < map.now.images }
     ensures outside { Keeps map.now (incoming_of image) (F.chip flash.old) (F.chip flash.new) }

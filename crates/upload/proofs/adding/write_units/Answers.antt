@@ -33,8 +33,19 @@ write_slot-requires-clause-room g c =
     let h = ap (λ v. length v.items) c.take-unit.ensures.value in
     let long = length_part c.args.map.now (g.F.Flash.chip c.args.flash.now) (Slot c.args.image Secondary)
     c.requires.laid_out in
-    omega (arith, m, h, n, long, c.split_at.ensures.front_len, was.few, was.count, was.room, c.requires.fits,
-    c.requires.enough)
+    omega (
+      arith,
+      m,
+      h,
+      n,
+      long,
+      c.split_at.ensures.front_len,
+      was.few,
+      was.count,
+      was.room,
+      c.requires.fits,
+      c.requires.enough,
+    )
 
 pub write_slot-requires-2-clause-place : goal.write_slot-requires-2-clause-place
 write_slot-requires-2-clause-place g c =
@@ -47,9 +58,22 @@ write_slot-requires-2-clause-room g c =
     let n = c.len.ensures.value in
     let long = length_part c.args.map.now (g.F.Flash.chip c.args.flash.now) (Slot c.args.image Secondary)
     c.requires.laid_out in
-    omega (arith, n, c.len-2.ensures.value, long, was.few, was.count, was.room, c.requires.fits, c.requires.enough,
-    c.split_at.ensures.front_len, c.split_at.ensures.back_len, c.split_at-2.ensures.front_len,
-    c.split_at-2.ensures.back_len, c.whole_units.ensures.least)
+    omega (
+      arith,
+      n,
+      c.len-2.ensures.value,
+      long,
+      was.few,
+      was.count,
+      was.room,
+      c.requires.fits,
+      c.requires.enough,
+      c.split_at.ensures.front_len,
+      c.split_at.ensures.back_len,
+      c.split_at-2.ensures.front_len,
+      c.split_at-2.ensures.back_len,
+      c.whole_units.ensures.least,
+    )
 
 pub write_slot-requires-2-clause-written : goal.write_slot-requires-2-clause-written
 write_slot-requires-2-clause-written g c =
@@ -58,10 +82,11 @@ write_slot-requires-2-clause-written g c =
     let m = ap length (c.as_slice.ensures.value ∙ c.extend.ensures)
     ∙ length-append c.take-unit.result.items c.split_at.result.0.now in
     let h = ap (λ v. length v.items) c.take-unit.ensures.value in
-    let l = length-append c.requires.open.0 c.as_slice.result.now in
-    (c.requires.open.0 ++ c.as_slice.result.now,
+    let l = length-append c.requires.open.0 c.as_slice.result.now in (
+      c.requires.open.0 ++ c.as_slice.result.now,
       omega (arith, l, m, h, n, c.split_at.ensures.front_len, was.few, was.count),
-      c.in_ok-write_slot.ensures.ok c.requires.open.0 (omega (arith, n, was.count)) was.slot)
+      c.in_ok-write_slot.ensures.ok c.requires.open.0 (omega (arith, n, was.count)) was.slot,
+    )
 
 pub returns-clause-ok : goal.returns-clause-ok
 returns-clause-ok g c =
@@ -84,8 +109,12 @@ returns-clause-ok g c =
       size = ap (λ (v : Upload). v.size) c.hold.ensures.rest;
       digest = ap (λ (v : Upload). v.digest) c.hold.ensures.rest;
       kind = ap (λ (v : Upload). v.kind) c.hold.ensures.rest;
-      received = omega (arith, ap (λ (v : Upload). v.received) c.hold.ensures.rest, c.split_at.ensures.back_len,
-          c.split_at-2.ensures.back_len);
+      received = omega (
+        arith,
+        ap (λ (v : Upload). v.received) c.hold.ensures.rest,
+        c.split_at.ensures.back_len,
+        c.split_at-2.ensures.back_len,
+      );
       held = c.hold.ensures.held ∙ ap (λ l. l ++ c.split_at-2.result.1.now) c.take-unit.ensures.after;
     } in
     added c.args.image _ _ _ c.args.upload.now c.hold.new.upload c.args.bytes.now _ _ _ held parts

@@ -1,0 +1,170 @@
+-- The row of accepting a manifest, by what taking it answered.
+use Rattle.std.proofs.Common.{◌≡◌, ◌⊎◌, ℕ, ◌+◌, ◌<◌, ◌≤◌, Bool, true, false, List, length, Option, Some, None, Ok, Err, Result, refl, sym, ◌∙◌, ap, subst, arith, inl}
+use Rattle.std.specs.Prelude.{All, slice_index_or}
+use Rattle.sector_map.specs.declared.layout.SectorMap.{SectorMap}
+use Rattle.sector_map.specs.declared.layout.Side.TheVariants.{Primary, Secondary}
+use Rattle.sector_map.specs.Part.{Slot}
+use Rattle.sector_map.specs.Map.{IsLaidOut, length_of, part_of}
+use Rattle.sector_map.proofs.PartBytes.{length_part}
+use Rattle.flash_model.specs.Chip.{Chip}
+use Rattle.set_log.specs.declared.state.State.{State}
+use Rattle.set_log.specs.declared.state.Kind.TheVariants.{Steady}
+use Rattle.tlv.specs.declared.desc.Desc.{Desc}
+use Rattle.tlv.specs.Image.{IsIntact, BeginsWithImage}
+use Rattle.tlv.proofs.ImageLaws.{image-unique}
+use Rattle.manifest.specs.declared.manifest.Component.{Component}
+use Rattle.upload.specs.View.{View}
+use Rattle.upload.specs.Device.{DeviceState, Machine, closed}
+use Rattle.upload.specs.Steady.{IsFront, IsSteadyAt, Starts, logged}
+use Rattle.upload.specs.Sessions.{AllClosed, AllOpenAt, IsUpAt}
+use Rattle.upload.specs.Ending.{IsClosedAfter}
+use Rattle.upload.specs.Accepted.{Accepts, AllFit, AreThere, latest, AllFollow, AllFollowAt, FrontHasDigest, HasDigest, IsAcceptCut, IsPrecursor, accepted}
+use Rattle.upload.specs.Taking.{CutsAccept, EndsAccept, IsNewer, IsTaken, IsUnchanged, MayTake, Refuses}
+use Rattle.upload.specs.declared.sessions.Upload.{Upload}
+use Rattle.upload.specs.declared.error.UploadError.{UploadError}
+use Rattle.upload.specs.declared.error.UploadError.TheVariants as no
+use Rattle.upload.proofs.Frames.{sessions_closed}
+use Rattle.upload.proofs.OpenOnes.{open_none}
+use Rattle.upload.proofs.AcceptRow.{same_state}
+use Rattle.upload.proofs.Images.{same_front}
+use Rattle.upload.proofs.Opened.{named_has}
+
+-- ---- the image that runs
+
+-- what stands at the front of the primary slot is what runs
+precursor_runs : (slot : List ℕ) (digest running : Option (List ℕ)) → IsFront slot running → FrontHasDigest slot digest
+    → IsPrecursor digest running
+precursor_runs slot None running front has = tt
+precursor_runs slot (Some digest) None front (bytes, starts, (description, intact, same)) =
+    absurd (front.none refl bytes description starts intact)
+precursor_runs slot (Some digest) (Some held) front (bytes, starts, (description, intact, same)) =
+    let at = front.image held refl in
+    subst (λ l. HasDigest l digest)
+    (same_front slot bytes held description at.1.0 starts at.0 intact at.1.1) (description, intact, same)
+
+runs_at_front : (slot : List ℕ) (digest running : Option (List ℕ)) → IsFront slot running → IsPrecursor digest running
+    → FrontHasDigest slot digest
+runs_at_front slot None running front has = tt
+runs_at_front slot (Some digest) None front has = absurd has
+runs_at_front slot (Some digest) (Some held) front has = (held, (front.image held refl).0, has)
+
+module _ (map : SectorMap) (w : View) (s : DeviceState) (cs : List Component) (was : IsSteadyAt w s)
+    (there : All (λ (c : Component). c.image < w.images) cs) where
+  runs : (c : Component) → c.image < w.images → IsFront (w.slot c.image Primary) (s.running c.image)
+  runs c lt = (was.each c.image (subst (λ n. c.image < n) was.images lt)).running
+
+  all_follow : AllFollowAt w cs → AllFollow s cs
+  all_follow each = λ k c lt. let d = slice_index_or cs k c in
+      precursor_runs (w.slot d.image Primary) d.precursor (s.running d.image) (runs d (there k c lt)) (each k c lt)
+
+  all_follow_at : AllFollow s cs → AllFollowAt w cs
+  all_follow_at each = λ k c lt. let d = slice_index_or cs k c in
+      runs_at_front (w.slot d.image Primary) d.precursor (s.running d.image) (runs d (there k c lt)) (each k c lt)
+
+-- the sequence number of the log is the device's
+sequence_is : (w : View) (state : State) (s : DeviceState) → w.log ≡ Some state → IsSteadyAt w s
+    → state.sequence ≡ s.sequence
+sequence_is w state s read was =
+    ap (λ (st : State). st.sequence) (same_state w state (logged Steady 0 false 0 s) read was.log)
+
+not_older : (w : View) (state : State) (s : DeviceState) (q : ℕ) → IsNewer w state q → IsSteadyAt w s → s.sequence ≤ q
+not_older w state s q newer was = let same = sequence_is w state s newer.read was in omega (arith, same, newer.newer)
+
+-- ---- the row
+
+module _ (map : SectorMap) (old new : View) (told tmid tnew : List (Option Upload)) (q : ℕ) (cs : List Component)
+    (there : All (λ (c : Component). c.image < old.images) cs) where
+  same_up : (m : Machine) → IsUnchanged old new told tmid → tnew ≡ tmid → IsUpAt old told m → IsUpAt new tnew m
+  same_up m same after up = subst (λ w. IsUpAt w tnew m) (sym same.flash)
+      (subst (λ t. IsUpAt old t m) (sym (after ∙ same.table)) up)
+
+  pub accept_row : (result : Result Unit UploadError) → EndsAccept map old new told tmid q cs result
+      → IsClosedAfter result tmid tnew → (m : Machine) → IsUpAt old told m
+      → (next : Machine) × Accepts map m q cs result next × IsUpAt new tnew next
+  accept_row (Ok done) ends after m up =
+      let may = ends.0.1 in (
+        accepted m q cs,
+        (
+          not_older old ends.0.0 m.kept q may.newer up.rest,
+          may.fit,
+          all_follow map old m.kept cs up.rest there may.follow,
+          refl,
+        ),
+        subst (λ t. IsUpAt new t (accepted m q cs)) (sym (after.same refl)) (ends.1.steps m up),
+      )
+  accept_row (Err no.OldSequence) ends after m up =
+      let same = sequence_is old ends.0.0 m.kept ends.0.1 up.rest in
+      (m, (omega (arith, same, ends.0.2), refl), same_up m ends.1 (after.same refl) up)
+  accept_row (Err no.TooBig) ends after m up =
+      (m, (not_older old ends.0.0 m.kept q ends.0.1 up.rest, ends.0.2, refl), same_up m ends.1 (after.same refl) up)
+  accept_row (Err no.WrongPrecursor) ends after m up = (
+    m,
+    (
+      not_older old ends.0.0 m.kept q ends.0.1 up.rest,
+      ends.0.2,
+      (λ each. ends.0.3 (all_follow_at map old m.kept cs up.rest there each)),
+      refl,
+    ),
+    same_up m ends.1 (after.same refl) up,
+  )
+  accept_row (Err (no.Flash error)) ends after m up =
+      let (next, cut, rest) = ends m.kept up.rest in (
+        closed m next,
+        (cut, refl),
+        record { up = up.up; rest = rest; open_ones = sessions_closed new tnew (after.closed refl) },
+      )
+  accept_row (Err no.NoSession) ends after m up = absurd ends
+  accept_row (Err no.TooMuch) ends after m up = absurd ends
+  accept_row (Err no.SizeWrong) ends after m up = absurd ends
+  accept_row (Err no.DigestWrong) ends after m up = absurd ends
+  accept_row (Err (no.NotAnImage code)) ends after m up = absurd ends
+  accept_row (Err no.NothingRequested) ends after m up = absurd ends
+  accept_row (Err no.NoMemory) ends after m up = absurd ends
+
+  same_open : IsUnchanged old new told tmid → tnew ≡ tmid → AllOpenAt old told → AllOpenAt new tnew
+  same_open same after opens = subst (λ w. AllOpenAt w tnew) (sym same.flash)
+      (subst (λ t. AllOpenAt old t) (sym (after ∙ same.table)) opens)
+
+  pub accept_open : (result : Result Unit UploadError) → EndsAccept map old new told tmid q cs result
+      → IsClosedAfter result tmid tnew → AllOpenAt old told → AllOpenAt new tnew
+  accept_open (Ok done) ends after opens =
+      subst (λ t. AllOpenAt new t) (sym (after.same refl)) (ends.1.opens opens)
+  accept_open (Err no.OldSequence) ends after opens = same_open ends.1 (after.same refl) opens
+  accept_open (Err no.TooBig) ends after opens = same_open ends.1 (after.same refl) opens
+  accept_open (Err no.WrongPrecursor) ends after opens = same_open ends.1 (after.same refl) opens
+  accept_open (Err (no.Flash error)) ends after opens = open_none new tnew (after.closed refl)
+  accept_open (Err no.NoSession) ends after opens = absurd ends
+  accept_open (Err no.TooMuch) ends after opens = absurd ends
+  accept_open (Err no.SizeWrong) ends after opens = absurd ends
+  accept_open (Err no.DigestWrong) ends after opens = absurd ends
+  accept_open (Err (no.NotAnImage code)) ends after opens = absurd ends
+  accept_open (Err no.NothingRequested) ends after opens = absurd ends
+  accept_open (Err no.NoMemory) ends after opens = absurd ends
+
+-- what the checks refuse
+pub refuses : (map : SectorMap) (w : View) (sessions : List (Option Upload)) (q : ℕ) (cs : List Component)
+    (e : UploadError) → Refuses map w q cs e → EndsAccept map w w sessions sessions q cs (Err e)
+refuses map w sessions q cs no.OldSequence because = (because, record { flash = refl; table = refl })
+refuses map w sessions q cs no.TooBig because = (because, record { flash = refl; table = refl })
+refuses map w sessions q cs no.WrongPrecursor because = (because, record { flash = refl; table = refl })
+refuses map w sessions q cs (no.Flash error) because =
+    λ s was. (s, record { rest = refl; others = λ i e. refl; either = inl (refl, λ i. refl) }, was)
+refuses map w sessions q cs no.NoSession because = absurd because
+refuses map w sessions q cs no.TooMuch because = absurd because
+refuses map w sessions q cs no.SizeWrong because = absurd because
+refuses map w sessions q cs no.DigestWrong because = absurd because
+refuses map w sessions q cs (no.NotAnImage code) because = absurd because
+refuses map w sessions q cs no.NothingRequested because = absurd because
+refuses map w sessions q cs no.NoMemory because = absurd because
+
+-- each named image is there, and its file fits the slot
+pub named_fit : (map : SectorMap) (chip : Chip) (cs : List Component) → IsLaidOut map chip → AreThere map cs
+    → AllFit map cs → (i : ℕ) (c : Component) → latest cs i ≡ Some c
+    → (i < map.images) × (c.size ≤ length (part_of map chip (Slot i Secondary)))
+named_fit map chip cs laid there fit i c is =
+    let at = named_has (λ (c : Component). c.image < map.images) cs i c there is in
+    let long = named_has (λ (c : Component). c.size ≤ length_of map (Slot c.image Secondary)) cs i c fit is in (
+      subst (λ k. k < map.images) at.1 at.0,
+      subst (λ n. c.size ≤ n) (sym (length_part map chip (Slot i Secondary) laid))
+          (subst (λ k. c.size ≤ length_of map (Slot k Secondary)) at.1 long.0),
+    )

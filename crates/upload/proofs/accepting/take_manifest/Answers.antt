@@ -1,0 +1,27 @@
+use Rattle.std.proofs.Common.{◌≡◌, ap, subst, sym}
+use Rattle.upload.specs.View.{view}
+use Rattle.upload.specs.Taking.{CutsAccept, IsTaken}
+use Rattle.upload.proofs.accepting.take_manifest.Goals as goal
+
+pub returns-in-Ok-write_manifest-clause-accepts : goal.returns-in-Ok-write_manifest-clause-accepts
+returns-in-Ok-write_manifest-clause-accepts g c =
+    let same = ap (λ chip. view c.args.map.now chip) c.judge_manifest.ensures.same in
+    let new = view c.args.map.now (g.F.Flash.chip c.write_manifest.new.flash) in
+    let told = c.args.uploads.now.sessions in
+    let tnew = c.write_manifest.new.uploads.sessions in
+    let sequence = c.args.manifest.now.sequence in (
+      (c.in-Ok.state, c.in-Ok.ensures.ok),
+      subst (λ cs. IsTaken (view c.args.map.now (g.F.Flash.chip c.args.flash.now)) new told tnew sequence cs)
+          c.as_slice-components.ensures.value
+          (subst (λ w. IsTaken w new told tnew sequence c.as_slice-components.result.now) same
+          (record { opens = c.in-Ok-write_manifest.ensures.all_open; steps = c.in-Ok-write_manifest.ensures.ok })),
+    )
+
+pub returns-in-Err-write_manifest-clause-accepts : goal.returns-in-Err-write_manifest-clause-accepts
+returns-in-Err-write_manifest-clause-accepts g c =
+    let same = ap (λ chip. view c.args.map.now chip) c.judge_manifest.ensures.same in
+    let new = view c.args.map.now (g.F.Flash.chip c.write_manifest.new.flash) in
+    let sequence = c.args.manifest.now.sequence in
+    subst (λ cs. CutsAccept (view c.args.map.now (g.F.Flash.chip c.args.flash.now)) new sequence cs)
+    c.as_slice-components.ensures.value
+    (subst (λ w. CutsAccept w new sequence c.as_slice-components.result.now) same c.write_manifest.ensures.cut)

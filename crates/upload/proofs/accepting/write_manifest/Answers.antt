@@ -1,0 +1,53 @@
+use Rattle.std.proofs.Common.{◌≡◌, ◌⊎◌, ◌<◌, ◌≤◌, length, ap, subst, sym, ◌∙◌, refl}
+use Rattle.std.proofs.lemmas.Result.{on_ok_weaker}
+use Rattle.sector_map.specs.declared.layout.Side.TheVariants.{Secondary}
+use Rattle.sector_map.specs.Part.{Slot}
+use Rattle.sector_map.proofs.Parts.{keeps_trans, keeps_wider, laid_out_kept}
+use Rattle.upload.specs.View.{view}
+use Rattle.upload.specs.Accepted.{accepted_parts}
+use Rattle.upload.proofs.Views.{view_kept}
+use Rattle.upload.proofs.Opened.{log_of_accepted, parts_and_log}
+use Rattle.upload.proofs.AcceptRow.{sequenced, sequence_cut, cut_after, accept_done, opens_all}
+use Rattle.upload.proofs.TakenRow.{named_fit}
+use Rattle.upload.proofs.accepting.write_manifest.Goals as goal
+
+pub returns-in_err-record_sequence-clause-outside : goal.returns-in_err-record_sequence-clause-outside
+returns-in_err-record_sequence-clause-outside g c =
+    keeps_wider c.args.map.now _ (accepted_parts c.args.components.now) _ _ (log_of_accepted c.args.components.now)
+    c.record_sequence.ensures.outside
+
+pub returns-clause-outside : goal.returns-clause-outside
+returns-clause-outside g c =
+    let all = accepted_parts c.args.components.now in
+    keeps_trans c.args.map.now all _ _ _
+    (keeps_wider c.args.map.now _ all _ _ (log_of_accepted c.args.components.now) c.record_sequence.ensures.outside)
+    (keeps_wider c.args.map.now _ all _ _ (parts_and_log c.args.components.now) c.open_all.ensures.outside)
+
+pub returns-in_err-record_sequence-clause-cut : goal.returns-in_err-record_sequence-clause-cut
+returns-in_err-record_sequence-clause-cut g c =
+    sequence_cut _ _ _ _ c.args.components.now c.requires.read
+    (view_kept c.args.map.now _ _ _ c.record_sequence.ensures.outside) c.record_sequence.ensures.either
+
+pub returns-clause-cut : goal.returns-clause-cut
+returns-clause-cut g c = λ s was. cut_after _ _ _ c.open_all.ensures.opening s c.args.sequence c.args.components.now
+    (λ i. refl)
+    (sequenced _ _ _ _ s c.requires.read (view_kept c.args.map.now _ _ _ c.record_sequence.ensures.outside)
+    c.in_ok-record_sequence.ensures.ok was)
+
+pub returns-clause-all_open : goal.returns-clause-all_open
+returns-clause-all_open g c =
+    let laid = laid_out_kept c.args.map.now _ _ (g.F.Flash.chip c.record_sequence.new.flash) c.requires.laid_out
+    c.record_sequence.ensures.outside in
+    on_ok_weaker c.open_all.result (λ all. opens_all _ _ _ c.args.components.now _ _
+    (view_kept c.args.map.now _ _ _ c.record_sequence.ensures.outside)
+    (named_fit c.args.map.now _ c.args.components.now laid c.requires.there c.requires.fit) all)
+    c.open_all.ensures.opened
+
+pub returns-clause-ok : goal.returns-clause-ok
+returns-clause-ok g c =
+    let laid = laid_out_kept c.args.map.now _ _ (g.F.Flash.chip c.record_sequence.new.flash) c.requires.laid_out
+    c.record_sequence.ensures.outside in
+    on_ok_weaker c.open_all.result (λ all. accept_done _ _ _ c.args.components.now _ _
+    (view_kept c.args.map.now _ _ _ c.record_sequence.ensures.outside)
+    (named_fit c.args.map.now _ c.args.components.now laid c.requires.there c.requires.fit) all _ _ c.requires.read
+    c.in_ok-record_sequence.ensures.ok) c.open_all.ensures.opened

@@ -1,0 +1,90 @@
+use Rattle.std.proofs.Common.{rules, ◌≡◌, ◌+◌, ◌-◌, ◌*◌, ◌≤◌, ◌++◌, length, arith, sym, ◌∙◌, ap, subst}
+use Rattle.std.proofs.Common.{Err, inl, refl}
+use Rattle.sector_map.specs.declared.layout.Side.TheVariants.{Secondary}
+use Rattle.sector_map.specs.Part.{Slot}
+use Rattle.sector_map.proofs.PartBytes.{length_part}
+use Rattle.trailer.specs.Fields.{fields_at}
+use Rattle.upload.specs.View.{view}
+use Rattle.upload.specs.Ending.{EndsUpload}
+use Rattle.upload.specs.declared.error.UploadError.TheVariants as no
+use Rattle.upload.proofs.Views.{view_kept, slot_then_trailer}
+use Rattle.upload.proofs.Ends.{ends_flash, ends_later}
+use Rattle.upload.proofs.Frames.{erased_stands}
+use Rattle.upload.proofs.Finished.{finish_refused, finish_done, finish_cut}
+use Rattle.upload.proofs.finishing.finish_upload.Goals as goal
+
+pub write_last-requires-clause-room : goal.write_last-requires-clause-room
+write_last-requires-clause-room g c =
+    let was = c.requires.open.1 in
+    let long = length_part c.args.map.now (g.F.Flash.chip c.args.flash.now) (Slot c.args.image Secondary)
+    c.requires.laid_out in
+    omega (arith, long, c.len.ensures.value, was.count, was.fits, was.room)
+
+pub judge-requires-clause-room : goal.judge-requires-clause-room
+judge-requires-clause-room g c =
+    let was = c.requires.open.1 in
+    let long = length_part c.args.map.now (g.F.Flash.chip c.args.flash.now) (Slot c.args.image Secondary)
+    c.requires.laid_out in
+    omega (arith, long, was.room)
+
+pub request-requires-clause-erased : goal.request-requires-clause-erased
+request-requires-clause-erased g c =
+    let map = c.args.map.now in
+    let was = c.requires.open.1 in
+    ap (λ chip. fields_at map chip c.args.image Secondary) c.judge.ensures.same
+    ∙ (view_kept map _ _ _ c.write_last.ensures.outside).trailers c.args.image Secondary refl ∙ was.trailer
+
+pub returns-in-Err-clause-finish : goal.returns-in-Err-clause-finish
+returns-in-Err-clause-finish g c = λ written was.
+    let new = view c.args.map.now (g.F.Flash.chip c.write_last.new.flash) in
+    inl (erased_stands (new.trailer c.args.image Secondary) (new.slot c.args.image Secondary)
+    ((view_kept c.args.map.now _ _ _ c.write_last.ensures.outside).trailers c.args.image Secondary refl ∙ was.trailer))
+
+pub returns-in-Ok-request-clause-outside : goal.returns-in-Ok-request-clause-outside
+returns-in-Ok-request-clause-outside g c =
+    slot_then_trailer c.args.map.now c.args.image _ _ _ _ c.write_last.ensures.outside c.judge.ensures.same
+    c.request.ensures.outside
+
+pub returns-in-Err-request-clause-outside : goal.returns-in-Err-request-clause-outside
+returns-in-Err-request-clause-outside g c =
+    slot_then_trailer c.args.map.now c.args.image _ _ _ _ c.write_last.ensures.outside c.judge.ensures.same
+    c.request.ensures.outside
+
+pub returns-in-Err-request-clause-ends : goal.returns-in-Err-request-clause-ends
+returns-in-Err-request-clause-ends g c =
+    let judged = c.judge.ensures.same in
+    let first = c.in-Ok.ensures.ends in
+    ends_later _ _ (g.F.Flash.chip c.write_last.new.flash) _ first.uncut first.asleep
+    (subst (λ chip. EndsUpload {T = Unit} (Err (no.Flash c.in-Err-request.error)) chip (g.F.Flash.chip c.request.new.flash)) judged
+    (ends_flash c.in-Err-request.error _ _ c.in-Err-request.ensures.ends))
+
+pub returns-in-Err-judge-clause-finish : goal.returns-in-Err-judge-clause-finish
+returns-in-Err-judge-clause-finish g c =
+    let map = c.args.map.now in
+    let was = c.requires.open.1 in
+    let n = c.len.ensures.value in
+    finish_refused c.args.image (c.args.upload.received - c.len.result) _ _ _ c.args.upload
+    (view_kept map _ _ _ c.write_last.ensures.outside) (ap (λ chip. view map chip) c.judge.ensures.same)
+    c.in-Ok.ensures.ok (omega (arith, n, was.count)) c.if-upload.false c.in-Err-judge.error
+    c.in-Err-judge.ensures.judges
+
+pub returns-in-Ok-request-clause-finish : goal.returns-in-Ok-request-clause-finish
+returns-in-Ok-request-clause-finish g c =
+    let map = c.args.map.now in
+    let was = c.requires.open.1 in
+    let n = c.len.ensures.value in
+    finish_done c.args.image (c.args.upload.received - c.len.result) _ _ _ c.args.upload
+    (view_kept map _ _ _ c.write_last.ensures.outside) (ap (λ chip. view map chip) c.judge.ensures.same)
+    c.in-Ok.ensures.ok (omega (arith, n, was.count)) c.if-upload.false _
+    (view_kept map _ _ _ c.request.ensures.outside) c.in-Ok-judge.ensures.judges c.in-Ok-request.ensures.ok
+
+pub returns-in-Err-request-clause-finish : goal.returns-in-Err-request-clause-finish
+returns-in-Err-request-clause-finish g c =
+    let map = c.args.map.now in
+    let was = c.requires.open.1 in
+    let n = c.len.ensures.value in
+    finish_cut c.args.image (c.args.upload.received - c.len.result) _ _ _ c.args.upload
+    (view_kept map _ _ _ c.write_last.ensures.outside) (ap (λ chip. view map chip) c.judge.ensures.same)
+    c.in-Ok.ensures.ok (omega (arith, n, was.count)) c.if-upload.false _
+    (view_kept map _ _ _ c.request.ensures.outside) c.in-Ok-judge.ensures.judges c.in-Err-request.error
+    c.request.ensures.either

@@ -1,0 +1,24 @@
+use Rattle.std.proofs.Common.{rules, ◌≡◌, ◌+◌, ◌-◌, ◌*◌, ◌≤◌, ◌<◌, ◌++◌, length, length-append, arith, sym, ◌∙◌, ap, subst}
+use Rattle.std.proofs.lemmas.Result.{on_ok_weaker}
+use Rattle.sector_map.specs.declared.layout.Side.TheVariants.{Secondary}
+use Rattle.upload.proofs.Writing.{length_filler, slot_units, written_less}
+use Rattle.upload.proofs.finishing.write_last.Goals as goal
+
+pub write_slot-requires-clause-units : goal.write_slot-requires-clause-units
+write_slot-requires-clause-units g c =
+    let m = ap length (c.as_slice.ensures.value ∙ c.fill.ensures) ∙ length-append c.args.unit.items _ in
+    let n = length_filler (8 - length c.args.unit.items) in
+    (1, omega (arith, m, n, c.requires.few))
+
+pub write_slot-requires-clause-room : goal.write_slot-requires-clause-room
+write_slot-requires-clause-room g c =
+    let m = ap length (c.as_slice.ensures.value ∙ c.fill.ensures) ∙ length-append c.args.unit.items _ in
+    let n = length_filler (8 - length c.args.unit.items) in
+    let some : 0 < length c.args.unit.items = search rules in
+    let whole = slot_units c.args.map.now c.args.image c.requires.laid_out.is_map in
+    omega (arith, m, n, c.requires.few, whole.1, c.requires.units.1, c.requires.room, some)
+
+pub returns-clause-ok : goal.returns-clause-ok
+returns-clause-ok g c = on_ok_weaker c.write_slot.result (λ ok. λ front long written.
+    written_less _ front c.args.unit.items _ (8 - length c.args.unit.items) (c.as_slice.ensures.value ∙ c.fill.ensures)
+    (ok front long written)) c.write_slot.ensures.ok

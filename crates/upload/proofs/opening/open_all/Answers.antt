@@ -1,0 +1,60 @@
+use Rattle.std.proofs.Common.{rules, ◌≡◌, ◌<◌, ◌≤◌, ◌+◌, ℕ, true, false, take, get_or, None, [], suc, arith, sym, ◌∙◌, ap, subst}
+use Rattle.sector_map.proofs.Parts.{keeps_wider, laid_out_kept}
+use Rattle.manifest.specs.declared.manifest.Component.{Component}
+use Rattle.upload.specs.Accepted.{IsOpened, IsOpening, latest, named_parts}
+use Rattle.upload.proofs.Views.{view_kept, view_long}
+use Rattle.upload.proofs.Opened.{first_parts, keeps_more, latest_at, latest_less, opening_more, opening_wider, opened_more, opened_none}
+use Rattle.upload.proofs.opening.open_all.Goals as goal
+
+abbrev blank : Component
+blank = record { image = 0; permanent = false; size = 0; digest = []; precursor = None }
+
+pub loop-component-init : goal.loop-component-init
+loop-component-init g c = record {
+  outside = search rules;
+  opened = opened_none _ _ c.args.components.now;
+  uncut = search rules;
+  asleep = search rules;
+}
+
+pub returns-in_err-open_one-clause-outside : goal.returns-in_err-open_one-clause-outside
+returns-in_err-open_one-clause-outside g c =
+    let cs = c.args.components.now in
+    let next = latest_at cs c.loop-component.component-index blank c.loop-component-test.true in
+    keeps_wider c.args.map.now _ (named_parts cs) _ _ (first_parts cs (c.loop-component.component-index + 1))
+    (keeps_more (take c.loop-component.component-index cs) (take (c.loop-component.component-index + 1) cs)
+    (get_or cs c.loop-component.component-index blank) next c.args.map.now _ _ _
+    c.loop-component.invariant.outside c.open_one.ensures.outside)
+
+pub returns-in_err-open_one-clause-opening : goal.returns-in_err-open_one-clause-opening
+returns-in_err-open_one-clause-opening g c =
+    let cs = c.args.components.now in
+    let map = c.args.map.now in
+    let laid = laid_out_kept map _ _ (g.F.Flash.chip c.loop-component.flash) c.requires.laid_out
+    c.loop-component.invariant.outside in
+    opening_wider _ _ (latest (take (c.loop-component.component-index + 1) cs)) (latest cs)
+    (latest_less cs (c.loop-component.component-index + 1))
+    (opening_more _ _ _ _ _ (get_or cs c.loop-component.component-index blank)
+    (latest_at cs c.loop-component.component-index blank c.loop-component-test.true)
+    (view_kept map _ _ _ c.open_one.ensures.outside) (view_long map _ _ _ _ _ laid c.open_one.ensures.outside)
+    c.open_one.ensures.either c.loop-component.invariant.opened.opening)
+
+pub loop-component-preserved : goal.loop-component-preserved
+loop-component-preserved g c =
+    let cs = c.args.components.now in
+    let map = c.args.map.now in
+    let laid = laid_out_kept map _ _ (g.F.Flash.chip c.loop-component.flash) c.requires.laid_out
+    c.loop-component.invariant.outside in
+    let next = latest_at cs c.loop-component.component-index blank c.loop-component-test.true in
+    record {
+      outside = keeps_more (take c.loop-component.component-index cs) (take (c.loop-component.component-index + 1) cs)
+          (get_or cs c.loop-component.component-index blank) next map _ _ _
+          c.loop-component.invariant.outside c.open_one.ensures.outside;
+      opened = opened_more _ _ _ _ _ (get_or cs c.loop-component.component-index blank) next
+          (view_kept map _ _ _ c.open_one.ensures.outside) (view_long map _ _ _ _ _ laid c.open_one.ensures.outside)
+          c.open_one.ensures.either _ _ _
+          c.in_ok-open_one.ensures.trailer c.in_ok-open_one.ensures.slot c.in_ok-open_one.ensures.table.0
+          c.in_ok-open_one.ensures.table.1 c.in_ok-open_one.ensures.table.2 c.loop-component.invariant.opened;
+      uncut = search rules;
+      asleep = search rules;
+    }

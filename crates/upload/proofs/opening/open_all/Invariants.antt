@@ -1,0 +1,16 @@
+use Rattle.std.proofs.Common.{◌≡◌, ◌<◌, ◌≤◌, ◌+◌, ℕ, true, false, take}
+use Rattle.flash_model.specs.Chip.{IsUncut}
+use Rattle.sector_map.specs.Map.{Keeps}
+use Rattle.upload.specs.View.{view}
+use Rattle.upload.specs.Accepted.{IsOpened, latest, named_parts}
+use Rattle.upload.proofs.opening.open_all.Given as goal
+
+abbrev pub invariant-loop-component : goal.invariant-loop-component
+invariant-loop-component g l = record {
+  outside : Keeps l.map (named_parts (take l.component-index l.components)) (g.F.Flash.chip l.initial.flash)
+      (g.F.Flash.chip l.flash);
+  opened : IsOpened (view l.map (g.F.Flash.chip l.initial.flash)) (view l.map (g.F.Flash.chip l.flash))
+      l.initial.uploads.sessions l.uploads.sessions (latest (take l.component-index l.components));
+  uncut : IsUncut (g.F.Flash.chip l.initial.flash) (g.F.Flash.chip l.flash);
+  asleep : (g.F.Flash.chip l.initial.flash).is_on ≡ false → g.F.Flash.chip l.flash ≡ g.F.Flash.chip l.initial.flash;
+}

@@ -1,0 +1,104 @@
+-- The step of a machine that finishes an upload.
+use Rattle.std.specs.Prelude.{◌≡◌, ◌≢◌, ◌⊎◌, ℕ, List, length, Option, Some, None, Result, Ok, Err}
+use Rattle.sha2.specs.Sha256.{sha256}
+use Rattle.sector_map.specs.declared.layout.Side.TheVariants.{Secondary}
+use Rattle.trailer.specs.Fields.{erased_fields}
+use Rattle.trailer.specs.Standing.{requested_fields}
+use Rattle.tlv.specs.Fault.{IsFirstFault}
+use Rattle.upload.specs.declared.error.UploadError.{UploadError}
+use Rattle.upload.specs.declared.error.UploadError.TheVariants as no
+use Rattle.upload.specs.View.{View}
+use Rattle.upload.specs.Device.{Machine, Session, Wanted, closed}
+use Rattle.upload.specs.Steady.{IsImage, request_in}
+use Rattle.upload.specs.Sessions.{IsWritten}
+use Rattle.upload.specs.Piece.{with_session}
+use Rattle.upload.specs.Withdrawal.{with_request}
+
+-- What is requested where an upload is finished.
+abbrev pub asked : Session → Wanted
+asked session = record { bytes = Some session.received; kind = session.kind }
+
+-- A whole upload: of the right length and the right digest (SHA-256, FIPS 180-4), and an intact image.
+pub record IsGoodUpload (session : Session) : Type 0 where
+  pub size : length session.received ≡ session.size
+  pub digest : sha256 session.received ≡ session.digest
+  pub image : IsImage session.received
+
+-- The checks of an upload in their order. Each name says that its own check passes, and all before it: the length is
+-- the manifest's ..
+abbrev pub HasSize : Session → Type 0
+HasSize session = length session.received ≡ session.size
+
+-- .. and the digest.
+abbrev pub HasSizeAndDigest : Session → Type 0
+HasSizeAndDigest session = HasSize session × (sha256 session.received ≡ session.digest)
+
+-- Finishing a session: the image is requested, or the first check that fails is answered; the session is closed in any
+-- case. Where the flash stops the call all sessions are closed, and no request stands, or the one that was asked for,
+-- of a good upload.
+abbrev pub Finishes : Machine → ℕ → Session → Result Unit UploadError → Machine → Type 0
+Finishes m i session (Ok done) next = IsGoodUpload session × (next ≡ with_session
+    (record m { kept = with_request m.kept i (Some (asked session)) }) i None)
+Finishes m i session (Err no.SizeWrong) next =
+    (HasSize session → ⊥) × (next ≡ with_session m i None)
+Finishes m i session (Err no.DigestWrong) next = HasSize session
+    × (sha256 session.received ≢ session.digest) × (next ≡ with_session m i None)
+Finishes m i session (Err (no.NotAnImage fault)) next = HasSizeAndDigest session
+    × IsFirstFault session.received fault × (next ≡ with_session m i None)
+Finishes m i session (Err (no.Flash error)) next = (m.kept.request i ≡ None)
+    × ((next ≡ closed m m.kept) ⊎ (IsGoodUpload session
+    × (next ≡ closed m (with_request m.kept i (Some (asked session))))))
+Finishes m i session (Err no.OldSequence) next = ⊥
+Finishes m i session (Err no.TooBig) next = ⊥
+Finishes m i session (Err no.NoSession) next = ⊥
+Finishes m i session (Err no.TooMuch) next = ⊥
+Finishes m i session (Err no.WrongPrecursor) next = ⊥
+Finishes m i session (Err no.NothingRequested) next = ⊥
+Finishes m i session (Err no.NoMemory) next = ⊥
+
+-- Finishing an image: it has no session, or that is finished.
+abbrev pub FinishRow : Machine → ℕ → Result Unit UploadError → Machine → Type 0
+FinishRow m i result next =
+    ((m.session i ≡ None) × (result ≡ Err no.NoSession) × (next ≡ m))
+    ⊎ ((session : Session) × (m.session i ≡ Some session) × Finishes m i session result next)
+
+-- How the bytes of an upload are judged.
+abbrev pub Judges : List ℕ → List ℕ → Result Unit UploadError → Type 0
+Judges bytes digest (Ok done) = (sha256 bytes ≡ digest) × IsImage bytes
+Judges bytes digest (Err no.DigestWrong) = sha256 bytes ≢ digest
+Judges bytes digest (Err (no.NotAnImage fault)) =
+    (sha256 bytes ≡ digest) × IsFirstFault bytes fault
+Judges bytes digest (Err (no.Flash error)) = Unit
+Judges bytes digest (Err no.OldSequence) = ⊥
+Judges bytes digest (Err no.TooBig) = ⊥
+Judges bytes digest (Err no.NoSession) = ⊥
+Judges bytes digest (Err no.TooMuch) = ⊥
+Judges bytes digest (Err no.SizeWrong) = ⊥
+Judges bytes digest (Err no.WrongPrecursor) = ⊥
+Judges bytes digest (Err no.NothingRequested) = ⊥
+Judges bytes digest (Err no.NoMemory) = ⊥
+
+-- A finished upload on the flash: the image is whole, good and requested.
+pub record IsFinishedAt (w : View) (i : ℕ) (session : Session) : Type 0 where
+  pub good : IsGoodUpload session
+  pub slot : IsWritten (w.slot i Secondary) session.received
+  pub trailer : w.trailer i Secondary ≡ requested_fields session.kind
+
+-- What finishing leaves on the flash.
+abbrev pub EndsFinish : View → ℕ → Session → Result Unit UploadError → Type 0
+EndsFinish w i session (Ok done) = IsFinishedAt w i session
+EndsFinish w i session (Err no.SizeWrong) =
+    (HasSize session → ⊥) × (w.trailer i Secondary ≡ erased_fields)
+EndsFinish w i session (Err no.DigestWrong) = HasSize session
+    × (sha256 session.received ≢ session.digest) × (w.trailer i Secondary ≡ erased_fields)
+EndsFinish w i session (Err (no.NotAnImage fault)) = HasSizeAndDigest session
+    × IsFirstFault session.received fault × (w.trailer i Secondary ≡ erased_fields)
+EndsFinish w i session (Err (no.Flash error)) =
+    (request_in w i ≡ None) ⊎ IsFinishedAt w i session
+EndsFinish w i session (Err no.OldSequence) = ⊥
+EndsFinish w i session (Err no.TooBig) = ⊥
+EndsFinish w i session (Err no.NoSession) = ⊥
+EndsFinish w i session (Err no.TooMuch) = ⊥
+EndsFinish w i session (Err no.WrongPrecursor) = ⊥
+EndsFinish w i session (Err no.NothingRequested) = ⊥
+EndsFinish w i session (Err no.NoMemory) = ⊥

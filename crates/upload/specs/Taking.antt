@@ -1,0 +1,79 @@
+-- Whether a manifest may be taken, and what taking it leaves on the flash.
+use Rattle.std.specs.Prelude.{◌≡◌, ℕ, ◌<◌, ◌≤◌, List, Option, Some, Result, Ok, Err}
+use Rattle.sector_map.specs.declared.layout.SectorMap.{SectorMap}
+use Rattle.set_log.specs.declared.state.State.{State}
+use Rattle.manifest.specs.declared.manifest.Component.{Component}
+use Rattle.upload.specs.declared.error.UploadError.{UploadError}
+use Rattle.upload.specs.declared.error.UploadError.TheVariants as no
+use Rattle.upload.specs.declared.sessions.Upload.{Upload}
+use Rattle.upload.specs.View.{View}
+use Rattle.upload.specs.Device.{DeviceState, Machine}
+use Rattle.upload.specs.Steady.{IsSteadyAt}
+use Rattle.upload.specs.Sessions.{AllOpenAt, IsUpAt}
+use Rattle.upload.specs.Accepted.{AllFit, AllFollowAt, IsAcceptCut, accepted}
+
+-- The state of the log, whose sequence number isn't above the manifest's.
+pub record IsNewer (w : View) (state : State) (sequence : ℕ) : Type 0 where
+  pub read : w.log ≡ Some state
+  pub newer : state.sequence ≤ sequence
+
+-- A manifest may be taken, with this state in the log.
+pub record MayTake (map : SectorMap) (w : View) (state : State) (sequence : ℕ)
+    (cs : List Component) : Type 0 where
+  pub newer : IsNewer w state sequence
+  pub fit : AllFit map cs
+  pub follow : AllFollowAt w cs
+
+-- The first check of a manifest that fails.
+abbrev pub Refuses : SectorMap → View → ℕ → List Component → UploadError → Type 0
+Refuses map w sequence cs no.OldSequence =
+    (state : State) × (w.log ≡ Some state) × (sequence < state.sequence)
+Refuses map w sequence cs no.TooBig =
+    (state : State) × IsNewer w state sequence × (AllFit map cs → ⊥)
+Refuses map w sequence cs no.WrongPrecursor =
+    (state : State) × IsNewer w state sequence × AllFit map cs × (AllFollowAt w cs → ⊥)
+Refuses map w sequence cs (no.Flash error) = Unit
+Refuses map w sequence cs no.NoSession = ⊥
+Refuses map w sequence cs no.TooMuch = ⊥
+Refuses map w sequence cs no.SizeWrong = ⊥
+Refuses map w sequence cs no.DigestWrong = ⊥
+Refuses map w sequence cs (no.NotAnImage fault) = ⊥
+Refuses map w sequence cs no.NothingRequested = ⊥
+Refuses map w sequence cs no.NoMemory = ⊥
+
+-- A manifest was taken.
+pub record IsTaken (old new : View) (told tnew : List (Option Upload)) (sequence : ℕ)
+    (cs : List Component) : Type 0 where
+  pub opens : AllOpenAt old told → AllOpenAt new tnew
+  pub steps : (m : Machine) → IsUpAt old told m → IsUpAt new tnew (accepted m sequence cs)
+
+-- Nothing changed.
+pub record IsUnchanged (old new : View) (told tnew : List (Option Upload)) : Type 0 where
+  pub flash : new ≡ old
+  pub table : tnew ≡ told
+
+-- From a flash that holds a state, the flash holds one that a cut may leave.
+abbrev pub CutsAccept : View → View → ℕ → List Component → Type 0
+CutsAccept old new sequence cs = (s : DeviceState) → IsSteadyAt old s
+    → (next : DeviceState) × IsAcceptCut s sequence cs next × IsSteadyAt new next
+
+-- What taking a manifest leaves on the flash and in the table.
+abbrev pub EndsAccept : SectorMap → View → View → List (Option Upload) → List (Option Upload) → ℕ
+    → List Component → Result Unit UploadError → Type 0
+EndsAccept map old new told tnew sequence cs (Ok done) =
+    ((state : State) × MayTake map old state sequence cs) × IsTaken old new told tnew sequence cs
+EndsAccept map old new told tnew sequence cs (Err no.OldSequence) =
+    Refuses map old sequence cs no.OldSequence × IsUnchanged old new told tnew
+EndsAccept map old new told tnew sequence cs (Err no.TooBig) =
+    Refuses map old sequence cs no.TooBig × IsUnchanged old new told tnew
+EndsAccept map old new told tnew sequence cs (Err no.WrongPrecursor) =
+    Refuses map old sequence cs no.WrongPrecursor × IsUnchanged old new told tnew
+EndsAccept map old new told tnew sequence cs (Err (no.Flash error)) =
+    CutsAccept old new sequence cs
+EndsAccept map old new told tnew sequence cs (Err no.NoSession) = ⊥
+EndsAccept map old new told tnew sequence cs (Err no.TooMuch) = ⊥
+EndsAccept map old new told tnew sequence cs (Err no.SizeWrong) = ⊥
+EndsAccept map old new told tnew sequence cs (Err no.DigestWrong) = ⊥
+EndsAccept map old new told tnew sequence cs (Err (no.NotAnImage fault)) = ⊥
+EndsAccept map old new told tnew sequence cs (Err no.NothingRequested) = ⊥
+EndsAccept map old new told tnew sequence cs (Err no.NoMemory) = ⊥

@@ -1,0 +1,138 @@
+//! Whether a manifest may be taken: the checks that come before any write.
+
+ghost use Rattle.std.specs.Prelude.{◌≡◌, ◌≢◌, ◌↔◌, ◌≤◌, ◌<◌, ℕ, All, IfErr, IfOk, IsTrue, None, Some, true};
+ghost use Rattle.flash_model.specs.Chip.{Chip, Ends};
+ghost use Rattle.sector_map.specs.Map.{IsLaidOut, part_of};
+ghost use Rattle.sector_map.specs.Part.{Slot};
+ghost use Rattle.sector_map.specs.declared.layout.Side.TheVariants.{Primary};
+ghost use Rattle.set_log.specs.Log.{state_of};
+ghost use Rattle.set_log.specs.Record.{fits};
+ghost use Rattle.upload.specs.View.{view};
+ghost use Rattle.upload.specs.Ending.{EndsUpload};
+ghost use Rattle.upload.specs.Accepted.{AllFit, AllFollowAt, AreThere, FrontHasDigest};
+ghost use Rattle.upload.specs.Taking.{MayTake, Refuses};
+
+use crate::error::UploadError;
+use flash_model::{Flash, FlashError};
+use manifest::{Component, Manifest};
+use sector_map::{SectorMap, Side};
+use set_log::{LogError, State, read_state};
+use tlv::{SlotError, describe_slot};
+
+/// Whether each component fits the slot of its image.
+fn all_fit(map: &SectorMap, components: &[Component]) -> bool
+    requires { AreThere map.now components.now }
+    ensures { IsTrue result ↔ AllFit map.now components.now }
+{
+    for component in components {
+        if map.slot_length(component.image) < component.size {
+            return false;
+        }
+    }
+    true
+}
+
+/// Whether two digests are the same.
+pub(crate) fn is_same_digest(one: &[u8; 32], other: &[u8; 32]) -> bool
+    ensures { IsTrue result ↔ (one.now ≡ other.now) }
+{
+    one == other
+}
+
+/// Whether the image runs that a component asks for, if it asks for one.
+fn follows<F: Flash>(
+    flash: &mut F,
+    map: &SectorMap,
+    component: &Component,
+) -> Result<bool, FlashError>
+    requires laid_out { IsLaidOut map.now (F.chip flash.old) }
+    requires there { component.now.image < map.now.images }
+    ensures same { F.chip flash.new ≡ F.chip flash.old }
+    ensures ok { IfOk result (λ yes. IsTrue yes ↔ FrontHasDigest
+        (part_of map.now (F.chip flash.old) (Slot component.now.image Primary))
+        component.now.precursor) }
+    ensures ends { Ends result (F.chip flash.old) (F.chip flash.new) }
+{
+    let Some(digest) = component.precursor else {
+        return Ok(true);
+    };
+    match describe_slot(flash, map, component.image, Side::Primary) {
+        Ok(description) => Ok(is_same_digest(&description.digest, &digest)),
+        Err(SlotError::Image(_)) => Ok(false),
+        Err(SlotError::Flash(error)) => Err(error),
+        Err(SlotError::NoMemory) => unreachable!(),
+    }
+}
+
+/// Whether the image runs that each component asks for.
+fn all_follow<F: Flash>(
+    flash: &mut F,
+    map: &SectorMap,
+    components: &[Component],
+) -> Result<bool, FlashError>
+    requires laid_out { IsLaidOut map.now (F.chip flash.old) }
+    requires there { AreThere map.now components.now }
+    ensures same { F.chip flash.new ≡ F.chip flash.old }
+    ensures ok { IfOk result (λ yes. IsTrue yes
+        ↔ AllFollowAt (view map.now (F.chip flash.old)) components.now) }
+    ensures ends { Ends result (F.chip flash.old) (F.chip flash.new) }
+{
+    for component in components {
+        if !follows(flash, map, component)? {
+            return Ok(false);
+        }
+    }
+    Ok(true)
+}
+
+/// The state of the log.
+fn last_state<F: Flash>(flash: &mut F, map: &SectorMap) -> Result<State, FlashError>
+    requires laid_out { IsLaidOut map.now (F.chip flash.old) }
+    requires has_state { state_of map.now (F.chip flash.old) ≢ None }
+    ensures same { F.chip flash.new ≡ F.chip flash.old }
+    ensures ok { IfOk result (λ state. state_of map.now (F.chip flash.old) ≡ Some state) }
+    ensures fits { (state : State) → state_of map.now (F.chip flash.old) ≡ Some state
+        → fits map.now.images state ≡ true }
+    ensures ends { Ends result (F.chip flash.old) (F.chip flash.new) }
+{
+    match read_state(flash, map) {
+        Ok(state) => Ok(state),
+        Err(LogError::Flash(error)) => Err(error),
+        Err(LogError::NoLog) => unreachable!(),
+    }
+}
+
+/// The state of the log, where the manifest may be taken.
+pub(crate) fn judge_manifest<F: Flash>(
+    flash: &mut F,
+    map: &SectorMap,
+    manifest: &Manifest,
+) -> Result<State, UploadError>
+    requires laid_out { IsLaidOut map.now (F.chip flash.old) }
+    requires has_state { state_of map.now (F.chip flash.old) ≢ None }
+    requires there { AreThere map.now manifest.now.components.items }
+    ensures same { F.chip flash.new ≡ F.chip flash.old }
+    ensures ok { IfOk result (λ state. MayTake map.now (view map.now (F.chip flash.old)) state
+        manifest.now.sequence manifest.now.components.items) }
+    ensures fits { (state : State) → state_of map.now (F.chip flash.old) ≡ Some state
+        → fits map.now.images state ≡ true }
+    ensures refused { IfErr result (Refuses map.now (view map.now (F.chip flash.old))
+        manifest.now.sequence manifest.now.components.items) }
+    ensures ends { EndsUpload result (F.chip flash.old) (F.chip flash.new) }
+{
+    let state = match last_state(flash, map) {
+        Ok(state) => state,
+        Err(error) => return Err(UploadError::Flash(error)),
+    };
+    if manifest.sequence < state.sequence {
+        return Err(UploadError::OldSequence);
+    }
+    if !all_fit(map, manifest.components.as_slice()) {
+        return Err(UploadError::TooBig);
+    }
+    match all_follow(flash, map, manifest.components.as_slice()) {
+        Ok(true) => Ok(state),
+        Ok(false) => Err(UploadError::WrongPrecursor),
+        Err(error) => Err(UploadError::Flash(error)),
+    }
+}
