@@ -19,3 +19,6 @@ mod withdrawing;
 
 pub use error::UploadError;
 pub use sessions::{Upload, Uploads};
+
+#[cfg(test)]
+mod tests;

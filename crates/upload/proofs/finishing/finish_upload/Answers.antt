@@ -65,7 +65,7 @@ returns-in-Err-judge-clause-finish g c =
     let n = c.len.ensures.value in
     finish_refused c.args.image (c.args.upload.received - c.len.result) _ _ _ c.args.upload
     (view_kept map _ _ _ c.write_last.ensures.outside) (ap (λ chip. view map chip) c.judge.ensures.same)
-    c.in-Ok.ensures.ok (omega (arith, n, was.count)) c.if-upload.false c.in-Err-judge.error
+    c.in-Ok.ensures.ok (omega (arith, n, was.count)) (omega (arith, c.if-upload.false)) c.in-Err-judge.error
     c.in-Err-judge.ensures.judges
 
 pub returns-in-Ok-request-clause-finish : goal.returns-in-Ok-request-clause-finish
@@ -75,7 +75,7 @@ returns-in-Ok-request-clause-finish g c =
     let n = c.len.ensures.value in
     finish_done c.args.image (c.args.upload.received - c.len.result) _ _ _ c.args.upload
     (view_kept map _ _ _ c.write_last.ensures.outside) (ap (λ chip. view map chip) c.judge.ensures.same)
-    c.in-Ok.ensures.ok (omega (arith, n, was.count)) c.if-upload.false _
+    c.in-Ok.ensures.ok (omega (arith, n, was.count)) (omega (arith, c.if-upload.false)) _
     (view_kept map _ _ _ c.request.ensures.outside) c.in-Ok-judge.ensures.judges c.in-Ok-request.ensures.ok
 
 pub returns-in-Err-request-clause-finish : goal.returns-in-Err-request-clause-finish
@@ -85,6 +85,6 @@ returns-in-Err-request-clause-finish g c =
     let n = c.len.ensures.value in
     finish_cut c.args.image (c.args.upload.received - c.len.result) _ _ _ c.args.upload
     (view_kept map _ _ _ c.write_last.ensures.outside) (ap (λ chip. view map chip) c.judge.ensures.same)
-    c.in-Ok.ensures.ok (omega (arith, n, was.count)) c.if-upload.false _
+    c.in-Ok.ensures.ok (omega (arith, n, was.count)) (omega (arith, c.if-upload.false)) _
     (view_kept map _ _ _ c.request.ensures.outside) c.in-Ok-judge.ensures.judges c.in-Err-request.error
     c.request.ensures.either
