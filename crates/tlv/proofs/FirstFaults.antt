@@ -1,6 +1,7 @@
 -- Bytes have one first fault at most: the checks stand in a row, and the first that fails has its name.
 use Rattle.std.proofs.Common.{◌≡◌, ℕ, zero, suc, ◌+◌, ◌<◌, ◌≤◌, inl, inr, List, length, Option, None, Some, refl, sym, ap, subst, ◌∙◌, arith}
-use Rattle.common.specs.Checks.{FailsFirst, FailsFirst-unique, PassBefore}
+use Rattle.common.specs.Checks.{FailsFirst, PassBefore}
+use Rattle.common.proofs.ChecksLaws.{FailsFirst-unique}
 use Rattle.common.specs.declared.limits.TheConstants.{MOST_DEPENDENCIES}
 use Rattle.image_header.specs.declared.header.Header.{Header}
 use Rattle.image_header.specs.declared.error.HeaderError.{HeaderError}
