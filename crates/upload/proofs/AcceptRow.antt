@@ -1,17 +1,16 @@
 -- The row of a manifest that is taken.
-use Rattle.std.proofs.Common.{◌≡◌, ◌⊎◌, ℕ, zero, suc, ◌+◌, ◌<◌, ◌≤◌, ◌==◌, ◌&&◌, ◌++◌, Bool, true, false, List, [], ◌∷◌, length, Option, Some, None, Ok, Err, Result, refl, sym, ◌∙◌, ap, subst, arith, ⊎_elim, inl, inr, if◌then◌else◌}
+use Rattle.std.proofs.Common.{◌≡◌, ◌⊎◌, ℕ, ◌<◌, ◌≤◌, false, List, [], length, Option, Some, None, refl, sym, ◌∙◌, ap, subst, arith, ⊎_elim, inl, inr}
 use Rattle.sector_map.specs.declared.layout.Side.TheVariants.{Primary, Secondary}
 use Rattle.sector_map.specs.Part.{Log, only}
 use Rattle.set_log.specs.declared.state.State.{State}
 use Rattle.set_log.specs.declared.state.Kind.TheVariants.{Steady}
-use Rattle.trailer.specs.Fields.{Fields, erased_fields}
 use Rattle.manifest.specs.declared.manifest.Component.{Component}
 use Rattle.upload.specs.View.{View, KeepsView}
-use Rattle.upload.specs.Device.{DeviceState, Machine, Session, Wanted, closed}
-use Rattle.upload.specs.Steady.{IsFront, IsRequested, IsImageAt, IsSteadyAt, logged, request_in}
-use Rattle.upload.specs.Sessions.{AllClosed, AllOpenAt, upload_at, IsWritten, IsUploadAt, session_of, HasSession, HasSessions, IsUpAt}
+use Rattle.upload.specs.Device.{DeviceState, Machine, Session, Wanted}
+use Rattle.upload.specs.Steady.{IsFront, IsRequested, IsImageAt, IsSteadyAt, logged}
+use Rattle.upload.specs.Sessions.{AllOpenAt, upload_at, IsWritten, session_of, HasSession, IsUpAt}
 use Rattle.upload.specs.Withdrawal.{IsKeptOrGone}
-use Rattle.upload.specs.Accepted.{latest, OpenedAt, IsOpening, IsOpened, IsFresh, opened, session_after, request_after, accepted, IsAcceptCut}
+use Rattle.upload.specs.Accepted.{latest, OpenedAt, IsOpening, IsOpened, opened, session_after, request_after, accepted, IsAcceptCut}
 use Rattle.upload.specs.declared.sessions.Upload.{Upload}
 use Rattle.upload.proofs.Frames.{erased_stands, unasked}
 use Rattle.upload.proofs.Added.{session_eq}
@@ -35,28 +34,53 @@ image_same old new s i primary slot trailer was = record {
 }
 
 -- the log alone was written
-pub sequenced : (old mid : View) (state : State) (q : ℕ) (s : DeviceState) → old.log ≡ Some state → KeepsView (only Log) old mid → mid.log ≡ Some (record state { sequence = q }) → IsSteadyAt old s → IsSteadyAt mid (record s { sequence = q })
+pub sequenced : (old mid : View) (state : State) (q : ℕ) (s : DeviceState) → old.log ≡ Some state
+    → KeepsView (only Log) old mid → mid.log ≡ Some (record state { sequence = q }) → IsSteadyAt old s
+    → IsSteadyAt mid (record s { sequence = q })
 sequenced old mid state q s read keeps wrote was = record {
   trial = was.trial;
   images = keeps.images ∙ was.images;
-  log = wrote ∙ ap (λ (st : State). Some (record st { sequence = q })) (same_state old state (logged Steady 0 false 0 s) read was.log);
-  each = λ i lt. let at = image_same old mid s i (keeps.slots i Primary refl) (keeps.slots i Secondary refl) (keeps.trailers i Secondary refl) (was.each i lt) in
+  log = wrote ∙ ap (λ (st : State). Some (record st { sequence = q }))
+      (same_state old state (logged Steady 0 false 0 s) read was.log);
+  each = λ i lt. let at = image_same old mid s i (keeps.slots i Primary refl) (keeps.slots i Secondary refl)
+      (keeps.trailers i Secondary refl) (was.each i lt) in
       record { running = at.running; request = at.request };
 }
 
-pub unsequenced : (old mid : View) (s : DeviceState) → KeepsView (only Log) old mid → mid.log ≡ old.log → IsSteadyAt old s → IsSteadyAt mid s
+pub unsequenced : (old mid : View) (s : DeviceState) → KeepsView (only Log) old mid → mid.log ≡ old.log
+    → IsSteadyAt old s → IsSteadyAt mid s
 unsequenced old mid s keeps wrote was = record {
   trial = was.trial;
   images = keeps.images ∙ was.images;
   log = wrote ∙ was.log;
-  each = λ i lt. image_same old mid s i (keeps.slots i Primary refl) (keeps.slots i Secondary refl) (keeps.trailers i Secondary refl) (was.each i lt);
+  each = λ i lt. image_same old mid s i (keeps.slots i Primary refl) (keeps.slots i Secondary refl)
+      (keeps.trailers i Secondary refl) (was.each i lt);
 }
 
-pub sequence_cut : (old mid : View) (state : State) (q : ℕ) (cs : List Component) → old.log ≡ Some state → KeepsView (only Log) old mid → (mid.log ≡ old.log) ⊎ (mid.log ≡ Some (record state { sequence = q }))
+pub sequence_cut : (old mid : View) (state : State) (q : ℕ) (cs : List Component) → old.log ≡ Some state
+    → KeepsView (only Log) old mid → (mid.log ≡ old.log) ⊎ (mid.log ≡ Some (record state { sequence = q }))
     → (s : DeviceState) → IsSteadyAt old s → (next : DeviceState) × IsAcceptCut s q cs next × IsSteadyAt mid next
 sequence_cut old mid state q cs read keeps either s was = ⊎_elim
-    (λ (same : mid.log ≡ old.log). (s, record { rest = refl; others = λ i e. refl; either = inl (refl, λ i. refl) }, unsequenced old mid s keeps same was))
-    (λ (wrote : mid.log ≡ Some (record state { sequence = q })). (record s { sequence = q }, record { rest = refl; others = λ i e. refl; either = inr (refl, λ i. inl refl) }, sequenced old mid state q s read keeps wrote was))
+    (λ (same : mid.log ≡ old.log). (
+      s,
+      record {
+        rest = refl;
+        others = λ i e. refl;
+        either = inl
+            (refl, λ i. refl);
+      },
+      unsequenced old mid s keeps same was,
+    ))
+    (λ (wrote : mid.log ≡ Some (record state { sequence = q })). (
+      record s { sequence = q },
+      record {
+        rest = refl;
+        others = λ i e. refl;
+        either = inr
+            (refl, λ i. inl refl);
+      },
+      sequenced old mid state q s read keeps wrote was,
+    ))
     either
 
 -- what is left of a request where an image may be named
@@ -66,44 +90,71 @@ left_of old new i (Some c) (inl same) wanted = wanted
 left_of old new i (Some c) (inr none) wanted = None
 
 module _ (mid new : View) (named : ℕ → Option Component) (opening : IsOpening mid new named) where
-  steady_left : (t : DeviceState) (request : ℕ → Option Wanted) → ((i : ℕ) → i < t.images → IsRequested (new.trailer i Secondary) (new.slot i Secondary) (request i)) → IsSteadyAt mid t → IsSteadyAt new (record t { request = request })
+  steady_left : (t : DeviceState) (request : ℕ → Option Wanted)
+      → ((i : ℕ) → i < t.images → IsRequested (new.trailer i Secondary) (new.slot i Secondary) (request i))
+      → IsSteadyAt mid t → IsSteadyAt new (record t { request = request })
   steady_left t request asked was = record {
     trial = was.trial;
     images = opening.images ∙ was.images;
     log = opening.log ∙ was.log;
-    each = λ i lt. record { running = subst (λ l. IsFront l (t.running i)) (sym (opening.primary i)) (was.each i lt).running; request = asked i lt };
+    each = λ i lt. record {
+      running = subst (λ l. IsFront l (t.running i)) (sym (opening.primary i))
+          (was.each i lt).running;
+      request = asked i lt;
+    };
   }
 
-  as_before : (i : ℕ) (wanted : Option Wanted) → new.slot i Secondary ≡ mid.slot i Secondary → new.trailer i Secondary ≡ mid.trailer i Secondary
-      → IsRequested (mid.trailer i Secondary) (mid.slot i Secondary) wanted → IsRequested (new.trailer i Secondary) (new.slot i Secondary) wanted
-  as_before i wanted slot trailer was = subst (λ l. IsRequested (new.trailer i Secondary) l wanted) (sym slot) (subst (λ t. IsRequested t (mid.slot i Secondary) wanted) (sym trailer) was)
+  as_before : (i : ℕ) (wanted : Option Wanted) → new.slot i Secondary ≡ mid.slot i Secondary
+      → new.trailer i Secondary ≡ mid.trailer i Secondary
+      → IsRequested (mid.trailer i Secondary) (mid.slot i Secondary) wanted
+      → IsRequested (new.trailer i Secondary) (new.slot i Secondary) wanted
+  as_before i wanted slot trailer was = subst (λ l. IsRequested (new.trailer i Secondary) l wanted)
+      (sym slot) (subst (λ t. IsRequested t (mid.slot i Secondary) wanted) (sym trailer) was)
 
-  asked_left : (i : ℕ) (wanted : Option Wanted) (o : Option Component) (e : IsKeptOrGone mid new i) → named i ≡ o → IsRequested (mid.trailer i Secondary) (mid.slot i Secondary) wanted
+  asked_left : (i : ℕ) (wanted : Option Wanted) (o : Option Component) (e : IsKeptOrGone mid new i)
+      → named i ≡ o → IsRequested (mid.trailer i Secondary) (mid.slot i Secondary) wanted
       → IsRequested (new.trailer i Secondary) (new.slot i Secondary) (left_of mid new i o e wanted)
   asked_left i wanted None e is was = as_before i wanted (opening.slots i is) (opening.trailers i is) was
   asked_left i wanted (Some c) (inl same) is was = as_before i wanted same.0 same.1 was
   asked_left i wanted (Some c) (inr none) is was = unasked (new.trailer i Secondary) (new.slot i Secondary) none
 
-  left_either : (i : ℕ) (wanted : Option Wanted) (o : Option Component) (e : IsKeptOrGone mid new i) → (left_of mid new i o e wanted ≡ wanted) ⊎ (left_of mid new i o e wanted ≡ None)
+  left_either : (i : ℕ) (wanted : Option Wanted) (o : Option Component) (e : IsKeptOrGone mid new i)
+      → (left_of mid new i o e wanted ≡ wanted) ⊎ (left_of mid new i o e wanted ≡ None)
   left_either i wanted None e = inl refl
   left_either i wanted (Some c) (inl same) = inl refl
   left_either i wanted (Some c) (inr none) = inr refl
 
-  left_other : (i : ℕ) (wanted : Option Wanted) (o : Option Component) (e : IsKeptOrGone mid new i) → o ≡ None → left_of mid new i o e wanted ≡ wanted
+  left_other : (i : ℕ) (wanted : Option Wanted) (o : Option Component) (e : IsKeptOrGone mid new i)
+      → o ≡ None → left_of mid new i o e wanted ≡ wanted
   left_other i wanted o e is = subst (λ o. left_of mid new i o e wanted ≡ wanted) (sym is) refl
 
-  left_steady : (s : DeviceState) (q : ℕ) → IsSteadyAt mid (record s { sequence = q }) → IsSteadyAt new (record s { sequence = q; request = λ i. left_of mid new i (named i) (opening.either i) (s.request i) })
-  left_steady s q was = steady_left (record s { sequence = q }) (λ i. left_of mid new i (named i) (opening.either i) (s.request i))
+  left_steady : (s : DeviceState) (q : ℕ) → IsSteadyAt mid (record s { sequence = q })
+      → IsSteadyAt new (record s {
+        sequence = q;
+        request = λ i. left_of mid new i (named i)
+            (opening.either i) (s.request i);
+      })
+  left_steady s q was = steady_left (record s { sequence = q })
+      (λ i. left_of mid new i (named i) (opening.either i) (s.request i))
       (λ i lt. asked_left i (s.request i) (named i) (opening.either i) refl (was.each i lt).request) was
 
-  pub cut_after : (s : DeviceState) (q : ℕ) (cs : List Component) → ((i : ℕ) → latest cs i ≡ named i) → IsSteadyAt mid (record s { sequence = q }) → (next : DeviceState) × IsAcceptCut s q cs next × IsSteadyAt new next
+  pub cut_after : (s : DeviceState) (q : ℕ) (cs : List Component) → ((i : ℕ) → latest cs i ≡ named i)
+      → IsSteadyAt mid (record s { sequence = q }) → (next : DeviceState) × IsAcceptCut s q cs next
+      × IsSteadyAt new next
   cut_after s q cs same was = (
     record s { sequence = q; request = λ i. left_of mid new i (named i) (opening.either i) (s.request i) },
-    record { rest = refl; others = λ i e. left_other i (s.request i) (named i) (opening.either i) (sym (same i) ∙ e); either = inr (refl, λ i. left_either i (s.request i) (named i) (opening.either i)) },
+    record {
+      rest = refl;
+      others = λ i e. left_other i (s.request i) (named i) (opening.either i)
+          (sym (same i) ∙ e);
+      either = inr (refl, λ i. left_either i (s.request i) (named i) (opening.either i));
+    },
     left_steady s q was,
   )
 
-session_as : (old new : View) (j : ℕ) (o : Option Upload) (s : Option Session) → new.images ≡ old.images → new.slot j Secondary ≡ old.slot j Secondary → new.trailer j Secondary ≡ old.trailer j Secondary → HasSession old j o s → HasSession new j o s
+session_as : (old new : View) (j : ℕ) (o : Option Upload) (s : Option Session) → new.images ≡ old.images
+    → new.slot j Secondary ≡ old.slot j Secondary → new.trailer j Secondary ≡ old.trailer j Secondary
+    → HasSession old j o s → HasSession new j o s
 session_as old new j None None images slot trailer was = tt
 session_as old new j None (Some s) images slot trailer was = was
 session_as old new j (Some u) None images slot trailer was = was
@@ -122,12 +173,18 @@ session_as old new j (Some u) (Some s) images slot trailer (written, was, is) = 
   is,
 )
 
-module _ (old mid new : View) (cs : List Component) (told tnew : List (Option Upload)) (keeps : KeepsView (only Log) old mid)
-    (fits : (i : ℕ) (c : Component) → latest cs i ≡ Some c → (i < mid.images) × (c.size ≤ length (mid.slot i Secondary)))
+module _ (old mid new : View) (cs : List Component) (told tnew : List (Option Upload))
+    (keeps : KeepsView (only Log) old mid)
+    (fits : (i : ℕ) (c : Component) → latest cs i ≡ Some c → (i < mid.images)
+    × (c.size ≤ length (mid.slot i Secondary)))
     (all : IsOpened mid new told tnew (latest cs)) where
-  session_at : (i : ℕ) (o : Option Component) (s : Option Session) → latest cs i ≡ o → OpenedAt (upload_at tnew i) (upload_at told i) o → HasSession old i (upload_at told i) s → HasSession new i (upload_at tnew i) (session_after o s)
+  session_at : (i : ℕ) (o : Option Component) (s : Option Session) → latest cs i ≡ o
+      → OpenedAt (upload_at tnew i) (upload_at told i) o → HasSession old i (upload_at told i) s
+      → HasSession new i (upload_at tnew i) (session_after o s)
   session_at i None s is now was = subst (λ u. HasSession new i u s) (sym now)
-      (session_as old new i (upload_at told i) s (all.opening.images ∙ keeps.images) (all.opening.slots i is ∙ keeps.slots i Secondary refl) (all.opening.trailers i is ∙ keeps.trailers i Secondary refl) was)
+      (session_as old new i (upload_at told i) s (all.opening.images ∙ keeps.images)
+      (all.opening.slots i is ∙ keeps.slots i Secondary refl)
+      (all.opening.trailers i is ∙ keeps.trailers i Secondary refl) was)
   session_at i (Some c) s is (u, now, fresh) was =
       let fit = fits i c is in
       let empty = all.empty i c is in
@@ -148,18 +205,28 @@ module _ (old mid new : View) (cs : List Component) (told tnew : List (Option Up
         session_eq (opened c) (session_of u []) (sym fresh.size) (sym fresh.digest) (sym fresh.kind) (sym fresh.held),
       )
 
-  asked_after : (i : ℕ) (wanted : Option Wanted) (o : Option Component) → latest cs i ≡ o → IsRequested (mid.trailer i Secondary) (mid.slot i Secondary) wanted
+  asked_after : (i : ℕ) (wanted : Option Wanted) (o : Option Component) → latest cs i ≡ o
+      → IsRequested (mid.trailer i Secondary) (mid.slot i Secondary) wanted
       → IsRequested (new.trailer i Secondary) (new.slot i Secondary) (request_after o wanted)
-  asked_after i wanted None is was = as_before mid new (latest cs) all.opening i wanted (all.opening.slots i is) (all.opening.trailers i is) was
-  asked_after i wanted (Some c) is was = unasked (new.trailer i Secondary) (new.slot i Secondary) (erased_stands (new.trailer i Secondary) (new.slot i Secondary) (all.empty i c is).0)
+  asked_after i wanted None is was = as_before mid new (latest cs) all.opening i wanted
+      (all.opening.slots i is) (all.opening.trailers i is) was
+  asked_after i wanted (Some c) is was = unasked (new.trailer i Secondary) (new.slot i Secondary)
+      (erased_stands (new.trailer i Secondary) (new.slot i Secondary) (all.empty i c is).0)
 
-  pub accept_done : (state : State) (q : ℕ) → old.log ≡ Some state → mid.log ≡ Some (record state { sequence = q }) → (m : Machine) → IsUpAt old told m → IsUpAt new tnew (accepted m q cs)
+  pub accept_done : (state : State) (q : ℕ) → old.log ≡ Some state
+      → mid.log ≡ Some (record state { sequence = q }) → (m : Machine) → IsUpAt old told m
+      → IsUpAt new tnew (accepted m q cs)
   accept_done state q read wrote m up =
       let was = sequenced old mid state q m.kept read keeps wrote up.rest in
       record {
         up = up.up;
-        rest = steady_left mid new (latest cs) all.opening (record m.kept { sequence = q }) (λ i. request_after (latest cs i) (m.kept.request i)) (λ i lt. asked_after i (m.kept.request i) (latest cs i) refl (was.each i lt).request) was;
-        open_ones = record { each = λ i. session_at i (latest cs i) (m.session i) refl (all.table i) (up.open_ones.each i) };
+        rest = steady_left mid new (latest cs) all.opening (record m.kept { sequence = q })
+            (λ i. request_after (latest cs i) (m.kept.request i))
+            (λ i lt. asked_after i (m.kept.request i) (latest cs i) refl (was.each i lt).request) was;
+        open_ones = record {
+          each = λ i. session_at i (latest cs i) (m.session i) refl (all.table i)
+              (up.open_ones.each i);
+        };
       }
 
   -- the uploads stand

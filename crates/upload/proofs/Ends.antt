@@ -1,7 +1,7 @@
 -- How a call ends that makes others.
-use Rattle.std.proofs.Common.{◌≡◌, ℕ, ◌+◌, Bool, true, false, Result, Ok, Err, refl, sym, ◌∙◌, ap}
+use Rattle.std.proofs.Common.{◌≡◌, ◌+◌, true, false, Result, Err, sym, ◌∙◌, ap}
 use Rattle.std.specs.Prelude.{IsErrOf}
-use Rattle.flash_model.specs.Chip.{Chip, Ends, IsCut, IsUncut}
+use Rattle.flash_model.specs.Chip.{Chip, Ends, IsUncut}
 use Rattle.flash_model.proofs.Ending.{uncut_trans}
 use Rattle.flash_model.specs.declared.error.FlashError.{FlashError}
 use Rattle.flash_model.specs.declared.error.FlashError.TheVariants.{Cut, Off}

@@ -1,21 +1,20 @@
 -- The row of finishing.
-use Rattle.std.proofs.Common.{◌≡◌, ◌⊎◌, ℕ, ◌+◌, ◌*◌, ◌<◌, ◌≤◌, ◌==◌, ◌&&◌, ◌++◌, Bool, true, false, List, [], length, replicate, Option, Some, None, Result, Ok, Err, refl, sym, ◌∙◌, ap, subst, arith, ⊎_elim, inl, inr, not, if◌then◌else◌}
+use Rattle.std.proofs.Common.{◌≡◌, ℕ, ◌<◌, ◌==◌, Bool, true, false, List, replicate, Option, Some, None, Result, Ok, Err, refl, sym, ◌∙◌, ap, subst, ⊎_elim, inl, inr, if◌then◌else◌}
 use Rattle.std.proofs.lemmas.Bool.{eq-eqb}
-use Rattle.flash_model.specs.declared.error.FlashError.{FlashError}
-use Rattle.sector_map.specs.declared.layout.Side.TheVariants.{Primary, Secondary}
+use Rattle.sector_map.specs.declared.layout.Side.TheVariants.{Secondary}
 use Rattle.sector_map.specs.Part.{incoming_of}
 use Rattle.trailer.specs.declared.kinds.Kind.{Kind}
 use Rattle.trailer.specs.declared.kinds.Kind.TheVariants.{Test, Permanent}
-use Rattle.trailer.specs.Fields.{Fields, erased_fields, trailer_of}
+use Rattle.trailer.specs.Fields.{erased_fields, trailer_of}
 use Rattle.trailer.specs.Standing.{is_permanent, kind_of, requested_fields, standing_kind}
 use Rattle.upload.specs.View.{View, KeepsView}
-use Rattle.upload.specs.Device.{DeviceState, Machine, Session, Wanted, closed}
+use Rattle.upload.specs.Device.{Machine, Session, Wanted, closed}
 use Rattle.upload.specs.Steady.{IsFront, IsImage, IsRequested, IsSteadyAt, Starts, told_by, request_in}
-use Rattle.upload.specs.Sessions.{upload_at, AllOpenAt, IsWith, AllClosed, IsUploadAt, session_of, HasSession, HasSessions, IsUpAt}
+use Rattle.upload.specs.Sessions.{upload_at, AllOpenAt, IsWith, IsUploadAt, session_of, HasSessions, IsUpAt}
 use Rattle.upload.specs.Ending.{IsClosedAfter, is_flash}
 use Rattle.upload.specs.Piece.{with_session}
 use Rattle.upload.specs.Withdrawal.{with_request}
-use Rattle.upload.specs.Finish.{EndsFinish, IsFinishedAt, IsGoodUpload, Finishes, FinishRow, asked}
+use Rattle.upload.specs.Finish.{EndsFinish, IsFinishedAt, Finishes, FinishRow, asked}
 use Rattle.upload.specs.declared.sessions.Upload.{Upload}
 use Rattle.upload.specs.declared.error.UploadError.{UploadError}
 use Rattle.upload.specs.declared.error.UploadError.TheVariants as no
@@ -45,48 +44,75 @@ asks w i s fin =
     let set = image_is_set (w.slot i Secondary) s.received fin.good.image.0 starts fin.good.image.1 in
     record {
       kind = ap (λ t. told_by t (w.slot i Secondary)) fin.trailer
-          ∙ ap (λ b. standing_kind (trailer_of (requested_fields s.kind)) b) set ∙ ap (λ k. Some k) (kind_back s.kind);
-      front = λ wanted is. subst (λ (x : Wanted). IsFront (w.slot i Secondary) x.bytes) (some_wanted (asked s) wanted is) (record {
-        image = λ bytes e. subst (λ l. Starts (w.slot i Secondary) l × IsImage l) (some_bytes s.received bytes e) (starts, fin.good.image);
-        none = λ e. absurd (some_none s.received e);
-      });
+          ∙ ap (λ b. standing_kind (trailer_of (requested_fields s.kind)) b) set ∙ ap (λ k. Some k)
+          (kind_back s.kind);
+      front = λ wanted is. subst (λ (x : Wanted). IsFront (w.slot i Secondary) x.bytes)
+          (some_wanted (asked s) wanted is) (record {
+            image = λ bytes e. subst (λ l. Starts (w.slot i Secondary) l
+                × IsImage l) (some_bytes s.received bytes e) (starts, fin.good.image);
+            none = λ e. absurd (some_none s.received e);
+          });
     }
 
-module _ (i : ℕ) (old new : View) (keeps : KeepsView (incoming_of i) old new) (told tmid tnew : List (Option Upload)) (u : Upload) (here : Some u ≡ upload_at told i) (out : IsWith i None told tmid) where
-  steady_asked : (m : Machine) (s : Session) → IsFinishedAt new i s → IsSteadyAt old m.kept → IsSteadyAt new (with_request m.kept i (Some (asked s)))
-  steady_asked m s fin was = steady_to i old new (others_kept i old new keeps) m.kept (λ j. if j == i then Some (asked s) else m.kept.request j)
+module _ (i : ℕ) (old new : View) (keeps : KeepsView (incoming_of i) old new)
+    (told tmid tnew : List (Option Upload)) (u : Upload) (here : Some u ≡ upload_at told i)
+    (out : IsWith i None told tmid) where
+  steady_asked : (m : Machine) (s : Session) → IsFinishedAt new i s → IsSteadyAt old m.kept
+      → IsSteadyAt new (with_request m.kept i (Some (asked s)))
+  steady_asked m s fin was = steady_to i old new (others_kept i old new keeps) m.kept
+      (λ j. if j == i then Some (asked s) else m.kept.request j)
       (λ j e. ap (λ b. if b then Some (asked s) else m.kept.request j) e)
-      (subst (λ b. IsRequested (new.trailer i Secondary) (new.slot i Secondary) (if b then Some (asked s) else m.kept.request i)) (sym (eq-eqb i i refl)) (asks new i s fin)) was
+      (subst (λ b. IsRequested (new.trailer i Secondary) (new.slot i Secondary)
+      (if b then Some (asked s) else m.kept.request i)) (sym (eq-eqb i i refl)) (asks new i s fin)) was
 
-  sessions_out : (m : Machine) → tnew ≡ tmid → IsUpAt old told m → HasSessions new tnew (λ j. if j == i then None else m.session j)
+  sessions_out : (m : Machine) → tnew ≡ tmid → IsUpAt old told m
+      → HasSessions new tnew (λ j. if j == i then None else m.session j)
   sessions_out m same up = subst (λ t. HasSessions new t (λ j. if j == i then None else m.session j)) (sym same)
       (sessions_to i old new (others_kept i old new keeps) told tmid None None m.session out tt up.open_ones)
 
-  unasked_before : (m : Machine) (written : List ℕ) → IsUploadAt old i u written → request_in new i ≡ None → IsUpAt old told m → (m.kept.request i ≡ None) × IsSteadyAt new m.kept
-  unasked_before m written at none up = steady_unasked i old new (others_kept i old new keeps) m.kept at.there (erased_stands (old.trailer i Secondary) (old.slot i Secondary) at.trailer) none up.rest
+  unasked_before : (m : Machine) (written : List ℕ) → IsUploadAt old i u written → request_in new i ≡ None
+      → IsUpAt old told m → (m.kept.request i ≡ None) × IsSteadyAt new m.kept
+  unasked_before m written at none up = steady_unasked i old new
+      (others_kept i old new keeps) m.kept at.there
+      (erased_stands (old.trailer i Secondary) (old.slot i Secondary) at.trailer) none up.rest
 
-  asked_none : (m : Machine) (written : List ℕ) → IsUploadAt old i u written → IsUpAt old told m → m.kept.request i ≡ None
+  asked_none : (m : Machine) (written : List ℕ) → IsUploadAt old i u written → IsUpAt old told m
+      → m.kept.request i ≡ None
   asked_none m written at up = not_asked (old.trailer i Secondary) (old.slot i Secondary) (m.kept.request i)
-      (erased_stands (old.trailer i Secondary) (old.slot i Secondary) at.trailer) (up.rest.each i (subst (λ n. i < n) up.rest.images at.there)).request
+      (erased_stands (old.trailer i Secondary) (old.slot i Secondary) at.trailer)
+      (up.rest.each i (subst (λ n. i < n) up.rest.images at.there)).request
 
   -- refused: the session is closed
-  left : (m : Machine) (written : List ℕ) → IsUploadAt old i u written → new.trailer i Secondary ≡ erased_fields → tnew ≡ tmid → IsUpAt old told m → IsUpAt new tnew (with_session m i None)
+  left : (m : Machine) (written : List ℕ) → IsUploadAt old i u written
+      → new.trailer i Secondary ≡ erased_fields → tnew ≡ tmid → IsUpAt old told m
+      → IsUpAt new tnew (with_session m i None)
   left m written at trailer same up = record {
     up = up.up;
-    rest = (unasked_before m written at (erased_stands (new.trailer i Secondary) (new.slot i Secondary) trailer) up).1;
+    rest = (unasked_before m written at (erased_stands (new.trailer i Secondary)
+        (new.slot i Secondary) trailer) up).1;
     open_ones = sessions_out m same up;
   }
 
-  finishes : (result : Result Unit UploadError) → IsClosedAfter result tmid tnew → (m : Machine) → IsUpAt old told m → (written : List ℕ) → IsUploadAt old i u written
-      → EndsFinish new i (session_of u written) result → (next : Machine) × Finishes m i (session_of u written) result next × IsUpAt new tnew next
+  finishes : (result : Result Unit UploadError) → IsClosedAfter result tmid tnew → (m : Machine)
+      → IsUpAt old told m → (written : List ℕ) → IsUploadAt old i u written
+      → EndsFinish new i (session_of u written) result → (next : Machine)
+      × Finishes m i (session_of u written) result next × IsUpAt new tnew next
   finishes (Ok done) after m up written at fin = (
     with_session (record m { kept = with_request m.kept i (Some (asked (session_of u written))) }) i None,
     (fin.good, refl),
-    record { up = up.up; rest = steady_asked m (session_of u written) fin up.rest; open_ones = sessions_out m (after.same refl) up },
+    record {
+      up = up.up;
+      rest = steady_asked m (session_of u written) fin up.rest;
+      open_ones = sessions_out m
+          (after.same refl) up;
+    },
   )
-  finishes (Err no.SizeWrong) after m up written at fin = (with_session m i None, (fin.0, refl), left m written at fin.1 (after.same refl) up)
-  finishes (Err no.DigestWrong) after m up written at fin = (with_session m i None, (fin.0, fin.1, refl), left m written at fin.2 (after.same refl) up)
-  finishes (Err (no.NotAnImage code)) after m up written at fin = (with_session m i None, (fin.0, fin.1, refl), left m written at fin.2 (after.same refl) up)
+  finishes (Err no.SizeWrong) after m up written at fin =
+      (with_session m i None, (fin.0, refl), left m written at fin.1 (after.same refl) up)
+  finishes (Err no.DigestWrong) after m up written at fin =
+      (with_session m i None, (fin.0, fin.1, refl), left m written at fin.2 (after.same refl) up)
+  finishes (Err (no.NotAnImage code)) after m up written at fin =
+      (with_session m i None, (fin.0, fin.1, refl), left m written at fin.2 (after.same refl) up)
   finishes (Err (no.Flash error)) after m up written at fin = ⊎_elim
       (λ (none : request_in new i ≡ None).
       let (before, rest) = unasked_before m written at none up in
@@ -94,7 +120,12 @@ module _ (i : ℕ) (old new : View) (keeps : KeepsView (incoming_of i) old new) 
       (λ (done : IsFinishedAt new i (session_of u written)). (
         closed m (with_request m.kept i (Some (asked (session_of u written)))),
         (asked_none m written at up, inr (done.good, refl)),
-        record { up = up.up; rest = steady_asked m (session_of u written) done up.rest; open_ones = sessions_closed new tnew (after.closed refl) },
+        record {
+          up = up.up;
+          rest = steady_asked m
+              (session_of u written) done up.rest;
+          open_ones = sessions_closed new tnew (after.closed refl);
+        },
       ))
       fin
   finishes (Err no.OldSequence) after m up written at fin = absurd fin
@@ -105,16 +136,20 @@ module _ (i : ℕ) (old new : View) (keeps : KeepsView (incoming_of i) old new) 
   finishes (Err no.NothingRequested) after m up written at fin = absurd fin
   finishes (Err no.NoMemory) after m up written at fin = absurd fin
 
-  pub finish_row : (result : Result Unit UploadError) → ((written : List ℕ) → IsUploadAt old i u written → EndsFinish new i (session_of u written) result) → IsClosedAfter result tmid tnew
+  pub finish_row : (result : Result Unit UploadError)
+      → ((written : List ℕ) → IsUploadAt old i u written → EndsFinish new i (session_of u written) result)
+      → IsClosedAfter result tmid tnew
       → (m : Machine) → IsUpAt old told m → (next : Machine) × FinishRow m i result next × IsUpAt new tnew next
   finish_row result ends after m up =
       let (written, at, is) = session_here old i u told m here up in
       let (next, row, now) = finishes result after m up written at (ends written at) in
       (next, inr (session_of u written, is, row), now)
 
-pub finish_none : (i : ℕ) (w : View) (told tnew : List (Option Upload)) → None ≡ upload_at told i → IsWith i None told tnew → (m : Machine) → IsUpAt w told m
+pub finish_none : (i : ℕ) (w : View) (told tnew : List (Option Upload)) → None ≡ upload_at told i
+    → IsWith i None told tnew → (m : Machine) → IsUpAt w told m
     → (next : Machine) × FinishRow m i (Err no.NoSession) next × IsUpAt w tnew next
-finish_none i w told tnew is now m up = (m, inl (no_session_here w i told m is up, refl, refl), same_sessions w i told tnew None m is now up)
+finish_none i w told tnew is now m up =
+    (m, inl (no_session_here w i told m is up, refl, refl), same_sessions w i told tnew None m is now up)
 
 -- the other uploads stand
 module _ (i : ℕ) (old new : View) (keeps : KeepsView (incoming_of i) old new) (told tmid tnew : List (Option Upload))

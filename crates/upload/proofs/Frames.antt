@@ -1,14 +1,13 @@
 -- What is left of a device at rest when one image's secondary slot and trailer are written.
-use Rattle.std.proofs.Common.{◌≡◌, ◌⊎◌, ℕ, ◌+◌, ◌*◌, ◌<◌, ◌≤◌, ◌==◌, ◌&&◌, ◌++◌, Bool, true, false, List, [], length, Option, Some, None, refl, sym, ◌∙◌, ap, subst, arith, ⊎_elim, inl, inr, if◌then◌else◌, not}
+use Rattle.std.proofs.Common.{◌≡◌, ℕ, ◌<◌, ◌≤◌, ◌==◌, ◌&&◌, Bool, true, false, List, length, Option, Some, None, refl, sym, ◌∙◌, ap, subst, if◌then◌else◌}
 use Rattle.std.proofs.Math.Bool.{and-false}
 use Rattle.std.proofs.lemmas.Bool.{eqb-true}
-use Rattle.std.specs.Prelude.{option_map}
 use Rattle.sector_map.specs.declared.layout.Side.TheVariants.{Primary, Secondary}
-use Rattle.sector_map.specs.Part.{Part, Slot, TrailerOf, only, incoming_of}
+use Rattle.sector_map.specs.Part.{Slot, only, incoming_of}
 use Rattle.trailer.specs.declared.kinds.Kind.{Kind}
 use Rattle.trailer.specs.Fields.{Fields, erased_fields}
 use Rattle.upload.specs.View.{View, KeepsView}
-use Rattle.upload.specs.Device.{DeviceState, Machine, Wanted, Session, no_session}
+use Rattle.upload.specs.Device.{DeviceState, Wanted, Session, no_session}
 use Rattle.upload.specs.Steady.{IsFront, IsRequested, IsImageAt, IsSteadyAt, told_by}
 use Rattle.upload.specs.Sessions.{upload_at, IsWith, AllClosed, IsWritten, IsUploadAt, session_of, HasSession, HasSessions}
 use Rattle.upload.specs.declared.sessions.Upload.{Upload}
@@ -40,11 +39,13 @@ others_slot i old new keeps = record {
 }
 
 -- a request that doesn't stand
-pub not_asked : (t : Fields) (l : List ℕ) (wanted : Option Wanted) → told_by t l ≡ None → IsRequested t l wanted → wanted ≡ None
+pub not_asked : (t : Fields) (l : List ℕ) (wanted : Option Wanted) → told_by t l ≡ None
+    → IsRequested t l wanted → wanted ≡ None
 not_asked t l None none was = refl
-not_asked t l (Some w) none was = let e : None ≡ Some w.kind = sym none ∙ was.kind in absurd (none_some w.kind e) where
-  none_some : (k : Kind) → None ≡ Some k → ⊥
-  none_some k e = cc
+not_asked t l (Some w) none was = let e : None ≡ Some w.kind = sym none ∙ was.kind in absurd
+    (none_some w.kind e) where
+      none_some : (k : Kind) → None ≡ Some k → ⊥
+      none_some k e = cc
 
 pub unasked : (t : Fields) (l : List ℕ) → told_by t l ≡ None → IsRequested t l None
 unasked t l none = record { kind = none; front = λ w e. absurd (none_some w e) } where
@@ -56,22 +57,28 @@ erased_stands t l e = ap (λ t. told_by t l) e
 
 -- at rest with other requests
 module _ (i : ℕ) (old new : View) (keeps : IsOthersKept i old new) where
-  at_image : (s : DeviceState) (request : ℕ → Option Wanted) (j : ℕ) (b : Bool) → (j == i) ≡ b → ((j == i) ≡ false → request j ≡ s.request j) → IsRequested (new.trailer i Secondary) (new.slot i Secondary) (request i)
+  at_image : (s : DeviceState) (request : ℕ → Option Wanted) (j : ℕ) (b : Bool) → (j == i) ≡ b
+      → ((j == i) ≡ false → request j ≡ s.request j)
+      → IsRequested (new.trailer i Secondary) (new.slot i Secondary) (request i)
       → IsImageAt old s j → IsImageAt new (record s { request = request }) j
   at_image s request j true same others asked was =
       let here : j ≡ i = eqb-true j i same in
       record {
         running = subst (λ l. IsFront l (s.running j)) (sym (keeps.primary j)) was.running;
-        request = subst (λ k. IsRequested (new.trailer k Secondary) (new.slot k Secondary) (request k)) (sym here) asked;
+        request = subst (λ k. IsRequested (new.trailer k Secondary) (new.slot k Secondary) (request k))
+            (sym here) asked;
       }
   at_image s request j false same others asked was = record {
     running = subst (λ l. IsFront l (s.running j)) (sym (keeps.primary j)) was.running;
-    request = subst (λ wanted. IsRequested (new.trailer j Secondary) (new.slot j Secondary) wanted) (sym (others same))
+    request = subst (λ wanted. IsRequested (new.trailer j Secondary) (new.slot j Secondary) wanted)
+        (sym (others same))
         (subst (λ l. IsRequested (new.trailer j Secondary) l (s.request j)) (sym (keeps.slots j same))
         (subst (λ t. IsRequested t (old.slot j Secondary) (s.request j)) (sym (keeps.trailers j same)) was.request));
   }
 
-  pub steady_to : (s : DeviceState) (request : ℕ → Option Wanted) → ((j : ℕ) → (j == i) ≡ false → request j ≡ s.request j) → IsRequested (new.trailer i Secondary) (new.slot i Secondary) (request i)
+  pub steady_to : (s : DeviceState) (request : ℕ → Option Wanted)
+      → ((j : ℕ) → (j == i) ≡ false → request j ≡ s.request j)
+      → IsRequested (new.trailer i Secondary) (new.slot i Secondary) (request i)
       → IsSteadyAt old s → IsSteadyAt new (record s { request = request })
   steady_to s request others asked was = record {
     trial = was.trial;
@@ -81,16 +88,22 @@ module _ (i : ℕ) (old new : View) (keeps : IsOthersKept i old new) where
   }
 
   -- nothing was requested, and nothing is
-  pub steady_unasked : (s : DeviceState) → i < old.images → told_by (old.trailer i Secondary) (old.slot i Secondary) ≡ None
-      → told_by (new.trailer i Secondary) (new.slot i Secondary) ≡ None → IsSteadyAt old s → (s.request i ≡ None) × IsSteadyAt new s
+  pub steady_unasked : (s : DeviceState) → i < old.images
+      → told_by (old.trailer i Secondary) (old.slot i Secondary) ≡ None
+      → told_by (new.trailer i Secondary) (new.slot i Secondary) ≡ None → IsSteadyAt old s
+      → (s.request i ≡ None) × IsSteadyAt new s
   steady_unasked s lt none still was =
-      let asked = not_asked (old.trailer i Secondary) (old.slot i Secondary) (s.request i) none (was.each i (subst (λ n. i < n) was.images lt)).request in (
+      let asked = not_asked (old.trailer i Secondary) (old.slot i Secondary) (s.request i) none
+      (was.each i (subst (λ n. i < n) was.images lt)).request in (
         asked,
-        steady_to s s.request (λ j e. refl) (subst (λ wanted. IsRequested (new.trailer i Secondary) (new.slot i Secondary) wanted) (sym asked)
+        steady_to s s.request (λ j e. refl) (subst
+            (λ wanted. IsRequested (new.trailer i Secondary) (new.slot i Secondary) wanted) (sym asked)
             (unasked (new.trailer i Secondary) (new.slot i Secondary) still)) was,
       )
 
-  pub session_same : (j : ℕ) (o : Option Upload) (s : Option Session) → new.slot j Secondary ≡ old.slot j Secondary → new.trailer j Secondary ≡ old.trailer j Secondary → HasSession old j o s → HasSession new j o s
+  pub session_same : (j : ℕ) (o : Option Upload) (s : Option Session)
+      → new.slot j Secondary ≡ old.slot j Secondary → new.trailer j Secondary ≡ old.trailer j Secondary
+      → HasSession old j o s → HasSession new j o s
   session_same j None None slot trailer was = tt
   session_same j None (Some s) slot trailer was = was
   session_same j (Some u) None slot trailer was = was
@@ -109,21 +122,31 @@ module _ (i : ℕ) (old new : View) (keeps : IsOthersKept i old new) where
     is,
   )
 
-  with_session_at : (told tnew : List (Option Upload)) (o : Option Upload) (s : Option Session) (session : ℕ → Option Session) (j : ℕ) (b : Bool) → (j == i) ≡ b
-      → upload_at tnew j ≡ (if b then o else upload_at told j) → HasSession new i o s → HasSession old j (upload_at told j) (session j) → HasSession new j (upload_at tnew j) (if b then s else session j)
+  with_session_at : (told tnew : List (Option Upload)) (o : Option Upload) (s : Option Session) (session : ℕ
+      → Option Session) (j : ℕ) (b : Bool) → (j == i) ≡ b
+      → upload_at tnew j ≡ (if b then o else upload_at told j) → HasSession new i o s
+      → HasSession old j (upload_at told j) (session j)
+      → HasSession new j (upload_at tnew j) (if b then s else session j)
   with_session_at told tnew o s session j true same now at was =
       subst (λ u. HasSession new j u s) (sym now) (subst (λ k. HasSession new k o s) (sym (eqb-true j i same)) at)
   with_session_at told tnew o s session j false same now at was =
-      subst (λ u. HasSession new j u (session j)) (sym now) (session_same j (upload_at told j) (session j) (keeps.slots j same) (keeps.trailers j same) was)
+      subst (λ u. HasSession new j u (session j)) (sym now)
+      (session_same j (upload_at told j) (session j) (keeps.slots j same) (keeps.trailers j same) was)
 
-  pub sessions_to : (told tnew : List (Option Upload)) (o : Option Upload) (s : Option Session) (session : ℕ → Option Session) → IsWith i o told tnew → HasSession new i o s
+  pub sessions_to : (told tnew : List (Option Upload)) (o : Option Upload) (s : Option Session) (session : ℕ
+      → Option Session) → IsWith i o told tnew → HasSession new i o s
       → HasSessions old told session → HasSessions new tnew (λ j. if j == i then s else session j)
-  sessions_to told tnew o s session now at was = record { each = λ j. with_session_at told tnew o s session j (j == i) refl (now j) at (was.each j) }
+  sessions_to told tnew o s session now at was = record {
+    each = λ j. with_session_at told tnew o s session j
+        (j == i) refl (now j) at (was.each j);
+  }
 
-pub sessions_closed : (w : View) (sessions : List (Option Upload)) → AllClosed sessions → HasSessions w sessions no_session
+pub sessions_closed : (w : View) (sessions : List (Option Upload)) → AllClosed sessions
+    → HasSessions w sessions no_session
 sessions_closed w sessions none = record { each = λ j. subst (λ u. HasSession w j u None) (sym (none j)) tt }
 
-pub opened_as : (w : View) (i : ℕ) (u : Upload) (s : Option Session) → HasSession w i (Some u) s → (written : List ℕ) × IsUploadAt w i u written × (s ≡ Some (session_of u written))
+pub opened_as : (w : View) (i : ℕ) (u : Upload) (s : Option Session) → HasSession w i (Some u) s
+    → (written : List ℕ) × IsUploadAt w i u written × (s ≡ Some (session_of u written))
 opened_as w i u None was = absurd was
 opened_as w i u (Some s) (written, was, is) = (written, was, ap (λ x. Some x) is)
 
@@ -132,8 +155,11 @@ none_as w i None was = refl
 none_as w i (Some s) was = absurd was
 
 -- a session that is taken out and put back
-pub with_with : (i : ℕ) (first second : Option Upload) (a b c : List (Option Upload)) → IsWith i first a b → IsWith i second b c → IsWith i second a c
-with_with i first second a b c one two j = twice (j == i) (upload_at a j) (upload_at b j) (upload_at c j) (one j) (two j) where
-  twice : (d : Bool) (x y z : Option Upload) → y ≡ (if d then first else x) → z ≡ (if d then second else y) → z ≡ (if d then second else x)
-  twice true x y z e f = f
-  twice false x y z e f = f ∙ e
+pub with_with : (i : ℕ) (first second : Option Upload) (a b c : List (Option Upload)) → IsWith i first a b
+    → IsWith i second b c → IsWith i second a c
+with_with i first second a b c one two j = twice (j == i) (upload_at a j) (upload_at b j) (upload_at c j)
+    (one j) (two j) where
+      twice : (d : Bool) (x y z : Option Upload) → y ≡ (if d then first else x) → z ≡ (if d then second else y)
+          → z ≡ (if d then second else x)
+      twice true x y z e f = f
+      twice false x y z e f = f ∙ e

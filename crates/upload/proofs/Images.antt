@@ -1,6 +1,5 @@
 -- Images at the front of a slot.
 use Rattle.std.proofs.Common.{◌≡◌, ℕ, List, [], ◌∷◌, ◌++◌, true, refl, sym, ◌∙◌, ap, subst, append_assoc}
-use Rattle.byteorder.specs.Endian.{little_bytes}
 use Rattle.trailer.specs.Standing.{first_is_set}
 use Rattle.tlv.specs.declared.desc.Desc.{Desc}
 use Rattle.tlv.specs.Image.{BeginsWithImage, Image, IsIntact, image_bytes}

@@ -1,8 +1,8 @@
 -- Open uploads as the sessions of a device, and back.
-use Rattle.std.proofs.Common.{◌≡◌, ℕ, ◌==◌, Bool, true, false, List, Option, Some, None, refl, sym, ◌∙◌, ap, subst, if◌then◌else◌}
+use Rattle.std.proofs.Common.{◌≡◌, ℕ, List, Option, Some, None, refl, sym, ◌∙◌, subst}
 use Rattle.upload.specs.View.{View}
 use Rattle.upload.specs.Device.{Session}
-use Rattle.upload.specs.Sessions.{upload_at, AllClosed, AllOpenAt, IsOpenAt, IsUploadAt, IsWith, HasSession, HasSessions, session_of}
+use Rattle.upload.specs.Sessions.{upload_at, AllClosed, AllOpenAt, IsOpenAt, IsWith, HasSession, HasSessions, session_of}
 use Rattle.upload.specs.declared.sessions.Upload.{Upload}
 use Rattle.upload.proofs.Frames.{IsOthersKept, sessions_to}
 
@@ -13,7 +13,8 @@ one_upload : (a b : Upload) → Some a ≡ Some b → a ≡ b
 one_upload a b e = cc
 
 -- the session of an upload that stands
-abbrev session_for : (w : View) (i : ℕ) (o : Option Upload) → ((u : Upload) → o ≡ Some u → IsOpenAt w i u) → Option Session
+abbrev session_for : (w : View) (i : ℕ) (o : Option Upload) → ((u : Upload) → o ≡ Some u → IsOpenAt w i u)
+    → Option Session
 session_for w i None opens = None
 session_for w i (Some u) opens = Some (session_of u (opens u refl).0)
 

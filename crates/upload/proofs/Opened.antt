@@ -1,15 +1,14 @@
 -- Opening the sessions of one component after another.
-use Rattle.std.proofs.Common.{◌≡◌, ◌⊎◌, ℕ, zero, suc, ◌+◌, ◌<◌, ◌≤◌, ◌==◌, ◌&&◌, ◌++◌, Bool, true, false, List, [], ◌∷◌, length, take, get_or, Option, Some, None, refl, sym, ◌∙◌, ap, subst, arith, add-one, ⊎_elim, inl, inr, if◌then◌else◌}
+use Rattle.std.proofs.Common.{◌≡◌, ◌⊎◌, ℕ, zero, suc, ◌+◌, ◌<◌, ◌==◌, ◌&&◌, Bool, true, false, List, [], ◌∷◌, length, take, get_or, Option, Some, None, refl, sym, ◌∙◌, ap, subst, arith, add-one, ⊎_elim, inl, inr, if◌then◌else◌}
 use Rattle.std.specs.Prelude.{All}
-use Rattle.std.proofs.Math.Bool.{and-false}
 use Rattle.std.proofs.lemmas.Bool.{eq-eqb, eqb-true}
 use Rattle.flash_model.specs.Chip.{Chip}
 use Rattle.sector_map.specs.declared.layout.SectorMap.{SectorMap}
-use Rattle.sector_map.specs.declared.layout.Side.TheVariants.{Primary, Secondary}
+use Rattle.sector_map.specs.declared.layout.Side.TheVariants.{Secondary}
 use Rattle.sector_map.specs.Part.{Part, Slot, TrailerOf, Scratch, Log, incoming_of, only, same_side}
 use Rattle.sector_map.specs.Map.{Keeps}
 use Rattle.sector_map.proofs.Parts.{keeps_trans, keeps_wider}
-use Rattle.trailer.specs.Fields.{Fields, erased_fields}
+use Rattle.trailer.specs.Fields.{erased_fields}
 use Rattle.manifest.specs.declared.manifest.Component.{Component}
 use Rattle.upload.specs.View.{View, KeepsView}
 use Rattle.upload.specs.Steady.{told_by, request_in}
@@ -19,12 +18,14 @@ use Rattle.upload.specs.Accepted.{or_else, latest, is_some, is_named, named_part
 use Rattle.upload.specs.declared.sessions.Upload.{Upload}
 use Rattle.upload.proofs.Frames.{others_kept}
 
-if_same : (b : Bool) (x : Component) (o f : Option Component) → or_else (if b then Some x else o) f ≡ (if b then Some x else or_else o f)
+if_same : (b : Bool) (x : Component) (o f : Option Component)
+    → or_else (if b then Some x else o) f ≡ (if b then Some x else or_else o f)
 if_same true x o f = refl
 if_same false x o f = refl
 
 -- one component more
-pub latest_more : (cs : List Component) (i : ℕ) (x : Component) (j : ℕ) → i < length cs → x ≡ get_or cs i x → latest (take (suc i) cs) j ≡ (if x.image == j then Some x else latest (take i cs) j)
+pub latest_more : (cs : List Component) (i : ℕ) (x : Component) (j : ℕ) → i < length cs → x ≡ get_or cs i x
+    → latest (take (suc i) cs) j ≡ (if x.image == j then Some x else latest (take i cs) j)
 latest_more [] i x j lt is = absurd (omega arith)
 latest_more (c ∷ cs) zero x j lt is = ap (λ (d : Component). if d.image == j then Some d else None) (sym is)
 latest_more (c ∷ cs) (suc i) x j lt is =
@@ -34,9 +35,13 @@ latest_more (c ∷ cs) (suc i) x j lt is =
 -- a standing request that is kept or gone, twice
 either_trans : (old mid new : View) (j : ℕ) → IsKeptOrGone old mid j → IsKeptOrGone mid new j → IsKeptOrGone old new j
 either_trans old mid new j first second = ⊎_elim
-    (λ (same : (new.slot j Secondary ≡ mid.slot j Secondary) × (new.trailer j Secondary ≡ mid.trailer j Secondary)). ⊎_elim
-    (λ (before : (mid.slot j Secondary ≡ old.slot j Secondary) × (mid.trailer j Secondary ≡ old.trailer j Secondary)). inl (same.0 ∙ before.0, same.1 ∙ before.1))
-    (λ (none : request_in mid j ≡ None). inr (ap (λ t. told_by t (new.slot j Secondary)) same.1 ∙ ap (λ l. told_by (mid.trailer j Secondary) l) same.0 ∙ none))
+    (λ (same : (new.slot j Secondary ≡ mid.slot j Secondary)
+    × (new.trailer j Secondary ≡ mid.trailer j Secondary)). ⊎_elim
+    (λ (before : (mid.slot j Secondary ≡ old.slot j Secondary)
+    × (mid.trailer j Secondary ≡ old.trailer j Secondary)). inl (same.0 ∙ before.0, same.1 ∙ before.1))
+    (λ (none : request_in mid j ≡ None). inr
+    (ap (λ t. told_by t (new.slot j Secondary)) same.1 ∙ ap
+    (λ l. told_by (mid.trailer j Secondary) l) same.0 ∙ none))
     first)
     (λ (none : request_in new j ≡ None). inr none)
     second
@@ -47,34 +52,43 @@ opening_none w named = record { images = refl; log = refl; primary = λ j. refl;
 -- tests of images, the other way round
 eqb_sym : (i j : ℕ) (b : Bool) → (j == i) ≡ b → (i == j) ≡ b
 eqb_sym i j true e = eq-eqb i j (sym (eqb-true j i e))
-eqb_sym i j false e = ⊎_elim (λ (yes : (i == j) ≡ true). absurd (false_true (sym e ∙ eq-eqb j i (sym (eqb-true i j yes))))) (λ no. no) (either_bool (i == j)) where
-  false_true : false ≡ true → ⊥
-  false_true e = cc
+eqb_sym i j false e = ⊎_elim (λ (yes : (i == j) ≡ true). absurd
+    (false_true (sym e ∙ eq-eqb j i (sym (eqb-true i j yes))))) (λ no. no) (either_bool (i == j)) where
+      false_true : false ≡ true → ⊥
+      false_true e = cc
 
-  either_bool : (b : Bool) → (b ≡ true) ⊎ (b ≡ false)
-  either_bool true = inl refl
-  either_bool false = inr refl
+      either_bool : (b : Bool) → (b ≡ true) ⊎ (b ≡ false)
+      either_bool true = inl refl
+      either_bool false = inr refl
 
 some_none : (c : Component) → Some c ≡ None → ⊥
 some_none c e = cc
 
 -- one image is opened, or partly so
-module _ (old mid new : View) (named after : ℕ → Option Component) (x : Component) (next : (j : ℕ) → after j ≡ (if x.image == j then Some x else named j))
-    (keeps : KeepsView (incoming_of x.image) mid new) (long : length (new.slot x.image Secondary) ≡ length (mid.slot x.image Secondary)) (either : IsKeptOrGone mid new x.image) where
+module _ (old mid new : View) (named after : ℕ → Option Component) (x : Component) (next : (j : ℕ)
+    → after j ≡ (if x.image == j then Some x else named j))
+    (keeps : KeepsView (incoming_of x.image) mid new)
+    (long : length (new.slot x.image Secondary) ≡ length (mid.slot x.image Secondary))
+    (either : IsKeptOrGone mid new x.image) where
   -- an image that isn't named isn't this one, and wasn't named before
   other : (j : ℕ) → after j ≡ None → ((j == x.image) ≡ false) × (named j ≡ None)
   other j none = by_case (x.image == j) refl (sym (next j) ∙ none) where
-    by_case : (b : Bool) → (x.image == j) ≡ b → (if b then Some x else named j) ≡ None → ((j == x.image) ≡ false) × (named j ≡ None)
+    by_case : (b : Bool) → (x.image == j) ≡ b → (if b then Some x else named j) ≡ None
+        → ((j == x.image) ≡ false) × (named j ≡ None)
     by_case true same e = absurd (some_none x e)
     by_case false same e = (eqb_sym j x.image false same, e)
 
   each_long : (j : ℕ) (b : Bool) → (j == x.image) ≡ b → length (new.slot j Secondary) ≡ length (mid.slot j Secondary)
-  each_long j true same = subst (λ k. length (new.slot k Secondary) ≡ length (mid.slot k Secondary)) (sym (eqb-true j x.image same)) long
+  each_long j true same = subst (λ k. length (new.slot k Secondary) ≡ length (mid.slot k Secondary))
+      (sym (eqb-true j x.image same)) long
   each_long j false same = ap length ((others_kept x.image mid new keeps).slots j same)
 
   each_either : (j : ℕ) (b : Bool) → (j == x.image) ≡ b → IsKeptOrGone mid new j
   each_either j true same = subst (λ k. IsKeptOrGone mid new k) (sym (eqb-true j x.image same)) either
-  each_either j false same = inl ((others_kept x.image mid new keeps).slots j same, (others_kept x.image mid new keeps).trailers j same)
+  each_either j false same = inl (
+    (others_kept x.image mid new keeps).slots j same,
+    (others_kept x.image mid new keeps).trailers j same,
+  )
 
   pub opening_more : IsOpening old mid named → IsOpening old new after
   opening_more was = let kept = others_kept x.image mid new keeps in record {
@@ -87,7 +101,8 @@ module _ (old mid new : View) (named after : ℕ → Option Component) (x : Comp
     either = λ j. either_trans old mid new j (was.either j) (each_either j (j == x.image) refl);
   }
 
-  module _ (told tmid tnew : List (Option Upload)) (trailer : new.trailer x.image Secondary ≡ erased_fields) (slot : IsWritten (new.slot x.image Secondary) []) (u : Upload) (fresh : IsFresh x u)
+  module _ (told tmid tnew : List (Option Upload)) (trailer : new.trailer x.image Secondary ≡ erased_fields)
+      (slot : IsWritten (new.slot x.image Secondary) []) (u : Upload) (fresh : IsFresh x u)
       (now : IsWith x.image (Some u) tmid tnew) where
     pub opened_more : IsOpened old mid told tmid named → IsOpened old new told tnew after
     opened_more was = record {
@@ -95,18 +110,27 @@ module _ (old mid new : View) (named after : ℕ → Option Component) (x : Comp
       empty = λ j c is. empty_at j c (x.image == j) refl (sym (next j) ∙ is);
       table = λ j. table_at j (x.image == j) refl (next j);
     } where
-      empty_at : (j : ℕ) (c : Component) (b : Bool) → (x.image == j) ≡ b → (if b then Some x else named j) ≡ Some c → (new.trailer j Secondary ≡ erased_fields) × IsWritten (new.slot j Secondary) []
-      empty_at j c true same is = subst (λ k. (new.trailer k Secondary ≡ erased_fields) × IsWritten (new.slot k Secondary) []) (eqb-true x.image j same) (trailer, slot)
+      empty_at : (j : ℕ) (c : Component) (b : Bool) → (x.image == j) ≡ b
+          → (if b then Some x else named j) ≡ Some c → (new.trailer j Secondary ≡ erased_fields)
+          × IsWritten (new.slot j Secondary) []
+      empty_at j c true same is = subst (λ k. (new.trailer k Secondary ≡ erased_fields)
+          × IsWritten (new.slot k Secondary) []) (eqb-true x.image j same) (trailer, slot)
       empty_at j c false same is =
           let before = was.empty j c is in
-          let not_here = eqb_sym j x.image false same in
-          ((others_kept x.image mid new keeps).trailers j not_here ∙ before.0, subst (λ l. IsWritten l []) (sym ((others_kept x.image mid new keeps).slots j not_here)) before.1)
+          let not_here = eqb_sym j x.image false same in (
+            (others_kept x.image mid new keeps).trailers j not_here ∙ before.0,
+            subst (λ l. IsWritten l [])
+                (sym ((others_kept x.image mid new keeps).slots j not_here)) before.1,
+          )
 
-      table_at : (j : ℕ) (b : Bool) → (x.image == j) ≡ b → after j ≡ (if b then Some x else named j) → OpenedAt (upload_at tnew j) (upload_at told j) (after j)
+      table_at : (j : ℕ) (b : Bool) → (x.image == j) ≡ b → after j ≡ (if b then Some x else named j)
+          → OpenedAt (upload_at tnew j) (upload_at told j) (after j)
       table_at j true same is = subst (λ o. OpenedAt (upload_at tnew j) (upload_at told j) o) (sym is)
           (u, now j ∙ ap (λ b. if b then Some u else upload_at tmid j) (eqb_sym j x.image true same), fresh)
       table_at j false same is = subst (λ o. OpenedAt (upload_at tnew j) (upload_at told j) o) (sym is)
-          (subst (λ o. OpenedAt o (upload_at told j) (named j)) (sym (now j ∙ ap (λ b. if b then Some u else upload_at tmid j) (eqb_sym j x.image false same))) (was.table j))
+          (subst (λ o. OpenedAt o (upload_at told j) (named j))
+          (sym (now j ∙ ap (λ b. if b then Some u else upload_at tmid j) (eqb_sym j x.image false same)))
+          (was.table j))
 
 or_none : (o f : Option Component) → or_else o f ≡ None → (o ≡ None) × (f ≡ None)
 or_none None f e = (refl, e)
@@ -121,7 +145,8 @@ latest_less (c ∷ cs) (suc k) j e =
     let parts = or_none (latest cs j) (if c.image == j then Some c else None) e in
     ap (λ o. or_else o (if c.image == j then Some c else None)) (latest_less cs k j parts.0) ∙ parts.1
 
-pub opening_wider : (old new : View) (named more : ℕ → Option Component) → ((j : ℕ) → more j ≡ None → named j ≡ None) → IsOpening old new named → IsOpening old new more
+pub opening_wider : (old new : View) (named more : ℕ → Option Component)
+    → ((j : ℕ) → more j ≡ None → named j ≡ None) → IsOpening old new named → IsOpening old new more
 opening_wider old new named more wider was = record {
   images = was.images;
   log = was.log;
@@ -135,8 +160,15 @@ opening_wider old new named more wider was = record {
 none_some : (c : Component) → None ≡ Some c → ⊥
 none_some c e = cc
 
-pub opened_none : (w : View) (told : List (Option Upload)) (cs : List Component) → IsOpened w w told told (latest (take 0 cs))
-opened_none w told cs = record { opening = opening_none w (latest (take 0 cs)); empty = λ j c e. absurd (none_some c (sym (latest_zero cs j) ∙ e)); table = λ j. subst (λ o. OpenedAt (upload_at told j) (upload_at told j) o) (sym (latest_zero cs j)) refl } where
+pub opened_none : (w : View) (told : List (Option Upload)) (cs : List Component)
+    → IsOpened w w told told (latest (take 0 cs))
+opened_none w told cs = record {
+  opening = opening_none w (latest (take 0 cs));
+  empty = λ j c e. absurd
+      (none_some c (sym (latest_zero cs j) ∙ e));
+  table = λ j. subst
+      (λ o. OpenedAt (upload_at told j) (upload_at told j) o) (sym (latest_zero cs j)) refl;
+} where
   latest_zero : (cs : List Component) (j : ℕ) → latest (take 0 cs) j ≡ None
   latest_zero [] j = refl
   latest_zero (c ∷ cs) j = refl
@@ -146,11 +178,14 @@ get_or_any [] i d e lt = absurd (omega arith)
 get_or_any (c ∷ cs) zero d e lt = refl
 get_or_any (c ∷ cs) (suc i) d e lt = get_or_any cs i d e (omega arith)
 
-pub latest_at : (cs : List Component) (i : ℕ) (d : Component) → i < length cs → (j : ℕ) → latest (take (i + 1) cs) j ≡ (if (get_or cs i d).image == j then Some (get_or cs i d) else latest (take i cs) j)
-latest_at cs i d lt j = ap (λ n. latest (take n cs) j) (add-one i) ∙ latest_more cs i (get_or cs i d) j lt (get_or_any cs i d (get_or cs i d) lt)
+pub latest_at : (cs : List Component) (i : ℕ) (d : Component) → i < length cs → (j : ℕ)
+    → latest (take (i + 1) cs) j ≡ (if (get_or cs i d).image == j then Some (get_or cs i d) else latest (take i cs) j)
+latest_at cs i d lt j = ap (λ n. latest (take n cs) j) (add-one i) ∙ latest_more cs i (get_or cs i d) j lt
+    (get_or_any cs i d (get_or cs i d) lt)
 
 -- what a component asks for, of the last one that names an image
-pub named_has : (P : Component → Type 0) (cs : List Component) (i : ℕ) (c : Component) → All P cs → latest cs i ≡ Some c
+pub named_has : (P : Component → Type 0) (cs : List Component) (i : ℕ) (c : Component) → All P cs
+    → latest cs i ≡ Some c
     → P c × (c.image ≡ i)
 named_has P [] i c all is = absurd (none_some c is)
 named_has P (d ∷ cs) i c all is =
@@ -208,7 +243,8 @@ module _ (cs ds : List Component) (x : Component)
       (eq-eqb x.image i (sym (eqb-true i x.image same))))
 
   before_parts : (part : Part) → named_parts ds part ≡ false → named_parts cs part ≡ false
-  before_parts (Slot i side) e = less_false (is_named cs i) (is_named ds i) (same_side side Secondary) (named_still i) e
+  before_parts (Slot i side) e = less_false (is_named cs i) (is_named ds i) (same_side side Secondary)
+      (named_still i) e
   before_parts (TrailerOf i side) e =
       less_false (is_named cs i) (is_named ds i) (same_side side Secondary) (named_still i) e
   before_parts Scratch e = refl
@@ -216,7 +252,8 @@ module _ (cs ds : List Component) (x : Component)
 
   own_parts : (part : Part) → named_parts ds part ≡ false → incoming_of x.image part ≡ false
   own_parts (Slot i side) e = less_false (i == x.image) (is_named ds i) (same_side side Secondary) (named_now i) e
-  own_parts (TrailerOf i side) e = less_false (i == x.image) (is_named ds i) (same_side side Secondary) (named_now i) e
+  own_parts (TrailerOf i side) e = less_false (i == x.image) (is_named ds i) (same_side side Secondary)
+      (named_now i) e
   own_parts Scratch e = refl
   own_parts Log e = refl
 

@@ -1,14 +1,13 @@
 -- The row of a piece.
-use Rattle.std.proofs.Common.{◌≡◌, ◌⊎◌, ℕ, ◌+◌, ◌*◌, ◌<◌, ◌≤◌, ◌==◌, ◌++◌, Bool, true, false, List, [], length, Option, Some, None, Ok, Err, refl, sym, ◌∙◌, ap, subst, arith, length-append, if◌then◌else◌}
+use Rattle.std.proofs.Common.{◌≡◌, ℕ, ◌+◌, ◌<◌, ◌≤◌, ◌==◌, Bool, true, false, List, length, Option, Some, None, Ok, Err, refl, sym, ◌∙◌, ap, subst, arith, length-append, if◌then◌else◌}
 use Rattle.std.proofs.lemmas.Bool.{eqb-true}
 use Rattle.flash_model.specs.declared.error.FlashError.{FlashError}
-use Rattle.sector_map.specs.declared.layout.Side.TheVariants.{Primary, Secondary}
+use Rattle.sector_map.specs.declared.layout.Side.TheVariants.{Secondary}
 use Rattle.sector_map.specs.Part.{Slot, only}
-use Rattle.trailer.specs.Fields.{erased_fields}
 use Rattle.upload.specs.View.{View, KeepsView}
-use Rattle.upload.specs.Device.{DeviceState, Machine, Session, closed}
+use Rattle.upload.specs.Device.{Machine, closed}
 use Rattle.upload.specs.Steady.{IsSteadyAt}
-use Rattle.upload.specs.Sessions.{upload_at, IsWith, AllClosed, IsUploadAt, session_of, HasSession, HasSessions, IsUpAt}
+use Rattle.upload.specs.Sessions.{upload_at, IsWith, AllClosed, IsUploadAt, session_of, HasSession, IsUpAt}
 use Rattle.upload.specs.Piece.{Pieces, TakesMore, appended, with_session}
 use Rattle.upload.specs.declared.sessions.Upload.{Upload}
 use Rattle.upload.specs.declared.error.UploadError.TheVariants as no
@@ -16,25 +15,34 @@ use Rattle.upload.proofs.Views.{view_refl}
 use Rattle.upload.proofs.Frames.{others_slot, steady_unasked, erased_stands, sessions_to, sessions_closed, opened_as, none_as, with_with}
 
 -- the session of an upload in the table
-pub session_here : (w : View) (i : ℕ) (u : Upload) (sessions : List (Option Upload)) (m : Machine) → Some u ≡ upload_at sessions i → IsUpAt w sessions m
+pub session_here : (w : View) (i : ℕ) (u : Upload) (sessions : List (Option Upload)) (m : Machine)
+    → Some u ≡ upload_at sessions i → IsUpAt w sessions m
     → (written : List ℕ) × IsUploadAt w i u written × (m.session i ≡ Some (session_of u written))
-session_here w i u sessions m is up = opened_as w i u (m.session i) (subst (λ o. HasSession w i o (m.session i)) (sym is) (up.open_ones.each i))
+session_here w i u sessions m is up = opened_as w i u (m.session i)
+    (subst (λ o. HasSession w i o (m.session i)) (sym is) (up.open_ones.each i))
 
-pub no_session_here : (w : View) (i : ℕ) (sessions : List (Option Upload)) (m : Machine) → None ≡ upload_at sessions i → IsUpAt w sessions m → m.session i ≡ None
-no_session_here w i sessions m is up = none_as w i (m.session i) (subst (λ o. HasSession w i o (m.session i)) (sym is) (up.open_ones.each i))
+pub no_session_here : (w : View) (i : ℕ) (sessions : List (Option Upload)) (m : Machine)
+    → None ≡ upload_at sessions i → IsUpAt w sessions m → m.session i ≡ None
+no_session_here w i sessions m is up = none_as w i (m.session i)
+    (subst (λ o. HasSession w i o (m.session i)) (sym is) (up.open_ones.each i))
 
-pub long_session : (u : Upload) (written : List ℕ) (w : View) (i : ℕ) → IsUploadAt w i u written → length (session_of u written).received ≡ u.received
+pub long_session : (u : Upload) (written : List ℕ) (w : View) (i : ℕ) → IsUploadAt w i u written
+    → length (session_of u written).received ≡ u.received
 long_session u written w i was = length-append written u.held.items ∙ sym was.count
 
-module _ (i : ℕ) (old new : View) (keeps : KeepsView (only (Slot i Secondary)) old new) (told : List (Option Upload)) (u : Upload) (here : Some u ≡ upload_at told i) where
+module _ (i : ℕ) (old new : View) (keeps : KeepsView (only (Slot i Secondary)) old new)
+    (told : List (Option Upload)) (u : Upload) (here : Some u ≡ upload_at told i) where
   -- the slot of an open upload may be written
   pub rests : (m : Machine) → IsUpAt old told m → (m.kept.request i ≡ None) × IsSteadyAt new m.kept
   rests m up =
       let (written, at, is) = session_here old i u told m here up in
-      steady_unasked i old new (others_slot i old new keeps) m.kept at.there (erased_stands (old.trailer i Secondary) (old.slot i Secondary) at.trailer)
-      (erased_stands (new.trailer i Secondary) (new.slot i Secondary) (keeps.trailers i Secondary refl ∙ at.trailer)) up.rest
+      steady_unasked i old new (others_slot i old new keeps) m.kept at.there
+      (erased_stands (old.trailer i Secondary) (old.slot i Secondary) at.trailer)
+      (erased_stands (new.trailer i Secondary) (new.slot i Secondary)
+      (keeps.trailers i Secondary refl ∙ at.trailer)) up.rest
 
-  pub piece_done : (v : Upload) (bytes : List ℕ) (tmid tnew : List (Option Upload)) → IsWith i None told tmid → IsWith i (Some v) tmid tnew → u.received + length bytes ≤ u.size
+  pub piece_done : (v : Upload) (bytes : List ℕ) (tmid tnew : List (Option Upload)) → IsWith i None told tmid
+      → IsWith i (Some v) tmid tnew → u.received + length bytes ≤ u.size
       → TakesMore old new i u v bytes
       → (m : Machine) → IsUpAt old told m → (next : Machine) × Pieces m i bytes (Ok tt) next × IsUpAt new tnew next
   piece_done v bytes tmid tnew out back fits adds m up =
@@ -46,45 +54,68 @@ module _ (i : ℕ) (old new : View) (keeps : KeepsView (only (Slot i Secondary))
         record {
           up = up.up;
           rest = (rests m up).1;
-          open_ones = sessions_to i old new (others_slot i old new keeps) told tnew (Some v) (Some (appended (session_of u written) bytes)) m.session
+          open_ones = sessions_to i old new (others_slot i old new keeps) told tnew (Some v)
+              (Some (appended (session_of u written) bytes)) m.session
               (with_with i None (Some v) told tmid tnew out back) (more, now, sym same) up.open_ones;
         },
       )
 
-  pub piece_cut : (bytes : List ℕ) (error : FlashError) (tnew : List (Option Upload)) → AllClosed tnew → (m : Machine) → IsUpAt old told m
+  pub piece_cut : (bytes : List ℕ) (error : FlashError) (tnew : List (Option Upload)) → AllClosed tnew
+      → (m : Machine) → IsUpAt old told m
       → (next : Machine) × Pieces m i bytes (Err (no.Flash error)) next × IsUpAt new tnew next
   piece_cut bytes error tnew none m up =
       let (asked, rest) = rests m up in
       (closed m m.kept, (asked, refl), record { up = up.up; rest = rest; open_ones = sessions_closed new tnew none })
 
-same_with : (i : ℕ) (told tnew : List (Option Upload)) (o : Option Upload) → o ≡ upload_at told i → IsWith i o told tnew → (j : ℕ) → upload_at tnew j ≡ upload_at told j
+same_with : (i : ℕ) (told tnew : List (Option Upload)) (o : Option Upload) → o ≡ upload_at told i
+    → IsWith i o told tnew → (j : ℕ) → upload_at tnew j ≡ upload_at told j
 same_with i told tnew o is now j = by_case (j == i) refl (now j) where
-  by_case : (b : Bool) → (j == i) ≡ b → upload_at tnew j ≡ (if b then o else upload_at told j) → upload_at tnew j ≡ upload_at told j
+  by_case : (b : Bool) → (j == i) ≡ b → upload_at tnew j ≡ (if b then o else upload_at told j)
+      → upload_at tnew j ≡ upload_at told j
   by_case true same e = e ∙ is ∙ ap (λ k. upload_at told k) (sym (eqb-true j i same))
   by_case false same e = e
 
 -- a table that says the same
-pub same_sessions : (w : View) (i : ℕ) (told tnew : List (Option Upload)) (o : Option Upload) (m : Machine) → o ≡ upload_at told i → IsWith i o told tnew → IsUpAt w told m → IsUpAt w tnew m
+pub same_sessions : (w : View) (i : ℕ) (told tnew : List (Option Upload)) (o : Option Upload) (m : Machine)
+    → o ≡ upload_at told i → IsWith i o told tnew → IsUpAt w told m → IsUpAt w tnew m
 same_sessions w i told tnew o m is now up = record {
   up = up.up;
   rest = up.rest;
-  open_ones = record { each = λ j. subst (λ u. HasSession w j u (m.session j)) (sym (same_with i told tnew o is now j)) (up.open_ones.each j) };
+  open_ones = record {
+    each = λ j. subst (λ u. HasSession w j u (m.session j))
+        (sym (same_with i told tnew o is now j)) (up.open_ones.each j);
+  };
 }
 
-pub piece_none : (i : ℕ) (w : View) (told tnew : List (Option Upload)) (bytes : List ℕ) → None ≡ upload_at told i → IsWith i None told tnew → (m : Machine) → IsUpAt w told m
+pub piece_none : (i : ℕ) (w : View) (told tnew : List (Option Upload)) (bytes : List ℕ)
+    → None ≡ upload_at told i → IsWith i None told tnew → (m : Machine) → IsUpAt w told m
     → (next : Machine) × Pieces m i bytes (Err no.NoSession) next × IsUpAt w tnew next
-piece_none i w told tnew bytes is now m up = (m, (no_session_here w i told m is up, refl), same_sessions w i told tnew None m is now up)
+piece_none i w told tnew bytes is now m up =
+    (m, (no_session_here w i told m is up, refl), same_sessions w i told tnew None m is now up)
 
-pub session_out : (i : ℕ) (w : View) (told tnew : List (Option Upload)) → IsWith i None told tnew → (m : Machine) → IsUpAt w told m → IsUpAt w tnew (with_session m i None)
+pub session_out : (i : ℕ) (w : View) (told tnew : List (Option Upload)) → IsWith i None told tnew
+    → (m : Machine) → IsUpAt w told m → IsUpAt w tnew (with_session m i None)
 session_out i w told tnew out m up = record {
   up = up.up;
   rest = up.rest;
-  open_ones = sessions_to i w w (others_slot i w w (view_refl (only (Slot i Secondary)) w)) told tnew None None m.session out tt up.open_ones;
+  open_ones = sessions_to i w w (others_slot i w w
+      (view_refl (only (Slot i Secondary)) w)) told tnew None None m.session out tt up.open_ones;
 }
 
-pub piece_more : (i : ℕ) (w : View) (told tnew : List (Option Upload)) (u : Upload) (bytes : List ℕ) → Some u ≡ upload_at told i → IsWith i None told tnew → u.size < u.received + length bytes → (m : Machine) → IsUpAt w told m
+pub piece_more : (i : ℕ) (w : View) (told tnew : List (Option Upload)) (u : Upload) (bytes : List ℕ)
+    → Some u ≡ upload_at told i → IsWith i None told tnew → u.size < u.received + length bytes
+    → (m : Machine) → IsUpAt w told m
     → (next : Machine) × Pieces m i bytes (Err no.TooMuch) next × IsUpAt w tnew next
 piece_more i w told tnew u bytes is out more m up =
     let (written, at, here) = session_here w i u told m is up in
-    let long = long_session u written w i at in
-    (with_session m i None, (session_of u written, here, omega (arith, long, more), refl), session_out i w told tnew out m up)
+    let long = long_session u written w i at in (
+      with_session m i None,
+      (
+        session_of u written,
+        here,
+        omega
+            (arith, long, more),
+        refl,
+      ),
+      session_out i w told tnew out m up,
+    )

@@ -1,5 +1,5 @@
 -- The digest of the image at the front of a slot.
-use Rattle.std.proofs.Common.{◌≡◌, List, ℕ, ◌++◌, Option, Some, None, subst, sym}
+use Rattle.std.proofs.Common.{◌≡◌, List, ℕ, Option, Some, subst, sym}
 use Rattle.tlv.specs.declared.desc.Desc.{Desc}
 use Rattle.tlv.specs.Image.{BeginsIntact}
 use Rattle.upload.specs.Accepted.{FrontHasDigest}

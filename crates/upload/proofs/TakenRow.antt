@@ -1,5 +1,5 @@
 -- The row of accepting a manifest, by what taking it answered.
-use Rattle.std.proofs.Common.{◌≡◌, ◌⊎◌, ℕ, ◌+◌, ◌<◌, ◌≤◌, Bool, true, false, List, length, Option, Some, None, Ok, Err, Result, refl, sym, ◌∙◌, ap, subst, arith, inl}
+use Rattle.std.proofs.Common.{◌≡◌, ℕ, ◌<◌, ◌≤◌, false, List, length, Option, Some, None, Ok, Err, Result, refl, sym, ◌∙◌, ap, subst, arith, inl}
 use Rattle.std.specs.Prelude.{All, slice_index_or}
 use Rattle.sector_map.specs.declared.layout.SectorMap.{SectorMap}
 use Rattle.sector_map.specs.declared.layout.Side.TheVariants.{Primary, Secondary}
@@ -9,17 +9,14 @@ use Rattle.sector_map.proofs.PartBytes.{length_part}
 use Rattle.flash_model.specs.Chip.{Chip}
 use Rattle.set_log.specs.declared.state.State.{State}
 use Rattle.set_log.specs.declared.state.Kind.TheVariants.{Steady}
-use Rattle.tlv.specs.declared.desc.Desc.{Desc}
-use Rattle.tlv.specs.Image.{IsIntact, BeginsWithImage}
-use Rattle.tlv.proofs.ImageLaws.{image-unique}
 use Rattle.manifest.specs.declared.manifest.Component.{Component}
 use Rattle.upload.specs.View.{View}
 use Rattle.upload.specs.Device.{DeviceState, Machine, closed}
-use Rattle.upload.specs.Steady.{IsFront, IsSteadyAt, Starts, logged}
-use Rattle.upload.specs.Sessions.{AllClosed, AllOpenAt, IsUpAt}
+use Rattle.upload.specs.Steady.{IsFront, IsSteadyAt, logged}
+use Rattle.upload.specs.Sessions.{AllOpenAt, IsUpAt}
 use Rattle.upload.specs.Ending.{IsClosedAfter}
-use Rattle.upload.specs.Accepted.{Accepts, AllFit, AreThere, latest, AllFollow, AllFollowAt, FrontHasDigest, HasDigest, IsAcceptCut, IsPrecursor, accepted}
-use Rattle.upload.specs.Taking.{CutsAccept, EndsAccept, IsNewer, IsTaken, IsUnchanged, MayTake, Refuses}
+use Rattle.upload.specs.Accepted.{Accepts, AllFit, AreThere, latest, AllFollow, AllFollowAt, FrontHasDigest, HasDigest, IsPrecursor, accepted}
+use Rattle.upload.specs.Taking.{EndsAccept, IsNewer, IsUnchanged, Refuses}
 use Rattle.upload.specs.declared.sessions.Upload.{Upload}
 use Rattle.upload.specs.declared.error.UploadError.{UploadError}
 use Rattle.upload.specs.declared.error.UploadError.TheVariants as no
@@ -32,7 +29,8 @@ use Rattle.upload.proofs.Opened.{named_has}
 -- ---- the image that runs
 
 -- what stands at the front of the primary slot is what runs
-precursor_runs : (slot : List ℕ) (digest running : Option (List ℕ)) → IsFront slot running → FrontHasDigest slot digest
+precursor_runs : (slot : List ℕ) (digest running : Option (List ℕ)) → IsFront slot running
+    → FrontHasDigest slot digest
     → IsPrecursor digest running
 precursor_runs slot None running front has = tt
 precursor_runs slot (Some digest) None front (bytes, starts, (description, intact, same)) =

@@ -1,11 +1,11 @@
 -- What a call that keeps parts leaves of what is seen of a flash.
-use Rattle.std.proofs.Common.{◌≡◌, ℕ, Bool, false, length, refl, sym, ◌∙◌, ap, subst}
+use Rattle.std.proofs.Common.{◌≡◌, ℕ, Bool, length, refl, sym, ◌∙◌, ap, subst}
 use Rattle.flash_model.specs.Chip.{Chip}
 use Rattle.sector_map.specs.declared.layout.SectorMap.{SectorMap}
 use Rattle.sector_map.specs.declared.layout.Side.{Side}
 use Rattle.sector_map.specs.declared.layout.Side.TheVariants.{Secondary}
 use Rattle.sector_map.specs.Part.{Part, Slot, TrailerOf, Scratch, Log, incoming_of, only}
-use Rattle.sector_map.specs.Map.{IsLaidOut, Keeps, length_of, part_of, slot_sectors}
+use Rattle.sector_map.specs.Map.{IsLaidOut, Keeps, part_of, slot_sectors}
 use Rattle.sector_map.proofs.Parts.{keeps_trans, keeps_wider, laid_out_kept}
 use Rattle.sector_map.proofs.Touched.{slot_of_incoming, trailer_of_incoming}
 use Rattle.sector_map.proofs.PartBytes.{length_part}
@@ -45,7 +45,8 @@ long_kept map touched old new part laid keeps =
     length_part map new part (laid_out_kept map touched old new laid keeps) ∙ sym (length_part map old part laid)
 
 -- a slot stays as long as it was
-pub view_long : (map : SectorMap) (touched : Part → Bool) (old new : Chip) (image : ℕ) (side : Side) → IsLaidOut map old
+pub view_long : (map : SectorMap) (touched : Part → Bool) (old new : Chip) (image : ℕ) (side : Side)
+    → IsLaidOut map old
     → Keeps map touched old new → length ((view map new).slot image side) ≡ length ((view map old).slot image side)
 view_long map touched old new image side laid keeps = long_kept map touched old new (Slot image side) laid keeps
 
@@ -57,4 +58,5 @@ slot_then_trailer map image old mid read new first same second =
     keeps_trans map (incoming_of image) old mid new
     (keeps_wider map (only (Slot image Secondary)) (incoming_of image) old mid (slot_of_incoming image) first)
     (subst (λ chip. Keeps map (incoming_of image) chip new) same
-    (keeps_wider map (only (TrailerOf image Secondary)) (incoming_of image) read new (trailer_of_incoming image) second))
+    (keeps_wider map (only (TrailerOf image Secondary)) (incoming_of image) read new
+    (trailer_of_incoming image) second))

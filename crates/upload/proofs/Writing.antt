@@ -1,17 +1,17 @@
 -- Writing and erasing a secondary slot.
-use Rattle.std.proofs.Common.{◌≡◌, ℕ, zero, suc, ◌+◌, ◌-◌, ◌*◌, ◌/◌, ◌%◌, ◌<◌, ◌≤◌, List, [], ◌∷◌, ◌++◌, length, take, drop, replicate, slice_index, arith, refl, sym, ◌∙◌, ap, subst, append_assoc, length-append, inl, inr}
+use Rattle.std.proofs.Common.{◌≡◌, ℕ, zero, suc, ◌+◌, ◌-◌, ◌*◌, ◌/◌, ◌%◌, ◌<◌, ◌≤◌, List, [], ◌∷◌, ◌++◌, length, take, drop, replicate, slice_index, arith, refl, sym, ◌∙◌, ap, subst, append_assoc, length-append, inl}
 use Rattle.std.proofs.lemmas.List.{append-nil, length-replicate, get_or-replicate, get_or-append_right, drop-replicate, take-replicate, nil_from_length}
 use Rattle.std.proofs.Math.Seq.{take-append_seam, drop-append_seam}
 use Rattle.std.proofs.lemmas.List.{drop-drop}
-use Rattle.flash_model.specs.Chip.{Chip, IsErased, Reads, SameOutside, IsUncut, size_of}
-use Rattle.flash_model.proofs.Erased.{erased_kept, erased_joined, erased_none}
+use Rattle.flash_model.specs.Chip.{Chip, IsErased, Reads, SameOutside}
+use Rattle.flash_model.proofs.Erased.{erased_kept, erased_joined}
 use Rattle.flash_model.proofs.Units.{aligned}
 use Rattle.sector_map.specs.declared.layout.SectorMap.{SectorMap}
 use Rattle.sector_map.specs.declared.layout.Side.TheVariants.{Secondary}
-use Rattle.sector_map.specs.Part.{Part, Slot, only}
-use Rattle.sector_map.specs.Map.{IsIn, IsLaidOut, IsMap, Keeps, count_of, first_of, length_of, part_of, sectors_of, slot_sectors, start_of}
+use Rattle.sector_map.specs.Part.{Slot}
+use Rattle.sector_map.specs.Map.{IsIn, IsLaidOut, IsMap, first_of, length_of, part_of, sectors_of, slot_sectors, start_of}
 use Rattle.sector_map.proofs.Places.{units_of, within}
-use Rattle.sector_map.proofs.PartBytes.{length_part, part_at, keeps_write, keeps_erase, range_inside}
+use Rattle.sector_map.proofs.PartBytes.{length_part, part_at}
 use Rattle.sector_map.proofs.PartLists.{part_written, part_erased}
 use Rattle.upload.specs.Sessions.{IsWritten}
 
@@ -52,7 +52,8 @@ slot_aligned map image at k fits is =
     omega (arith, start)
 
 -- nothing is written
-pub written_none : (slot front bytes : List ℕ) → length bytes ≡ 0 → IsWritten slot front → IsWritten slot (front ++ bytes)
+pub written_none : (slot front bytes : List ℕ) → length bytes ≡ 0 → IsWritten slot front
+    → IsWritten slot (front ++ bytes)
 written_none slot front bytes none was =
     subst (λ l. IsWritten slot l) (sym (ap (λ l. front ++ l) (nil_from_length bytes none) ∙ append-nil front)) was
 
@@ -84,7 +85,11 @@ pub slot_erased : (map : SectorMap) (chip : Chip) (image : ℕ) → IsLaidOut ma
     → IsErased chip (start_of map (Slot image Secondary)) (length_of map (Slot image Secondary))
     → IsWritten (slot_of map chip image) []
 slot_erased map chip image laid erased =
-    record { left = length_of map (Slot image Secondary); is = part_erased map chip (Slot image Secondary) laid erased }
+    record {
+      left = length_of map (Slot image Secondary);
+      is = part_erased map chip
+          (Slot image Secondary) laid erased;
+    }
 
 -- a sector of a slot
 pub in_slot : (map : SectorMap) (image index : ℕ) → index < slot_sectors map image
@@ -115,7 +120,8 @@ pub erased_more : (map : SectorMap) (old new : Chip) (image index : ℕ)
 erased_more map old new image index was same now =
     let start = start_of map (Slot image Secondary) in
     let at = sector_place map image index in
-    let before = erased_kept start (index * map.sector_size) _ map.sector_size old new was same (inl (omega (arith, at))) in
+    let before = erased_kept start (index * map.sector_size) _ map.sector_size old new was same
+    (inl (omega (arith, at))) in
     let here = subst (λ k. IsErased new k map.sector_size) at now in
     subst (λ n. IsErased new start n) (sym (next_sector map index))
     (erased_joined new start (index * map.sector_size) map.sector_size before here)

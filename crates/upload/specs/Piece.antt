@@ -5,7 +5,7 @@ use Rattle.upload.specs.Sessions.{IsUploadAt, session_of}
 use Rattle.upload.specs.declared.sessions.Upload.{Upload}
 use Rattle.upload.specs.declared.error.UploadError.{UploadError}
 use Rattle.upload.specs.declared.error.UploadError.TheVariants as no
-use Rattle.upload.specs.Device.{DeviceState, Machine, Session, closed}
+use Rattle.upload.specs.Device.{Machine, Session, closed}
 
 -- The machine with another session of an image.
 abbrev pub with_session : Machine → ℕ → Option Session → Machine

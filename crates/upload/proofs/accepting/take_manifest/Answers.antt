@@ -1,4 +1,4 @@
-use Rattle.std.proofs.Common.{◌≡◌, ap, subst, sym}
+use Rattle.std.proofs.Common.{ap, subst}
 use Rattle.upload.specs.View.{view}
 use Rattle.upload.specs.Taking.{CutsAccept, IsTaken}
 use Rattle.upload.proofs.accepting.take_manifest.Goals as goal

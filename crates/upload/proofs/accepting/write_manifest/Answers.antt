@@ -1,9 +1,6 @@
-use Rattle.std.proofs.Common.{◌≡◌, ◌⊎◌, ◌<◌, ◌≤◌, length, ap, subst, sym, ◌∙◌, refl}
+use Rattle.std.proofs.Common.{refl}
 use Rattle.std.proofs.lemmas.Result.{on_ok_weaker}
-use Rattle.sector_map.specs.declared.layout.Side.TheVariants.{Secondary}
-use Rattle.sector_map.specs.Part.{Slot}
 use Rattle.sector_map.proofs.Parts.{keeps_trans, keeps_wider, laid_out_kept}
-use Rattle.upload.specs.View.{view}
 use Rattle.upload.specs.Accepted.{accepted_parts}
 use Rattle.upload.proofs.Views.{view_kept}
 use Rattle.upload.proofs.Opened.{log_of_accepted, parts_and_log}

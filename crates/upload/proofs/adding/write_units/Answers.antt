@@ -1,4 +1,4 @@
-use Rattle.std.proofs.Common.{rules, ◌≡◌, ◌⊎◌, ◌+◌, ◌-◌, ◌*◌, ◌++◌, ◌<◌, ◌≤◌, ℕ, Option, Some, None, length, List, ◌/◌, ◌%◌, Bool, true, false, arith, refl, sym, ◌∙◌, ap, subst, take, drop, length-append}
+use Rattle.std.proofs.Common.{◌≡◌, ◌+◌, ◌-◌, ◌++◌, ℕ, length, List, arith, refl, sym, ◌∙◌, ap, subst, take, drop, length-append}
 use Rattle.std.proofs.lemmas.List.{take-append-drop}
 use Rattle.sector_map.specs.declared.layout.Side.TheVariants.{Secondary}
 use Rattle.sector_map.specs.Part.{Slot, only}
@@ -100,12 +100,14 @@ returns-clause-ok g c =
     let n2 = c.len-2.ensures.value in
     let h = ap (λ v. v.items) c.take-unit.ensures.value in
     let unit = c.as_slice.ensures.value ∙ c.extend.ensures ∙ ap (λ l. l ++ c.split_at.result.0.now) h in
-    let parts : c.args.bytes.now ≡ c.split_at.result.0.now ++ (c.split_at-2.result.0.now ++ c.split_at-2.result.1.now) =
+    let parts : c.args.bytes.now ≡ c.split_at.result.0.now ++
+    (c.split_at-2.result.0.now ++ c.split_at-2.result.1.now) =
     sym (take-append-drop (8 - c.len-2.result) c.args.bytes.now)
     ∙ ap (λ l. l ++ drop (8 - c.len-2.result) c.args.bytes.now) (sym c.split_at.ensures.front)
     ∙ ap (λ l. c.split_at.result.0.now ++ l) (sym c.split_at.ensures.back
     ∙ whole _ _ _ c.whole_units.result c.split_at-2.ensures.front c.split_at-2.ensures.back) in
-    let held : IsHeld c.args.upload.now c.hold.new.upload (length c.args.bytes.now) c.split_at-2.result.1.now = record {
+    let held : IsHeld c.args.upload.now c.hold.new.upload
+    (length c.args.bytes.now) c.split_at-2.result.1.now = record {
       size = ap (λ (v : Upload). v.size) c.hold.ensures.rest;
       digest = ap (λ (v : Upload). v.digest) c.hold.ensures.rest;
       kind = ap (λ (v : Upload). v.kind) c.hold.ensures.rest;

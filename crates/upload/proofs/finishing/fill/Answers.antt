@@ -1,4 +1,4 @@
-use Rattle.std.proofs.Common.{rules, ◌≡◌, ◌+◌, ◌-◌, ◌≤◌, ◌++◌, length, arith, sym, ◌∙◌, ap}
+use Rattle.std.proofs.Common.{◌-◌, ◌++◌, arith, ◌∙◌, ap}
 use Rattle.upload.proofs.Writing.{filler, take_filler}
 use Rattle.upload.proofs.finishing.fill.Goals as goal
 

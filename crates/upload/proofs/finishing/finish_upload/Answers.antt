@@ -1,4 +1,4 @@
-use Rattle.std.proofs.Common.{rules, ◌≡◌, ◌+◌, ◌-◌, ◌*◌, ◌≤◌, ◌++◌, length, arith, sym, ◌∙◌, ap, subst}
+use Rattle.std.proofs.Common.{◌-◌, arith, ◌∙◌, ap, subst}
 use Rattle.std.proofs.Common.{Err, inl, refl}
 use Rattle.sector_map.specs.declared.layout.Side.TheVariants.{Secondary}
 use Rattle.sector_map.specs.Part.{Slot}
@@ -55,7 +55,8 @@ returns-in-Err-request-clause-ends g c =
     let judged = c.judge.ensures.same in
     let first = c.in-Ok.ensures.ends in
     ends_later _ _ (g.F.Flash.chip c.write_last.new.flash) _ first.uncut first.asleep
-    (subst (λ chip. EndsUpload {T = Unit} (Err (no.Flash c.in-Err-request.error)) chip (g.F.Flash.chip c.request.new.flash)) judged
+    (subst (λ chip. EndsUpload {T = Unit} (Err (no.Flash c.in-Err-request.error)) chip
+    (g.F.Flash.chip c.request.new.flash)) judged
     (ends_flash c.in-Err-request.error _ _ c.in-Err-request.ensures.ends))
 
 pub returns-in-Err-judge-clause-finish : goal.returns-in-Err-judge-clause-finish

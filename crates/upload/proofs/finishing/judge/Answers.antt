@@ -1,4 +1,4 @@
-use Rattle.std.proofs.Common.{rules, ◌≡◌, take, sym, ◌∙◌, subst}
+use Rattle.std.proofs.Common.{rules, take, subst}
 use Rattle.sector_map.specs.Map.{part_of}
 use Rattle.sector_map.specs.Part.{Slot}
 use Rattle.sector_map.specs.declared.layout.Side.TheVariants.{Secondary}

@@ -1,6 +1,5 @@
-use Rattle.std.proofs.Common.{rules, ◌≡◌, ◌+◌, ◌-◌, ◌*◌, ◌≤◌, ◌<◌, ◌++◌, length, length-append, arith, sym, ◌∙◌, ap, subst}
+use Rattle.std.proofs.Common.{rules, ◌-◌, ◌<◌, length, length-append, arith, ◌∙◌, ap}
 use Rattle.std.proofs.lemmas.Result.{on_ok_weaker}
-use Rattle.sector_map.specs.declared.layout.Side.TheVariants.{Secondary}
 use Rattle.upload.proofs.Writing.{length_filler, slot_units, written_less}
 use Rattle.upload.proofs.finishing.write_last.Goals as goal
 
@@ -20,5 +19,6 @@ write_slot-requires-clause-room g c =
 
 pub returns-clause-ok : goal.returns-clause-ok
 returns-clause-ok g c = on_ok_weaker c.write_slot.result (λ ok. λ front long written.
-    written_less _ front c.args.unit.items _ (8 - length c.args.unit.items) (c.as_slice.ensures.value ∙ c.fill.ensures)
+    written_less _ front c.args.unit.items _ (8 - length c.args.unit.items)
+    (c.as_slice.ensures.value ∙ c.fill.ensures)
     (ok front long written)) c.write_slot.ensures.ok

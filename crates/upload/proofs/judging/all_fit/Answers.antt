@@ -1,4 +1,4 @@
-use Rattle.std.proofs.Common.{rules, ◌≡◌, ◌≤◌, ◌<◌, ◌+◌, take, None, [], arith, refl, subst, sym, false}
+use Rattle.std.proofs.Common.{◌≤◌, None, [], arith, refl, subst, false}
 use Rattle.std.proofs.lemmas.List.{take_all}
 use Rattle.std.proofs.lemmas.List.Elements.{All-more}
 use Rattle.manifest.specs.declared.manifest.Component.{Component}
@@ -20,6 +20,7 @@ loop-component-preserved c =
 pub returns : goal.returns
 returns c = (
   λ yes. subst (λ l. AllFit c.args.map.now l)
-      (take_all c.loop-component.component-index c.args.components.now (omega (arith, c.loop-component-test.false))) c.loop-component.invariant,
+      (take_all c.loop-component.component-index c.args.components.now
+      (omega (arith, c.loop-component-test.false))) c.loop-component.invariant,
   λ all. refl,
 )

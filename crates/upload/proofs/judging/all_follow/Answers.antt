@@ -1,4 +1,4 @@
-use Rattle.std.proofs.Common.{rules, ◌≡◌, ◌≤◌, ◌<◌, ◌+◌, true, false, take, get_or, None, [], arith, refl, subst, sym}
+use Rattle.std.proofs.Common.{rules, false, get_or, None, [], arith, refl, subst}
 use Rattle.std.specs.Prelude.{IsTrue}
 use Rattle.std.proofs.lemmas.List.{take_all}
 use Rattle.std.proofs.lemmas.List.Elements.{All-more}
@@ -20,7 +20,8 @@ loop-component-preserved g c =
     let yes : IsTrue c.in_ok-follows.field-0 = search rules in
     record {
       follow = All-more (λ (d : Component). FrontHasDigest
-          (part_of c.args.map.now (g.F.Flash.chip c.args.flash.now) (Slot d.image Primary)) d.precursor) cs index blank
+          (part_of c.args.map.now (g.F.Flash.chip c.args.flash.now)
+          (Slot d.image Primary)) d.precursor) cs index blank
           c.loop-component-test.true c.loop-component.invariant.follow
           (subst (λ chip. FrontHasDigest (part_of c.args.map.now chip (Slot (get_or cs index blank).image Primary))
           (get_or cs index blank).precursor) c.loop-component.invariant.same (c.in_ok-follows.ensures.ok.0 yes));

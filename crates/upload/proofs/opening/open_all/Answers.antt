@@ -1,7 +1,7 @@
-use Rattle.std.proofs.Common.{rules, ◌≡◌, ◌<◌, ◌≤◌, ◌+◌, ℕ, true, false, take, get_or, None, [], suc, arith, sym, ◌∙◌, ap, subst}
+use Rattle.std.proofs.Common.{rules, ◌+◌, false, take, get_or, None, []}
 use Rattle.sector_map.proofs.Parts.{keeps_wider, laid_out_kept}
 use Rattle.manifest.specs.declared.manifest.Component.{Component}
-use Rattle.upload.specs.Accepted.{IsOpened, IsOpening, latest, named_parts}
+use Rattle.upload.specs.Accepted.{latest, named_parts}
 use Rattle.upload.proofs.Views.{view_kept, view_long}
 use Rattle.upload.proofs.Opened.{first_parts, keeps_more, latest_at, latest_less, opening_more, opening_wider, opened_more, opened_none}
 use Rattle.upload.proofs.opening.open_all.Goals as goal

@@ -1,4 +1,4 @@
-use Rattle.std.proofs.Common.{◌≡◌, ◌<◌, ◌≤◌, ◌+◌, ℕ, true, false, take}
+use Rattle.std.proofs.Common.{◌≡◌, false, take}
 use Rattle.flash_model.specs.Chip.{IsUncut}
 use Rattle.sector_map.specs.Map.{Keeps}
 use Rattle.upload.specs.View.{view}

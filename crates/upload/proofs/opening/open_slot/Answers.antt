@@ -1,4 +1,4 @@
-use Rattle.std.proofs.Common.{◌≡◌, ◌⊎◌, ◌∙◌, refl, inr}
+use Rattle.std.proofs.Common.{◌∙◌, refl, inr}
 use Rattle.std.proofs.lemmas.Result.{on_ok_weaker}
 use Rattle.sector_map.specs.declared.layout.Side.TheVariants.{Secondary}
 use Rattle.upload.specs.View.{view}
@@ -9,7 +9,8 @@ use Rattle.upload.proofs.opening.open_slot.Goals as goal
 pub returns-clause-either : goal.returns-clause-either
 returns-clause-either g c =
     let new = view c.args.map.now (g.F.Flash.chip c.erase_slot.new.flash) in
-    inr (erased_stands (new.trailer c.args.image Secondary) (new.slot c.args.image Secondary) ((view_kept c.args.map.now _ _ _ c.erase_slot.ensures.outside).trailers c.args.image
+    inr (erased_stands (new.trailer c.args.image Secondary) (new.slot c.args.image Secondary)
+    ((view_kept c.args.map.now _ _ _ c.erase_slot.ensures.outside).trailers c.args.image
     Secondary refl ∙ c.in_ok-withdraw.ensures.ok))
 
 pub returns-clause-trailer : goal.returns-clause-trailer

@@ -1,4 +1,4 @@
-use Rattle.std.proofs.Common.{◌≡◌, ◌+◌, ◌*◌, ◌≤◌, ◌<◌, arith, ap, subst, sym}
+use Rattle.std.proofs.Common.{◌+◌, ◌*◌, arith, ap, subst, sym}
 use Rattle.flash_model.proofs.Frame.{product_le}
 use Rattle.sector_map.specs.declared.layout.Side.TheVariants.{Secondary}
 use Rattle.sector_map.specs.Part.{Slot, only}
@@ -33,7 +33,14 @@ is_erased-requires g c =
 pub erase-requires : goal.erase-requires
 erase-requires g c =
     let there = slot_sector c.args.map.now c.args.image c.args.index c.requires.laid_out.is_map c.requires.within in
-    omega (arith, there, c.slot.ensures, c.requires.laid_out.sectors, ap (λ chip. chip.sectors) c.is_erased.ensures.same)
+    omega (
+      arith,
+      there,
+      c.slot.ensures,
+      c.requires.laid_out.sectors,
+      ap
+          (λ chip. chip.sectors) c.is_erased.ensures.same,
+    )
 
 pub returns-clause-outside : goal.returns-clause-outside
 returns-clause-outside g c =

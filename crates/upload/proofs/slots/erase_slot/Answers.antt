@@ -1,7 +1,7 @@
-use Rattle.std.proofs.Common.{◌≡◌, ◌*◌, ◌≤◌, ◌<◌, arith, ap, subst, ◌∙◌}
+use Rattle.std.proofs.Common.{◌*◌, arith, subst}
 use Rattle.sector_map.specs.declared.layout.Side.TheVariants.{Secondary}
 use Rattle.sector_map.specs.Part.{Slot, only}
-use Rattle.sector_map.specs.Map.{start_of, slot_sectors}
+use Rattle.sector_map.specs.Map.{start_of}
 use Rattle.sector_map.proofs.Parts.{laid_out_kept}
 use Rattle.flash_model.specs.Chip.{IsErased}
 use Rattle.upload.proofs.Writing.{slot_erased}

@@ -1,10 +1,10 @@
-use Rattle.std.proofs.Common.{rules, ◌≡◌, ◌+◌, ◌≤◌, ◌<◌, length, arith, ap, subst, sym}
+use Rattle.std.proofs.Common.{rules, ◌+◌, ◌<◌, length, arith, ap, subst, sym}
 use Rattle.std.proofs.lemmas.Result.{on_ok_weaker}
 use Rattle.sector_map.specs.declared.layout.Side.TheVariants.{Secondary}
 use Rattle.sector_map.specs.Part.{Slot}
 use Rattle.sector_map.proofs.PartBytes.{keeps_write, range_inside}
 use Rattle.flash_model.specs.Chip.{IsErased}
-use Rattle.upload.proofs.Writing.{behind_erased, slot_aligned, written_more, written_none}
+use Rattle.upload.proofs.Writing.{behind_erased, slot_aligned, written_more}
 use Rattle.upload.proofs.slots.write_slot.Goals as goal
 
 pub overflow_add-slot_start : goal.overflow_add-slot_start

@@ -1,4 +1,4 @@
-use Rattle.std.proofs.Common.{◌≡◌, ◌≤◌, ◌<◌, ◌+◌, take, get_or, None, [], arith, subst, false}
+use Rattle.std.proofs.Common.{◌<◌, None, [], arith, subst, false}
 use Rattle.std.proofs.lemmas.List.{take_all}
 use Rattle.std.proofs.lemmas.List.Elements.{All-more}
 use Rattle.manifest.specs.declared.manifest.Component.{Component}

@@ -1,4 +1,4 @@
-use Rattle.std.proofs.Common.{◌≡◌, subst, sym}
+use Rattle.std.proofs.Common.{subst, sym}
 use Rattle.upload.specs.View.{view}
 use Rattle.upload.specs.Sessions.{AllOpenAt}
 use Rattle.upload.proofs.tests.take.Goals as goal

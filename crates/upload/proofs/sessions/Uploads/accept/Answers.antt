@@ -1,5 +1,3 @@
-use Rattle.std.proofs.Common.{◌≡◌}
-use Rattle.upload.specs.View.{view}
 use Rattle.upload.proofs.TakenRow.{accept_row, accept_open}
 use Rattle.upload.proofs.sessions.Uploads.accept.Goals as goal
 

@@ -1,5 +1,3 @@
-use Rattle.std.proofs.Common.{◌≡◌}
-use Rattle.upload.specs.View.{view}
 use Rattle.upload.proofs.Views.{view_kept}
 use Rattle.upload.proofs.FinishRow.{finish_row, finish_open}
 use Rattle.upload.proofs.sessions.Uploads.finish.Goals as goal

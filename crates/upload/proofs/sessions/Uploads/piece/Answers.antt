@@ -1,6 +1,6 @@
-use Rattle.std.proofs.Common.{rules, ◌≡◌, ◌+◌, ◌≤◌, length, arith, sym, ◌∙◌, Some, None}
+use Rattle.std.proofs.Common.{rules, arith, sym, Some, None}
 use Rattle.upload.specs.View.{view}
-use Rattle.upload.proofs.Views.{view_kept, view_refl}
+use Rattle.upload.proofs.Views.{view_kept}
 use Rattle.upload.proofs.Frames.{others_slot, with_with}
 use Rattle.upload.proofs.OpenOnes.{open_to, open_more}
 use Rattle.upload.proofs.PieceRow.{piece_done, piece_cut, piece_more}

@@ -1,5 +1,4 @@
-use Rattle.std.proofs.Common.{rules, ◌≡◌, ◌≤◌, ◌<◌, arith}
-use Rattle.upload.specs.View.{view}
+use Rattle.std.proofs.Common.{arith}
 use Rattle.upload.proofs.Views.{view_kept}
 use Rattle.upload.proofs.WithdrawRow.{withdraw_row, withdraw_open}
 use Rattle.upload.proofs.sessions.Uploads.withdraw.Goals as goal
