@@ -1,0 +1,4 @@
+pub mod Unique
+pub mod Frames
+pub mod Rows
+pub mod Preparing

@@ -1,0 +1,209 @@
+-- The steps of a machine that boots, and that confirms an image.
+use Rattle.std.specs.Prelude.{◌≡◌, ◌⊎◌, ℕ, ◌+◌, ◌<◌, Bool, true, false, List, length, Option, Some, None, slice_get, slice_index}
+use Rattle.sector_map.specs.Part.{is_member}
+use Rattle.trailer.specs.declared.kinds.Kind.TheVariants.{Permanent}
+use Rattle.certificate.specs.declared.table.Table.{Table}
+use Rattle.certificate.specs.declared.table.Image.{Image}
+use Rattle.certificate.specs.declared.table.Entry.{Entry}
+use Rattle.certificate.specs.declared.table.Request.{Request}
+use Rattle.certificate.specs.declared.table.Request.TheVariants as request
+use Rattle.certificate.specs.declared.report.Report.{Report}
+use Rattle.certificate.specs.Combination.{IsValid, IsGreatest, running_set}
+use Rattle.certificate.specs.Rightness.{IsRight, taken_in}
+use Rattle.certificate.specs.StandardOrder.{IsInStandardOrder}
+use Rattle.tlv.specs.declared.desc.Desc.{Desc}
+use Rattle.tlv.specs.Image.{IsIntact}
+use Rattle.upload.specs.Device.{DeviceState, Machine, Trial, Wanted, no_session}
+use Rattle.machine.specs.States.{entry_of, IsConfirmed, IsRaised, IsBegun, running_after, settled, taken_for_good, taken_on_trial, reverted, tried_again, with_confirmed}
+use Rattle.machine.specs.declared.error.Fault.{Fault}
+use Rattle.machine.specs.declared.error.Fault.TheVariants as no
+use Rattle.machine.specs.declared.reply.Reply.{Reply}
+use Rattle.machine.specs.declared.reply.Reply.TheVariants.{Done, Booted, Reverted, TrialAgain, Refused, Cut}
+
+-- ---- the table of a state
+
+-- An entry is that of these bytes.
+abbrev pub IsEntryOf : Option (List ℕ) → Entry → Type 0
+IsEntryOf None entry = ⊥
+IsEntryOf (Some bytes) entry =
+    (description : Desc) × IsIntact bytes description × (entry_of description ≡ entry)
+
+-- A request of a table is that of what is requested.
+abbrev pub IsRequestOf : Option Wanted → Request → Type 0
+IsRequestOf None asked = asked ≡ request.None
+IsRequestOf (Some wanted) request.None = ⊥
+IsRequestOf (Some wanted) request.Damaged = wanted.bytes ≡ None
+IsRequestOf (Some wanted) (request.Entry entry) = IsEntryOf wanted.bytes entry
+
+-- The row of an image in a table.
+pub record IsRowOf (runs : Option (List ℕ)) (wanted : Option Wanted) (least : ℕ) (row : Image)
+    : Type 0 where
+  pub running : IsEntryOf runs row.running
+  pub request : IsRequestOf wanted row.request
+  pub floor : row.floor ≡ least
+
+-- The table of a state.
+pub record IsTableOf (s : DeviceState) (table : Table) : Type 0 where
+  pub count : length table.images.items ≡ s.images
+  pub rows : (i : ℕ) (row : Image) → slice_get table.images.items i ≡ Some row
+      → IsRowOf (s.running i) (s.request i) (slice_index s.floors i) row
+
+-- ---- what a boot decides
+
+-- A set asks to stay where each of its images does.
+pub record AsksForGood (s : DeviceState) (mask : ℕ) : Type 0 where
+  pub each : (i : ℕ) (wanted : Wanted) → i < s.images → is_member mask i ≡ true
+      → s.request i ≡ Some wanted → wanted.kind ≡ Permanent
+
+-- A set is chosen: it is the greatest combination of the table of a state, and isn't empty.
+pub record IsChosen (s : DeviceState) (table : Table) (mask : ℕ) : Type 0 where
+  pub rows : IsTableOf s table
+  pub valid : IsValid table running_set
+  pub greatest : IsGreatest table (is_member mask)
+  pub within : (i : ℕ) → is_member mask i ≡ true → i < s.images
+  pub some : mask ≡ 0 → ⊥
+
+-- The decision of a state: the set that is chosen, and whether it stays without a trial.
+pub record IsDecision (s : DeviceState) (table : Table) (mask : ℕ) (permanent : Bool)
+    : Type 0 where
+  pub rows : IsTableOf s table
+  pub valid : IsValid table running_set
+  pub greatest : IsGreatest table (is_member mask)
+  pub within : (i : ℕ) → is_member mask i ≡ true → i < s.images
+  pub some : mask ≡ 0 → ⊥
+  pub good : permanent ≡ true → AsksForGood s mask
+  pub trial : AsksForGood s mask → permanent ≡ true
+
+-- What a boot reports: the right report of the table of a state, in standard order.
+pub record IsReported (s : DeviceState) (table : Table) (report : Report) : Type 0 where
+  pub rows : IsTableOf s table
+  pub valid : IsValid table running_set
+  pub right : IsRight table report
+  pub greatest : IsGreatest table (taken_in report)
+  pub standard : IsInStandardOrder table report.refusals.items
+
+-- The bytes that an image runs are damaged, and it is the lowest such image.
+pub record IsLowestDamaged (s : DeviceState) (i : ℕ) : Type 0 where
+  pub there : i < s.images
+  pub damaged : s.running i ≡ None
+  pub lowest : (j : ℕ) → j < i → s.running j ≡ None → ⊥
+
+-- ---- what a boot does
+
+-- The bytes that some image runs are damaged.
+abbrev pub HasDamaged : DeviceState → Type 0
+HasDamaged s = (i : ℕ) × (i < s.images) × (s.running i ≡ None)
+
+-- The old images of a trial come back: it isn't wholly confirmed, and has no boot more or a damaged image.
+abbrev pub GoesBack : DeviceState → Trial → Type 0
+GoesBack s trial = (s.trial ≡ Some trial) × (IsConfirmed s trial → ⊥)
+    × ((trial.left ≡ 0) ⊎ HasDamaged s)
+
+-- A trial goes on.
+abbrev pub GoesOn : DeviceState → Trial → Type 0
+GoesOn s trial = (s.trial ≡ Some trial) × (IsConfirmed s trial → ⊥) × (trial.left ≡ 0 → ⊥)
+    × ((i : ℕ) → i < s.images → s.running i ≡ None → ⊥)
+
+-- A trial whose whole set is confirmed is over.
+abbrev pub IsOver : DeviceState → Trial → DeviceState → Type 0
+IsOver s trial read = IsConfirmed s trial × ((floors : List ℕ)
+    × IsRaised s.images s.running s.floors floors × (read ≡ settled s floors))
+
+-- The state as a boot reads it.
+abbrev pub IsReadAs : DeviceState → DeviceState → Type 0
+IsReadAs s read = ((s.trial ≡ None) × (read ≡ s)) ⊎ ((trial : Trial) × (s.trial ≡ Some trial)
+    × ((IsConfirmed s trial → ⊥) × (read ≡ s) ⊎ IsOver s trial read))
+
+-- The state after a set is taken, for good or on a trial of so many boots.
+abbrev pub IsTaken : ℕ → DeviceState → ℕ → Bool → DeviceState → Type 0
+IsTaken boots s mask true next = (floors : List ℕ)
+    × IsRaised s.images (running_after s mask) s.floors floors
+    × (next ≡ taken_for_good s mask floors)
+IsTaken boots s mask false next = (trial : Trial) × IsBegun s mask boots trial
+    × (next ≡ taken_on_trial s mask trial)
+
+-- Nothing is taken.
+abbrev pub IsPlain : DeviceState → Report → Bool → DeviceState → Type 0
+IsPlain s report permanent next = ((i : ℕ) → taken_in report i ≡ false)
+    × (permanent ≡ false) × (next ≡ s)
+
+-- The state after a boot that answers a report: it takes the set of the report.
+abbrev pub IsBooted : ℕ → DeviceState → Table → Report → Bool → DeviceState → Type 0
+IsBooted boots s table report permanent next = IsReported s table report
+    × (IsPlain s report permanent next
+    ⊎ ((mask : ℕ) × (is_member mask ≡ taken_in report) × IsDecision s table mask permanent
+    × IsTaken boots s mask permanent next))
+
+-- A complete boot, of what the flash keeps. A trial has so many boots.
+abbrev pub Boots : ℕ → DeviceState → Reply → DeviceState → Type 0
+Boots boots s (Booted table report permanent) next = (read : DeviceState)
+    × IsReadAs s read × (read.trial ≡ None) × IsBooted boots read table report permanent next
+Boots boots s (Reverted mask) next = (trial : Trial) × GoesBack s trial × (mask ≡ trial.set)
+    × (next ≡ reverted s trial)
+Boots boots s (TrialAgain set left) next = (trial : Trial) × GoesOn s trial
+    × (set ≡ trial.set) × (left + 1 ≡ trial.left) × (next ≡ tried_again s trial left)
+Boots boots s (Refused (no.RunningDamaged i)) next =
+    IsReadAs s next × (next.trial ≡ None) × IsLowestDamaged next i
+Boots boots s (Refused no.InvalidSet) next = IsReadAs s next × (next.trial ≡ None)
+    × ((table : Table) × IsTableOf next table × (IsValid table running_set → ⊥))
+Boots boots s (Refused no.NotBooted) next = ⊥
+Boots boots s (Refused no.OnTrial) next = ⊥
+Boots boots s (Refused no.NotOnTrial) next = ⊥
+Boots boots s (Refused no.NotProvisioned) next = ⊥
+Boots boots s (Refused (no.Flash error)) next = ⊥
+Boots boots s (Refused no.NoMemory) next = ⊥
+Boots boots s (Refused (no.Manifest error)) next = ⊥
+Boots boots s (Refused (no.Upload error)) next = ⊥
+Boots boots s Done next = ⊥
+Boots boots s Cut next = ⊥
+
+-- A boot that is cut: the old state, that state as it is read, or the one after a complete boot.
+abbrev pub IsBootCut : ℕ → DeviceState → DeviceState → Type 0
+IsBootCut boots s next =
+    (next ≡ s) ⊎ IsReadAs s next ⊎ ((reply : Reply) × Boots boots s reply next)
+
+-- Whether a reply to a boot leaves the device up.
+abbrev pub is_answer : Reply → Bool
+is_answer (Booted table report permanent) = true
+is_answer (Reverted mask) = true
+is_answer (TrialAgain set left) = true
+is_answer (Refused fault) = false
+is_answer Done = false
+is_answer Cut = false
+
+-- ---- what a confirmation does
+
+-- An image is in the set on trial.
+abbrev pub IsOnTrial : DeviceState → ℕ → Trial → Type 0
+IsOnTrial s i trial =
+    (s.trial ≡ Some trial) × (i < s.images) × (is_member trial.set i ≡ true)
+
+-- A complete confirmation.
+abbrev pub Confirms : Machine → ℕ → Reply → Machine → Type 0
+Confirms m i Done next = (m.is_up ≡ true) × ((trial : Trial) × IsOnTrial m.kept i trial
+    × (next ≡ record m { kept = with_confirmed m.kept trial i }))
+Confirms m i (Refused no.NotBooted) next = (m.is_up ≡ false) × (next ≡ m)
+Confirms m i (Refused no.NotOnTrial) next = (m.is_up ≡ true)
+    × ((trial : Trial) → IsOnTrial m.kept i trial → ⊥) × (next ≡ m)
+Confirms m i (Refused no.OnTrial) next = ⊥
+Confirms m i (Refused no.NotProvisioned) next = ⊥
+Confirms m i (Refused (no.RunningDamaged j)) next = ⊥
+Confirms m i (Refused no.InvalidSet) next = ⊥
+Confirms m i (Refused (no.Flash error)) next = ⊥
+Confirms m i (Refused no.NoMemory) next = ⊥
+Confirms m i (Refused (no.Manifest error)) next = ⊥
+Confirms m i (Refused (no.Upload error)) next = ⊥
+Confirms m i (Booted table report permanent) next = ⊥
+Confirms m i (Reverted mask) next = ⊥
+Confirms m i (TrialAgain set left) next = ⊥
+Confirms m i Cut next = ⊥
+
+-- ---- soundness
+
+-- What runs is intact and valid.
+abbrev pub IsSound : DeviceState → Type 0
+IsSound s = (table : Table) × IsTableOf s table × IsValid table running_set
+
+-- The state as a boot reads it is sound.
+pub record IsReadSound (s : DeviceState) : Type 0 where
+  pub each : (read : DeviceState) → IsReadAs s read → IsSound read

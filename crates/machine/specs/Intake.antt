@@ -1,0 +1,117 @@
+-- The steps of a machine that takes a manifest, a piece, the end of an upload, or a withdrawal.
+use Rattle.std.specs.Prelude.{◌≡◌, ◌≢◌, ℕ, ◌≤◌, Bool, true, false, List, Option, Some, None, Result, Ok, Err}
+use Rattle.sector_map.specs.declared.layout.SectorMap.{SectorMap}
+use Rattle.flash_model.specs.declared.error.FlashError.TheVariants as flash
+use Rattle.manifest.specs.declared.error.ManifestError.{ManifestError}
+use Rattle.manifest.specs.declared.identity.Identity.{Identity}
+use Rattle.manifest.specs.declared.manifest.Component.{Component}
+use Rattle.manifest.specs.declared.manifest.Manifest.{Manifest}
+use Rattle.manifest.specs.Fault.{IsManifest, IsRefusal}
+use Rattle.upload.specs.declared.error.UploadError.{UploadError}
+use Rattle.upload.specs.declared.error.UploadError.TheVariants as upload
+use Rattle.upload.specs.Device.{DeviceState, Machine, Session, Trial}
+use Rattle.upload.specs.Ending.{is_flash}
+use Rattle.upload.specs.Accepted.{Accepts, AllFit, AllFollow}
+use Rattle.upload.specs.Piece.{Pieces}
+use Rattle.upload.specs.Finish.{FinishRow}
+use Rattle.upload.specs.Withdrawal.{Withdraws}
+use Rattle.machine.specs.States.{asleep}
+use Rattle.machine.specs.declared.error.Fault.{Fault}
+use Rattle.machine.specs.declared.error.Fault.TheVariants as no
+use Rattle.machine.specs.declared.reply.Reply.{Reply}
+use Rattle.machine.specs.declared.reply.Reply.TheVariants.{Done, Booted, Reverted, TrialAgain, Refused, Cut}
+
+-- What a device is made with: where the parts of its flash lie, what it is to those who send it updates, and how
+-- many boots a trial has, 1 to 7.
+pub record Setup : Type 0 where
+  pub map : SectorMap
+  pub identity : Identity
+  pub boots : ℕ
+
+-- A device takes uploads: it is up, and nothing is on trial.
+pub record IsReady (m : Machine) : Type 0 where
+  pub up : m.is_up ≡ true
+  pub rest : m.kept.trial ≡ None
+
+-- A device is up, and a set is on trial.
+pub record IsTrying (m : Machine) : Type 0 where
+  pub up : m.is_up ≡ true
+  pub trial : (trial : Trial) × (m.kept.trial ≡ Some trial)
+
+-- The step of a call of uploads, by its result.
+abbrev pub Row : Type 1
+Row = Result Unit UploadError → Machine → Type 0
+
+-- A complete step of uploads: the refusals of the device come first, then those of the upload.
+abbrev pub Uploads : Row → Machine → Reply → Machine → Type 0
+Uploads row m Done next = IsReady m × row (Ok tt) next
+Uploads row m (Refused no.NotBooted) next = (m.is_up ≡ false) × (next ≡ m)
+Uploads row m (Refused no.OnTrial) next = IsTrying m × (next ≡ m)
+Uploads row m (Refused (no.Upload error)) next =
+    IsReady m × (is_flash {T = Unit} (Err error) ≡ false) × row (Err error) next
+Uploads row m (Refused no.NotOnTrial) next = ⊥
+Uploads row m (Refused no.NotProvisioned) next = ⊥
+Uploads row m (Refused (no.RunningDamaged i)) next = ⊥
+Uploads row m (Refused no.InvalidSet) next = ⊥
+Uploads row m (Refused (no.Flash error)) next = ⊥
+Uploads row m (Refused no.NoMemory) next = ⊥
+Uploads row m (Refused (no.Manifest error)) next = ⊥
+Uploads row m (Booted table report permanent) next = ⊥
+Uploads row m (Reverted mask) next = ⊥
+Uploads row m (TrialAgain set left) next = ⊥
+Uploads row m Cut next = ⊥
+
+-- A step of uploads that is cut: the sessions end, and the device isn't up.
+abbrev pub IsUploadsCut : Row → Machine → Machine → Type 0
+IsUploadsCut row m next = IsReady m
+    × ((mid : Machine) × row (Err (upload.Flash flash.Cut)) mid × (next ≡ asleep mid.kept))
+
+-- ---- manifests
+
+-- The bytes are a manifest for this device, and this becomes of it.
+abbrev pub TakesManifest : Setup → Machine → List ℕ → Row
+TakesManifest setup m bytes result next = (manifest : Manifest)
+    × IsManifest setup.identity bytes manifest
+    × Accepts setup.map m manifest.sequence manifest.components.items result next
+
+-- A manifest comes: the refusals of the device are first, then those of the manifest, then those of the upload. Where
+-- memory runs out while its text is read nothing changes.
+abbrev pub TakesText : Setup → Machine → List ℕ → Reply → Machine → Type 0
+TakesText setup m bytes (Refused (no.Manifest fault)) next =
+    IsReady m × IsRefusal setup.identity bytes fault × (next ≡ m)
+TakesText setup m bytes (Refused no.NoMemory) next = IsReady m × (next ≡ m)
+TakesText setup m bytes (Refused no.NotBooted) next = (m.is_up ≡ false) × (next ≡ m)
+TakesText setup m bytes (Refused no.OnTrial) next = IsTrying m × (next ≡ m)
+TakesText setup m bytes (Refused (no.Upload error)) next =
+    Uploads (TakesManifest setup m bytes) m (Refused (no.Upload error)) next
+TakesText setup m bytes (Refused no.NotOnTrial) next = ⊥
+TakesText setup m bytes (Refused no.NotProvisioned) next = ⊥
+TakesText setup m bytes (Refused (no.RunningDamaged i)) next = ⊥
+TakesText setup m bytes (Refused no.InvalidSet) next = ⊥
+TakesText setup m bytes (Refused (no.Flash error)) next = ⊥
+TakesText setup m bytes Done next = Uploads (TakesManifest setup m bytes) m Done next
+TakesText setup m bytes (Booted table report permanent) next = ⊥
+TakesText setup m bytes (Reverted mask) next = ⊥
+TakesText setup m bytes (TrialAgain set left) next = ⊥
+TakesText setup m bytes Cut next = ⊥
+
+-- A manifest may be taken: no check of it fails.
+pub record MayAccept (map : SectorMap) (s : DeviceState) (sequence : ℕ) (cs : List Component)
+    : Type 0 where
+  pub newer : s.sequence ≤ sequence
+  pub fit : AllFit map cs
+  pub follow : AllFollow s cs
+
+-- A manifest that isn't refused is being taken when power fails.
+abbrev pub CutsManifest : Setup → Machine → List ℕ → Row
+CutsManifest setup m bytes result next = (manifest : Manifest)
+    × IsManifest setup.identity bytes manifest
+    × MayAccept setup.map m.kept manifest.sequence manifest.components.items
+    × Accepts setup.map m manifest.sequence manifest.components.items result next
+
+-- ---- pieces
+
+-- A piece of an open upload is being taken when power fails.
+abbrev pub CutsPiece : Machine → ℕ → List ℕ → Row
+CutsPiece m i bytes result next = (session : Session) × (m.session i ≡ Some session)
+    × Pieces m i bytes result next

@@ -1,0 +1,10 @@
+pub mod Codes
+pub mod States
+pub mod Boots
+pub mod Intake
+pub mod Steps
+pub mod Holding
+pub mod Passing
+pub mod Prepared
+pub mod Reading
+pub mod Wear

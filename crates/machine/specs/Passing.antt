@@ -1,0 +1,104 @@
+-- What a device's calls have to leave: what stands after each passage of a boot, after a confirmation, and after
+-- whole steps and runs.
+use Rattle.std.specs.Prelude.{◌≡◌, ◌⊎◌, ℕ, ◌<◌, Bool, true, false, List}
+use Rattle.flash_model.specs.Chip.{Chip}
+use Rattle.sector_map.specs.declared.layout.SectorMap.{SectorMap}
+use Rattle.sector_map.specs.Part.{is_member}
+use Rattle.set_log.specs.declared.state.Kind.TheVariants as log
+use Rattle.certificate.specs.declared.table.Table.{Table}
+use Rattle.certificate.specs.declared.report.Report.{Report}
+use Rattle.certificate.specs.Rightness.{taken_in}
+use Rattle.upload.specs.View.{View, view}
+use Rattle.upload.specs.Device.{DeviceState, Machine, Trial}
+use Rattle.upload.specs.Steady.{IsSteadyAt}
+use Rattle.machine.specs.States.{IsRaised, new_trial, running_after, taken_for_good, taken_on_trial, with_confirmed}
+use Rattle.machine.specs.Boots.{Boots, GoesBack, IsBootCut, IsOnTrial, IsReported, is_answer}
+use Rattle.machine.specs.Intake.{Setup}
+use Rattle.machine.specs.Steps.{IsStep, IsRun}
+use Rattle.machine.specs.Holding.{DeviceView, Holds, IsAtRest, IsSwapped, IsSwappedBack, IsSwapping, IsSwappingBack, IsTrialAt, IsTrialOpen, Stands}
+use Rattle.machine.specs.declared.error.Fault.TheVariants.{RunningDamaged, InvalidSet}
+use Rattle.machine.specs.declared.event.Event.{Event}
+use Rattle.machine.specs.declared.finding.Finding.{Finding}
+use Rattle.machine.specs.declared.finding.Finding.TheVariants.{Decided, Damaged, Invalid}
+use Rattle.machine.specs.declared.reply.Reply.{Reply}
+use Rattle.machine.specs.declared.reply.Reply.TheVariants.{Booted, Refused}
+
+-- A swap of some contents.
+abbrev pub IsSwappingSome : SectorMap → Chip → DeviceState → Table → ℕ → Bool → Type 0
+IsSwappingSome map chip s table mask permanent =
+    (x y : ℕ → List ℕ) × IsSwapping map chip s table mask permanent x y
+
+-- A swap back of some contents.
+abbrev pub IsSwappingBackSome : SectorMap → Chip → DeviceState → Trial → Type 0
+IsSwappingBackSome map chip s trial =
+    (x y : ℕ → List ℕ) × IsSwappingBack map chip s trial x y
+
+-- An upgrade under way, from its record on.
+abbrev pub IsUpgrading : SectorMap → Chip → DeviceState → Table → ℕ → Bool → Type 0
+IsUpgrading map chip s table mask permanent =
+    IsSwappingSome map chip s table mask permanent
+    ⊎ IsSwapped (view map chip) s table log.Settle mask permanent
+
+-- The state after a set is taken: for good with these floors, or on trial with so many boots more.
+abbrev pub IsTakenAt : View → DeviceState → ℕ → Bool → ℕ → List ℕ → Type 0
+IsTakenAt w s mask true left floors = IsSteadyAt w (taken_for_good s mask floors)
+IsTakenAt w s mask false left floors =
+    IsTrialAt w (taken_on_trial s mask (new_trial s mask left)) (new_trial s mask left)
+
+-- What is reported of a set that is taken.
+abbrev pub IsReportedOf : DeviceState → ℕ → Table → Report → Type 0
+IsReportedOf s mask table report =
+    IsReported s table report × (is_member mask ≡ taken_in report)
+
+-- An upgrade that is done, with what is reported of it.
+abbrev pub IsUpgraded : ℕ → View → DeviceState → ℕ → Bool → Type 0
+IsUpgraded left w s mask permanent = (table : Table) × (report : Report) × (floors : List ℕ)
+    × IsReportedOf s mask table report
+    × IsRaised s.images (running_after s mask) s.floors floors
+    × IsTakenAt w s mask permanent left floors
+
+-- Going back, from its record on.
+abbrev pub IsGoingBack : SectorMap → Chip → DeviceState → Trial → Type 0
+IsGoingBack map chip s trial = IsSwappingBackSome map chip s trial
+    ⊎ IsSwappedBack (view map chip) s trial log.BackSettle
+
+-- A trial at rest, or one whose way back has begun.
+abbrev pub IsOpenOrAt : View → DeviceState → Trial → Type 0
+IsOpenOrAt w s trial = IsTrialAt w s trial ⊎ (GoesBack s trial × IsTrialOpen w s trial)
+
+-- What stands after a boot that answers ..
+abbrev pub EndsBoot : SectorMap → ℕ → Chip → DeviceState → Reply → Type 0
+EndsBoot map boots chip s reply = (next : DeviceState) × Boots boots s reply next
+    × Stands map chip next × (is_answer reply ≡ true → IsAtRest (view map chip) next)
+
+-- .. and after one that is cut.
+abbrev pub CutsBoot : SectorMap → ℕ → Chip → DeviceState → Type 0
+CutsBoot map boots chip s =
+    (next : DeviceState) × IsBootCut boots s next × Stands map chip next
+
+-- The reply to what is found.
+abbrev pub reply_of : Finding → Bool → Reply
+reply_of (Decided table report) permanent = Booted table report permanent
+reply_of (Damaged i) permanent = Refused (RunningDamaged i)
+reply_of Invalid permanent = Refused InvalidSet
+
+-- What stands after a confirmation, of an image that is on trial or of another one ..
+abbrev pub EndsConfirm : View → DeviceState → ℕ → Bool → Type 0
+EndsConfirm w s i true =
+    (trial : Trial) × IsOnTrial s i trial × IsAtRest w (with_confirmed s trial i)
+EndsConfirm w s i false = ((trial : Trial) → IsOnTrial s i trial → ⊥) × IsAtRest w s
+
+-- .. and after one that is cut.
+abbrev pub CutsConfirm : View → DeviceState → ℕ → Type 0
+CutsConfirm w s i = (trial : Trial) × IsOnTrial s i trial
+    × (IsAtRest w s ⊎ IsAtRest w (with_confirmed s trial i))
+
+-- From a device that holds a state, a step of the machine to a state that the device holds then ..
+abbrev pub StepsTo : Setup → DeviceView → DeviceView → Event → Reply → Type 0
+StepsTo setup old new event reply = (m : Machine) → Holds setup.map old m
+    → (next : Machine) × IsStep setup m event reply next × Holds setup.map new next
+
+-- .. and a run.
+abbrev pub RunsTo : Setup → DeviceView → DeviceView → List Event → List Reply → Type 0
+RunsTo setup old new events replies = (m : Machine) → Holds setup.map old m
+    → (last : Machine) × IsRun setup m events replies last × Holds setup.map new last

@@ -1,0 +1,109 @@
+-- The states that a device comes to.
+use Rattle.std.specs.Prelude.{◌≡◌, ℕ, ◌+◌, ◌<◌, ◌≤◌, ◌==◌, max, Bool, true, false, List, [], length, Option, Some, None, option_and_then, slice_index, if◌then◌else◌}
+use Rattle.certificate.specs.declared.table.Entry.{Entry}
+use Rattle.sector_map.specs.Part.{is_member}
+use Rattle.tlv.specs.declared.desc.Desc.{Desc}
+use Rattle.tlv.specs.Image.{IsIntact}
+use Rattle.upload.specs.Device.{DeviceState, Machine, Trial, Wanted, no_session}
+
+-- What a decision knows of an image, by its description.
+abbrev pub entry_of : Desc → Entry
+entry_of description = record {
+  version = description.version;
+  counter = description.counter;
+  dependencies = description.dependencies;
+}
+
+-- The sessions are closed, and the device isn't up.
+abbrev pub asleep : DeviceState → Machine
+asleep s = record { kept = s; session = no_session; is_up = false }
+
+-- The bytes of an intact image that is requested.
+abbrev pub wanted_bytes : Option Wanted → Option (List ℕ)
+wanted_bytes wanted = option_and_then (λ w. w.bytes) wanted
+
+-- Each image of a trial's set is confirmed.
+pub record IsConfirmed (s : DeviceState) (trial : Trial) : Type 0 where
+  pub each : (i : ℕ) → i < s.images → is_member trial.set i ≡ true → trial.confirmed i ≡ true
+
+-- Floors are raised to the counters of what runs, where those are greater. A damaged image raises nothing.
+pub record IsRaised (images : ℕ) (running : ℕ → Option (List ℕ)) (old new : List ℕ) : Type 0 where
+  pub size : length new ≡ length old
+  pub raised : (i : ℕ) (bytes : List ℕ) (description : Desc) → i < images
+      → running i ≡ Some bytes → IsIntact bytes description
+      → slice_index new i ≡ max (slice_index old i) description.counter
+  pub damaged : (i : ℕ) → i < images → running i ≡ None
+      → slice_index new i ≡ slice_index old i
+  pub rest : (i : ℕ) → images ≤ i → slice_index new i ≡ slice_index old i
+
+-- A trial is over: the set runs on, with these floors.
+abbrev pub settled : DeviceState → List ℕ → DeviceState
+settled s floors = record s { floors = floors; trial = None }
+
+-- What runs where a set is taken.
+abbrev pub running_after : DeviceState → ℕ → ℕ → Option (List ℕ)
+running_after s mask i = if is_member mask i then wanted_bytes (s.request i) else s.running i
+
+-- What is requested then.
+abbrev pub left_after : DeviceState → ℕ → ℕ → Option Wanted
+left_after s mask i = if is_member mask i then None else s.request i
+
+-- A set is taken for good, with these floors.
+abbrev pub taken_for_good : DeviceState → ℕ → List ℕ → DeviceState
+taken_for_good s mask floors = record s {
+  running = running_after s mask;
+  request = left_after s mask;
+  floors = floors;
+  trial = None;
+}
+
+-- A set is taken on trial.
+abbrev pub taken_on_trial : DeviceState → ℕ → Trial → DeviceState
+taken_on_trial s mask trial = record s {
+  running = running_after s mask;
+  request = left_after s mask;
+  trial = Some trial;
+}
+
+-- A trial of this set begins, of so many boots: nothing is confirmed, and what ran is kept. The boot that begins it
+-- is the first of them.
+pub record IsBegun (s : DeviceState) (mask boots : ℕ) (trial : Trial) : Type 0 where
+  pub set : trial.set ≡ mask
+  pub confirmed : (i : ℕ) → trial.confirmed i ≡ false
+  pub old : (i : ℕ) → i < s.images → is_member mask i ≡ true → s.running i ≡ Some (trial.old i)
+  pub left : trial.left + 1 ≡ boots
+
+-- The bytes of an image that runs, or none where it is damaged.
+abbrev pub bytes_or_none : Option (List ℕ) → List ℕ
+bytes_or_none None = []
+bytes_or_none (Some bytes) = bytes
+
+-- The trial that begins, with so many boots more.
+abbrev pub new_trial : DeviceState → ℕ → ℕ → Trial
+new_trial s mask left = record {
+  set = mask;
+  confirmed = λ i. false;
+  old = λ i. bytes_or_none (s.running i);
+  left = left;
+}
+
+-- The set runs its old images, and the tried ones are forgotten.
+abbrev pub reverted : DeviceState → Trial → DeviceState
+reverted s trial = record s {
+  running = λ i. if is_member trial.set i then Some (trial.old i) else s.running i;
+  request = left_after s trial.set;
+  trial = None;
+}
+
+-- A trial with so many boots more.
+abbrev pub tried_again : DeviceState → Trial → ℕ → DeviceState
+tried_again s trial left = record s { trial = Some (record trial { left = left }) }
+
+-- A trial of which one image more is confirmed.
+abbrev pub confirmed_also : Trial → ℕ → Trial
+confirmed_also trial i = record trial {
+  confirmed = λ j. if j == i then true else trial.confirmed j;
+}
+
+abbrev pub with_confirmed : DeviceState → Trial → ℕ → DeviceState
+with_confirmed s trial i = record s { trial = Some (confirmed_also trial i) }

@@ -1,0 +1,79 @@
+-- The steps of the machine: complete ones, cut ones, and whole runs.
+use Rattle.std.specs.Prelude.{◌≡◌, ◌⊎◌, ℕ, ◌+◌, true, List, [], ◌∷◌}
+use Rattle.upload.specs.Device.{Machine, Trial, no_session}
+use Rattle.upload.specs.Piece.{Pieces}
+use Rattle.upload.specs.Finish.{FinishRow}
+use Rattle.upload.specs.Withdrawal.{Withdraws}
+use Rattle.machine.specs.States.{asleep, with_confirmed}
+use Rattle.machine.specs.Boots.{Boots, IsBootCut, is_answer, Confirms, IsOnTrial}
+use Rattle.machine.specs.Intake.{Setup, Uploads, IsUploadsCut, TakesText, CutsManifest, CutsPiece}
+use Rattle.machine.specs.declared.event.Event.{Event}
+use Rattle.machine.specs.declared.event.Event.TheVariants as event
+use Rattle.machine.specs.declared.reply.Reply.{Reply}
+use Rattle.machine.specs.declared.reply.Reply.TheVariants.{Done, Booted, Reverted, TrialAgain, Refused, Cut}
+
+-- A reset: the sessions end, and the device isn't up.
+abbrev pub Resets : Machine → Reply → Machine → Type 0
+Resets m Done next = next ≡ asleep m.kept
+Resets m (Booted table report permanent) next = ⊥
+Resets m (Reverted mask) next = ⊥
+Resets m (TrialAgain set left) next = ⊥
+Resets m (Refused fault) next = ⊥
+Resets m Cut next = ⊥
+
+-- A complete step.
+abbrev pub Completes : Setup → Machine → Event → Reply → Machine → Type 0
+Completes setup m (event.Accept bytes) reply next = TakesText setup m bytes.now reply next
+Completes setup m (event.Piece i bytes) reply next = Uploads (Pieces m i bytes.now) m reply next
+Completes setup m (event.Finish i) reply next = Uploads (FinishRow m i) m reply next
+Completes setup m (event.Withdraw i) reply next = Uploads (Withdraws m i) m reply next
+Completes setup m (event.Confirm i) reply next = Confirms m i reply next
+Completes setup m event.Boot reply next = Boots setup.boots m.kept reply next.kept
+    × (next ≡ record { kept = next.kept; session = no_session; is_up = is_answer reply })
+Completes setup m event.Reset reply next = Resets m reply next
+
+-- A cut step: the sessions end, and the device isn't up.
+abbrev pub IsCutTo : Setup → Machine → Event → Machine → Type 0
+IsCutTo setup m (event.Accept bytes) next = IsUploadsCut (CutsManifest setup m bytes.now) m next
+IsCutTo setup m (event.Piece i bytes) next = IsUploadsCut (CutsPiece m i bytes.now) m next
+IsCutTo setup m (event.Finish i) next = IsUploadsCut (FinishRow m i) m next
+IsCutTo setup m (event.Withdraw i) next = IsUploadsCut (Withdraws m i) m next
+IsCutTo setup m (event.Confirm i) next = (m.is_up ≡ true)
+    × ((trial : Trial) × IsOnTrial m.kept i trial × ((next ≡ asleep m.kept)
+    ⊎ (next ≡ asleep (with_confirmed m.kept trial i))))
+IsCutTo setup m event.Boot next =
+    IsBootCut setup.boots m.kept next.kept × (next ≡ asleep next.kept)
+IsCutTo setup m event.Reset next = ⊥
+
+-- A step: a complete one, or a cut one with the reply Cut.
+abbrev pub IsStep : Setup → Machine → Event → Reply → Machine → Type 0
+IsStep setup m event Done next = Completes setup m event Done next
+IsStep setup m event (Booted table report permanent) next =
+    Completes setup m event (Booted table report permanent) next
+IsStep setup m event (Reverted mask) next = Completes setup m event (Reverted mask) next
+IsStep setup m event (TrialAgain set left) next =
+    Completes setup m event (TrialAgain set left) next
+IsStep setup m event (Refused fault) next = Completes setup m event (Refused fault) next
+IsStep setup m event Cut next = IsCutTo setup m event next
+
+-- A run: a reply and a step for each event.
+abbrev pub IsRun : Setup → Machine → List Event → List Reply → Machine → Type 0
+IsRun setup m [] [] last = last ≡ m
+IsRun setup m [] (reply ∷ replies) last = ⊥
+IsRun setup m (event ∷ events) [] last = ⊥
+IsRun setup m (event ∷ events) (reply ∷ replies) last = (next : Machine)
+    × IsStep setup m event reply next × IsRun setup next events replies last
+
+-- How many cuts a reply tells of.
+abbrev pub cut_of : Reply → ℕ
+cut_of Done = 0
+cut_of (Booted table report permanent) = 0
+cut_of (Reverted mask) = 0
+cut_of (TrialAgain set left) = 0
+cut_of (Refused fault) = 0
+cut_of Cut = 1
+
+-- How many replies are Cut.
+abbrev pub cuts_in : List Reply → ℕ
+cuts_in [] = 0
+cuts_in (reply ∷ replies) = cut_of reply + cuts_in replies
