@@ -2,3 +2,8 @@ pub mod Unique
 pub mod Frames
 pub mod Rows
 pub mod Preparing
+pub mod Beginning
+pub mod Swapping
+pub mod FoundAgain
+pub mod Raising
+pub mod Ending
