@@ -7,3 +7,8 @@ pub mod Swapping
 pub mod FoundAgain
 pub mod Raising
 pub mod Ending
+pub mod Resuming
+pub mod Upgrading
+pub mod Reverting
+pub mod Confirming
+pub mod Steadying
