@@ -1,5 +1,5 @@
 -- An upgrade ends.
-use Rattle.std.proofs.Common.{◌≡◌, ℕ, ◌+◌, ◌<◌, ◌≤◌, ◌==◌, ◌&&◌, ◌⊎◌, Bool, true, false, List, length, take, Option, Some, None, refl, sym, ◌∙◌, ap, subst, arith, inl, inr, ⊎_elim, if◌then◌else◌, option_map}
+use Rattle.std.proofs.Common.{◌≡◌, ℕ, ◌<◌, ◌⊎◌, Bool, true, false, List, Option, Some, None, refl, sym, ◌∙◌, ap, subst, inl, inr, ⊎_elim, if◌then◌else◌}
 use Rattle.flash_model.specs.Chip.{Chip}
 use Rattle.sector_map.specs.declared.layout.SectorMap.{SectorMap}
 use Rattle.sector_map.specs.declared.layout.Side.TheVariants.{Primary, Secondary}
@@ -15,9 +15,9 @@ use Rattle.certificate.specs.declared.table.Table.{Table}
 use Rattle.machine.specs.States.{wanted_bytes, settled, taken_for_good, taken_on_trial, bytes_or_none, new_trial}
 use Rattle.machine.specs.Holding.{IsTrialAt, IsSwapped, AreSettled}
 use Rattle.machine.specs.Passing.{IsTakenAt}
-use Rattle.machine.proofs.Frames.{image_same, same_state}
+use Rattle.machine.proofs.Frames.{same_state}
 use Rattle.machine.proofs.Swapping.{settle_logged, others_logged, settling_kept}
-use Rattle.machine.proofs.Beginning.{running_bytes, member_bytes}
+use Rattle.machine.proofs.Beginning.{running_bytes}
 use Rattle.set_log.specs.declared.state.Kind.TheVariants as log
 
 pub if_true : {X : Type 0} (b : Bool) (x y : X) → b ≡ true → (if b then x else y) ≡ x
@@ -29,10 +29,12 @@ if_false true x y e = cc
 if_false false x y e = refl
 
 -- an image outside a set that is taken
-pub image_outside : (map : SectorMap) (w : Chip) (s t : DeviceState) (i : ℕ) → t.running i ≡ s.running i → t.request i ≡ s.request i → IsImageAt (view map w) s i → IsImageAt (view map w) t i
+pub image_outside : (map : SectorMap) (w : Chip) (s t : DeviceState) (i : ℕ) → t.running i ≡ s.running i
+    → t.request i ≡ s.request i → IsImageAt (view map w) s i → IsImageAt (view map w) t i
 image_outside map w s t i runs asks was = record {
   running = subst (λ held. IsFront ((view map w).slot i Primary) held) (sym runs) was.running;
-  request = subst (λ wanted. IsRequested ((view map w).trailer i Secondary) ((view map w).slot i Secondary) wanted) (sym asks) was.request;
+  request = subst (λ wanted. IsRequested ((view map w).trailer i Secondary)
+      ((view map w).slot i Secondary) wanted) (sym asks) was.request;
 }
 
 -- what ran is kept for a trial
@@ -41,14 +43,19 @@ old_kept held bytes is = ap (λ h. Some (bytes_or_none h)) is ∙ sym is
 
 -- an erased trailer asks for nothing
 pub none_asked : (trailer : Fields) (slot : List ℕ) → trailer ≡ erased_fields → IsRequested trailer slot None
-none_asked trailer slot erased = subst (λ t. IsRequested t slot None) (sym erased) (record { kind = refl; front = λ w e. absurd (none_some w e) }) where
-  none_some : (w : Wanted) → None ≡ Some w → ⊥
-  none_some w e = cc
+none_asked trailer slot erased = subst (λ t. IsRequested t slot None) (sym erased)
+    (record { kind = refl; front = λ w e. absurd (none_some w e) }) where
+      none_some : (w : Wanted) → None ≡ Some w → ⊥
+      none_some w e = cc
 
-pub trial_begins : (map : SectorMap) (old new : Chip) (s : DeviceState) (table : Table) (mask left : ℕ) → Keeps map (only Log) old new → (view map new).log ≡ Some (logged log.Trial mask false left s)
-    → IsSwapped (view map old) s table log.Settle mask false → AreSettled (view map old) mask false → IsTrialAt (view map new) (taken_on_trial s mask (new_trial s mask left)) (new_trial s mask left)
+pub trial_begins : (map : SectorMap) (old new : Chip) (s : DeviceState) (table : Table) (mask left : ℕ)
+    → Keeps map (only Log) old new → (view map new).log ≡ Some (logged log.Trial mask false left s)
+    → IsSwapped (view map old) s table log.Settle mask false → AreSettled (view map old) mask false
+    → IsTrialAt (view map new) (taken_on_trial s mask (new_trial s mask left)) (new_trial s mask left)
 trial_begins map old new s table mask left keeps recorded was settled =
-    let within : (i : ℕ) → is_member mask i ≡ true → i < (view map old).images = λ i member. subst (λ n. i < n) (sym was.images) (was.decision.within i member) in
+    let within : (i : ℕ) → is_member mask i ≡ true
+    → i < (view map old).images = λ i member. subst (λ n. i < n) (sym was.images)
+    (was.decision.within i member) in
     let after = taken_on_trial s mask (new_trial s mask left) in
     record {
       opened = record {
@@ -60,30 +67,44 @@ trial_begins map old new s table mask left keeps recorded was settled =
             let done = (settled.each i (within i member) member).both in
             let bytes = running_bytes s table i was.decision.rows (was.decision.within i member) in
             record {
-              running = subst (λ held. IsFront ((view map new).slot i Primary) held) (sym (if_true (is_member mask i) (wanted_bytes (s.request i)) (s.running i) member))
-                  (subst (λ l. IsFront l (wanted_bytes (s.request i))) (sym ((view_kept map _ _ _ keeps).slots i Primary refl)) (was.asked i member));
-              old = subst (λ held. IsFront ((view map new).slot i Secondary) held) (sym (old_kept (s.running i) bytes.0 bytes.1))
-                  (subst (λ l. IsFront l (s.running i)) (sym ((view_kept map _ _ _ keeps).slots i Secondary refl)) (was.ran i member));
-              confirmed = ap (λ (t : Fields). t.image_ok) ((view_kept map _ _ _ keeps).trailers i Primary refl) ∙ done.image_ok;
+              running = subst (λ held. IsFront ((view map new).slot i Primary) held)
+                  (sym (if_true (is_member mask i) (wanted_bytes (s.request i)) (s.running i) member))
+                  (subst (λ l. IsFront l (wanted_bytes (s.request i)))
+                  (sym ((view_kept map _ _ _ keeps).slots i Primary refl)) (was.asked i member));
+              old = subst (λ held. IsFront ((view map new).slot i Secondary) held)
+                  (sym (old_kept (s.running i) bytes.0 bytes.1))
+                  (subst (λ l. IsFront l (s.running i))
+                  (sym ((view_kept map _ _ _ keeps).slots i Secondary refl)) (was.ran i member));
+              confirmed = ap (λ (t : Fields). t.image_ok)
+                  ((view_kept map _ _ _ keeps).trailers i Primary refl) ∙ done.image_ok;
               good = ap (λ (t : Fields). t.magic) ((view_kept map _ _ _ keeps).trailers i Primary refl) ∙ done.magic;
-              copied = ap (λ (t : Fields). t.copy_done) ((view_kept map _ _ _ keeps).trailers i Primary refl) ∙ done.copy_done;
+              copied = ap (λ (t : Fields). t.copy_done)
+                  ((view_kept map _ _ _ keeps).trailers i Primary refl) ∙ done.copy_done;
             };
         gone = λ i member. if_true (is_member mask i) None (s.request i) member;
-        others = λ i lt other. image_outside map new s after i (if_false (is_member mask i) (wanted_bytes (s.request i)) (s.running i) other) (if_false (is_member mask i) None (s.request i) other)
+        others = λ i lt other. image_outside map new s after i
+            (if_false (is_member mask i) (wanted_bytes (s.request i)) (s.running i) other)
+            (if_false (is_member mask i) None (s.request i) other)
             (others_logged map mask old new s keeps was.others i lt other);
       };
-      unset = λ i member. ap (λ (t : Fields). t.magic) ((view_kept map _ _ _ keeps).trailers i Secondary refl ∙ (settled.each i (within i member) member).both.erased);
+      unset = λ i member. ap (λ (t : Fields). t.magic)
+          ((view_kept map _ _ _ keeps).trailers i Secondary refl ∙
+          (settled.each i (within i member) member).both.erased);
     }
 
 pub member_or : (b : Bool) → (b ≡ true) ⊎ (b ≡ false)
 member_or true = inl refl
 member_or false = inr refl
 
-pub taken_stands : (map : SectorMap) (old new : Chip) (s : DeviceState) (table : Table) (mask : ℕ) (floors : List ℕ) → Keeps map (only Log) old new
+pub taken_stands : (map : SectorMap) (old new : Chip) (s : DeviceState) (table : Table) (mask : ℕ)
+    (floors : List ℕ) → Keeps map (only Log) old new
     → (view map new).log ≡ Some (logged log.Steady 0 false 0 (taken_for_good s mask floors))
-    → IsSwapped (view map old) s table log.Settle mask true → AreSettled (view map old) mask true → IsSteadyAt (view map new) (taken_for_good s mask floors)
+    → IsSwapped (view map old) s table log.Settle mask true → AreSettled (view map old) mask true
+    → IsSteadyAt (view map new) (taken_for_good s mask floors)
 taken_stands map old new s table mask floors keeps recorded was settled =
-    let within : (i : ℕ) → is_member mask i ≡ true → i < (view map old).images = λ i member. subst (λ n. i < n) (sym was.images) (was.decision.within i member) in
+    let within : (i : ℕ) → is_member mask i ≡ true
+    → i < (view map old).images = λ i member. subst (λ n. i < n) (sym was.images)
+    (was.decision.within i member) in
     let after = taken_for_good s mask floors in
     record {
       trial = refl;
@@ -91,68 +112,112 @@ taken_stands map old new s table mask floors keeps recorded was settled =
       log = recorded;
       each = λ i lt. ⊎_elim
           (λ (member : is_member mask i ≡ true). record {
-            running = subst (λ held. IsFront ((view map new).slot i Primary) held) (sym (if_true (is_member mask i) (wanted_bytes (s.request i)) (s.running i) member))
-                (subst (λ l. IsFront l (wanted_bytes (s.request i))) (sym ((view_kept map _ _ _ keeps).slots i Primary refl)) (was.asked i member));
-            request = subst (λ wanted. IsRequested ((view map new).trailer i Secondary) ((view map new).slot i Secondary) wanted) (sym (if_true (is_member mask i) None (s.request i) member))
-                (none_asked ((view map new).trailer i Secondary) ((view map new).slot i Secondary) ((view_kept map _ _ _ keeps).trailers i Secondary refl ∙ (settled.each i (within i member) member).both.erased));
+            running = subst (λ held. IsFront ((view map new).slot i Primary) held)
+                (sym (if_true (is_member mask i) (wanted_bytes (s.request i)) (s.running i) member))
+                (subst (λ l. IsFront l (wanted_bytes (s.request i)))
+                (sym ((view_kept map _ _ _ keeps).slots i Primary refl)) (was.asked i member));
+            request = subst (λ wanted. IsRequested ((view map new).trailer i Secondary)
+                ((view map new).slot i Secondary) wanted) (sym (if_true (is_member mask i) None (s.request i) member))
+                (none_asked ((view map new).trailer i Secondary) ((view map new).slot i Secondary)
+                ((view_kept map _ _ _ keeps).trailers i Secondary refl ∙
+                (settled.each i (within i member) member).both.erased));
           })
-          (λ (other : is_member mask i ≡ false). image_outside map new s after i (if_false (is_member mask i) (wanted_bytes (s.request i)) (s.running i) other) (if_false (is_member mask i) None (s.request i) other)
+          (λ (other : is_member mask i ≡ false). image_outside map new s after i
+          (if_false (is_member mask i) (wanted_bytes (s.request i)) (s.running i) other)
+          (if_false (is_member mask i) None (s.request i) other)
           (others_logged map mask old new s keeps was.others i lt other))
           (member_or (is_member mask i));
     }
 
-trial_record : (map : SectorMap) (w : Chip) (state : State) (mask left : ℕ) (s : DeviceState) → (view map w).log ≡ Some state → (view map w).log ≡ Some (logged log.Settle mask false 0 s)
+trial_record : (map : SectorMap) (w : Chip) (state : State) (mask left : ℕ) (s : DeviceState)
+    → (view map w).log ≡ Some state → (view map w).log ≡ Some (logged log.Settle mask false 0 s)
     → record state { kind = log.Trial; left = left } ≡ logged log.Trial mask false left s
-trial_record map w state mask left s read is = ap (λ (st : State). record st { kind = log.Trial; left = left }) (same_state map w state (logged log.Settle mask false 0 s) read is)
+trial_record map w state mask left s read is = ap
+    (λ (st : State). record st { kind = log.Trial; left = left })
+    (same_state map w state (logged log.Settle mask false 0 s) read is)
 
-pub trial_ok : (map : SectorMap) (old new : Chip) (state : State) (left : ℕ) → (view map old).log ≡ Some state → Keeps map (only Log) old new → (view map new).log ≡ Some (record state { kind = log.Trial; left = left })
-    → (s : DeviceState) (table : Table) (mask : ℕ) → IsSwapped (view map old) s table log.Settle mask false → AreSettled (view map old) mask false
+pub trial_ok : (map : SectorMap) (old new : Chip) (state : State) (left : ℕ)
+    → (view map old).log ≡ Some state → Keeps map (only Log) old new
+    → (view map new).log ≡ Some (record state { kind = log.Trial; left = left })
+    → (s : DeviceState) (table : Table) (mask : ℕ) → IsSwapped (view map old) s table log.Settle mask false
+    → AreSettled (view map old) mask false
     → IsTrialAt (view map new) (taken_on_trial s mask (new_trial s mask left)) (new_trial s mask left)
 trial_ok map old new state left read keeps recorded s table mask was settled =
-    trial_begins map old new s table mask left keeps (recorded ∙ ap (λ st. Some st) (trial_record map old state mask left s read was.log)) was settled
+    trial_begins map old new s table mask left keeps
+    (recorded ∙ ap (λ st. Some st) (trial_record map old state mask left s read was.log)) was settled
 
-pub trial_either : (map : SectorMap) (old new : Chip) (state : State) (left : ℕ) → (view map old).log ≡ Some state → Keeps map (only Log) old new → ((view map new).log ≡ (view map old).log) ⊎ ((view map new).log ≡ Some (record state { kind = log.Trial; left = left }))
-    → (s : DeviceState) (table : Table) (mask : ℕ) → IsSwapped (view map old) s table log.Settle mask false → AreSettled (view map old) mask false
-    → IsSwapped (view map new) s table log.Settle mask false ⊎ IsTrialAt (view map new) (taken_on_trial s mask (new_trial s mask left)) (new_trial s mask left)
+pub trial_either : (map : SectorMap) (old new : Chip) (state : State) (left : ℕ)
+    → (view map old).log ≡ Some state → Keeps map (only Log) old new
+    → ((view map new).log ≡ (view map old).log)
+    ⊎ ((view map new).log ≡ Some (record state { kind = log.Trial; left = left }))
+    → (s : DeviceState) (table : Table) (mask : ℕ) → IsSwapped (view map old) s table log.Settle mask false
+    → AreSettled (view map old) mask false
+    → IsSwapped (view map new) s table log.Settle mask false
+    ⊎ IsTrialAt (view map new) (taken_on_trial s mask (new_trial s mask left)) (new_trial s mask left)
 trial_either map old new state left read keeps either s table mask was settled = ⊎_elim
-    (λ (same : (view map new).log ≡ (view map old).log). inl (settle_logged map old new s table log.Settle log.Settle mask false keeps (same ∙ was.log) was))
+    (λ (same : (view map new).log ≡ (view map old).log). inl
+    (settle_logged map old new s table log.Settle log.Settle mask false keeps (same ∙ was.log) was))
     (λ recorded. inr (trial_ok map old new state left read keeps recorded s table mask was settled))
     either
 
-good_record : (map : SectorMap) (w : Chip) (state : State) (mask : ℕ) (floors : List ℕ) (s : DeviceState) → (view map w).log ≡ Some state → (view map w).log ≡ Some (logged log.Settle mask true 0 s)
+good_record : (map : SectorMap) (w : Chip) (state : State) (mask : ℕ) (floors : List ℕ) (s : DeviceState)
+    → (view map w).log ≡ Some state → (view map w).log ≡ Some (logged log.Settle mask true 0 s)
     → record { kind = log.Steady; mask = 0; permanent = false; left = 0; sequence = state.sequence; floors = floors } ≡ logged log.Steady 0 false 0 (taken_for_good s mask floors)
 good_record map w state mask floors s read is =
     ap (λ (st : State). record { kind = log.Steady; mask = 0; permanent = false; left = 0; sequence = st.sequence; floors = floors }) (same_state map w state (logged log.Settle mask true 0 s) read is)
 
-pub good_ok : (map : SectorMap) (old new : Chip) (state : State) (floors : List ℕ) → (view map old).log ≡ Some state → Keeps map (only Log) old new
-    → (view map new).log ≡ Some (record { kind = log.Steady; mask = 0; permanent = false; left = 0; sequence = state.sequence; floors = floors })
-    → (s : DeviceState) (table : Table) (mask : ℕ) → IsSwapped (view map old) s table log.Settle mask true → AreSettled (view map old) mask true → IsSteadyAt (view map new) (taken_for_good s mask floors)
+pub good_ok : (map : SectorMap) (old new : Chip) (state : State) (floors : List ℕ)
+    → (view map old).log ≡ Some state → Keeps map (only Log) old new
+    → (view map new).log ≡ Some
+    (record { kind = log.Steady; mask = 0; permanent = false; left = 0; sequence = state.sequence; floors = floors })
+    → (s : DeviceState) (table : Table) (mask : ℕ) → IsSwapped (view map old) s table log.Settle mask true
+    → AreSettled (view map old) mask true → IsSteadyAt (view map new) (taken_for_good s mask floors)
 good_ok map old new state floors read keeps recorded s table mask was settled =
-    taken_stands map old new s table mask floors keeps (recorded ∙ ap (λ st. Some st) (good_record map old state mask floors s read was.log)) was settled
+    taken_stands map old new s table mask floors keeps
+    (recorded ∙ ap (λ st. Some st) (good_record map old state mask floors s read was.log)) was settled
 
-pub good_either : (map : SectorMap) (old new : Chip) (state : State) (floors : List ℕ) → (view map old).log ≡ Some state → Keeps map (only Log) old new
-    → ((view map new).log ≡ (view map old).log) ⊎ ((view map new).log ≡ Some (record { kind = log.Steady; mask = 0; permanent = false; left = 0; sequence = state.sequence; floors = floors }))
-    → (s : DeviceState) (table : Table) (mask : ℕ) → IsSwapped (view map old) s table log.Settle mask true → AreSettled (view map old) mask true
+pub good_either : (map : SectorMap) (old new : Chip) (state : State) (floors : List ℕ)
+    → (view map old).log ≡ Some state → Keeps map (only Log) old new
+    → ((view map new).log ≡ (view map old).log)
+    ⊎ ((view map new).log ≡ Some
+    (record { kind = log.Steady; mask = 0; permanent = false; left = 0; sequence = state.sequence; floors = floors }))
+    → (s : DeviceState) (table : Table) (mask : ℕ) → IsSwapped (view map old) s table log.Settle mask true
+    → AreSettled (view map old) mask true
     → IsSwapped (view map new) s table log.Settle mask true ⊎ IsSteadyAt (view map new) (taken_for_good s mask floors)
 good_either map old new state floors read keeps either s table mask was settled = ⊎_elim
-    (λ (same : (view map new).log ≡ (view map old).log). inl (settle_logged map old new s table log.Settle log.Settle mask true keeps (same ∙ was.log) was))
+    (λ (same : (view map new).log ≡ (view map old).log). inl
+    (settle_logged map old new s table log.Settle log.Settle mask true keeps (same ∙ was.log) was))
     (λ recorded. inr (good_ok map old new state floors read keeps recorded s table mask was settled))
     either
 
-pub conclude_good : (map : SectorMap) (old mid new : Chip) (mask : ℕ) (permanent : Bool) (left : ℕ) (floors : List ℕ) → permanent ≡ true → Keeps map (trailers_in mask) old mid → AreSettled (view map mid) mask permanent
-    → ((s : DeviceState) (table : Table) (mask : ℕ) → IsSwapped (view map mid) s table log.Settle mask true → AreSettled (view map mid) mask true
-    → IsSwapped (view map new) s table log.Settle mask true ⊎ IsSteadyAt (view map new) (taken_for_good s mask floors))
-    → (s : DeviceState) (table : Table) → IsSwapped (view map old) s table log.Settle mask permanent → IsSwapped (view map new) s table log.Settle mask permanent ⊎ IsTakenAt (view map new) s mask permanent left floors
-conclude_good map old mid new mask true left floors e keeps settled ends s table was = ends s table mask (settling_kept map old mid mask keeps s table log.Settle true was) settled
+pub conclude_good : (map : SectorMap) (old mid new : Chip) (mask : ℕ) (permanent : Bool) (left : ℕ)
+    (floors : List ℕ) → permanent ≡ true → Keeps map (trailers_in mask) old mid
+    → AreSettled (view map mid) mask permanent
+    → ((s : DeviceState) (table : Table) (mask : ℕ) → IsSwapped (view map mid) s table log.Settle mask true
+    → AreSettled (view map mid) mask true
+    → IsSwapped (view map new) s table log.Settle mask true
+    ⊎ IsSteadyAt (view map new) (taken_for_good s mask floors))
+    → (s : DeviceState) (table : Table) → IsSwapped (view map old) s table log.Settle mask permanent
+    → IsSwapped (view map new) s table log.Settle mask permanent
+    ⊎ IsTakenAt (view map new) s mask permanent left floors
+conclude_good map old mid new mask true left floors e keeps settled ends s table was = ends s table mask
+    (settling_kept map old mid mask keeps s table log.Settle true was) settled
 conclude_good map old mid new mask false left floors e keeps settled ends s table was = absurd (false_true e) where
   false_true : false ≡ true → ⊥
   false_true e = cc
 
-pub conclude_trial : (map : SectorMap) (old mid new : Chip) (mask : ℕ) (permanent : Bool) (left : ℕ) (floors : List ℕ) → permanent ≡ false → Keeps map (trailers_in mask) old mid → AreSettled (view map mid) mask permanent
-    → ((s : DeviceState) (table : Table) (mask : ℕ) → IsSwapped (view map mid) s table log.Settle mask false → AreSettled (view map mid) mask false
-    → IsSwapped (view map new) s table log.Settle mask false ⊎ IsTrialAt (view map new) (taken_on_trial s mask (new_trial s mask left)) (new_trial s mask left))
-    → (s : DeviceState) (table : Table) → IsSwapped (view map old) s table log.Settle mask permanent → IsSwapped (view map new) s table log.Settle mask permanent ⊎ IsTakenAt (view map new) s mask permanent left floors
-conclude_trial map old mid new mask false left floors e keeps settled ends s table was = ends s table mask (settling_kept map old mid mask keeps s table log.Settle false was) settled
+pub conclude_trial : (map : SectorMap) (old mid new : Chip) (mask : ℕ) (permanent : Bool) (left : ℕ)
+    (floors : List ℕ) → permanent ≡ false → Keeps map (trailers_in mask) old mid
+    → AreSettled (view map mid) mask permanent
+    → ((s : DeviceState) (table : Table) (mask : ℕ) → IsSwapped (view map mid) s table log.Settle mask false
+    → AreSettled (view map mid) mask false
+    → IsSwapped (view map new) s table log.Settle mask false
+    ⊎ IsTrialAt (view map new) (taken_on_trial s mask (new_trial s mask left)) (new_trial s mask left))
+    → (s : DeviceState) (table : Table) → IsSwapped (view map old) s table log.Settle mask permanent
+    → IsSwapped (view map new) s table log.Settle mask permanent
+    ⊎ IsTakenAt (view map new) s mask permanent left floors
+conclude_trial map old mid new mask false left floors e keeps settled ends s table was = ends s table mask
+    (settling_kept map old mid mask keeps s table log.Settle false was) settled
 conclude_trial map old mid new mask true left floors e keeps settled ends s table was = absurd (true_false e) where
   true_false : true ≡ false → ⊥
   true_false e = cc

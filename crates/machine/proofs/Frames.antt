@@ -1,5 +1,5 @@
 -- What is left of a state when parts of the flash are written.
-use Rattle.std.proofs.Common.{◌≡◌, ℕ, ◌+◌, ◌<◌, ◌≤◌, ◌==◌, ◌&&◌, ◌⊎◌, Bool, true, false, List, length, take, Option, Some, None, refl, sym, ◌∙◌, ap, subst, arith, inl, inr}
+use Rattle.std.proofs.Common.{◌≡◌, ℕ, ◌+◌, ◌≤◌, Bool, false, List, length, take, Some, refl, sym, ◌∙◌, ap, subst, arith}
 use Rattle.std.proofs.Math.Bool.{and-false}
 use Rattle.std.proofs.Common.{◌-◌, ◌++◌, drop}
 use Rattle.std.proofs.lemmas.List.{append_assoc, take-append-drop}
@@ -18,8 +18,11 @@ use Rattle.upload.specs.Device.{DeviceState}
 use Rattle.upload.specs.Steady.{IsFront, IsRequested, IsImageAt, IsSteadyAt}
 
 -- an image depends on its slots and its secondary trailer
-pub image_same : (map : SectorMap) (old new : Chip) (s : DeviceState) (i : ℕ) → (view map new).slot i Primary ≡ (view map old).slot i Primary → (view map new).slot i Secondary ≡ (view map old).slot i Secondary
-    → (view map new).trailer i Secondary ≡ (view map old).trailer i Secondary → IsImageAt (view map old) s i → IsImageAt (view map new) s i
+pub image_same : (map : SectorMap) (old new : Chip) (s : DeviceState) (i : ℕ)
+    → (view map new).slot i Primary ≡ (view map old).slot i Primary
+    → (view map new).slot i Secondary ≡ (view map old).slot i Secondary
+    → (view map new).trailer i Secondary ≡ (view map old).trailer i Secondary → IsImageAt (view map old) s i
+    → IsImageAt (view map new) s i
 image_same map old new s i first second trailer was = record {
   running = subst (λ l. IsFront l (s.running i)) (sym first) was.running;
   request = subst (λ l. IsRequested ((view map new).trailer i Secondary) l (s.request i)) (sym second)
@@ -32,28 +35,36 @@ pub record IsAside (touched : Part → Bool) : Type 0 where
   pub secondary : (i : ℕ) → touched (TrailerOf i Secondary) ≡ false
   pub log : touched Log ≡ false
 
-pub steady_kept : (map : SectorMap) (touched : Part → Bool) (old new : Chip) (s : DeviceState) → Keeps map touched old new → IsAside touched → IsSteadyAt (view map old) s → IsSteadyAt (view map new) s
+pub steady_kept : (map : SectorMap) (touched : Part → Bool) (old new : Chip) (s : DeviceState)
+    → Keeps map touched old new → IsAside touched → IsSteadyAt (view map old) s → IsSteadyAt (view map new) s
 steady_kept map touched old new s keeps aside was = record {
   trial = was.trial;
   images = (view_kept map _ _ _ keeps).images ∙ was.images;
   log = (view_kept map _ _ _ keeps).log aside.log ∙ was.log;
-  each = λ i lt. image_same map old new s i ((view_kept map _ _ _ keeps).slots i Primary (aside.slots i Primary)) ((view_kept map _ _ _ keeps).slots i Secondary (aside.slots i Secondary)) ((view_kept map _ _ _ keeps).trailers i Secondary (aside.secondary i)) (was.each i lt);
+  each = λ i lt. image_same map old new s i
+      ((view_kept map _ _ _ keeps).slots i Primary (aside.slots i Primary))
+      ((view_kept map _ _ _ keeps).slots i Secondary (aside.slots i Secondary))
+      ((view_kept map _ _ _ keeps).trailers i Secondary (aside.secondary i)) (was.each i lt);
 }
 
 -- the log alone was written, and says what it said
-pub steady_logged : (map : SectorMap) (old new : Chip) (s : DeviceState) → Keeps map (only Log) old new → (view map new).log ≡ (view map old).log → IsSteadyAt (view map old) s → IsSteadyAt (view map new) s
+pub steady_logged : (map : SectorMap) (old new : Chip) (s : DeviceState) → Keeps map (only Log) old new
+    → (view map new).log ≡ (view map old).log → IsSteadyAt (view map old) s → IsSteadyAt (view map new) s
 steady_logged map old new s keeps recorded was = record {
   trial = was.trial;
   images = (view_kept map _ _ _ keeps).images ∙ was.images;
   log = recorded ∙ was.log;
-  each = λ i lt. image_same map old new s i ((view_kept map _ _ _ keeps).slots i Primary refl) ((view_kept map _ _ _ keeps).slots i Secondary refl) ((view_kept map _ _ _ keeps).trailers i Secondary refl) (was.each i lt);
+  each = λ i lt. image_same map old new s i ((view_kept map _ _ _ keeps).slots i Primary refl)
+      ((view_kept map _ _ _ keeps).slots i Secondary refl)
+      ((view_kept map _ _ _ keeps).trailers i Secondary refl) (was.each i lt);
 }
 
 pub primary_aside : (mask : ℕ) → IsAside (trailers_on mask Primary)
 primary_aside mask = record { slots = λ i side. refl; secondary = λ i. and-false (is_member mask i); log = refl }
 
 -- two readings of one log
-pub same_state : (map : SectorMap) (w : Chip) (a b : State) → (view map w).log ≡ Some a → (view map w).log ≡ Some b → a ≡ b
+pub same_state : (map : SectorMap) (w : Chip) (a b : State) → (view map w).log ≡ Some a
+    → (view map w).log ≡ Some b → a ≡ b
 same_state map w a b first second = let e : Some a ≡ Some b = sym first ∙ second in cc
 
 -- what a longer front begins with
@@ -68,7 +79,9 @@ starts_take n whole bytes (rest, is) le =
     )
 
 pub starts_trans : (whole front bytes : List ℕ) → Starts whole front → Starts front bytes → Starts whole bytes
-starts_trans whole front bytes (rest, is) (more, also) = (more ++ rest, is ∙ ap (λ l. l ++ rest) also ∙ append_assoc bytes more rest)
+starts_trans whole front bytes (rest, is) (more, also) =
+    (more ++ rest, is ∙ ap (λ l. l ++ rest) also ∙ append_assoc bytes more rest)
 
 pub starts_of_take : (n : ℕ) (whole bytes : List ℕ) → Starts (take n whole) bytes → Starts whole bytes
-starts_of_take n whole bytes starts = starts_trans whole (take n whole) bytes (drop n whole, sym (take-append-drop n whole)) starts
+starts_of_take n whole bytes starts = starts_trans whole (take n whole) bytes
+    (drop n whole, sym (take-append-drop n whole)) starts

@@ -1,6 +1,6 @@
 -- Making a set ready.
-use Rattle.std.proofs.Common.{◌≡◌, ℕ, ◌+◌, ◌<◌, ◌≤◌, ◌==◌, ◌&&◌, ◌⊎◌, Bool, true, false, List, length, Some, None, refl, sym, ◌∙◌, ap, subst, arith, max, ⊎_elim}
-use Rattle.std.proofs.lemmas.Bool.{eq-eqb, eqb-true, eqb-false}
+use Rattle.std.proofs.Common.{◌≡◌, ℕ, ◌≤◌, ◌==◌, ◌&&◌, Bool, true, false, List, length, Some, refl, sym, ◌∙◌, ap, subst, arith}
+use Rattle.std.proofs.lemmas.Bool.{eqb-true}
 use Rattle.flash_model.specs.Chip.{Chip}
 use Rattle.sector_map.specs.declared.layout.SectorMap.{SectorMap}
 use Rattle.sector_map.specs.declared.layout.Side.{Side}
@@ -16,7 +16,9 @@ use Rattle.upload.specs.Steady.{Starts}
 use Rattle.machine.specs.Prepared.{IsRoomFor, IsRoomForBoth, IsPrepared}
 use Rattle.machine.proofs.Unique.{one_front}
 
-pub room_of : (whole : List ℕ) (d : Desc) → ((bytes : List ℕ) × Starts whole bytes × IsIntact bytes d × (length bytes ≡ d.length)) → IsRoomFor whole d.length
+pub room_of : (whole : List ℕ) (d : Desc)
+    → ((bytes : List ℕ) × Starts whole bytes × IsIntact bytes d × (length bytes ≡ d.length))
+    → IsRoomFor whole d.length
 room_of whole d (bytes, starts, image, long) = record {
   each = λ other also begins is.
       let same = one_front whole bytes other d also starts begins image is in
@@ -26,23 +28,33 @@ room_of whole d (bytes, starts, image, long) = record {
 wider : (whole : List ℕ) (a n : ℕ) → IsRoomFor whole a → a ≤ n → IsRoomFor whole n
 wider whole a n room le = record { each = λ bytes d starts is. let short : length bytes ≤ a = room.each bytes d starts is in omega arith }
 
-pub room_for_both : (map : SectorMap) (w mid : Chip) (i a b n : ℕ) → IsRoomFor ((view map w).slot i Primary) a → mid ≡ w → IsRoomFor ((view map mid).slot i Secondary) b → a ≤ n → b ≤ n → IsRoomForBoth (view map w) i n
+pub room_for_both : (map : SectorMap) (w mid : Chip) (i a b n : ℕ)
+    → IsRoomFor ((view map w).slot i Primary) a → mid ≡ w → IsRoomFor ((view map mid).slot i Secondary) b
+    → a ≤ n → b ≤ n → IsRoomForBoth (view map w) i n
 room_for_both map w mid i a b n first same second le le' = record {
   each = λ on. elim on as (λ on. IsRoomFor ((view map w).slot i on) n) [
     | Primary ↦ wider ((view map w).slot i Primary) a n first le
-    | Secondary ↦ wider ((view map w).slot i Secondary) b n (subst (λ (v : Chip). IsRoomFor ((view map v).slot i Secondary) b) same second) le'
+    | Secondary ↦ wider ((view map w).slot i Secondary) b n
+        (subst (λ (v : Chip). IsRoomFor ((view map v).slot i Secondary) b) same second) le'
   ];
 }
 
-pub prepared : (map : SectorMap) (i size : ℕ) (side : Side) (erased mid new : Chip) → (view map erased).trailer i side ≡ erased_fields → IsRoomForBoth (view map erased) i size → mid ≡ erased
-    → (view map new).trailer i side ≡ record ((view map mid).trailer i side) { size = Some size } → Keeps map (only (TrailerOf i side)) mid new → IsPrepared (view map new) side i
+pub prepared : (map : SectorMap) (i size : ℕ) (side : Side) (erased mid new : Chip)
+    → (view map erased).trailer i side ≡ erased_fields → IsRoomForBoth (view map erased) i size → mid ≡ erased
+    → (view map new).trailer i side ≡ record ((view map mid).trailer i side) { size = Some size }
+    → Keeps map (only (TrailerOf i side)) mid new → IsPrepared (view map new) side i
 prepared map i size side erased mid new clean room same written keeps = record {
-  fresh = ap (λ (t : Fields). t.is_fresh) written ∙ ap (λ (v : Chip). ((view map v).trailer i side).is_fresh) same ∙ ap (λ (t : Fields). t.is_fresh) clean;
+  fresh = ap (λ (t : Fields). t.is_fresh) written ∙ ap
+      (λ (v : Chip). ((view map v).trailer i side).is_fresh) same ∙ ap (λ (t : Fields). t.is_fresh) clean;
   room = (
     size,
     record {
       size = ap (λ (t : Fields). t.size) written;
-      both = record { each = λ on. subst (λ l. IsRoomFor l size) (sym ((view_kept map _ _ _ keeps).slots i on refl ∙ ap (λ (v : Chip). (view map v).slot i on) same)) (room.each on) };
+      both = record {
+        each = λ on. subst (λ l. IsRoomFor l size)
+            (sym ((view_kept map _ _ _ keeps).slots i on refl ∙ ap
+            (λ (v : Chip). (view map v).slot i on) same)) (room.each on);
+      };
     },
   );
 }
@@ -56,16 +68,21 @@ and_no true b e = cc
 and_no false b e = refl
 
 -- an image that is ready stays so while another trailer is made ready
-pub prepared_kept : (map : SectorMap) (i j : ℕ) (side on : Side) (old new : Chip) → (i ≡ j → ⊥) → Keeps map (only (TrailerOf j on)) old new → IsPrepared (view map old) side i → IsPrepared (view map new) side i
+pub prepared_kept : (map : SectorMap) (i j : ℕ) (side on : Side) (old new : Chip) → (i ≡ j → ⊥)
+    → Keeps map (only (TrailerOf j on)) old new → IsPrepared (view map old) side i → IsPrepared (view map new) side i
 prepared_kept map i j side on old new ne keeps was =
-    let same = (view_kept map _ _ _ keeps).trailers i side (and_no (i == j) (same_side side on) (eqb_no i j (i == j) refl ne)) in
+    let same = (view_kept map _ _ _ keeps).trailers i side
+    (and_no (i == j) (same_side side on) (eqb_no i j (i == j) refl ne)) in
     record {
       fresh = ap (λ (t : Fields). t.is_fresh) same ∙ was.fresh;
       room = (
         was.room.0,
         record {
           size = ap (λ (t : Fields). t.size) same ∙ was.room.1.size;
-          both = record { each = λ at. subst (λ l. IsRoomFor l was.room.0) (sym ((view_kept map _ _ _ keeps).slots i at refl)) (was.room.1.both.each at) };
+          both = record {
+            each = λ at. subst (λ l. IsRoomFor l was.room.0)
+                (sym ((view_kept map _ _ _ keeps).slots i at refl)) (was.room.1.both.each at);
+          };
         },
       );
     }

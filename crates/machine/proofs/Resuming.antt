@@ -1,5 +1,5 @@
 -- An upgrade is finished from its record.
-use Rattle.std.proofs.Common.{◌≡◌, ◌⊎◌, ℕ, ◌+◌, ◌<◌, ◌≤◌, Bool, true, false, List, length, Option, Some, None, refl, sym, ◌∙◌, ap, subst, arith, ⊎_elim, inl, inr}
+use Rattle.std.proofs.Common.{◌≡◌, ◌⊎◌, ℕ, Bool, true, false, List, length, Some, refl, sym, ◌∙◌, ap, subst, ⊎_elim, inl, inr}
 use Rattle.flash_model.specs.Chip.{Chip}
 use Rattle.sector_map.specs.declared.layout.SectorMap.{SectorMap}
 use Rattle.sector_map.specs.Part.{is_member}
@@ -22,12 +22,15 @@ use Rattle.machine.proofs.Beginning.{member_bytes}
 use Rattle.machine.proofs.Raising.{raised_is}
 use Rattle.set_log.specs.declared.state.Kind.TheVariants as log
 
-read_at : (map : SectorMap) (w : Chip) (s : DeviceState) (i : ℕ) (b : Bool) → (b ≡ true → IsSwappedAt (view map w) s i) → (b ≡ false → IsImageAt (view map w) s i) → CanReadAt (view map w) s b i
+read_at : (map : SectorMap) (w : Chip) (s : DeviceState) (i : ℕ) (b : Bool)
+    → (b ≡ true → IsSwappedAt (view map w) s i) → (b ≡ false → IsImageAt (view map w) s i)
+    → CanReadAt (view map w) s b i
 read_at map w s i true swapped rest = swapped refl
 read_at map w s i false swapped rest = rest refl
 
 -- what is swapped can be read back
-pub can_read_back : (map : SectorMap) (w : Chip) (s : DeviceState) (table : Table) (kind : Kind) (mask : ℕ) (permanent : Bool) → IsSwapped (view map w) s table kind mask permanent → CanRead (view map w) s mask s.floors
+pub can_read_back : (map : SectorMap) (w : Chip) (s : DeviceState) (table : Table) (kind : Kind) (mask : ℕ)
+    (permanent : Bool) → IsSwapped (view map w) s table kind mask permanent → CanRead (view map w) s mask s.floors
 can_read_back map w s table kind mask permanent was = record {
   images = was.images;
   floors = refl;
@@ -37,74 +40,143 @@ can_read_back map w s table kind mask permanent was = record {
 }
 
 -- the floors of the record are those of the state
-pub record_floors : (map : SectorMap) (w : Chip) (state : State) (kind : Kind) (mask : ℕ) (permanent : Bool) (s : DeviceState) → (view map w).log ≡ Some state → (view map w).log ≡ Some (logged kind mask permanent 0 s) → s.floors ≡ state.floors
-record_floors map w state kind mask permanent s read is = ap (λ (st : State). st.floors) (sym (same_state map w state (logged kind mask permanent 0 s) read is))
+pub record_floors : (map : SectorMap) (w : Chip) (state : State) (kind : Kind) (mask : ℕ) (permanent : Bool)
+    (s : DeviceState) → (view map w).log ≡ Some state
+    → (view map w).log ≡ Some (logged kind mask permanent 0 s) → s.floors ≡ state.floors
+record_floors map w state kind mask permanent s read is = ap (λ (st : State). st.floors)
+    (sym (same_state map w state (logged kind mask permanent 0 s) read is))
 
 -- the decision is found again in what is swapped
-pub swapped_found : (map : SectorMap) (w : Chip) (state : State) (kind : Kind) (mask : ℕ) (finding : Finding) → (view map w).log ≡ Some state
-    → ((s : DeviceState) (table : Table) (permanent : Bool) → CanRead (view map w) s mask state.floors → IsDecision s table mask permanent → IsFoundAgain s mask finding)
-    → (s : DeviceState) (table : Table) (permanent : Bool) → IsSwapped (view map w) s table kind mask permanent → IsFoundAgain s mask finding
+pub swapped_found : (map : SectorMap) (w : Chip) (state : State) (kind : Kind) (mask : ℕ) (finding : Finding)
+    → (view map w).log ≡ Some state
+    → ((s : DeviceState) (table : Table) (permanent : Bool) → CanRead (view map w) s mask state.floors
+    → IsDecision s table mask permanent → IsFoundAgain s mask finding)
+    → (s : DeviceState) (table : Table) (permanent : Bool)
+    → IsSwapped (view map w) s table kind mask permanent → IsFoundAgain s mask finding
 swapped_found map w state kind mask finding read finds s table permanent was =
-    finds s table permanent (subst (λ l. CanRead (view map w) s mask l) (record_floors map w state kind mask permanent s read was.log) (can_read_back map w s table kind mask permanent was)) was.decision
+    finds s table permanent (subst (λ l. CanRead (view map w) s mask l)
+    (record_floors map w state kind mask permanent s read was.log)
+    (can_read_back map w s table kind mask permanent was)) was.decision
 
-module _ (map : SectorMap) (old mid new : Chip) (state : State) (left : ℕ) (finding : Finding) (found : Table) (report : Report) (floors : List ℕ)
+module _ (map : SectorMap) (old mid new : Chip) (state : State) (left : ℕ) (finding : Finding)
+    (found : Table) (report : Report) (floors : List ℕ)
     (read : (view map old).log ≡ Some state) (same : mid ≡ old)
-    (finds : (s : DeviceState) (table : Table) (permanent : Bool) → CanRead (view map old) s state.mask state.floors → IsDecision s table state.mask permanent → IsFoundAgain s state.mask finding)
-    (is : finding ≡ Decided found report) (raised : AreRaisedBy found.images.items state.mask (length found.images.items) state.floors floors) where
-  found_here : (s : DeviceState) (table : Table) → IsSwapped (view map old) s table log.Settle state.mask state.permanent → IsFoundAgain s state.mask (Decided found report)
-  found_here s table was = subst (λ f. IsFoundAgain s state.mask f) is (swapped_found map old state log.Settle state.mask finding read finds s table state.permanent was)
+    (finds : (s : DeviceState) (table : Table) (permanent : Bool)
+    → CanRead (view map old) s state.mask state.floors → IsDecision s table state.mask permanent
+    → IsFoundAgain s state.mask finding)
+    (is : finding ≡ Decided found report)
+    (raised : AreRaisedBy found.images.items state.mask (length found.images.items) state.floors floors) where
+  found_here : (s : DeviceState) (table : Table)
+      → IsSwapped (view map old) s table log.Settle state.mask state.permanent
+      → IsFoundAgain s state.mask (Decided found report)
+  found_here s table was = subst (λ f. IsFoundAgain s state.mask f) is
+      (swapped_found map old state log.Settle state.mask finding read finds s table state.permanent was)
 
-  done_here : (s : DeviceState) (table : Table) → IsSwapped (view map old) s table log.Settle state.mask state.permanent → IsTakenAt (view map new) s state.mask state.permanent left floors → IsUpgraded left (view map new) s state.mask state.permanent
+  done_here : (s : DeviceState) (table : Table)
+      → IsSwapped (view map old) s table log.Settle state.mask state.permanent
+      → IsTakenAt (view map new) s state.mask state.permanent left floors
+      → IsUpgraded left (view map new) s state.mask state.permanent
   done_here s table was taken = let here = found_here s table was in
       (found, report, floors, here, raised_is s table found state.mask state.permanent _ state.floors floors was.decision here.0.rows (record_floors map old state log.Settle state.mask state.permanent s read was.log) refl raised, taken)
 
-  pub settle_stands : ((s : DeviceState) (table : Table) → IsSwapped (view map mid) s table log.Settle state.mask state.permanent → IsSwapped (view map new) s table log.Settle state.mask state.permanent ⊎ IsTakenAt (view map new) s state.mask state.permanent left floors)
-      → (s : DeviceState) (table : Table) → IsSwapped (view map old) s table log.Settle state.mask state.permanent → IsSwapped (view map new) s table log.Settle state.mask state.permanent ⊎ IsUpgraded left (view map new) s state.mask state.permanent
+  pub settle_stands : ((s : DeviceState) (table : Table)
+      → IsSwapped (view map mid) s table log.Settle state.mask state.permanent
+      → IsSwapped (view map new) s table log.Settle state.mask state.permanent
+      ⊎ IsTakenAt (view map new) s state.mask state.permanent left floors)
+      → (s : DeviceState) (table : Table) → IsSwapped
+      (view map old) s table log.Settle state.mask state.permanent
+      → IsSwapped (view map new) s table log.Settle state.mask state.permanent
+      ⊎ IsUpgraded left (view map new) s state.mask state.permanent
   settle_stands ends s table was = ⊎_elim
       (λ (still : IsSwapped (view map new) s table log.Settle state.mask state.permanent). inl still)
-      (λ (taken : IsTakenAt (view map new) s state.mask state.permanent left floors). inr (done_here s table was taken))
-      (ends s table (subst (λ w. IsSwapped (view map w) s table log.Settle state.mask state.permanent) (sym same) was))
+      (λ (taken : IsTakenAt (view map new) s state.mask state.permanent left floors). inr
+      (done_here s table was taken))
+      (ends s table (subst (λ w. IsSwapped (view map w) s table log.Settle state.mask state.permanent)
+      (sym same) was))
 
-  pub settle_reports : ((s : DeviceState) (table : Table) → IsSwapped (view map mid) s table log.Settle state.mask state.permanent → IsTakenAt (view map new) s state.mask state.permanent left floors)
-      → (s : DeviceState) (table : Table) → IsSwapped (view map old) s table log.Settle state.mask state.permanent → IsFoundAgain s state.mask (Decided found report) × IsUpgraded left (view map new) s state.mask state.permanent
-  settle_reports ends s table was =
-      (found_here s table was, done_here s table was (ends s table (subst (λ w. IsSwapped (view map w) s table log.Settle state.mask state.permanent) (sym same) was)))
+  pub settle_reports : ((s : DeviceState) (table : Table)
+      → IsSwapped (view map mid) s table log.Settle state.mask state.permanent
+      → IsTakenAt (view map new) s state.mask state.permanent left floors)
+      → (s : DeviceState) (table : Table) → IsSwapped
+      (view map old) s table log.Settle state.mask state.permanent
+      → IsFoundAgain s state.mask (Decided found report)
+      × IsUpgraded left (view map new) s state.mask state.permanent
+  settle_reports ends s table was = (
+    found_here s table was,
+    done_here s table was
+        (ends s table (subst (λ w. IsSwapped (view map w) s table log.Settle state.mask state.permanent)
+        (sym same) was)),
+  )
 
 -- nothing else is found
-pub never_found : (map : SectorMap) (old : Chip) (state : State) (finding other : Finding) → (view map old).log ≡ Some state
-    → ((s : DeviceState) (table : Table) (permanent : Bool) → CanRead (view map old) s state.mask state.floors → IsDecision s table state.mask permanent → IsFoundAgain s state.mask finding)
-    → finding ≡ other → (s : DeviceState) (table : Table) → IsSwapped (view map old) s table log.Settle state.mask state.permanent → IsFoundAgain s state.mask other
-never_found map old state finding other read finds is s table was = subst (λ f. IsFoundAgain s state.mask f) is (swapped_found map old state log.Settle state.mask finding read finds s table state.permanent was)
+pub never_found : (map : SectorMap) (old : Chip) (state : State) (finding other : Finding)
+    → (view map old).log ≡ Some state
+    → ((s : DeviceState) (table : Table) (permanent : Bool)
+    → CanRead (view map old) s state.mask state.floors → IsDecision s table state.mask permanent
+    → IsFoundAgain s state.mask finding)
+    → finding ≡ other → (s : DeviceState) (table : Table)
+    → IsSwapped (view map old) s table log.Settle state.mask state.permanent → IsFoundAgain s state.mask other
+never_found map old state finding other read finds is s table was = subst
+    (λ f. IsFoundAgain s state.mask f) is
+    (swapped_found map old state log.Settle state.mask finding read finds s table state.permanent was)
 
 module _ (map : SectorMap) (old mid found new : Chip) (state : State) (same : found ≡ mid) where
-  pub swap_records : ((s : DeviceState) (table : Table) (permanent : Bool) → IsSwappingSome map old s table state.mask permanent → IsSwappingSome map mid s table state.mask permanent)
-      → ((s : DeviceState) (table : Table) (permanent : Bool) → IsSwappingSome map old s table state.mask permanent → IsSwapped (view map mid) s table log.Swap state.mask permanent)
-      → ((s : DeviceState) (table : Table) (mask : ℕ) (permanent : Bool) → IsSwappingSome map found s table mask permanent → IsSwapped (view map found) s table log.Swap mask permanent
+  pub swap_records : ((s : DeviceState) (table : Table) (permanent : Bool)
+      → IsSwappingSome map old s table state.mask permanent → IsSwappingSome map mid s table state.mask permanent)
+      → ((s : DeviceState) (table : Table) (permanent : Bool)
+      → IsSwappingSome map old s table state.mask permanent
+      → IsSwapped (view map mid) s table log.Swap state.mask permanent)
+      → ((s : DeviceState) (table : Table) (mask : ℕ) (permanent : Bool)
+      → IsSwappingSome map found s table mask permanent
+      → IsSwapped (view map found) s table log.Swap mask permanent
       → IsSwappingSome map new s table mask permanent ⊎ IsSwapped (view map new) s table log.Settle mask permanent)
-      → (s : DeviceState) (table : Table) → IsSwappingSome map old s table state.mask state.permanent → IsUpgrading map new s table state.mask state.permanent
+      → (s : DeviceState) (table : Table) → IsSwappingSome map old s table state.mask state.permanent
+      → IsUpgrading map new s table state.mask state.permanent
   swap_records carries swaps records s table was = records s table state.mask state.permanent
-      (subst (λ w. IsSwappingSome map w s table state.mask state.permanent) (sym same) (carries s table state.permanent was))
-      (subst (λ w. IsSwapped (view map w) s table log.Swap state.mask state.permanent) (sym same) (swaps s table state.permanent was))
+      (subst (λ w. IsSwappingSome map w s table state.mask state.permanent) (sym same)
+      (carries s table state.permanent was))
+      (subst (λ w. IsSwapped (view map w) s table log.Swap state.mask state.permanent) (sym same)
+      (swaps s table state.permanent was))
 
-  pub swap_settles : ((s : DeviceState) (table : Table) (permanent : Bool) → IsSwappingSome map old s table state.mask permanent → IsSwapped (view map mid) s table log.Swap state.mask permanent)
-      → ((s : DeviceState) (table : Table) (mask : ℕ) (permanent : Bool) → IsSwapped (view map found) s table log.Swap mask permanent → IsSwapped (view map new) s table log.Settle mask permanent)
-      → (s : DeviceState) (table : Table) → IsSwappingSome map old s table state.mask state.permanent → IsSwapped (view map new) s table log.Settle state.mask state.permanent
+  pub swap_settles : ((s : DeviceState) (table : Table) (permanent : Bool)
+      → IsSwappingSome map old s table state.mask permanent
+      → IsSwapped (view map mid) s table log.Swap state.mask permanent)
+      → ((s : DeviceState) (table : Table) (mask : ℕ) (permanent : Bool)
+      → IsSwapped (view map found) s table log.Swap mask permanent
+      → IsSwapped (view map new) s table log.Settle mask permanent)
+      → (s : DeviceState) (table : Table) → IsSwappingSome map old s table state.mask state.permanent
+      → IsSwapped (view map new) s table log.Settle state.mask state.permanent
   swap_settles swaps settles s table was = settles s table state.mask state.permanent
-      (subst (λ w. IsSwapped (view map w) s table log.Swap state.mask state.permanent) (sym same) (swaps s table state.permanent was))
+      (subst (λ w. IsSwapped (view map w) s table log.Swap state.mask state.permanent) (sym same)
+      (swaps s table state.permanent was))
 
 pub swap_finishes : (map : SectorMap) (old settled new : Chip) (state : State) (left : ℕ)
-    → ((s : DeviceState) (table : Table) → IsSwappingSome map old s table state.mask state.permanent → IsSwapped (view map settled) s table log.Settle state.mask state.permanent)
-    → ((s : DeviceState) (table : Table) → IsSwapped (view map settled) s table log.Settle state.mask state.permanent → IsSwapped (view map new) s table log.Settle state.mask state.permanent ⊎ IsUpgraded left (view map new) s state.mask state.permanent)
-    → (s : DeviceState) (table : Table) → IsSwappingSome map old s table state.mask state.permanent → IsUpgrading map new s table state.mask state.permanent ⊎ IsUpgraded left (view map new) s state.mask state.permanent
+    → ((s : DeviceState) (table : Table) → IsSwappingSome map old s table state.mask state.permanent
+    → IsSwapped (view map settled) s table log.Settle state.mask state.permanent)
+    → ((s : DeviceState) (table : Table)
+    → IsSwapped (view map settled) s table log.Settle state.mask state.permanent
+    → IsSwapped (view map new) s table log.Settle state.mask state.permanent
+    ⊎ IsUpgraded left (view map new) s state.mask state.permanent)
+    → (s : DeviceState) (table : Table) → IsSwappingSome map old s table state.mask state.permanent
+    → IsUpgrading map new s table state.mask state.permanent
+    ⊎ IsUpgraded left (view map new) s state.mask state.permanent
 swap_finishes map old settled new state left settles ends s table was = ⊎_elim
     (λ (still : IsSwapped (view map new) s table log.Settle state.mask state.permanent). inl (inr still))
     (λ (done : IsUpgraded left (view map new) s state.mask state.permanent). inr done)
     (ends s table (settles s table was))
 
 -- in Swap too nothing else is found
-pub never_swapped : (map : SectorMap) (old mid : Chip) (state : State) (finding other : Finding) → (view map old).log ≡ Some state → (view map mid).log ≡ (view map old).log
-    → ((s : DeviceState) (table : Table) (permanent : Bool) → IsSwappingSome map old s table state.mask permanent → IsSwapped (view map mid) s table log.Swap state.mask permanent)
-    → ((s : DeviceState) (table : Table) (permanent : Bool) → CanRead (view map mid) s state.mask state.floors → IsDecision s table state.mask permanent → IsFoundAgain s state.mask finding)
-    → finding ≡ other → (s : DeviceState) (table : Table) → IsSwappingSome map old s table state.mask state.permanent → IsFoundAgain s state.mask other
+pub never_swapped : (map : SectorMap) (old mid : Chip) (state : State) (finding other : Finding)
+    → (view map old).log ≡ Some state → (view map mid).log ≡ (view map old).log
+    → ((s : DeviceState) (table : Table) (permanent : Bool)
+    → IsSwappingSome map old s table state.mask permanent
+    → IsSwapped (view map mid) s table log.Swap state.mask permanent)
+    → ((s : DeviceState) (table : Table) (permanent : Bool)
+    → CanRead (view map mid) s state.mask state.floors → IsDecision s table state.mask permanent
+    → IsFoundAgain s state.mask finding)
+    → finding ≡ other → (s : DeviceState) (table : Table)
+    → IsSwappingSome map old s table state.mask state.permanent → IsFoundAgain s state.mask other
 never_swapped map old mid state finding other read recorded swaps finds is s table was =
-    subst (λ f. IsFoundAgain s state.mask f) is (swapped_found map mid state log.Swap state.mask finding (recorded ∙ read) finds s table state.permanent (swaps s table state.permanent was))
+    subst (λ f. IsFoundAgain s state.mask f) is
+    (swapped_found map mid state log.Swap state.mask finding
+    (recorded ∙ read) finds s table state.permanent (swaps s table state.permanent was))

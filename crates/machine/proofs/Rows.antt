@@ -1,5 +1,5 @@
 -- Rows of tables, as they are read.
-use Rattle.std.proofs.Common.{◌≡◌, ◌⊎◌, ℕ, ◌+◌, ◌<◌, ◌≤◌, Bool, true, false, List, [], ◌∷◌, ◌++◌, length, Option, Some, None, option_map, refl, sym, ◌∙◌, ap, subst, arith, slice_get, slice_index, ⊎_elim, inl, inr, zero, suc, get_or, length-append}
+use Rattle.std.proofs.Common.{◌≡◌, ◌⊎◌, ℕ, ◌+◌, ◌<◌, ◌≤◌, Bool, List, [], ◌∷◌, ◌++◌, length, Option, Some, None, refl, sym, ◌∙◌, ap, subst, arith, slice_get, slice_index, ⊎_elim, inl, inr, zero, suc, get_or, length-append}
 use Rattle.std.proofs.lemmas.Option.{slice_get_cases}
 use Rattle.flash_model.specs.Chip.{Chip}
 use Rattle.sector_map.specs.declared.layout.SectorMap.{SectorMap}
@@ -20,7 +20,8 @@ use Rattle.machine.proofs.Unique.{one_front}
 use Rattle.certificate.specs.declared.table.Request.TheVariants as request
 use Rattle.trailer.specs.declared.kinds.Kind as request_kind
 
-pub read_some : (whole : List ℕ) (d : Desc) (held : Option (List ℕ)) → ((bytes : List ℕ) × Starts whole bytes × IsIntact bytes d × (length bytes ≡ d.length))
+pub read_some : (whole : List ℕ) (d : Desc) (held : Option (List ℕ))
+    → ((bytes : List ℕ) × Starts whole bytes × IsIntact bytes d × (length bytes ≡ d.length))
     → IsFront whole held → IsEntryOf held (entry_of d)
 read_some whole d (Some bytes) (found, starts, image, long) front =
     let there = front.image bytes refl in
@@ -37,34 +38,47 @@ value_of y x e = cc
 some_none : {X : Type 0} (x : X) → Some x ≡ None → ⊥
 some_none x e = cc
 
-pub request_read : (map : SectorMap) (old mid : Chip) (i : ℕ) (answer : Option request_kind.Kind) (kind : request_kind.Kind) (read : Option Entry) → answer ≡ Some kind
+pub request_read : (map : SectorMap) (old mid : Chip) (i : ℕ) (answer : Option request_kind.Kind)
+    (kind : request_kind.Kind) (read : Option Entry) → answer ≡ Some kind
     → answer ≡ told_by ((view map old).trailer i Secondary) ((view map old).slot i Secondary) → mid ≡ old
     → ((held : Option (List ℕ)) → IsFront ((view map mid).slot i Secondary) held → IsReadOf held read)
-    → (wanted : Option Wanted) → IsRequested ((view map old).trailer i Secondary) ((view map old).slot i Secondary) wanted → (w : Wanted) × (wanted ≡ Some w) × IsReadOf w.bytes read
-request_read map old mid i answer kind read some is same reads None asked = absurd (some_none kind (sym some ∙ is ∙ asked.kind))
-request_read map old mid i answer kind read some is same reads (Some w) asked =
-    (w, refl, reads w.bytes (subst (λ (v : Chip). IsFront ((view map v).slot i Secondary) w.bytes) (sym same) (asked.front w refl)))
+    → (wanted : Option Wanted) → IsRequested ((view map old).trailer i Secondary)
+    ((view map old).slot i Secondary) wanted → (w : Wanted) × (wanted ≡ Some w) × IsReadOf w.bytes read
+request_read map old mid i answer kind read some is same reads None asked = absurd
+    (some_none kind (sym some ∙ is ∙ asked.kind))
+request_read map old mid i answer kind read some is same reads (Some w) asked = (
+  w,
+  refl,
+  reads w.bytes (subst (λ (v : Chip). IsFront ((view map v).slot i Secondary) w.bytes) (sym same)
+      (asked.front w refl)),
+)
 
-pub damaged_request : (map : SectorMap) (old mid : Chip) (i : ℕ) (answer : Option request_kind.Kind) (kind : request_kind.Kind) (read : Option Entry) → answer ≡ Some kind
+pub damaged_request : (map : SectorMap) (old mid : Chip) (i : ℕ) (answer : Option request_kind.Kind)
+    (kind : request_kind.Kind) (read : Option Entry) → answer ≡ Some kind
     → answer ≡ told_by ((view map old).trailer i Secondary) ((view map old).slot i Secondary) → mid ≡ old
     → ((held : Option (List ℕ)) → IsFront ((view map mid).slot i Secondary) held → IsReadOf held read) → read ≡ None
-    → (wanted : Option Wanted) → IsRequested ((view map old).trailer i Secondary) ((view map old).slot i Secondary) wanted → IsRequestOf wanted request.Damaged
+    → (wanted : Option Wanted) → IsRequested ((view map old).trailer i Secondary)
+    ((view map old).slot i Secondary) wanted → IsRequestOf wanted request.Damaged
 damaged_request map old mid i answer kind read some is same reads none wanted asked =
     let found = request_read map old mid i answer kind read some is same reads wanted asked in
     let damaged : found.0.bytes ≡ None = subst (λ r. IsReadOf found.0.bytes r) none found.2 in
     subst (λ w. IsRequestOf w request.Damaged) (sym found.1) damaged
 
-pub intact_request : (map : SectorMap) (old mid : Chip) (i : ℕ) (answer : Option request_kind.Kind) (kind : request_kind.Kind) (read : Option Entry) (entry : Entry) → answer ≡ Some kind
+pub intact_request : (map : SectorMap) (old mid : Chip) (i : ℕ) (answer : Option request_kind.Kind)
+    (kind : request_kind.Kind) (read : Option Entry) (entry : Entry) → answer ≡ Some kind
     → answer ≡ told_by ((view map old).trailer i Secondary) ((view map old).slot i Secondary) → mid ≡ old
-    → ((held : Option (List ℕ)) → IsFront ((view map mid).slot i Secondary) held → IsReadOf held read) → read ≡ Some entry
-    → (wanted : Option Wanted) → IsRequested ((view map old).trailer i Secondary) ((view map old).slot i Secondary) wanted → IsRequestOf wanted (request.Entry entry)
+    → ((held : Option (List ℕ)) → IsFront ((view map mid).slot i Secondary) held → IsReadOf held read)
+    → read ≡ Some entry
+    → (wanted : Option Wanted) → IsRequested ((view map old).trailer i Secondary)
+    ((view map old).slot i Secondary) wanted → IsRequestOf wanted (request.Entry entry)
 intact_request map old mid i answer kind read entry some is same reads given wanted asked =
     let found = request_read map old mid i answer kind read some is same reads wanted asked in
     let intact : IsEntryOf found.0.bytes entry = subst (λ r. IsReadOf found.0.bytes r) given found.2 in
     subst (λ w. IsRequestOf w (request.Entry entry)) (sym found.1) intact
 
 -- an element of a list with one more at its end
-push_cases : {X : Type 0} (xs : List X) (y : X) (k : ℕ) (x : X) → slice_get (xs ++ y ∷ []) k ≡ Some x → (slice_get xs k ≡ Some x) ⊎ ((k ≡ length xs) × (y ≡ x))
+push_cases : {X : Type 0} (xs : List X) (y : X) (k : ℕ) (x : X) → slice_get (xs ++ y ∷ []) k ≡ Some x
+    → (slice_get xs k ≡ Some x) ⊎ ((k ≡ length xs) × (y ≡ x))
 push_cases [] y zero x e = inr (refl, value_of y x e)
 push_cases [] y (suc k) x e = absurd (nothing e)
 push_cases (z ∷ zs) y zero x e = inl e
@@ -74,7 +88,8 @@ push_cases (z ∷ zs) y (suc k) x e = ⊎_elim (λ (at : slice_get zs k ≡ Some
 pub rows_none : (s : DeviceState) (floors : List ℕ) → AreRowsOf s floors 0 []
 rows_none s floors = record { count = refl; each = λ k row e. absurd (nothing e) }
 
-pub rows_more : (s : DeviceState) (floors : List ℕ) (n : ℕ) (rows : List Image) (row : Image) → AreRowsOf s floors n rows
+pub rows_more : (s : DeviceState) (floors : List ℕ) (n : ℕ) (rows : List Image) (row : Image)
+    → AreRowsOf s floors n rows
     → IsRowOf (s.running n) (s.request n) (slice_index floors n) row → AreRowsOf s floors (n + 1) (rows ++ row ∷ [])
 rows_more s floors n rows row before next = record {
   count = length-append rows (row ∷ []) ∙ ap (λ m. m + 1) before.count;
@@ -91,7 +106,8 @@ no_entry : (held : Option (List ℕ)) (entry : Entry) → held ≡ None → IsEn
 no_entry None entry e is = is
 no_entry (Some bytes) entry e is = some_none bytes e
 
-pub lowest_damaged : (map : SectorMap) (w : Chip) (s : DeviceState) (mask : ℕ) (floors : List ℕ) (i : ℕ) (rows : List Image) → CanRead (view map w) s mask floors → AreRowsOf s floors i rows
+pub lowest_damaged : (map : SectorMap) (w : Chip) (s : DeviceState) (mask : ℕ) (floors : List ℕ) (i : ℕ)
+    (rows : List Image) → CanRead (view map w) s mask floors → AreRowsOf s floors i rows
     → i < (view map w).images → s.running i ≡ None → IsLowestDamaged s i
 lowest_damaged map w s mask floors i rows can before lt damaged = record {
   there = subst (λ n. i < n) can.images lt;
@@ -99,30 +115,48 @@ lowest_damaged map w s mask floors i rows can before lt damaged = record {
   lowest = λ j less none.
       let short : j < length rows = subst (λ n. j < n) (sym before.count) less in
       ⊎_elim
-      (λ (found : (x : Image) × (j < length rows) × (slice_get rows j ≡ Some x) × (get_or rows j x ≡ x)). no_entry (s.running j) found.0.running none (before.each j found.0 found.2).running)
-      (λ (past : (length rows ≤ j) × (slice_get rows j ≡ None)). let le : length rows ≤ j = past.0 in absurd (omega arith))
+      (λ (found : (x : Image) × (j < length rows) × (slice_get rows j ≡ Some x)
+      × (get_or rows j x ≡ x)). no_entry (s.running j) found.0.running none
+      (before.each j found.0 found.2).running)
+      (λ (past : (length rows ≤ j) × (slice_get rows j ≡ None)). let le : length rows ≤ j = past.0 in absurd
+      (omega arith))
       (slice_get_cases rows j).1;
 }
 
-pub whole_table : (map : SectorMap) (w : Chip) (s : DeviceState) (mask : ℕ) (floors : List ℕ) (n : ℕ) (table : Table) → CanRead (view map w) s mask floors → AreRowsOf s floors n table.images.items → n ≡ (view map w).images → IsTableOf s table
+pub whole_table : (map : SectorMap) (w : Chip) (s : DeviceState) (mask : ℕ) (floors : List ℕ) (n : ℕ)
+    (table : Table) → CanRead (view map w) s mask floors → AreRowsOf s floors n table.images.items
+    → n ≡ (view map w).images → IsTableOf s table
 whole_table map w s mask floors n table can before all = record {
   count = before.count ∙ all ∙ can.images;
-  rows = λ i row e. subst (λ f. IsRowOf (s.running i) (s.request i) (slice_index f i) row) (sym can.floors) (before.each i row e);
+  rows = λ i row e. subst (λ f. IsRowOf (s.running i) (s.request i) (slice_index f i) row) (sym can.floors)
+      (before.each i row e);
 }
 
-row_read : (map : SectorMap) (w mid : Chip) (s : DeviceState) (mask : ℕ) (floors : List ℕ) (i floor : ℕ) (b : Bool) (read : Option Image) → CanRead (view map w) s mask floors → i < (view map w).images → mid ≡ w → b ≡ is_member mask i
-    → ((s : DeviceState) → CanReadAt (view map mid) s b i → IsRowRead (s.running i) (s.request i) floor read) → IsRowRead (s.running i) (s.request i) floor read
+row_read : (map : SectorMap) (w mid : Chip) (s : DeviceState) (mask : ℕ) (floors : List ℕ) (i floor : ℕ)
+    (b : Bool) (read : Option Image) → CanRead (view map w) s mask floors → i < (view map w).images → mid ≡ w
+    → b ≡ is_member mask i
+    → ((s : DeviceState) → CanReadAt (view map mid) s b i → IsRowRead (s.running i) (s.request i) floor read)
+    → IsRowRead (s.running i) (s.request i) floor read
 row_read map w mid s mask floors i floor b read can lt same is reads =
-    reads s (subst (λ v. CanReadAt (view map v) s b i) (sym same) (subst (λ m. CanReadAt (view map w) s m i) (sym is) (can.each i (subst (λ n. i < n) can.images lt))))
+    reads s (subst (λ v. CanReadAt (view map v) s b i) (sym same)
+    (subst (λ m. CanReadAt (view map w) s m i) (sym is) (can.each i (subst (λ n. i < n) can.images lt))))
 
-pub row_none : (map : SectorMap) (w mid : Chip) (s : DeviceState) (mask : ℕ) (floors : List ℕ) (i floor : ℕ) (b : Bool) (read : Option Image) → CanRead (view map w) s mask floors → i < (view map w).images → mid ≡ w → b ≡ is_member mask i
-    → ((s : DeviceState) → CanReadAt (view map mid) s b i → IsRowRead (s.running i) (s.request i) floor read) → read ≡ None → s.running i ≡ None
+pub row_none : (map : SectorMap) (w mid : Chip) (s : DeviceState) (mask : ℕ) (floors : List ℕ) (i floor : ℕ)
+    (b : Bool) (read : Option Image) → CanRead (view map w) s mask floors → i < (view map w).images → mid ≡ w
+    → b ≡ is_member mask i
+    → ((s : DeviceState) → CanReadAt (view map mid) s b i → IsRowRead (s.running i) (s.request i) floor read)
+    → read ≡ None → s.running i ≡ None
 row_none map w mid s mask floors i floor b read can lt same is reads none =
-    subst (λ r. IsRowRead (s.running i) (s.request i) floor r) none (row_read map w mid s mask floors i floor b read can lt same is reads)
+    subst (λ r. IsRowRead (s.running i) (s.request i) floor r) none
+    (row_read map w mid s mask floors i floor b read can lt same is reads)
 
-pub row_some : (map : SectorMap) (w mid : Chip) (s : DeviceState) (mask : ℕ) (floors : List ℕ) (i floor : ℕ) (b : Bool) (read : Option Image) (row : Image) → CanRead (view map w) s mask floors → i < (view map w).images → mid ≡ w → b ≡ is_member mask i
-    → ((s : DeviceState) → CanReadAt (view map mid) s b i → IsRowRead (s.running i) (s.request i) floor read) → read ≡ Some row → floor ≡ slice_index floors i
+pub row_some : (map : SectorMap) (w mid : Chip) (s : DeviceState) (mask : ℕ) (floors : List ℕ) (i floor : ℕ)
+    (b : Bool) (read : Option Image) (row : Image) → CanRead (view map w) s mask floors
+    → i < (view map w).images → mid ≡ w → b ≡ is_member mask i
+    → ((s : DeviceState) → CanReadAt (view map mid) s b i → IsRowRead (s.running i) (s.request i) floor read)
+    → read ≡ Some row → floor ≡ slice_index floors i
     → IsRowOf (s.running i) (s.request i) (slice_index floors i) row
 row_some map w mid s mask floors i floor b read row can lt same is reads some least =
     subst (λ f. IsRowOf (s.running i) (s.request i) f row) least
-    (subst (λ r. IsRowRead (s.running i) (s.request i) floor r) some (row_read map w mid s mask floors i floor b read can lt same is reads))
+    (subst (λ r. IsRowRead (s.running i) (s.request i) floor r) some
+    (row_read map w mid s mask floors i floor b read can lt same is reads))

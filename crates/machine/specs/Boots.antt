@@ -13,9 +13,8 @@ use Rattle.certificate.specs.Rightness.{IsRight, taken_in}
 use Rattle.certificate.specs.StandardOrder.{IsInStandardOrder}
 use Rattle.tlv.specs.declared.desc.Desc.{Desc}
 use Rattle.tlv.specs.Image.{IsIntact}
-use Rattle.upload.specs.Device.{DeviceState, Machine, Trial, Wanted, no_session}
+use Rattle.upload.specs.Device.{DeviceState, Machine, Trial, Wanted}
 use Rattle.machine.specs.States.{entry_of, IsConfirmed, IsRaised, IsBegun, running_after, settled, taken_for_good, taken_on_trial, reverted, tried_again, with_confirmed}
-use Rattle.machine.specs.declared.error.Fault.{Fault}
 use Rattle.machine.specs.declared.error.Fault.TheVariants as no
 use Rattle.machine.specs.declared.reply.Reply.{Reply}
 use Rattle.machine.specs.declared.reply.Reply.TheVariants.{Done, Booted, Reverted, TrialAgain, Refused, Cut}

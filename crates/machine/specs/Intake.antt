@@ -1,8 +1,7 @@
 -- The steps of a machine that takes a manifest, a piece, the end of an upload, or a withdrawal.
-use Rattle.std.specs.Prelude.{◌≡◌, ◌≢◌, ℕ, ◌≤◌, Bool, true, false, List, Option, Some, None, Result, Ok, Err}
+use Rattle.std.specs.Prelude.{◌≡◌, ℕ, ◌≤◌, true, false, List, Some, None, Result, Ok, Err}
 use Rattle.sector_map.specs.declared.layout.SectorMap.{SectorMap}
 use Rattle.flash_model.specs.declared.error.FlashError.TheVariants as flash
-use Rattle.manifest.specs.declared.error.ManifestError.{ManifestError}
 use Rattle.manifest.specs.declared.identity.Identity.{Identity}
 use Rattle.manifest.specs.declared.manifest.Component.{Component}
 use Rattle.manifest.specs.declared.manifest.Manifest.{Manifest}
@@ -13,10 +12,7 @@ use Rattle.upload.specs.Device.{DeviceState, Machine, Session, Trial}
 use Rattle.upload.specs.Ending.{is_flash}
 use Rattle.upload.specs.Accepted.{Accepts, AllFit, AllFollow}
 use Rattle.upload.specs.Piece.{Pieces}
-use Rattle.upload.specs.Finish.{FinishRow}
-use Rattle.upload.specs.Withdrawal.{Withdraws}
 use Rattle.machine.specs.States.{asleep}
-use Rattle.machine.specs.declared.error.Fault.{Fault}
 use Rattle.machine.specs.declared.error.Fault.TheVariants as no
 use Rattle.machine.specs.declared.reply.Reply.{Reply}
 use Rattle.machine.specs.declared.reply.Reply.TheVariants.{Done, Booted, Reverted, TrialAgain, Refused, Cut}

@@ -1,5 +1,5 @@
 -- What a boot reads of a flash.
-use Rattle.std.specs.Prelude.{◌≡◌, ◌⊎◌, ℕ, ◌<◌, ◌≤◌, max, Bool, true, false, List, length, Option, Some, None, slice_get, slice_index}
+use Rattle.std.specs.Prelude.{◌≡◌, ℕ, ◌<◌, ◌≤◌, max, Bool, true, false, List, length, Option, Some, None, slice_get, slice_index}
 use Rattle.sector_map.specs.declared.layout.Side.TheVariants.{Primary, Secondary}
 use Rattle.sector_map.specs.Part.{is_member}
 use Rattle.certificate.specs.declared.table.Entry.{Entry}
