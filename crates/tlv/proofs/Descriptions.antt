@@ -227,33 +227,36 @@ intact_whole bytes description intact whole =
 
 -- The values of a front's entries are the image's.
 unprotected_values : (chip : Chip) (bytes : List ℕ) (front : Front) (image : Image) (kind : ℕ)
-    → IsFrontOf chip bytes front image → values_at kind chip front.unprotected ≡ values_of kind image.unprotected
+    → IsFrontOf chip bytes front image
+    → values_at kind chip front.unprotected.entries ≡ values_of kind image.unprotected
 unprotected_values chip bytes front image kind is =
     let read = (entries_of-entries_bytes image.unprotected is.begins.formed.unprotected.each).0 in
     ap (values_of kind) (ap entries_of is.unprotected ∙ read)
 
 protected_values : (chip : Chip) (bytes : List ℕ) (front : Front) (image : Image) (kind : ℕ)
-    → IsFrontOf chip bytes front image → values_at kind chip front.protected ≡ values_of kind image.protected
+    → IsFrontOf chip bytes front image → values_at kind chip front.protected.entries ≡ values_of kind image.protected
 protected_values chip bytes front image kind is =
     let read = (entries_of-entries_bytes image.protected is.begins.formed.protected.each).0 in
     ap (values_of kind) (ap entries_of is.protected ∙ read)
 
 -- The digest entry of a front that holds its digest is the image's digest.
 pub passes_digest : (chip : Chip) (bytes : List ℕ) (front : Front) (image : Image) → IsFrontOf chip bytes front image
-    → SpellDigest (values_at digest_kind chip front.unprotected) (bytes_of chip front.hashed) → PassesDigest image
+    → SpellDigest (values_at digest_kind chip front.unprotected.entries) (bytes_of chip front.hashed)
+    → PassesDigest image
 passes_digest chip bytes front image is own =
     sym (unprotected_values chip bytes front image digest_kind is) ∙ own
     ∙ ap (λ (hashed : List ℕ). sha256 hashed ∷ []) is.hashed
 
 pub has_dependencies : (chip : Chip) (bytes : List ℕ) (front : Front) (image : Image) (dependencies : List Dependency)
-    → IsFrontOf chip bytes front image → SpellDependencies (values_at dependency_kind chip front.protected) dependencies
+    → IsFrontOf chip bytes front image
+    → SpellDependencies (values_at dependency_kind chip front.protected.entries) dependencies
     → SpellDependencies (dependency_values image) dependencies
 has_dependencies chip bytes front image dependencies is spelled =
     let same = protected_values chip bytes front image dependency_kind is in
     subst (λ (values : List (List ℕ)). SpellDependencies values dependencies) same spelled
 
 pub has_counter : (chip : Chip) (bytes : List ℕ) (front : Front) (image : Image) (counter : ℕ)
-    → IsFrontOf chip bytes front image → SpellCounter (values_at counter_kind chip front.protected) counter
+    → IsFrontOf chip bytes front image → SpellCounter (values_at counter_kind chip front.protected.entries) counter
     → SpellCounter (counter_values image) counter
 has_counter chip bytes front image counter is spelled =
     let same = protected_values chip bytes front image counter_kind is in
@@ -281,10 +284,10 @@ counter_not_behind values other failed = absurd failed
 -- What fails of the digest entry is the first fault ..
 pub first_in_digest : (chip : Chip) (bytes : List ℕ) (front : Front) (image : Image) (fault : ImageError)
     → IsFrontOf chip bytes front image
-    → IsDigestFault (values_at digest_kind chip front.unprotected) (bytes_of chip front.hashed) fault
+    → IsDigestFault (values_at digest_kind chip front.unprotected.entries) (bytes_of chip front.hashed) fault
     → IsFrontFault bytes fault
 first_in_digest chip bytes front image fault is failed =
-    let read = values_at digest_kind chip front.unprotected in
+    let read = values_at digest_kind chip front.unprotected.entries in
     let same = unprotected_values chip bytes front image digest_kind is in
     let of_hashed = subst (λ (hashed : List ℕ). IsDigestFault read hashed fault) is.hashed failed in
     let own = subst (λ (values : List (List ℕ)). IsDigestFault values (hashed_bytes image) fault) same of_hashed in (
@@ -295,23 +298,23 @@ first_in_digest chip bytes front image fault is failed =
 -- .. and then that of the dependencies ..
 pub first_in_dependencies : (chip : Chip) (bytes : List ℕ) (front : Front) (image : Image) (fault : ImageError)
     → IsFrontOf chip bytes front image → PassesDigest image
-    → IsDependencyFault (values_at dependency_kind chip front.protected) fault → IsFrontFault bytes fault
+    → IsDependencyFault (values_at dependency_kind chip front.protected.entries) fault → IsFrontFault bytes fault
 first_in_dependencies chip bytes front image fault is digest failed =
     let same = protected_values chip bytes front image dependency_kind is in
     let own = subst (λ (values : List (List ℕ)). IsDependencyFault values fault) same failed in (
       IsFirstFault.in_entries image (drop front.length bytes) is.begins (IsEntryFault.in_dependencies digest own),
-      dependencies_not_behind (values_at dependency_kind chip front.protected) fault failed,
+      dependencies_not_behind (values_at dependency_kind chip front.protected.entries) fault failed,
     )
 
 -- .. and that of the security counter.
 pub first_in_counter : (chip : Chip) (bytes : List ℕ) (front : Front) (image : Image) (fault : ImageError)
     → IsFrontOf chip bytes front image → PassesDependencyCount image
-    → IsCounterFault (values_at counter_kind chip front.protected) fault → IsFrontFault bytes fault
+    → IsCounterFault (values_at counter_kind chip front.protected.entries) fault → IsFrontFault bytes fault
 first_in_counter chip bytes front image fault is passes failed =
     let same = protected_values chip bytes front image counter_kind is in
     let own = subst (λ (values : List (List ℕ)). IsCounterFault values fault) same failed in (
       IsFirstFault.in_entries image (drop front.length bytes) is.begins (IsEntryFault.in_counter passes own),
-      counter_not_behind (values_at counter_kind chip front.protected) fault failed,
+      counter_not_behind (values_at counter_kind chip front.protected.entries) fault failed,
     )
 
 -- A front that passes all checks is an intact image, which the bytes begin with.

@@ -12,7 +12,7 @@ use Rattle.tlv.specs.declared.error.ImageError.TheVariants.{TrailingBytes}
 use Rattle.tlv.specs.declared.front.Front.{Front}
 use Rattle.tlv.specs.Area.{Entry, FitsArea, area_bytes, entries_bytes, protected_magic, unprotected_magic}
 use Rattle.common.specs.Bytes.{IsBytes}
-use Rattle.tlv.specs.Fault.{BeginsAccepted, HasProtectedArea, HasUnprotectedArea, IsAreaFault, IsFirstFault, IsFrontFault, IsProtectedFault, IsTotal, IsUnprotectedFault, image_fault, protected_place, unprotected_place, total_at, entries_at}
+use Rattle.tlv.specs.Fault.{BeginsAccepted, HasProtectedArea, HasUnprotectedArea, IsAreaFault, IsFirstFault, IsFrontFault, IsProtectedFault, IsUnprotectedFault, image_fault, protected_place, unprotected_place, total_at, entries_at}
 use Rattle.tlv.specs.Front.{IsFront, IsProtected}
 use Rattle.tlv.specs.Image.{Image, BeginsWithImage, protected_bytes, hashed_bytes, image_bytes}
 use Rattle.tlv.specs.Span.{bytes_of}
@@ -20,11 +20,6 @@ use Rattle.common.proofs.Items.{drop-from}
 use Rattle.tlv.proofs.Areas.{IsAreaOf, drop-area, area_of_entries, area_has_no_fault}
 use Rattle.tlv.proofs.ImageLaws.{parts_of_image, protected_bytes-absent, protected_bytes-there, image_has_protected_area, image_has_unprotected_area}
 use Rattle.tlv.proofs.Parts.{whole_of}
-
--- A length that an area may have is at least 4.
-pub four_at_least : (expected : Option ℕ) (total : ℕ) → IsTotal expected total → 4 ≤ total
-four_at_least None total allowed = allowed
-four_at_least (Some size) total allowed = allowed.1
 
 -- ---- an image from its parts
 
@@ -158,20 +153,22 @@ length-image bytes image place near begins =
 -- What was found is an image, by its parts.
 pub is_front : (chip : Chip) (bytes : List ℕ) (front : Front) → IsBytes bytes → BeginsWith bytes front.header
     → IsAccepted front.header
-    → IsProtected bytes (protected_place front.header) front.header.protected_size (bytes_of chip front.protected)
+    → IsProtected bytes (protected_place front.header) front.header.protected_size
+    (bytes_of chip front.protected.entries)
     → HasUnprotectedArea bytes front.header
-    → bytes_of chip front.unprotected ≡ entries_at bytes (unprotected_place front.header)
+    → bytes_of chip front.unprotected.entries ≡ entries_at bytes (unprotected_place front.header)
     → bytes_of chip front.hashed ≡ take (unprotected_place front.header) bytes
-    → front.length ≡ unprotected_place front.header + 4 + length (bytes_of chip front.unprotected)
+    → front.length ≡ unprotected_place front.header + 4 + length (bytes_of chip front.unprotected.entries)
     → IsFront chip bytes front
 is_front chip bytes front fits begins accepted protected_is area unprotected_is hashed_is length_is =
     let header = front.header in
-    let protected = found_protected bytes (bytes_of chip front.protected) header protected_is in
+    let protected = found_protected bytes (bytes_of chip front.protected.entries) header protected_is in
     let unprotected = area.1 in
     let place = unprotected_place header in
     let last = area_of_entries bytes place unprotected_magic None unprotected.0 area area.0.0.1 unprotected.2 in
     let image = front_image header bytes protected.0 unprotected.0 in
-    let entries : bytes_of chip front.unprotected ≡ entries_bytes unprotected.0 = unprotected_is ∙ unprotected.2 in
+    let entries : bytes_of chip front.unprotected.entries ≡ entries_bytes unprotected.0 =
+    unprotected_is ∙ unprotected.2 in
     let end : unprotected_place header + total_at bytes (unprotected_place header) ≡ front.length =
     omega (arith, length_is, last.total, ap length entries) in
     let lies = image_from_areas bytes header protected.0 unprotected.0 fits begins accepted protected.1 protected.2

@@ -10,6 +10,7 @@ pub mod Headers
 pub mod ImageLaws
 pub mod MakingLaws
 pub mod MakingSteps
+pub mod Occurrences
 pub mod Parts
 pub mod Slots
 pub mod Spans

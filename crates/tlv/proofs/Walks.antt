@@ -1,8 +1,7 @@
 -- What a walk over the entries of an area comes to.
-use Rattle.std.proofs.Common.{◌≡◌, ◌==◌, ℕ, ◌+◌, ◌^◌, ◌<◌, ◌↔◌, Bool, IsTrue, List, [], ◌∷◌, ◌++◌, length, Option, Some, None, refl, sym, ap, subst, ◌∙◌, append_assoc}
+use Rattle.std.proofs.Common.{◌≡◌, ℕ, ◌+◌, ◌^◌, ◌<◌, List, [], ◌∷◌, ◌++◌, length, Option, Some, None, refl, sym, ap, subst, ◌∙◌, append_assoc, arith}
 use Rattle.std.specs.List.{AllByRecursion}
 use Rattle.std.proofs.lemmas.Option.{none-some}
-use Rattle.std.proofs.lemmas.Bool.{eqb-true, eq-eqb}
 use Rattle.std.proofs.lemmas.List.{nil_from_length}
 use Rattle.tlv.specs.Area.{Entry, FitsEntry, entries_bytes, entry_bytes}
 use Rattle.tlv.specs.Fault.{IsFilled}
@@ -54,12 +53,14 @@ only_walk area entries rest fits walk =
     let same = walked entries rest walk.fit (no_entry rest (first_entry rest) bytes walk.ended refl) in
     (same.0 ∙ ap entries_of (sym walk.parts), same.1 ∙ ap rest_of (sym walk.parts))
 
--- Entries fill an area where nothing is left behind them.
-pub IsFilled-from_rest : (area left : List ℕ) (empty : Bool) → IsBytes area → left ≡ rest_of area
-    → empty ≡ (length left == 0) → 4 + length area < 2 ^ 16 → IsTrue empty ↔ IsFilled area
-IsFilled-from_rest area left empty fits same is_empty short =
-    let law = IsFilled-rest_of area fits short in (
-      λ yes. law.1 (sym same ∙ nil_from_length left (eqb-true (length left) 0 (sym is_empty ∙ yes))),
-      λ filled.
-          is_empty ∙ eq-eqb (length left) 0 (ap length (same ∙ law.0 filled)),
-    )
+-- Entries fill an area where nothing is left behind them ..
+pub IsFilled-none_left : (area left : List ℕ) → IsBytes area → 4 + length area < 2 ^ 16 → left ≡ rest_of area
+    → length left ≡ 0 → IsFilled area
+IsFilled-none_left area left fits short same none =
+    (IsFilled-rest_of area fits short).1 (sym same ∙ nil_from_length left none)
+
+-- .. and not where something is.
+pub IsFilled-some_left : (area left : List ℕ) → IsBytes area → 4 + length area < 2 ^ 16 → left ≡ rest_of area
+    → 0 < length left → IsFilled area → ⊥
+IsFilled-some_left area left fits short same some filled =
+    omega (arith, some, ap length (same ∙ (IsFilled-rest_of area fits short).0 filled))

@@ -4,6 +4,7 @@ use Rattle.flash_model.specs.Chip.{Chip}
 use Rattle.tlv.specs.declared.front.Front.{Front}
 use Rattle.tlv.specs.Area.{entries_bytes, protected_magic}
 use Rattle.tlv.specs.Fault.{IsArea, entries_at}
+use Rattle.tlv.specs.Gathered.{HasGatheredProtected, HasGatheredUnprotected}
 use Rattle.tlv.specs.Image.{Image, BeginsWithImage, hashed_bytes, image_bytes}
 use Rattle.tlv.specs.Span.{CanRead, bytes_of}
 
@@ -22,16 +23,16 @@ pub record IsFrontOf (chip : Chip) (bytes : List ℕ) (front : Front) (image : I
   pub begins : BeginsWithImage bytes image (drop front.length bytes)
   pub header : front.header ≡ image.header
   pub hashed : bytes_of chip front.hashed ≡ hashed_bytes image
-  pub protected : bytes_of chip front.protected ≡ entries_bytes image.protected
-  pub unprotected : bytes_of chip front.unprotected ≡ entries_bytes image.unprotected
+  pub protected : bytes_of chip front.protected.entries ≡ entries_bytes image.protected
+  pub unprotected : bytes_of chip front.unprotected.entries ≡ entries_bytes image.unprotected
   pub length_of : front.length ≡ length (image_bytes image)
   pub within : front.length ≤ length bytes
 
 abbrev pub IsFront : Chip → List ℕ → Front → Type 0
 IsFront chip bytes front = (image : Image) × IsFrontOf chip bytes front image
 
--- The parts of a front can be read.
-pub record CanReadFront (chip : Chip) (front : Front) : Type 0 where
+-- What the digest is taken of can be read, and what the areas say was gathered.
+pub record HasGathered (chip : Chip) (front : Front) : Type 0 where
   pub hashed : CanRead chip front.hashed
-  pub protected : CanRead chip front.protected
-  pub unprotected : CanRead chip front.unprotected
+  pub protected : HasGatheredProtected chip front.protected
+  pub unprotected : HasGatheredUnprotected chip front.unprotected

@@ -9,6 +9,7 @@ pub mod Fields
 pub mod Span
 pub mod Memory
 pub mod SlotTlvs
+pub mod Gathered
 pub mod Front
 pub mod Slot
 pub mod Making

@@ -1,11 +1,11 @@
 //! What an image says of itself, where it is intact.
 
-ghost use Rattle.std.specs.Prelude.{◌≡◌, Err, IfErr, IfOk, Ok, OnOk};
+ghost use Rattle.std.specs.Prelude.{◌≡◌, ℕ, List, [], Err, IfErr, IfOk, Ok, OnOk};
 ghost use Rattle.sha2.specs.Sha256.{sha256};
 ghost use Rattle.tlv.specs.Fault.{IsFirstFault, IsFrontFault};
-ghost use Rattle.tlv.specs.Fields.{IsDigestFault, SpellDigest, digest_kind};
+ghost use Rattle.tlv.specs.Fields.{IsDigestFault, SpellDigest};
+ghost use Rattle.tlv.specs.Gathered.{CanReadOccurrence, IsOccurrence};
 ghost use Rattle.tlv.specs.Image.{BeginsIntact, IsIntact};
-ghost use Rattle.tlv.specs.SlotTlvs.{values_at};
 ghost use Rattle.tlv.specs.Span.{CanRead, bytes_of};
 ghost use Rattle.tlv.specs.declared.desc.Desc.{Desc};
 ghost use Rattle.tlv.specs.declared.error.ImageError.{ImageError};
@@ -14,6 +14,7 @@ use crate::desc::Desc;
 use crate::error::ImageError;
 use crate::fields::{counter, dependencies, digest_value, is_digest};
 use crate::front::Front;
+use crate::gathering::Occurrence;
 use crate::medium::{Medium, Memory};
 use crate::span::Span;
 
@@ -63,35 +64,37 @@ pub(crate) fn describe_front<M: Medium>(medium: &mut M, bytes: Span) -> Result<D
     ensures fault { IfErr result (IsFrontFault (bytes_of (M.chip medium.old) bytes)) }
 {
     let front = Front::read(medium, bytes)?;
-    let digest = own_digest(medium, front.hashed, front.unprotected)?;
-    let dependencies = dependencies(medium, front.protected)?;
-    let counter = counter(medium, front.protected)?;
+    let digest = own_digest(medium, front.hashed, front.unprotected.digest)?;
+    // The dependencies are moved out of the front: what else it says is taken first.
+    let (header, length, counter_entry) = (front.header, front.length, front.protected.counter);
+    let dependencies = dependencies(front.protected.dependencies)?;
+    let counter = counter(medium, counter_entry)?;
     Ok(Desc {
-        version: front.header.version,
+        version: header.version,
         counter,
-        flags: front.header.flags,
+        flags: header.flags,
         dependencies,
         digest,
-        length: front.length as u64,
+        length: length as u64,
     })
 }
 
-// The SHA-256 of the hashed bytes, where the one digest entry among the entries is that.
+// The SHA-256 of the hashed bytes, where the one digest entry holds that.
 fn own_digest<M: Medium>(
     medium: &mut M,
     hashed: Span,
-    entries: Span,
+    entry: Occurrence,
 ) -> Result<[u8; 32], ImageError>
     requires hashed { CanRead (M.chip medium.old) hashed }
-    requires entries { CanRead (M.chip medium.old) entries }
+    requires entry { CanReadOccurrence (M.chip medium.old) entry }
     ensures same { M.chip medium.new ≡ M.chip medium.old }
     ensures own { IfOk result (λ digest. digest ≡ sha256 (bytes_of (M.chip medium.old) hashed)) }
-    ensures entry { OnOk result (SpellDigest
-        (values_at digest_kind (M.chip medium.old) entries) (bytes_of (M.chip medium.old) hashed)) }
-    ensures fault { IfErr result (IsDigestFault
-        (values_at digest_kind (M.chip medium.old) entries) (bytes_of (M.chip medium.old) hashed)) }
+    ensures entry { (values : List (List ℕ)) → IsOccurrence (M.chip medium.old) values [] entry
+        → OnOk result (SpellDigest values (bytes_of (M.chip medium.old) hashed)) }
+    ensures fault { (values : List (List ℕ)) → IsOccurrence (M.chip medium.old) values [] entry
+        → IfErr result (IsDigestFault values (bytes_of (M.chip medium.old) hashed)) }
 {
-    let value = digest_value(medium, entries)?;
+    let value = digest_value(entry)?;
     let digest = medium.digest(hashed);
     if !is_digest(medium, value, &digest) {
         return Err(ImageError::BadDigest);

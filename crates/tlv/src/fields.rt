@@ -1,44 +1,36 @@
 //! The fields that entries hold: digest, dependencies and security counter.
 
 ghost use Rattle.std.specs.Prelude.{◌≡◌, ◌≢◌, ◌↔◌, ℕ, ◌≤◌, ◌∷◌, [], List, length, IsTrue, IfOk, IfErr, IfSome, IfNone};
-ghost use Rattle.tlv.specs.Fields.{FitsDependency, IsCounterFault, IsDependencyFault, IsDependencyForm, IsDigestFault, SpellCounter, SpellDependencies, counter_bytes, counter_kind, dependency_bytes, dependency_kind, digest_kind};
-ghost use Rattle.tlv.specs.SlotTlvs.{values_at};
+ghost use Rattle.flash_model.specs.Chip.{Chip};
+ghost use Rattle.tlv.specs.Fields.{FitsDependency, IsCounterFault, IsDependencyFault, IsDependencyForm, IsDigestFault, SpellCounter, SpellDependencies, counter_bytes, dependency_bytes};
+ghost use Rattle.tlv.specs.Gathered.{CanReadOccurrence, HasMet, IsOccurrence};
 ghost use Rattle.tlv.specs.Span.{CanRead, bytes_of};
 
 use crate::error::ImageError;
-use crate::format::{
-    COUNTER_KIND, COUNTER_LENGTH, DEPENDENCY_KIND, DEPENDENCY_LENGTH, DIGEST_KIND, DIGEST_LENGTH,
-};
+use crate::format::{COUNTER_LENGTH, DEPENDENCY_LENGTH, DIGEST_LENGTH};
+use crate::gathering::{MetDependencies, Occurrence};
 use crate::medium::Medium;
-use crate::slot_tlvs::SlotTlvs;
 use crate::span::Span;
-use crate::walk::next_value;
 use arrayvec::ArrayVec;
 use byteorder::{ByteOrder, LittleEndian};
 use common::limits::MOST_DEPENDENCIES;
 use version_order::{Dependency, Version};
 
-/// Where the value of the one digest entry lies among the entries that these bytes spell.
+/// Where the value of the one digest entry lies.
 ///
 /// `NoDigest` where there is none, `TwoDigests` where there are two or more.
-pub(crate) fn digest_value<M: Medium>(medium: &mut M, entries: Span) -> Result<Span, ImageError>
-    requires { CanRead (M.chip medium.old) entries }
-    ensures same { M.chip medium.new ≡ M.chip medium.old }
-    ensures ok { IfOk result (λ value. values_at digest_kind (M.chip medium.old) entries
-        ≡ bytes_of (M.chip medium.old) value ∷ []) }
-    ensures readable { IfOk result (CanRead (M.chip medium.old)) }
+pub(crate) fn digest_value(digest: Occurrence) -> Result<Span, ImageError>
+    ensures ok { (chip : Chip) (values : List (List ℕ)) → IsOccurrence chip values [] digest
+        → IfOk result (λ value. values ≡ bytes_of chip value ∷ []) }
+    ensures readable { (chip : Chip) → CanReadOccurrence chip digest → IfOk result (CanRead chip) }
     // These two faults come whatever the digest is to be.
-    ensures err { (hashed : List ℕ)
-        → IfErr result (IsDigestFault (values_at digest_kind (M.chip medium.old) entries) hashed) }
+    ensures err { (chip : Chip) (values : List (List ℕ)) → IsOccurrence chip values [] digest
+        → (hashed : List ℕ) → IfErr result (IsDigestFault values hashed) }
 {
-    let mut entries = SlotTlvs::new(entries);
-    match (
-        next_value(medium, &mut entries, DIGEST_KIND),
-        next_value(medium, &mut entries, DIGEST_KIND),
-    ) {
-        (None, _) => Err(ImageError::NoDigest),
-        (Some(digest), None) => Ok(digest),
-        (Some(_), Some(_)) => Err(ImageError::TwoDigests),
+    match digest {
+        Occurrence::Absent => Err(ImageError::NoDigest),
+        Occurrence::Once(value) => Ok(value),
+        Occurrence::Repeated => Err(ImageError::TwoDigests),
     }
 }
 
@@ -56,24 +48,21 @@ pub(crate) fn is_digest<M: Medium>(medium: &mut M, value: Span, digest: &[u8; 32
     own == *digest
 }
 
-/// The security counter among the entries that these bytes spell, 0 where there is none.
+/// The security counter, 0 where there is none.
 ///
 /// `BadCounter` where there are two or more, or its value isn't four bytes long.
-pub(crate) fn counter<M: Medium>(medium: &mut M, entries: Span) -> Result<u32, ImageError>
-    requires { CanRead (M.chip medium.old) entries }
+pub(crate) fn counter<M: Medium>(medium: &mut M, counter: Occurrence) -> Result<u32, ImageError>
+    requires { CanReadOccurrence (M.chip medium.old) counter }
     ensures same { M.chip medium.new ≡ M.chip medium.old }
-    ensures ok { IfOk result (SpellCounter (values_at counter_kind (M.chip medium.old) entries)) }
-    ensures err { IfErr result
-        (IsCounterFault (values_at counter_kind (M.chip medium.old) entries)) }
+    ensures ok { (values : List (List ℕ)) → IsOccurrence (M.chip medium.old) values [] counter
+        → IfOk result (SpellCounter values) }
+    ensures err { (values : List (List ℕ)) → IsOccurrence (M.chip medium.old) values [] counter
+        → IfErr result (IsCounterFault values) }
 {
-    let mut entries = SlotTlvs::new(entries);
-    match (
-        next_value(medium, &mut entries, COUNTER_KIND),
-        next_value(medium, &mut entries, COUNTER_KIND),
-    ) {
-        (None, _) => Ok(0),
-        (Some(value), None) => counter_at(medium, value).ok_or(ImageError::BadCounter),
-        (Some(_), Some(_)) => Err(ImageError::BadCounter),
+    match counter {
+        Occurrence::Absent => Ok(0),
+        Occurrence::Once(value) => counter_at(medium, value).ok_or(ImageError::BadCounter),
+        Occurrence::Repeated => Err(ImageError::BadCounter),
     }
 }
 
@@ -93,8 +82,8 @@ fn counter_at<M: Medium>(medium: &mut M, value: Span) -> Option<u32>
     Some(LittleEndian::read_u32(&counter))
 }
 
-// The dependency that the value at a place spells, if it has the form of one.
-fn dependency_at<M: Medium>(medium: &mut M, value: Span) -> Option<Dependency>
+/// The dependency that the value at a place spells, if it has the form of one.
+pub(crate) fn dependency_at<M: Medium>(medium: &mut M, value: Span) -> Option<Dependency>
     requires { CanRead (M.chip medium.old) value }
     ensures same { M.chip medium.new ≡ M.chip medium.old }
     ensures fits { IfSome result FitsDependency }
@@ -132,37 +121,24 @@ fn dependency_of(value: &[u8]) -> Option<Dependency>
     })
 }
 
-/// The dependencies among the entries that these bytes spell, in their order.
+/// The dependencies, once all are met, in the order of their entries.
 ///
 /// `BadDependency` where the value of one isn't 12 bytes long, or its three bytes after the image number aren't
 /// zero; `TooManyDependencies` where none is so, but there are more than [`MOST_DEPENDENCIES`].
-pub(crate) fn dependencies<M: Medium>(
-    medium: &mut M,
-    entries: Span,
+pub(crate) fn dependencies(
+    met: MetDependencies,
 ) -> Result<ArrayVec<Dependency, MOST_DEPENDENCIES>, ImageError>
-    requires { CanRead (M.chip medium.old) entries }
-    ensures same { M.chip medium.new ≡ M.chip medium.old }
-    ensures ok { IfOk result (λ dependencies. SpellDependencies
-        (values_at dependency_kind (M.chip medium.old) entries) dependencies.items) }
+    ensures ok { (values : List (List ℕ)) → HasMet values [] met
+        → IfOk result (λ dependencies. SpellDependencies values dependencies.items) }
     ensures few { IfOk result (λ dependencies. length dependencies.items ≤ MOST_DEPENDENCIES) }
-    ensures err { IfErr result
-        (IsDependencyFault (values_at dependency_kind (M.chip medium.old) entries)) }
+    ensures err { (values : List (List ℕ)) → HasMet values [] met
+        → IfErr result (IsDependencyFault values) }
 {
-    let mut dependencies = ArrayVec::new();
-    let mut too_many = false;
-    let mut entries = SlotTlvs::new(entries);
-    while let Some(value) = next_value(medium, &mut entries, DEPENDENCY_KIND) {
-        let Some(dependency) = dependency_at(medium, value) else {
-            return Err(ImageError::BadDependency);
-        };
-        if dependencies.is_full() {
-            too_many = true;
-        } else {
-            dependencies.push(dependency);
-        }
+    if met.bad {
+        return Err(ImageError::BadDependency);
     }
-    if too_many {
+    if met.too_many {
         return Err(ImageError::TooManyDependencies);
     }
-    Ok(dependencies)
+    Ok(met.kept)
 }

@@ -1,30 +1,35 @@
 //! The front of bytes: the image that they begin with.
 
-ghost use Rattle.std.specs.Prelude.{◌≡◌, ◌↔◌, ◌^◌, ◌<◌, Some, IfOk, IfErr, IsTrue, OnErr, OnOk};
+ghost use Rattle.std.specs.Prelude.{◌≡◌, ◌+◌, ◌↔◌, ◌^◌, ◌<◌, None, Some, IfOk, IfErr, IsTrue, OnErr, OnOk};
 ghost use Rattle.image_header.specs.Header.{IsHeaderFault};
-ghost use Rattle.tlv.specs.Area.{protected_magic};
-ghost use Rattle.tlv.specs.Fault.{BeginsAccepted, IsArea, IsAreaFault, IsFrontFault, IsTotal, entries_at};
-ghost use Rattle.tlv.specs.Front.{CanReadFront, IsFront, IsProtected};
+ghost use Rattle.tlv.specs.Area.{protected_magic, unprotected_magic};
+ghost use Rattle.tlv.specs.Fault.{BeginsAccepted, HasWholeArea, IsArea, IsAreaFault, IsFrontFault, IsTotal, entries_at};
+ghost use Rattle.tlv.specs.Front.{HasGathered, IsFront, IsProtected};
+ghost use Rattle.tlv.specs.Gathered.{HasGatheredProtected, HasGatheredUnprotected};
 ghost use Rattle.tlv.specs.Span.{CanRead, bytes_of};
 
 use crate::error::ImageError;
 use crate::format::{HEAD_LENGTH, PROTECTED_MAGIC, UNPROTECTED_MAGIC};
+use crate::gathering::{
+    MetDependencies, Occurrence, ProtectedFields, UnprotectedFields, protected_fields,
+    unprotected_fields,
+};
 use crate::medium::Medium;
 use crate::span::Span;
-use crate::walk::{head, is_filled};
+use crate::walk::head;
 use image_header::{HEADER_LENGTH, Header, HeaderError};
 
 /// The image that bytes begin with: header, body, protected area and unprotected area.
-#[derive(Clone, Copy)]
+#[derive(Drop)]
 pub(crate) struct Front {
     /// The header.
     pub(crate) header: Header,
     /// What the digest is taken of: header, body and protected area.
     pub(crate) hashed: Span,
-    /// The entries of the protected area, without the area's first four bytes; none where it is absent.
-    pub(crate) protected: Span,
-    /// The entries of the unprotected area, without the area's first four bytes.
-    pub(crate) unprotected: Span,
+    /// What the protected area says.
+    pub(crate) protected: ProtectedFields,
+    /// What the unprotected area says.
+    pub(crate) unprotected: UnprotectedFields,
     /// The length of the image in bytes.
     pub(crate) length: usize,
 }
@@ -38,24 +43,24 @@ impl Front {
     pub(crate) fn read<M: Medium>(medium: &mut M, bytes: Span) -> Result<Front, ImageError>
         requires { CanRead (M.chip medium.old) bytes }
         ensures same { M.chip medium.new ≡ M.chip medium.old }
-        // What is found is an image, by its parts, which can be read.
+        // What is found is an image, by its parts, and what its areas say.
         ensures found { IfOk result
             (IsFront (M.chip medium.old) (bytes_of (M.chip medium.old) bytes)) }
-        ensures readable { IfOk result (CanReadFront (M.chip medium.old)) }
+        ensures gathered { IfOk result (HasGathered (M.chip medium.old)) }
         // Which check fails.
         ensures fault { IfErr result (IsFrontFault (bytes_of (M.chip medium.old) bytes)) }
     {
         let header = header(medium, bytes)?;
         let protected_place = usize::from(header.header_size) + header.body_size as usize;
-        let protected = protected_entries(medium, bytes, protected_place, header.protected_size)?;
+        let protected = protected_area(medium, bytes, protected_place, header.protected_size)?;
         let unprotected_place = protected_place + usize::from(header.protected_size);
-        let unprotected = area_entries(medium, bytes, unprotected_place, UNPROTECTED_MAGIC, None)?;
+        let unprotected = unprotected_area(medium, bytes, unprotected_place)?;
         Ok(Front {
             header,
             hashed: bytes.first(unprotected_place),
             protected,
             unprotected,
-            length: unprotected_place + HEAD_LENGTH + unprotected.len,
+            length: unprotected_place + HEAD_LENGTH + unprotected.entries.len,
         })
     }
 }
@@ -75,31 +80,58 @@ fn header<M: Medium>(medium: &mut M, bytes: Span) -> Result<Header, HeaderError>
     Header::read(&header)
 }
 
-// The entries of the protected area, which has `size` bytes: none where it is absent.
-fn protected_entries<M: Medium>(
+// What the protected area says, which has `size` bytes: nothing where it is absent.
+fn protected_area<M: Medium>(
     medium: &mut M,
     bytes: Span,
     place: usize,
     size: u16,
-) -> Result<Span, ImageError>
+) -> Result<ProtectedFields, ImageError>
     requires readable { CanRead (M.chip medium.old) bytes }
     requires near { place < 2 ^ 62 }
     ensures same { M.chip medium.new ≡ M.chip medium.old }
-    ensures found { IfOk result (λ entries. IsProtected (bytes_of (M.chip medium.old) bytes)
-        place size (bytes_of (M.chip medium.old) entries)) }
-    ensures readable { IfOk result (CanRead (M.chip medium.old)) }
+    ensures found { IfOk result (λ fields. IsProtected (bytes_of (M.chip medium.old) bytes)
+        place size (bytes_of (M.chip medium.old) fields.entries)) }
+    ensures gathered { IfOk result (HasGatheredProtected (M.chip medium.old)) }
     ensures some { OnErr result (0 < size) }
     ensures fault { IfErr result
         (IsAreaFault (bytes_of (M.chip medium.old) bytes) place protected_magic (Some size)) }
 {
     if size == 0 {
-        return Ok(bytes.first(0));
+        return Ok(ProtectedFields {
+            entries: bytes.first(0),
+            dependencies: MetDependencies::new(),
+            counter: Occurrence::Absent,
+        });
     }
-    area_entries(medium, bytes, place, PROTECTED_MAGIC, Some(size))
+    let entries = area_entries(medium, bytes, place, PROTECTED_MAGIC, Some(size))?;
+    protected_fields(medium, entries).ok_or(ImageError::BadTlvSize)
 }
 
-// The entries of the area that begins at a place, with this magic number; its length is the one that is
-// expected, if any.
+// What the unprotected area says.
+fn unprotected_area<M: Medium>(
+    medium: &mut M,
+    bytes: Span,
+    place: usize,
+) -> Result<UnprotectedFields, ImageError>
+    requires readable { CanRead (M.chip medium.old) bytes }
+    requires near { place < 2 ^ 62 }
+    ensures same { M.chip medium.new ≡ M.chip medium.old }
+    ensures found { OnOk result
+        (IsArea (bytes_of (M.chip medium.old) bytes) place unprotected_magic None) }
+    ensures entries { IfOk result (λ fields. bytes_of (M.chip medium.old) fields.entries
+        ≡ entries_at (bytes_of (M.chip medium.old) bytes) place) }
+    ensures readable { IfOk result (λ fields. CanRead (M.chip medium.old) fields.entries) }
+    ensures gathered { IfOk result (HasGatheredUnprotected (M.chip medium.old)) }
+    ensures fault { IfErr result
+        (IsAreaFault (bytes_of (M.chip medium.old) bytes) place unprotected_magic None) }
+{
+    let entries = area_entries(medium, bytes, place, UNPROTECTED_MAGIC, None)?;
+    unprotected_fields(medium, entries).ok_or(ImageError::BadTlvSize)
+}
+
+// Where the entries of the area lie that begins at a place, with this magic number; its length is the one that is
+// expected, if any. That they fill it isn't seen yet.
 fn area_entries<M: Medium>(
     medium: &mut M,
     bytes: Span,
@@ -111,10 +143,11 @@ fn area_entries<M: Medium>(
     requires near { place < 2 ^ 62 }
     ensures same { M.chip medium.new ≡ M.chip medium.old }
     ensures found { OnOk result
-        (IsArea (bytes_of (M.chip medium.old) bytes) place magic expected) }
+        (HasWholeArea (bytes_of (M.chip medium.old) bytes) place magic expected) }
     ensures entries { IfOk result (λ entries. bytes_of (M.chip medium.old) entries
         ≡ entries_at (bytes_of (M.chip medium.old) bytes) place) }
     ensures readable { IfOk result (CanRead (M.chip medium.old)) }
+    ensures short { IfOk result (λ entries. 4 + entries.len < 2 ^ 16) }
     ensures fault { IfErr result
         (IsAreaFault (bytes_of (M.chip medium.old) bytes) place magic expected) }
 {
@@ -133,11 +166,7 @@ fn area_entries<M: Medium>(
     if area.len < total {
         return Err(ImageError::Truncated);
     }
-    let entries = area.after(HEAD_LENGTH).first(total - HEAD_LENGTH);
-    if !is_filled(medium, entries) {
-        return Err(ImageError::BadTlvSize);
-    }
-    Ok(entries)
+    Ok(area.after(HEAD_LENGTH).first(total - HEAD_LENGTH))
 }
 
 // Whether an area may have this length.

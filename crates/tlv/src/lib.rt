@@ -17,6 +17,7 @@ mod error;
 mod fields;
 mod format;
 mod front;
+mod gathering;
 mod laws;
 mod make;
 mod medium;

@@ -28,8 +28,9 @@ mod tests;
 /// What the image says of itself that a slot begins with, whatever follows it. Does not allocate.
 ///
 /// The map is laid out on the flash and has the image, which is told by its number from 0. Header, body and
-/// protected area are read by pieces of 256 bytes at most, and of the entries types and lengths, and the values of
-/// digest, dependencies and security counter alone.
+/// protected area are read once for the digest, by pieces of 256 bytes at most. Beside that the header, the first four
+/// bytes of each area, the type and length of each entry, and the values of digest, dependencies and security counter
+/// are read once at most, and nothing else is.
 ///
 /// # Errors
 /// `Image` with the first check that fails, as of [`describe`](crate::describe), but that bytes may follow the

@@ -1,16 +1,15 @@
-//! Walks over the entries of an area, wherever the area lies.
+//! The entry that bytes begin with, wherever they lie.
 
-ghost use Rattle.std.specs.Prelude.{◌≡◌, ◌+◌, ◌^◌, ◌<◌, ◌≤◌, ◌↔◌, ◌∷◌, [], IsTrue, IfSome, drop};
-ghost use Rattle.std.specs.Option.{option_map, option_map_or};
+ghost use Rattle.std.specs.Prelude.{◌≡◌, ◌<◌, ◌≤◌, IfSome, drop};
+ghost use Rattle.std.specs.Option.{option_map};
 ghost use Rattle.byteorder.specs.Endian.{little_number};
-ghost use Rattle.tlv.specs.Fault.{IsFilled};
 ghost use Rattle.tlv.specs.Reading.{first_entry};
-ghost use Rattle.tlv.specs.SlotTlvs.{LiesFirst, slot_tlv_view, slot_tlvs_rest, slot_values_left};
+ghost use Rattle.tlv.specs.SlotTlvs.{LiesFirst, slot_tlv_view};
 ghost use Rattle.tlv.specs.Span.{CanRead, bytes_of};
 
 use crate::format::HEAD_LENGTH;
 use crate::medium::Medium;
-use crate::slot_tlvs::{SlotTlv, SlotTlvs};
+use crate::slot_tlvs::SlotTlv;
 use crate::span::Span;
 use byteorder::{ByteOrder, LittleEndian};
 
@@ -58,40 +57,4 @@ pub(crate) fn first_slot_tlv<M: Medium>(medium: &mut M, bytes: Span) -> Option<(
         value: rest.first(size),
     };
     Some((tlv, rest.after(size)))
-}
-
-/// Whether entries fill these bytes exactly: an area's without its magic number and length.
-pub(crate) fn is_filled<M: Medium>(medium: &mut M, area: Span) -> bool
-    requires { CanRead (M.chip medium.old) area }
-    ensures same { M.chip medium.new ≡ M.chip medium.old }
-    ensures filled { 4 + area.len < 2 ^ 16
-        → (IsTrue result ↔ IsFilled (bytes_of (M.chip medium.old) area)) }
-{
-    let mut entries = SlotTlvs::new(area);
-    while let Some(_) = entries.step(medium) {}
-    entries.rest().len == 0
-}
-
-/// Where the value of the next entry of a type lies. The entries before it are passed over.
-pub(crate) fn next_value<M: Medium>(
-    medium: &mut M,
-    entries: &mut SlotTlvs,
-    kind: u16,
-) -> Option<Span>
-    requires { CanRead (M.chip medium.old) (slot_tlvs_rest entries.old) }
-    ensures same { M.chip medium.new ≡ M.chip medium.old }
-    ensures readable { CanRead (M.chip medium.old) (slot_tlvs_rest entries.new) }
-    ensures steps { slot_values_left kind (M.chip medium.old) entries.old ≡ option_map_or (λ value.
-        bytes_of (M.chip medium.old) value ∷ slot_values_left kind (M.chip medium.old) entries.new)
-        result [] }
-    ensures value { IfSome result (CanRead (M.chip medium.old)) }
-    ensures shorter { IfSome result (λ _.
-        (slot_tlvs_rest entries.new).len < (slot_tlvs_rest entries.old).len) }
-{
-    while let Some(entry) = entries.step(medium) {
-        if entry.kind == kind {
-            return Some(entry.value);
-        }
-    }
-    None
 }

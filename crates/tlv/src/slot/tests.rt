@@ -435,21 +435,48 @@ fn bytes_read(rt: &impl Abort, alloc: Global, image: &[u8]) -> Result<(u64, usiz
     counted::<Brand>(rt, alloc, Blank::new(2), image)
 }
 
+// What is read: header, body and protected area once for the digest; and once more at most the header, each area's
+// head, the head of each entry, and the values of dependencies, digest and security counter.
 #[test]
 fn header_and_body_are_read_once_for_the_digest(rt: HostRuntime) -> Result<(), Fail> {
-    // The header, each area's head, once more the heads of its entries to see that they fill it, then the digest's
-    // head, the 932 hashed bytes, and the digest.
     let image = letters(rt.alloc(), 900)?;
     let (read, most) = bytes_read(&rt, rt.alloc(), image.as_slice())?;
-    assert_eq!(rt; read, 32 + 4 + 4 + 4 + 932 + 32);
+    assert_eq!(rt; read, (32 + 900) + 32 + 4 + (4 + 32));
     assert_eq!(rt; most, 256);
-    // The same, where the protected area has two entries more, whose heads are read for the dependencies and for the
-    // counter.
     let (read, most) = bytes_read(&rt, rt.alloc(), &COUNTED)?;
     assert_eq!(rt;
         read,
-        32 + (4 + 8) + (4 + 4) + 4 + 64 + 32 + (8 + 12) + (8 + 4)
+        (32 + 4 + 28) + 32 + 4 + (4 + 4) + (4 + 12) + 4 + (4 + 32)
     );
     assert_eq!(rt; most, 64);
+    Ok(())
+}
+
+#[test]
+fn each_entry_is_read_once_beside_the_digest(rt: HostRuntime) -> Result<(), Fail> {
+    let dependencies = [dependency(); 16];
+    let asked = ImageSpec {
+        counter: Some(5),
+        ..spec(&dependencies)
+    };
+    let image = make_image(rt.alloc(), &asked)?;
+    let (read, _most) = bytes_read(&rt, rt.alloc(), image.as_slice())?;
+    let protected = 4 + (4 + 4) + 16 * (4 + 12);
+    assert_eq!(rt; read, (32 + 4 + protected) + 32 + protected + 4 + (4 + 32));
+    Ok(())
+}
+
+// Behind the digest the unprotected area has an entry of type 0x20 and a dependency, which counts only in the other area.
+#[test]
+fn values_that_are_not_asked_for_are_not_read(rt: HostRuntime) -> Result<(), Fail> {
+    let mut image = Vec::new(rt.alloc());
+    image.extend_from_slice(&PLAIN[..38])?;
+    image.extend_from_slice(&[0x41, 0x00])?;
+    image.extend_from_slice(&PLAIN[40..])?;
+    image.extend_from_slice(&[0x20, 0x00, 0x05, 0x00, 0x01, 0x02, 0x03, 0x04, 0x05])?;
+    image.extend_from_slice(&[0x40, 0x00, 0x0c, 0x00])?;
+    image.extend_from_slice(&[0x00; 12])?;
+    let (read, _most) = bytes_read(&rt, rt.alloc(), image.as_slice())?;
+    assert_eq!(rt; read, (32 + 4) + 32 + 4 + (4 + 32) + 4 + 4);
     Ok(())
 }

@@ -1,17 +1,32 @@
 use Rattle.common.proofs.Results.{IfErr-passed}
+use Rattle.tlv.specs.Fields.{counter_kind, dependency_kind, digest_kind}
+use Rattle.tlv.specs.SlotTlvs.{values_at}
 use Rattle.tlv.specs.Span.{bytes_of}
 use Rattle.tlv.proofs.Descriptions.{first_in_counter, first_in_dependencies, first_in_digest, has_counter, has_dependencies, intact_front, passes_digest}
 use Rattle.tlv.proofs.FieldLaws.{passes_counter, passes_dependencies}
+use Rattle.tlv.proofs.Occurrences.{CanReadOccurrence-met}
 use Rattle.tlv.proofs.describing.describe_front.Goals as goal
+
+pub own_digest-requires-clause-entry : goal.own_digest-requires-clause-entry
+own_digest-requires-clause-entry g c =
+    let gathered = c.in_ok-front.ensures.gathered in
+    rw c.read.ensures.same (CanReadOccurrence-met _ _ _ _ gathered.unprotected)
+
+pub counter-requires : goal.counter-requires
+counter-requires g c =
+    let gathered = c.in_ok-front.ensures.gathered in
+    rw (c.own_digest.ensures.same, c.read.ensures.same) (CanReadOccurrence-met _ _ _ _ gathered.protected.counter)
 
 pub returns-in_err-digest-clause-fault : goal.returns-in_err-digest-clause-fault
 returns-in_err-digest-clause-fault g c =
     let chip = g.M.Medium.chip c.args.medium.now in
     let bytes = bytes_of chip c.args.bytes in
+    let front = c.in_ok-front.front in
     let found = c.in_ok-front.ensures.found in
-    let own = rw c.read.ensures.same at c.in_err-digest.ensures.fault in
+    let read = rw c.read.ensures.same at c.in_err-digest.ensures.fault in
+    let own = read (values_at digest_kind chip front.unprotected.entries) c.in_ok-front.ensures.gathered.unprotected in
     IfErr-passed _ _ _ c.from_residual-in_err-digest.ensures.1
-    (first_in_digest chip bytes c.in_ok-front.front found.0 _ found.1 own)
+    (first_in_digest chip bytes front found.0 _ found.1 own)
 
 pub returns-in_err-dependencies-clause-fault : goal.returns-in_err-dependencies-clause-fault
 returns-in_err-dependencies-clause-fault g c =
@@ -19,9 +34,13 @@ returns-in_err-dependencies-clause-fault g c =
     let bytes = bytes_of chip c.args.bytes in
     let front = c.in_ok-front.front in
     let found = c.in_ok-front.ensures.found in
-    let entry = rw c.read.ensures.same at c.in_ok-digest.ensures.entry in
+    let gathered = c.in_ok-front.ensures.gathered in
+    let read = rw c.read.ensures.same at c.in_ok-digest.ensures.entry in
+    let entry = read (values_at digest_kind chip front.unprotected.entries) gathered.unprotected in
     let digest = passes_digest chip bytes front found.0 found.1 entry in
-    let own = rw (c.own_digest.ensures.same, c.read.ensures.same) at c.in_err-dependencies.ensures.err in
+    let own =
+    c.in_err-dependencies.ensures.err (values_at dependency_kind chip front.protected.entries)
+    gathered.protected.dependencies in
     IfErr-passed _ _ _ c.from_residual-in_err-dependencies.ensures.1
     (first_in_dependencies chip bytes front found.0 _ found.1 digest own)
 
@@ -31,15 +50,18 @@ returns-in_err-counter-clause-fault g c =
     let bytes = bytes_of chip c.args.bytes in
     let front = c.in_ok-front.front in
     let found = c.in_ok-front.ensures.found in
+    let gathered = c.in_ok-front.ensures.gathered in
     let items = c.in_ok-dependencies.dependencies.items in
-    let entry = rw c.read.ensures.same at c.in_ok-digest.ensures.entry in
+    let read = rw c.read.ensures.same at c.in_ok-digest.ensures.entry in
+    let entry = read (values_at digest_kind chip front.unprotected.entries) gathered.unprotected in
     let digest = passes_digest chip bytes front found.0 found.1 entry in
-    let read = rw (c.own_digest.ensures.same, c.read.ensures.same) at c.in_ok-dependencies.ensures.ok in
-    let spelled = has_dependencies chip bytes front found.0 items found.1 read in
+    let kept =
+    c.in_ok-dependencies.ensures.ok (values_at dependency_kind chip front.protected.entries)
+    gathered.protected.dependencies in
+    let spelled = has_dependencies chip bytes front found.0 items found.1 kept in
     let passes = passes_dependencies found.0 items digest spelled c.in_ok-dependencies.ensures.few in
-    let own =
-    rw (c.dependencies.ensures.same, c.own_digest.ensures.same, c.read.ensures.same)
-    at c.in_err-counter.ensures.err in
+    let counted = rw (c.own_digest.ensures.same, c.read.ensures.same) at c.in_err-counter.ensures.err in
+    let own = counted (values_at counter_kind chip front.protected.entries) gathered.protected.counter in
     IfErr-passed _ _ _ c.from_residual-in_err-counter.ensures.1
     (first_in_counter chip bytes front found.0 _ found.1 passes own)
 
@@ -49,18 +71,21 @@ returns-clause-described g c =
     let bytes = bytes_of chip c.args.bytes in
     let front = c.in_ok-front.front in
     let found = c.in_ok-front.ensures.found in
+    let gathered = c.in_ok-front.ensures.gathered in
     let dependencies = c.in_ok-dependencies.dependencies in
     let items = dependencies.items in
-    let entry = rw c.read.ensures.same at c.in_ok-digest.ensures.entry in
+    let read = rw c.read.ensures.same at c.in_ok-digest.ensures.entry in
+    let entry = read (values_at digest_kind chip front.unprotected.entries) gathered.unprotected in
     let hashed = rw c.read.ensures.same at c.in_ok-digest.ensures.own in
     let digest = passes_digest chip bytes front found.0 found.1 entry in
-    let read = rw (c.own_digest.ensures.same, c.read.ensures.same) at c.in_ok-dependencies.ensures.ok in
-    let spelled = has_dependencies chip bytes front found.0 items found.1 read in
+    let kept =
+    c.in_ok-dependencies.ensures.ok (values_at dependency_kind chip front.protected.entries)
+    gathered.protected.dependencies in
+    let spelled = has_dependencies chip bytes front found.0 items found.1 kept in
     let passes = passes_dependencies found.0 items digest spelled c.in_ok-dependencies.ensures.few in
-    let counted =
-    rw (c.dependencies.ensures.same, c.own_digest.ensures.same, c.read.ensures.same)
-    at c.in_ok-counter.ensures.ok in
-    let counts = has_counter chip bytes front found.0 c.in_ok-counter.counter found.1 counted in
+    let counted = rw (c.own_digest.ensures.same, c.read.ensures.same) at c.in_ok-counter.ensures.ok in
+    let own = counted (values_at counter_kind chip front.protected.entries) gathered.protected.counter in
+    let counts = has_counter chip bytes front found.0 c.in_ok-counter.counter found.1 own in
     let whole = passes_counter found.0 c.in_ok-counter.counter passes counts in
     intact_front chip bytes front found.0 c.in_ok-digest.digest dependencies c.in_ok-counter.counter found.1 hashed
     spelled counts whole

@@ -33,10 +33,10 @@ returns-in_err-unprotected-clause-fault g c =
     let fault = c.in_err-unprotected.field-0.0 in
     let at : c.from.result + header.body_size + c.from-2.result ≡ unprotected_place header =
     omega (arith, c.from.ensures, c.from-2.ensures) in
-    let own = rw (c.protected_entries.ensures.same, c.header.ensures.same) at c.in_err-unprotected.ensures.fault in
+    let own = rw (c.protected_area.ensures.same, c.header.ensures.same) at c.in_err-unprotected.ensures.fault in
     let failed = subst (λ (place : ℕ). IsAreaFault bytes place unprotected_magic None fault) at own in
     let before : c.from.result + header.body_size ≡ protected_place header = omega (arith, c.from.ensures) in
-    let entries = bytes_of chip c.in_ok-protected.protected in
+    let entries = bytes_of chip c.in_ok-protected.protected.entries in
     let found = rw c.header.ensures.same at c.in_ok-protected.ensures.found in
     let protected = subst (λ (place : ℕ). IsProtected bytes place header.protected_size entries) before found in
     let passes = found_passes bytes entries header protected in
@@ -52,16 +52,16 @@ returns-clause-found g c =
     let before : c.from.result + header.body_size ≡ protected_place header = omega (arith, c.from.ensures) in
     let at : c.from.result + header.body_size + c.from-2.result ≡ unprotected_place header =
     omega (arith, c.from.ensures, c.from-2.ensures) in
-    let first = bytes_of chip c.in_ok-protected.protected in
+    let first = bytes_of chip c.in_ok-protected.protected.entries in
     let found = rw c.header.ensures.same at c.in_ok-protected.ensures.found in
     let protected = subst (λ (place : ℕ). IsProtected bytes place header.protected_size first) before found in
     let last = c.in_ok-unprotected.ensures in
-    let passes = rw (c.protected_entries.ensures.same, c.header.ensures.same) at last.found in
+    let passes = rw (c.protected_area.ensures.same, c.header.ensures.same) at last.found in
     let area = subst (λ (place : ℕ). IsArea bytes place unprotected_magic None) at passes in
-    let own = bytes_of chip c.in_ok-unprotected.unprotected in
-    let read = rw (c.protected_entries.ensures.same, c.header.ensures.same) at last.entries in
+    let own = bytes_of chip c.in_ok-unprotected.unprotected.entries in
+    let read = rw (c.protected_area.ensures.same, c.header.ensures.same) at last.entries in
     let entries = subst (λ (place : ℕ). own ≡ entries_at bytes place) at read in
-    let can = rw (c.protected_entries.ensures.same, c.header.ensures.same) at last.readable in
+    let can = rw (c.protected_area.ensures.same, c.header.ensures.same) at last.readable in
     let fits = IsBytes-bytes_of chip c.args.bytes (g.met.M.Medium.bytes c.args.medium.now) in
     is_front chip bytes _ fits begins.0 begins.1 protected area entries
     (c.first.ensures.bytes chip ∙ ap (λ (n : ℕ). take n bytes) at) (omega (arith, at, can.whole))
