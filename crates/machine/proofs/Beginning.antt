@@ -1,5 +1,6 @@
 -- A swap begins.
-use Rattle.std.proofs.Common.{◌≡◌, ℕ, ◌<◌, ◌≤◌, ◌⊎◌, Bool, true, false, List, length, take, Option, Some, None, refl, sym, ◌∙◌, ap, subst, arith, inl, inr, slice_get, IsSomeAnd}
+use Rattle.std.proofs.Common.{◌≡◌, ℕ, ◌<◌, ◌≤◌, ◌⊎◌, Bool, true, false, List, length, take, Option, Some, None, refl}
+use Rattle.std.proofs.Common.{sym, ◌∙◌, ap, subst, arith, inl, inr, slice_get, IsSomeAnd}
 use Rattle.std.proofs.Common.{⊎_elim, get_or}
 use Rattle.std.proofs.lemmas.Option.{slice_get_cases}
 use Rattle.swap_scratch.proofs.Contents.{begins}
@@ -28,7 +29,8 @@ use Rattle.machine.specs.Boots.{IsEntryOf, IsRequestOf, IsTableOf, IsDecision}
 use Rattle.machine.specs.Holding.{IsSwapping}
 use Rattle.machine.specs.Passing.{IsSwappingSome}
 use Rattle.machine.specs.Prepared.{IsRoomFor, IsPrepared}
-use Rattle.machine.proofs.Frames.{image_same, steady_kept, steady_logged, primary_aside, same_state, starts_take}
+use Rattle.machine.proofs.Frames.{image_same, steady_kept, steady_logged, primary_aside}
+use Rattle.machine.proofs.Frames.{same_state, starts_take, swaps_with}
 use Rattle.certificate.specs.declared.table.Request.TheVariants as request
 use Rattle.set_log.specs.declared.state.Kind.TheVariants as log
 
@@ -42,7 +44,7 @@ entry_bytes : (held : Option (List ℕ)) (entry : Entry) → IsEntryOf held entr
 entry_bytes None entry is = absurd is
 entry_bytes (Some bytes) entry is = (bytes, refl)
 
-some_of : {X : Type 0} (o : Option X) (P : X → Type 0) → IsSomeAnd o P → (x : X) × (o ≡ Some x) × P x
+pub some_of : {X : Type 0} (o : Option X) (P : X → Type 0) → IsSomeAnd o P → (x : X) × (o ≡ Some x) × P x
 some_of None P h = absurd h
 some_of (Some x) P h = (x, refl, h)
 
@@ -108,7 +110,8 @@ le_trans a b c ab bc = omega arith
 -- an image at the front is as short as what has room for it
 pub front_short : (whole : List ℕ) (held : Option (List ℕ)) (bytes : List ℕ) (n : ℕ) → held ≡ Some bytes
     → IsFront whole held → IsRoomFor whole n → length bytes ≤ n
-front_short whole held bytes n is front room = let found = front.image bytes is in room.each bytes found.1.0 found.0 found.1.1
+front_short whole held bytes n is front room =
+    let found = front.image bytes is in room.each bytes found.1.0 found.0 found.1.1
 
 -- with the record of the decision the set is at a place of the swap
 pub swap_begins : (map : SectorMap) (old new : Chip) (laid : IsLaidOut map old) (s : DeviceState)
@@ -165,18 +168,17 @@ swap_begins map old new laid s table mask permanent written was decision prepare
 
 begun_record : (map : SectorMap) (w : Chip) (s : DeviceState) (state : State) (mask : ℕ) (permanent : Bool)
     → (view map w).log ≡ Some state → IsSteadyAt (view map w) s
-    → record { kind = log.Swap; mask = mask; permanent = permanent; left = 0; sequence = state.sequence; floors = state.floors } ≡ logged log.Swap mask permanent 0 s
+    → swaps_with state mask permanent ≡ logged log.Swap mask permanent 0 s
 begun_record map w s state mask permanent read was =
     let is = same_state map w state (logged log.Steady 0 false 0 s) read was.log in
-    ap (λ (st : State). record { kind = log.Swap; mask = mask; permanent = permanent; left = 0; sequence = st.sequence; floors = st.floors }) is
+    ap (λ (st : State). swaps_with st mask permanent) is
 
 -- the passage, where it ends well
 pub begin_ok : (map : SectorMap) (old mid new : Chip) (laid : IsLaidOut map old) (state : State) (mask : ℕ)
     (permanent : Bool) → (view map old).log ≡ Some state → Keeps map (trailers_on mask Primary) old mid
     → ((i : ℕ) → i < (view map old).images → is_member mask i ≡ true → IsPrepared (view map mid) Primary i)
     → Keeps map (only Log) mid new
-    → (view map new).log ≡ Some
-    (record { kind = log.Swap; mask = mask; permanent = permanent; left = 0; sequence = state.sequence; floors = state.floors })
+    → (view map new).log ≡ Some (swaps_with state mask permanent)
     → (s : DeviceState) (table : Table) → IsSteadyAt (view map old) s → IsDecision s table mask permanent
     → IsSwappingSome map new s table mask permanent
 begin_ok map old mid new laid state mask permanent read first prepared keeps recorded s table was decision =
@@ -195,13 +197,13 @@ pub begin_either : (map : SectorMap) (old mid new : Chip) (laid : IsLaidOut map 
     → ((i : ℕ) → i < (view map old).images → is_member mask i ≡ true → IsPrepared (view map mid) Primary i)
     → Keeps map (only Log) mid new
     → ((view map new).log ≡ (view map mid).log)
-    ⊎ ((view map new).log ≡ Some
-    (record { kind = log.Swap; mask = mask; permanent = permanent; left = 0; sequence = state.sequence; floors = state.floors }))
+    ⊎ ((view map new).log ≡ Some (swaps_with state mask permanent))
     → (s : DeviceState) (table : Table) → IsSteadyAt (view map old) s → IsDecision s table mask permanent
     → IsSteadyAt (view map new) s ⊎ IsSwappingSome map new s table mask permanent
 begin_either map old mid new laid state mask permanent read first prepared keeps either s table was decision = ⊎_elim
     (λ (same : (view map new).log ≡ (view map mid).log). inl
     (steady_logged map mid new s keeps same
     (steady_kept map (trailers_on mask Primary) old mid s first (primary_aside mask) was)))
-    (λ recorded. inr (begin_ok map old mid new laid state mask permanent read first prepared keeps recorded s table was decision))
+    (λ recorded. inr (begin_ok map old mid new laid state mask permanent read first prepared keeps recorded s table
+    was decision))
     either

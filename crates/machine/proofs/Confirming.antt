@@ -1,5 +1,6 @@
 -- An image of a trial is confirmed.
-use Rattle.std.proofs.Common.{◌≡◌, ◌⊎◌, ℕ, ◌<◌, ◌≤◌, ◌==◌, ◌&&◌, Bool, true, false, List, Option, Some, None, refl, sym, ◌∙◌, ap, subst, arith, ⊎_elim, inl, inr, if◌then◌else◌, not}
+use Rattle.std.proofs.Common.{◌≡◌, ◌⊎◌, ℕ, ◌<◌, ◌≤◌, ◌==◌, ◌&&◌, Bool, true, false, List, Option, Some, None, refl}
+use Rattle.std.proofs.Common.{sym, ◌∙◌, ap, subst, arith, ⊎_elim, inl, inr, if◌then◌else◌, not}
 use Rattle.std.proofs.Math.Bool.{and-false}
 use Rattle.std.proofs.lemmas.Bool.{eqb-true}
 use Rattle.flash_model.specs.Chip.{Chip}
@@ -165,8 +166,10 @@ pub confirm_yes : (map : SectorMap) (old new : Chip) (state : State) (i : ℕ)
     × IsAtRest (view map new) (with_confirmed s trial i)
 confirm_yes map old new state i read lt member keeps written s trial was = (
   on_trial map old s trial state i read was lt member,
-  inr
-      (record trial { confirmed = λ j. if j == i then true else trial.confirmed j }, confirm_done map old new s trial i keeps written was),
+  inr (
+    record trial { confirmed = λ j. if j == i then true else trial.confirmed j },
+    confirm_done map old new s trial i keeps written was,
+  ),
 )
 
 pub confirm_either : (map : SectorMap) (old new : Chip) (state : State) (i : ℕ)
@@ -230,12 +233,12 @@ steady_not : (map : SectorMap) (w : Chip) (s : DeviceState) (i : ℕ) → IsStea
     → (trial : Trial) → IsOnTrial s i trial → ⊥
 steady_not map w s i was trial on = let e : None ≡ Some trial = sym was.trial ∙ on.0 in cc
 
-trial_kind : (map : SectorMap) (w : Chip) (s : DeviceState) (trial : Trial) (state : State)
+pub trial_kind : (map : SectorMap) (w : Chip) (s : DeviceState) (trial : Trial) (state : State)
     → (view map w).log ≡ Some state → IsTrialAt (view map w) s trial → state.kind ≡ log.Trial
 trial_kind map w s trial state read was = ap (λ (st : State). st.kind)
     (same_state map w state (logged log.Trial trial.set false trial.left s) read was.opened.log)
 
-steady_kind : (map : SectorMap) (w : Chip) (s : DeviceState) (state : State) → (view map w).log ≡ Some state
+pub steady_kind : (map : SectorMap) (w : Chip) (s : DeviceState) (state : State) → (view map w).log ≡ Some state
     → IsSteadyAt (view map w) s → state.kind ≡ log.Steady
 steady_kind map w s state read was = ap (λ (st : State). st.kind)
     (same_state map w state (logged log.Steady 0 false 0 s) read was.log)

@@ -1,5 +1,6 @@
 -- An upgrade ends.
-use Rattle.std.proofs.Common.{◌≡◌, ℕ, ◌<◌, ◌⊎◌, Bool, true, false, List, Option, Some, None, refl, sym, ◌∙◌, ap, subst, inl, inr, ⊎_elim, if◌then◌else◌}
+use Rattle.std.proofs.Common.{◌≡◌, ℕ, ◌<◌, ◌⊎◌, Bool, true, false, List, Option, Some, None, refl, sym, ◌∙◌, ap}
+use Rattle.std.proofs.Common.{subst, inl, inr, ⊎_elim, if◌then◌else◌}
 use Rattle.flash_model.specs.Chip.{Chip}
 use Rattle.sector_map.specs.declared.layout.SectorMap.{SectorMap}
 use Rattle.sector_map.specs.declared.layout.Side.TheVariants.{Primary, Secondary}
@@ -15,7 +16,7 @@ use Rattle.certificate.specs.declared.table.Table.{Table}
 use Rattle.machine.specs.States.{wanted_bytes, settled, taken_for_good, taken_on_trial, bytes_or_none, new_trial}
 use Rattle.machine.specs.Holding.{IsTrialAt, IsSwapped, AreSettled}
 use Rattle.machine.specs.Passing.{IsTakenAt}
-use Rattle.machine.proofs.Frames.{same_state}
+use Rattle.machine.proofs.Frames.{rests_with, same_state}
 use Rattle.machine.proofs.Swapping.{settle_logged, others_logged, settling_kept}
 use Rattle.machine.proofs.Beginning.{running_bytes}
 use Rattle.set_log.specs.declared.state.Kind.TheVariants as log
@@ -162,14 +163,13 @@ trial_either map old new state left read keeps either s table mask was settled =
 
 good_record : (map : SectorMap) (w : Chip) (state : State) (mask : ℕ) (floors : List ℕ) (s : DeviceState)
     → (view map w).log ≡ Some state → (view map w).log ≡ Some (logged log.Settle mask true 0 s)
-    → record { kind = log.Steady; mask = 0; permanent = false; left = 0; sequence = state.sequence; floors = floors } ≡ logged log.Steady 0 false 0 (taken_for_good s mask floors)
-good_record map w state mask floors s read is =
-    ap (λ (st : State). record { kind = log.Steady; mask = 0; permanent = false; left = 0; sequence = st.sequence; floors = floors }) (same_state map w state (logged log.Settle mask true 0 s) read is)
+    → rests_with state floors ≡ logged log.Steady 0 false 0 (taken_for_good s mask floors)
+good_record map w state mask floors s read is = ap (λ (st : State). rests_with st floors)
+    (same_state map w state (logged log.Settle mask true 0 s) read is)
 
 pub good_ok : (map : SectorMap) (old new : Chip) (state : State) (floors : List ℕ)
     → (view map old).log ≡ Some state → Keeps map (only Log) old new
-    → (view map new).log ≡ Some
-    (record { kind = log.Steady; mask = 0; permanent = false; left = 0; sequence = state.sequence; floors = floors })
+    → (view map new).log ≡ Some (rests_with state floors)
     → (s : DeviceState) (table : Table) (mask : ℕ) → IsSwapped (view map old) s table log.Settle mask true
     → AreSettled (view map old) mask true → IsSteadyAt (view map new) (taken_for_good s mask floors)
 good_ok map old new state floors read keeps recorded s table mask was settled =
@@ -179,8 +179,7 @@ good_ok map old new state floors read keeps recorded s table mask was settled =
 pub good_either : (map : SectorMap) (old new : Chip) (state : State) (floors : List ℕ)
     → (view map old).log ≡ Some state → Keeps map (only Log) old new
     → ((view map new).log ≡ (view map old).log)
-    ⊎ ((view map new).log ≡ Some
-    (record { kind = log.Steady; mask = 0; permanent = false; left = 0; sequence = state.sequence; floors = floors }))
+    ⊎ ((view map new).log ≡ Some (rests_with state floors))
     → (s : DeviceState) (table : Table) (mask : ℕ) → IsSwapped (view map old) s table log.Settle mask true
     → AreSettled (view map old) mask true
     → IsSwapped (view map new) s table log.Settle mask true ⊎ IsSteadyAt (view map new) (taken_for_good s mask floors)

@@ -63,6 +63,12 @@ pub found_again : (found table : Table) (s : DeviceState) (mask : ℕ) (permanen
     → IsInStandardOrder found report.refusals.items → IsReported s found report
     × (is_member mask ≡ taken_in report)
 found_again found table s mask permanent report rows same decision right greatest standard = (
-  record { rows = rows; valid = valid_again found table s mask permanent same decision; right = right; greatest = greatest; standard = standard },
+  record {
+    rows = rows;
+    valid = valid_again found table s mask permanent same decision;
+    right = right;
+    greatest = greatest;
+    standard = standard;
+  },
   fun_ext (chosen_again found table s mask permanent report same decision greatest),
 )

@@ -12,6 +12,7 @@ use Rattle.sector_map.specs.declared.layout.Side.TheVariants.{Primary, Secondary
 use Rattle.sector_map.specs.Part.{Part, Slot, TrailerOf, Log, is_member, only, trailers_on}
 use Rattle.sector_map.specs.Map.{Keeps}
 use Rattle.set_log.specs.declared.state.State.{State}
+use Rattle.set_log.specs.declared.state.Kind.TheVariants as log
 use Rattle.upload.specs.View.{view}
 use Rattle.upload.proofs.Views.{view_kept}
 use Rattle.upload.specs.Device.{DeviceState}
@@ -61,6 +62,28 @@ steady_logged map old new s keeps recorded was = record {
 
 pub primary_aside : (mask : ℕ) → IsAside (trailers_on mask Primary)
 primary_aside mask = record { slots = λ i side. refl; secondary = λ i. and-false (is_member mask i); log = refl }
+
+-- the record of a device at rest, with these floors
+abbrev pub rests_with : State → List ℕ → State
+rests_with state floors = record {
+  kind = log.Steady;
+  mask = 0;
+  permanent = false;
+  left = 0;
+  sequence = state.sequence;
+  floors = floors;
+}
+
+-- the record of a swap that begins
+abbrev pub swaps_with : State → ℕ → Bool → State
+swaps_with state mask permanent = record {
+  kind = log.Swap;
+  mask = mask;
+  permanent = permanent;
+  left = 0;
+  sequence = state.sequence;
+  floors = state.floors;
+}
 
 -- two readings of one log
 pub same_state : (map : SectorMap) (w : Chip) (a b : State) → (view map w).log ≡ Some a

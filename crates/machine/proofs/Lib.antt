@@ -12,3 +12,14 @@ pub mod Upgrading
 pub mod Reverting
 pub mod Confirming
 pub mod Steadying
+pub mod Standing
+pub mod Returning
+pub mod Trying
+pub mod Runs
+pub mod Answered
+pub mod Stepping
+pub mod Uploading
+pub mod Sound
+pub mod SoundBoots
+pub mod SoundRuns
+pub mod SwapTypes

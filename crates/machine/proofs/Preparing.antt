@@ -1,43 +1,16 @@
 -- Making a set ready.
-use Rattle.std.proofs.Common.{◌≡◌, ℕ, ◌≤◌, ◌==◌, ◌&&◌, Bool, true, false, List, length, Some, refl, sym, ◌∙◌, ap, subst, arith}
+use Rattle.std.proofs.Common.{◌≡◌, ℕ, ◌==◌, ◌&&◌, Bool, true, false, Some, refl, sym, ◌∙◌, ap}
+use Rattle.std.proofs.Common.{subst}
 use Rattle.std.proofs.lemmas.Bool.{eqb-true}
 use Rattle.flash_model.specs.Chip.{Chip}
 use Rattle.sector_map.specs.declared.layout.SectorMap.{SectorMap}
 use Rattle.sector_map.specs.declared.layout.Side.{Side}
-use Rattle.sector_map.specs.declared.layout.Side.TheVariants.{Primary, Secondary}
 use Rattle.sector_map.specs.Part.{TrailerOf, only, same_side}
 use Rattle.sector_map.specs.Map.{Keeps}
 use Rattle.trailer.specs.Fields.{Fields, erased_fields}
-use Rattle.tlv.specs.declared.desc.Desc.{Desc}
-use Rattle.tlv.specs.Image.{IsIntact}
 use Rattle.upload.specs.View.{view}
 use Rattle.upload.proofs.Views.{view_kept}
-use Rattle.upload.specs.Steady.{Starts}
 use Rattle.machine.specs.Prepared.{IsRoomFor, IsRoomForBoth, IsPrepared}
-use Rattle.machine.proofs.Unique.{one_front}
-
-pub room_of : (whole : List ℕ) (d : Desc)
-    → ((bytes : List ℕ) × Starts whole bytes × IsIntact bytes d × (length bytes ≡ d.length))
-    → IsRoomFor whole d.length
-room_of whole d (bytes, starts, image, long) = record {
-  each = λ other also begins is.
-      let same = one_front whole bytes other d also starts begins image is in
-      let le : length other ≡ length bytes = ap length (sym same.0) in omega arith;
-}
-
-wider : (whole : List ℕ) (a n : ℕ) → IsRoomFor whole a → a ≤ n → IsRoomFor whole n
-wider whole a n room le = record { each = λ bytes d starts is. let short : length bytes ≤ a = room.each bytes d starts is in omega arith }
-
-pub room_for_both : (map : SectorMap) (w mid : Chip) (i a b n : ℕ)
-    → IsRoomFor ((view map w).slot i Primary) a → mid ≡ w → IsRoomFor ((view map mid).slot i Secondary) b
-    → a ≤ n → b ≤ n → IsRoomForBoth (view map w) i n
-room_for_both map w mid i a b n first same second le le' = record {
-  each = λ on. elim on as (λ on. IsRoomFor ((view map w).slot i on) n) [
-    | Primary ↦ wider ((view map w).slot i Primary) a n first le
-    | Secondary ↦ wider ((view map w).slot i Secondary) b n
-        (subst (λ (v : Chip). IsRoomFor ((view map v).slot i Secondary) b) same second) le'
-  ];
-}
 
 pub prepared : (map : SectorMap) (i size : ℕ) (side : Side) (erased mid new : Chip)
     → (view map erased).trailer i side ≡ erased_fields → IsRoomForBoth (view map erased) i size → mid ≡ erased

@@ -1,5 +1,6 @@
 -- An upgrade is finished from its record.
-use Rattle.std.proofs.Common.{◌≡◌, ◌⊎◌, ℕ, Bool, true, false, List, length, Some, refl, sym, ◌∙◌, ap, subst, ⊎_elim, inl, inr}
+use Rattle.std.proofs.Common.{◌≡◌, ◌⊎◌, ℕ, Bool, true, false, List, length, Some, refl, sym, ◌∙◌, ap, subst, ⊎_elim}
+use Rattle.std.proofs.Common.{inl, inr}
 use Rattle.flash_model.specs.Chip.{Chip}
 use Rattle.sector_map.specs.declared.layout.SectorMap.{SectorMap}
 use Rattle.sector_map.specs.Part.{is_member}
@@ -35,7 +36,11 @@ can_read_back map w s table kind mask permanent was = record {
   images = was.images;
   floors = refl;
   each = λ i lt. read_at map w s i (is_member mask i)
-      (λ member. record { ran = was.ran i member; asked = was.asked i member; wanted = member_bytes s table mask permanent i was.decision member })
+      (λ member. record {
+        ran = was.ran i member;
+        asked = was.asked i member;
+        wanted = member_bytes s table mask permanent i was.decision member;
+      })
       (λ other. was.others i lt other);
 }
 
@@ -76,8 +81,17 @@ module _ (map : SectorMap) (old mid new : Chip) (state : State) (left : ℕ) (fi
       → IsSwapped (view map old) s table log.Settle state.mask state.permanent
       → IsTakenAt (view map new) s state.mask state.permanent left floors
       → IsUpgraded left (view map new) s state.mask state.permanent
-  done_here s table was taken = let here = found_here s table was in
-      (found, report, floors, here, raised_is s table found state.mask state.permanent _ state.floors floors was.decision here.0.rows (record_floors map old state log.Settle state.mask state.permanent s read was.log) refl raised, taken)
+  done_here s table was taken =
+      let here = found_here s table was in
+      let same_floors = record_floors map old state log.Settle state.mask state.permanent s read was.log in (
+        found,
+        report,
+        floors,
+        here,
+        raised_is s table found state.mask state.permanent _ state.floors floors was.decision here.0.rows
+            same_floors refl raised,
+        taken,
+      )
 
   pub settle_stands : ((s : DeviceState) (table : Table)
       → IsSwapped (view map mid) s table log.Settle state.mask state.permanent

@@ -1,11 +1,13 @@
 -- A swap goes on, is settled, and ends.
-use Rattle.std.proofs.Common.{◌≡◌, ℕ, ◌<◌, ◌==◌, ◌&&◌, ◌⊎◌, Bool, true, false, List, Option, Some, None, refl, sym, ◌∙◌, ap, subst, inl, inr, ⊎_elim}
+use Rattle.std.proofs.Common.{◌≡◌, ℕ, ◌<◌, ◌==◌, ◌&&◌, ◌⊎◌, Bool, true, false, List, Option, Some, None, refl, sym}
+use Rattle.std.proofs.Common.{◌∙◌, ap, subst, inl, inr, ⊎_elim}
 use Rattle.swap_scratch.proofs.Staying.{stays}
 use Rattle.flash_model.specs.Chip.{Chip}
 use Rattle.sector_map.specs.declared.layout.SectorMap.{SectorMap}
 use Rattle.sector_map.specs.declared.layout.Side.{Side}
 use Rattle.sector_map.specs.declared.layout.Side.TheVariants.{Primary, Secondary}
-use Rattle.sector_map.specs.Part.{Part, Slot, TrailerOf, Scratch, Log, is_member, only, swap_of, trailers_in, trailers_of}
+use Rattle.sector_map.specs.Part.{Part, Slot, TrailerOf, Scratch, Log, is_member, only, swap_of, trailers_in}
+use Rattle.sector_map.specs.Part.{trailers_of}
 use Rattle.sector_map.specs.Map.{IsLaidOut, Keeps}
 use Rattle.trailer.specs.Settled.{IsSettled}
 use Rattle.set_log.specs.declared.state.State.{State}

@@ -1,5 +1,6 @@
 -- The table of a state is the only one.
-use Rattle.std.proofs.Common.{◌≡◌, ℕ, Bool, true, false, List, [], ◌∷◌, length, Option, Some, None, refl, sym, ◌∙◌, ap, subst, arith, slice_get, slice_index, suc}
+use Rattle.std.proofs.Common.{◌≡◌, ℕ, Bool, true, false, List, [], ◌∷◌, length, Option, Some, None, refl, sym, ◌∙◌}
+use Rattle.std.proofs.Common.{ap, subst, arith, slice_get, slice_index, suc}
 use Rattle.tlv.specs.declared.desc.Desc.{Desc}
 use Rattle.tlv.specs.Image.{IsIntact}
 use Rattle.tlv.proofs.Descriptions.{intact-unique}
@@ -12,7 +13,9 @@ use Rattle.certificate.specs.declared.table.Image.{Image}
 use Rattle.certificate.specs.declared.table.Entry.{Entry}
 use Rattle.certificate.specs.declared.table.Request.{Request}
 use Rattle.certificate.specs.Combination.{IsGreatest}
-use Rattle.machine.specs.Boots.{IsEntryOf, IsRequestOf, IsRowOf, IsTableOf}
+use Rattle.certificate.specs.declared.report.Report.{Report}
+use Rattle.certificate.specs.Rightness.{taken_in}
+use Rattle.machine.specs.Boots.{IsEntryOf, IsReported, IsRequestOf, IsRowOf, IsTableOf}
 use Rattle.certificate.specs.declared.table.Request.TheVariants as request
 
 -- one front at most is an image, and it has one description
@@ -89,3 +92,9 @@ both false false to from = refl
 pub one_greatest : (table : Table) (a b : ℕ → Bool) → IsGreatest table a → IsGreatest table b → (i : ℕ) → a i ≡ b i
 one_greatest table a b first second i = both (a i) (b i) (λ e. second.contains a first.valid i e)
     (λ e. first.contains b second.valid i e)
+
+-- reports of one state take the same set
+pub one_set : (s : DeviceState) (first second : Table) (report other : Report) → IsReported s first report
+    → IsReported s second other → (j : ℕ) → taken_in report j ≡ taken_in other j
+one_set s first second report other a b = one_greatest second (taken_in report) (taken_in other)
+    (subst (λ t. IsGreatest t (taken_in report)) (one_table s first second a.rows b.rows) a.greatest) b.greatest

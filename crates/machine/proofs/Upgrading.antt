@@ -25,9 +25,11 @@ use Rattle.set_log.specs.declared.state.Kind.TheVariants as log
 pub upgrading_stands : (map : SectorMap) (w : Chip) (s : DeviceState) (table : Table) (mask : ℕ)
     (permanent : Bool) → IsUpgrading map w s table mask permanent → Stands map w s
 upgrading_stands map w s table mask permanent under = ⊎_elim
-    (λ (swapping : IsSwappingSome map w s table mask permanent). Swaps table mask permanent swapping.0 swapping.1 swapping.2)
-    (λ (swapped : IsSwapped
-    (view map w) s table log.Settle mask permanent). Settles table mask permanent swapped) under
+    (λ (swapping : IsSwappingSome map w s table mask permanent).
+    Swaps table mask permanent swapping.0 swapping.1 swapping.2)
+    (λ (swapped : IsSwapped (view map w) s table log.Settle mask permanent).
+    Settles table mask permanent swapped)
+    under
 
 -- the decision of a set that was chosen
 pub decision_of : (s : DeviceState) (table : Table) (mask : ℕ) (permanent : Bool) → IsChosen s table mask
@@ -90,7 +92,14 @@ taken_boots map w s table given report mask left false floors trial decision rep
             subst (λ t. IsDecision s t mask false) same decision,
             (
               new_trial s mask left,
-              record { set = refl; confirmed = λ i. refl; old = λ i lt member. let bytes = running_bytes s table i decision.rows lt in sym (old_kept (s.running i) bytes.0 bytes.1); left = refl },
+              record {
+                set = refl;
+                confirmed = λ i. refl;
+                old = λ i lt member.
+                    let bytes = running_bytes s table i decision.rows lt in
+                    sym (old_kept (s.running i) bytes.0 bytes.1);
+                left = refl;
+              },
               refl,
             ),
           ),

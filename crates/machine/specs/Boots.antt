@@ -1,5 +1,6 @@
 -- The steps of a machine that boots, and that confirms an image.
-use Rattle.std.specs.Prelude.{◌≡◌, ◌⊎◌, ℕ, ◌+◌, ◌<◌, Bool, true, false, List, length, Option, Some, None, slice_get, slice_index}
+use Rattle.std.specs.Prelude.{◌≡◌, ◌⊎◌, ℕ, ◌+◌, ◌<◌, Bool, true, false, List, length, Option, Some, None, slice_get}
+use Rattle.std.specs.Prelude.{slice_index}
 use Rattle.sector_map.specs.Part.{is_member}
 use Rattle.trailer.specs.declared.kinds.Kind.TheVariants.{Permanent}
 use Rattle.certificate.specs.declared.table.Table.{Table}
@@ -14,7 +15,8 @@ use Rattle.certificate.specs.StandardOrder.{IsInStandardOrder}
 use Rattle.tlv.specs.declared.desc.Desc.{Desc}
 use Rattle.tlv.specs.Image.{IsIntact}
 use Rattle.upload.specs.Device.{DeviceState, Machine, Trial, Wanted}
-use Rattle.machine.specs.States.{entry_of, IsConfirmed, IsRaised, IsBegun, running_after, settled, taken_for_good, taken_on_trial, reverted, tried_again, with_confirmed}
+use Rattle.machine.specs.States.{entry_of, IsConfirmed, IsRaised, IsBegun, running_after, settled, taken_for_good}
+use Rattle.machine.specs.States.{taken_on_trial, reverted, tried_again, with_confirmed}
 use Rattle.machine.specs.declared.error.Fault.TheVariants as no
 use Rattle.machine.specs.declared.reply.Reply.{Reply}
 use Rattle.machine.specs.declared.reply.Reply.TheVariants.{Done, Booted, Reverted, TrialAgain, Refused, Cut}
@@ -206,3 +208,8 @@ IsSound s = (table : Table) × IsTableOf s table × IsValid table running_set
 -- The state as a boot reads it is sound.
 pub record IsReadSound (s : DeviceState) : Type 0 where
   pub each : (read : DeviceState) → IsReadAs s read → IsSound read
+
+-- What runs is intact and valid, and in a trial what ran before it is so too: whatever a boot comes to run.
+pub record IsAllSound (s : DeviceState) : Type 0 where
+  pub now : IsSound s
+  pub before : (trial : Trial) → s.trial ≡ Some trial → IsSound (reverted s trial)

@@ -1,7 +1,9 @@
 -- The number and the name of each reason why a call of a device is refused.
 use Rattle.std.specs.Prelude.{ℕ, List, codes}
 use Rattle.machine.specs.declared.error.Fault.{Fault}
-use Rattle.machine.specs.declared.error.Fault.TheVariants.{NotBooted, OnTrial, NotOnTrial, NotProvisioned, RunningDamaged, InvalidSet, Flash, NoMemory, Manifest, Upload}
+use Rattle.machine.specs.declared.error.Fault.TheVariants.{NotBooted, OnTrial, NotOnTrial, NotProvisioned}
+use Rattle.machine.specs.declared.error.Fault.TheVariants.{RunningDamaged, InvalidSet, Flash, NoMemory, Manifest}
+use Rattle.machine.specs.declared.error.Fault.TheVariants.{Upload}
 
 -- The number of a kind.
 abbrev pub code_of : Fault → ℕ

@@ -1,17 +1,15 @@
 -- The steps of a machine that takes a manifest, a piece, the end of an upload, or a withdrawal.
-use Rattle.std.specs.Prelude.{◌≡◌, ℕ, ◌≤◌, true, false, List, Some, None, Result, Ok, Err}
+use Rattle.std.specs.Prelude.{◌≡◌, ℕ, true, false, List, Some, None, Result, Ok, Err}
 use Rattle.sector_map.specs.declared.layout.SectorMap.{SectorMap}
 use Rattle.flash_model.specs.declared.error.FlashError.TheVariants as flash
 use Rattle.manifest.specs.declared.identity.Identity.{Identity}
-use Rattle.manifest.specs.declared.manifest.Component.{Component}
 use Rattle.manifest.specs.declared.manifest.Manifest.{Manifest}
 use Rattle.manifest.specs.Fault.{IsManifest, IsRefusal}
 use Rattle.upload.specs.declared.error.UploadError.{UploadError}
 use Rattle.upload.specs.declared.error.UploadError.TheVariants as upload
-use Rattle.upload.specs.Device.{DeviceState, Machine, Session, Trial}
+use Rattle.upload.specs.Device.{Machine, Trial}
 use Rattle.upload.specs.Ending.{is_flash}
-use Rattle.upload.specs.Accepted.{Accepts, AllFit, AllFollow}
-use Rattle.upload.specs.Piece.{Pieces}
+use Rattle.upload.specs.Accepted.{Accepts}
 use Rattle.machine.specs.States.{asleep}
 use Rattle.machine.specs.declared.error.Fault.TheVariants as no
 use Rattle.machine.specs.declared.reply.Reply.{Reply}
@@ -90,24 +88,3 @@ TakesText setup m bytes (Booted table report permanent) next = ⊥
 TakesText setup m bytes (Reverted mask) next = ⊥
 TakesText setup m bytes (TrialAgain set left) next = ⊥
 TakesText setup m bytes Cut next = ⊥
-
--- A manifest may be taken: no check of it fails.
-pub record MayAccept (map : SectorMap) (s : DeviceState) (sequence : ℕ) (cs : List Component)
-    : Type 0 where
-  pub newer : s.sequence ≤ sequence
-  pub fit : AllFit map cs
-  pub follow : AllFollow s cs
-
--- A manifest that isn't refused is being taken when power fails.
-abbrev pub CutsManifest : Setup → Machine → List ℕ → Row
-CutsManifest setup m bytes result next = (manifest : Manifest)
-    × IsManifest setup.identity bytes manifest
-    × MayAccept setup.map m.kept manifest.sequence manifest.components.items
-    × Accepts setup.map m manifest.sequence manifest.components.items result next
-
--- ---- pieces
-
--- A piece of an open upload is being taken when power fails.
-abbrev pub CutsPiece : Machine → ℕ → List ℕ → Row
-CutsPiece m i bytes result next = (session : Session) × (m.session i ≡ Some session)
-    × Pieces m i bytes result next

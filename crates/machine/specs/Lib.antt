@@ -3,8 +3,10 @@ pub mod States
 pub mod Boots
 pub mod Intake
 pub mod Steps
+pub mod Headline
 pub mod Holding
 pub mod Passing
 pub mod Prepared
 pub mod Reading
 pub mod Wear
+pub mod SwapTypes

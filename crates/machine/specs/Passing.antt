@@ -1,6 +1,6 @@
 -- What a device's calls have to leave: what stands after each passage of a boot, after a confirmation, and after
 -- whole steps and runs.
-use Rattle.std.specs.Prelude.{◌≡◌, ◌⊎◌, ℕ, Bool, true, false, List}
+use Rattle.std.specs.Prelude.{◌≡◌, ◌⊎◌, ℕ, Bool, true, false, List, Result, Ok, Err}
 use Rattle.flash_model.specs.Chip.{Chip}
 use Rattle.sector_map.specs.declared.layout.SectorMap.{SectorMap}
 use Rattle.sector_map.specs.Part.{is_member}
@@ -11,17 +11,21 @@ use Rattle.certificate.specs.Rightness.{taken_in}
 use Rattle.upload.specs.View.{View, view}
 use Rattle.upload.specs.Device.{DeviceState, Machine, Trial}
 use Rattle.upload.specs.Steady.{IsSteadyAt}
+use Rattle.upload.specs.declared.error.UploadError.{UploadError}
+use Rattle.upload.specs.declared.error.UploadError.TheVariants as upload
 use Rattle.machine.specs.States.{IsRaised, new_trial, running_after, taken_for_good, taken_on_trial, with_confirmed}
 use Rattle.machine.specs.Boots.{Boots, GoesBack, IsBootCut, IsOnTrial, IsReported, is_answer}
 use Rattle.machine.specs.Intake.{Setup}
 use Rattle.machine.specs.Steps.{IsStep, IsRun}
-use Rattle.machine.specs.Holding.{DeviceView, Holds, IsAtRest, IsSwapped, IsSwappedBack, IsSwapping, IsSwappingBack, IsTrialAt, IsTrialOpen, Stands}
-use Rattle.machine.specs.declared.error.Fault.TheVariants.{RunningDamaged, InvalidSet}
+use Rattle.machine.specs.Holding.{DeviceView, Holds, IsAtRest, IsSwapped, IsSwappedBack, IsSwapping, IsSwappingBack}
+use Rattle.machine.specs.Holding.{IsTrialAt, IsTrialOpen, Stands}
+use Rattle.machine.specs.declared.error.Fault.TheVariants.{RunningDamaged, InvalidSet, Upload}
 use Rattle.machine.specs.declared.event.Event.{Event}
+use Rattle.machine.specs.declared.event.Event.TheVariants as event
 use Rattle.machine.specs.declared.finding.Finding.{Finding}
 use Rattle.machine.specs.declared.finding.Finding.TheVariants.{Decided, Damaged, Invalid}
 use Rattle.machine.specs.declared.reply.Reply.{Reply}
-use Rattle.machine.specs.declared.reply.Reply.TheVariants.{Booted, Refused}
+use Rattle.machine.specs.declared.reply.Reply.TheVariants.{Booted, Cut, Done, Refused}
 
 -- A swap of some contents.
 abbrev pub IsSwappingSome : SectorMap → Chip → DeviceState → Table → ℕ → Bool → Type 0
@@ -81,6 +85,42 @@ abbrev pub reply_of : Finding → Bool → Reply
 reply_of (Decided table report) permanent = Booted table report permanent
 reply_of (Damaged i) permanent = Refused (RunningDamaged i)
 reply_of Invalid permanent = Refused InvalidSet
+
+-- The reply to a call of uploads.
+abbrev pub upload_reply : Result Unit UploadError → Reply
+upload_reply (Ok done) = Done
+upload_reply (Err upload.OldSequence) = Refused (Upload upload.OldSequence)
+upload_reply (Err upload.TooBig) = Refused (Upload upload.TooBig)
+upload_reply (Err upload.NoSession) = Refused (Upload upload.NoSession)
+upload_reply (Err upload.TooMuch) = Refused (Upload upload.TooMuch)
+upload_reply (Err upload.SizeWrong) = Refused (Upload upload.SizeWrong)
+upload_reply (Err upload.DigestWrong) = Refused (Upload upload.DigestWrong)
+upload_reply (Err (upload.NotAnImage fault)) = Refused (Upload (upload.NotAnImage fault))
+upload_reply (Err upload.WrongPrecursor) = Refused (Upload upload.WrongPrecursor)
+upload_reply (Err upload.NothingRequested) = Refused (Upload upload.NothingRequested)
+upload_reply (Err upload.NoMemory) = Refused (Upload upload.NoMemory)
+-- A flash that is on is cut, or doesn't stop a call.
+upload_reply (Err (upload.Flash error)) = Cut
+
+-- Whether an event is refused by a device that isn't up ..
+abbrev pub needs_up : Event → Bool
+needs_up (event.Accept bytes) = true
+needs_up (event.Piece i bytes) = true
+needs_up (event.Finish i) = true
+needs_up (event.Withdraw i) = true
+needs_up (event.Confirm i) = true
+needs_up event.Boot = false
+needs_up event.Reset = false
+
+-- .. and whether by one on which a set is on trial.
+abbrev pub needs_rest : Event → Bool
+needs_rest (event.Accept bytes) = true
+needs_rest (event.Piece i bytes) = true
+needs_rest (event.Finish i) = true
+needs_rest (event.Withdraw i) = true
+needs_rest (event.Confirm i) = false
+needs_rest event.Boot = false
+needs_rest event.Reset = false
 
 -- What stands after a confirmation, of an image that is on trial or of another one ..
 abbrev pub EndsConfirm : View → DeviceState → ℕ → Bool → Type 0

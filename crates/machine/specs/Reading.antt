@@ -1,5 +1,6 @@
 -- What a boot reads of a flash.
-use Rattle.std.specs.Prelude.{◌≡◌, ℕ, ◌<◌, ◌≤◌, max, Bool, true, false, List, length, Option, Some, None, slice_get, slice_index}
+use Rattle.std.specs.Prelude.{◌≡◌, ℕ, ◌<◌, ◌≤◌, max, Bool, true, false, List, length, Option, Some, None, slice_get}
+use Rattle.std.specs.Prelude.{slice_index}
 use Rattle.sector_map.specs.declared.layout.Side.TheVariants.{Primary, Secondary}
 use Rattle.sector_map.specs.Part.{is_member}
 use Rattle.certificate.specs.declared.table.Entry.{Entry}
@@ -13,7 +14,8 @@ use Rattle.upload.specs.View.{View}
 use Rattle.upload.specs.Device.{DeviceState, Trial, Wanted}
 use Rattle.upload.specs.Steady.{IsFront, IsImageAt}
 use Rattle.machine.specs.States.{IsConfirmed, wanted_bytes}
-use Rattle.machine.specs.Boots.{GoesBack, GoesOn, HasDamaged, IsEntryOf, IsLowestDamaged, IsReported, IsRowOf, IsTableOf}
+use Rattle.machine.specs.Boots.{GoesBack, GoesOn, HasDamaged, IsEntryOf, IsLowestDamaged, IsReported, IsRowOf}
+use Rattle.machine.specs.Boots.{IsTableOf}
 use Rattle.machine.specs.declared.finding.Finding.{Finding}
 use Rattle.machine.specs.declared.finding.Finding.TheVariants.{Decided, Damaged, Invalid}
 use Rattle.machine.specs.declared.finding.Reading.{Reading}

@@ -1,5 +1,6 @@
 -- The states that a device comes to.
-use Rattle.std.specs.Prelude.{◌≡◌, ℕ, ◌+◌, ◌<◌, ◌≤◌, ◌==◌, max, true, false, List, [], length, Option, Some, None, option_and_then, slice_index, if◌then◌else◌}
+use Rattle.std.specs.Prelude.{◌≡◌, ℕ, ◌+◌, ◌<◌, ◌≤◌, ◌==◌, max, true, false, List, [], length, Option, Some, None}
+use Rattle.std.specs.Prelude.{option_and_then, slice_index, if◌then◌else◌}
 use Rattle.certificate.specs.declared.table.Entry.{Entry}
 use Rattle.sector_map.specs.Part.{is_member}
 use Rattle.tlv.specs.declared.desc.Desc.{Desc}

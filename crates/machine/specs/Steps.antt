@@ -6,7 +6,7 @@ use Rattle.upload.specs.Finish.{FinishRow}
 use Rattle.upload.specs.Withdrawal.{Withdraws}
 use Rattle.machine.specs.States.{asleep, with_confirmed}
 use Rattle.machine.specs.Boots.{Boots, IsBootCut, is_answer, Confirms, IsOnTrial}
-use Rattle.machine.specs.Intake.{Setup, Uploads, IsUploadsCut, TakesText, CutsManifest, CutsPiece}
+use Rattle.machine.specs.Intake.{Setup, Uploads, IsUploadsCut, TakesManifest, TakesText}
 use Rattle.machine.specs.declared.event.Event.{Event}
 use Rattle.machine.specs.declared.event.Event.TheVariants as event
 use Rattle.machine.specs.declared.reply.Reply.{Reply}
@@ -34,8 +34,8 @@ Completes setup m event.Reset reply next = Resets m reply next
 
 -- A cut step: the sessions end, and the device isn't up.
 abbrev pub IsCutTo : Setup → Machine → Event → Machine → Type 0
-IsCutTo setup m (event.Accept bytes) next = IsUploadsCut (CutsManifest setup m bytes.now) m next
-IsCutTo setup m (event.Piece i bytes) next = IsUploadsCut (CutsPiece m i bytes.now) m next
+IsCutTo setup m (event.Accept bytes) next = IsUploadsCut (TakesManifest setup m bytes.now) m next
+IsCutTo setup m (event.Piece i bytes) next = IsUploadsCut (Pieces m i bytes.now) m next
 IsCutTo setup m (event.Finish i) next = IsUploadsCut (FinishRow m i) m next
 IsCutTo setup m (event.Withdraw i) next = IsUploadsCut (Withdraws m i) m next
 IsCutTo setup m (event.Confirm i) next = (m.is_up ≡ true)
@@ -63,6 +63,14 @@ IsRun setup m [] (reply ∷ replies) last = ⊥
 IsRun setup m (event ∷ events) [] last = ⊥
 IsRun setup m (event ∷ events) (reply ∷ replies) last = (next : Machine)
     × IsStep setup m event reply next × IsRun setup next events replies last
+
+-- A run without a cut: each step is complete.
+abbrev pub IsUncutRun : Setup → Machine → List Event → List Reply → Machine → Type 0
+IsUncutRun setup m [] [] last = last ≡ m
+IsUncutRun setup m [] (reply ∷ replies) last = ⊥
+IsUncutRun setup m (event ∷ events) [] last = ⊥
+IsUncutRun setup m (event ∷ events) (reply ∷ replies) last = (next : Machine)
+    × Completes setup m event reply next × IsUncutRun setup next events replies last
 
 -- How many cuts a reply tells of.
 abbrev pub cut_of : Reply → ℕ

@@ -1,16 +1,27 @@
 //! The device, over whole images: what happens to it, what it answers, and what its flash holds at every moment.
 //!
-//! Promises: nothing runs here but the numbers and the names of faults. The definitions (`specs/`) say what a device does
-//! that knows whole images only, and what ties the bytes of a flash to a state of it; the lemmas (`proofs/`) say what
-//! follows for the passages of a boot. The device above will state its contracts by these definitions.
+//! Promises: nothing runs here but the numbers and the names of faults. The definitions (`specs/`) say what a device
+//! does that knows whole images only, and what ties the bytes of a flash to a state of it; the lemmas (`proofs/`) say
+//! what follows for the passages of a boot and for whole runs. What follows for every run is promised by functions
+//! without a body (`laws`): above all that each boot which answers a report starts the greatest set. The device above
+//! will state its contracts by these definitions.
 #![tactic(auto)]
 
 mod error;
 mod event;
 mod finding;
+mod laws;
 mod reply;
 
 pub use error::Fault;
 pub use event::Event;
 pub use finding::{Finding, Passage, Reading};
+pub use laws::{
+    boots_from_an_intact_and_valid_state_answer, boots_that_were_cut_start_the_same_set,
+    each_boot_that_answers_starts_the_greatest_set, each_event_has_a_reply,
+    reports_of_a_state_take_the_same_set, runs_are_joined, runs_are_parted,
+    runs_have_a_state_at_each_place, runs_keep_what_runs_intact_and_valid,
+    runs_without_a_cut_are_complete, tables_of_a_state_are_equal,
+    trailers_tell_trials_and_requests,
+};
 pub use reply::Reply;

@@ -28,6 +28,11 @@ ends_flash error old new ends = record {
   off = λ is. ends.off (same_error error Off is);
 }
 
+-- a call that was made on a flash that was off
+pub same_off : {T : Type 0} (error : FlashError) (old new : Chip) → Ends {T = T} (Err error) old new
+    → error ≡ Off → new ≡ old
+same_off error old new ends is = ends.asleep (ends.off (ap (λ e. Err e) is))
+
 -- after a call that left the power as it was
 pub ends_later : {T : Type 0} (result : Result T UploadError) (old mid new : Chip) → IsUncut old mid
     → (old.is_on ≡ false → mid ≡ old) → EndsUpload result mid new → EndsUpload result old new

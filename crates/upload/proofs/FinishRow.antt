@@ -1,6 +1,7 @@
 -- The row of finishing.
 use Rattle.std.proofs.Common.{◌≡◌, ℕ, ◌<◌, ◌==◌, Bool, true, false, List, replicate, Option, Some, None, Result, Ok, Err, refl, sym, ◌∙◌, ap, subst, ⊎_elim, inl, inr, if◌then◌else◌}
 use Rattle.std.proofs.lemmas.Bool.{eq-eqb}
+use Rattle.flash_model.specs.declared.error.FlashError.TheVariants as flash
 use Rattle.sector_map.specs.declared.layout.Side.TheVariants.{Secondary}
 use Rattle.sector_map.specs.Part.{incoming_of}
 use Rattle.trailer.specs.declared.kinds.Kind.{Kind}
@@ -113,13 +114,19 @@ module _ (i : ℕ) (old new : View) (keeps : KeepsView (incoming_of i) old new)
       (with_session m i None, (fin.0, fin.1, refl), left m written at fin.2 (after.same refl) up)
   finishes (Err (no.NotAnImage code)) after m up written at fin =
       (with_session m i None, (fin.0, fin.1, refl), left m written at fin.2 (after.same refl) up)
-  finishes (Err (no.Flash error)) after m up written at fin = ⊎_elim
+  finishes (Err (no.Flash flash.Off)) after m up written at fin =
+      let (before, rest) = unasked_before m written at fin.1 up in (
+        closed m m.kept,
+        (fin.0, before, refl),
+        record { up = up.up; rest = rest; open_ones = sessions_closed new tnew (after.closed refl) },
+      )
+  finishes (Err (no.Flash flash.Cut)) after m up written at fin = ⊎_elim
       (λ (none : request_in new i ≡ None).
       let (before, rest) = unasked_before m written at none up in
-      (closed m m.kept, (before, inl refl), record { up = up.up; rest = rest; open_ones = sessions_closed new tnew (after.closed refl) }))
+      (closed m m.kept, (fin.0, before, inl refl), record { up = up.up; rest = rest; open_ones = sessions_closed new tnew (after.closed refl) }))
       (λ (done : IsFinishedAt new i (session_of u written)). (
         closed m (with_request m.kept i (Some (asked (session_of u written)))),
-        (asked_none m written at up, inr (done.good, refl)),
+        (fin.0, asked_none m written at up, inr (done.good, refl)),
         record {
           up = up.up;
           rest = steady_asked m
@@ -127,7 +134,7 @@ module _ (i : ℕ) (old new : View) (keeps : KeepsView (incoming_of i) old new)
           open_ones = sessions_closed new tnew (after.closed refl);
         },
       ))
-      fin
+      fin.1
   finishes (Err no.OldSequence) after m up written at fin = absurd fin
   finishes (Err no.TooBig) after m up written at fin = absurd fin
   finishes (Err no.NoSession) after m up written at fin = absurd fin

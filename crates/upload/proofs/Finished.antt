@@ -2,6 +2,7 @@
 use Rattle.std.proofs.Common.{◌≡◌, ◌⊎◌, ℕ, ◌+◌, ◌&&◌, ◌++◌, false, List, length, take, replicate, Some, None, Result, Ok, Err, refl, sym, ◌∙◌, ap, subst, arith, length-append, ⊎_elim, inl, inr, not, if◌then◌else◌}
 use Rattle.std.proofs.Math.Seq.{take-append_seam}
 use Rattle.flash_model.specs.declared.error.FlashError.{FlashError}
+use Rattle.flash_model.specs.declared.error.FlashError.TheVariants as flash
 use Rattle.sector_map.specs.declared.layout.Side.TheVariants.{Secondary}
 use Rattle.sector_map.specs.Part.{Slot, TrailerOf, only}
 use Rattle.trailer.specs.Fields.{Fields, erased_fields}
@@ -20,7 +21,8 @@ pub not_good_stands : (t : Fields) (l : List ℕ) → is_good t.magic ≡ false 
 not_good_stands t l e = ap (λ g. if g && (not t.withdrawn && first_is_set l) then Some
     (kind_of t.image_ok) else None) e
 
-refused : (w : View) (i : ℕ) (s : Session) (e : UploadError) → length s.received ≡ s.size
+-- the judged slot is refused, or the flash stops the call before the request is written
+pub refused : (w : View) (i : ℕ) (s : Session) (e : UploadError) → length s.received ≡ s.size
     → w.trailer i Secondary ≡ erased_fields → Judges s.received s.digest (Err e) → EndsFinish w i s (Err e)
 refused w i s no.OldSequence long trailer j = absurd j
 refused w i s no.TooBig long trailer j = absurd j
@@ -32,8 +34,10 @@ refused w i s (no.NotAnImage code) long trailer j = ((long, j.0), j.1, trailer)
 refused w i s no.WrongPrecursor long trailer j = absurd j
 refused w i s no.NothingRequested long trailer j = absurd j
 refused w i s no.NoMemory long trailer j = absurd j
-refused w i s (no.Flash error) long trailer j = inl
-    (erased_stands (w.trailer i Secondary) (w.slot i Secondary) trailer)
+refused w i s (no.Flash flash.Cut) long trailer j =
+    (long, inl (erased_stands (w.trailer i Secondary) (w.slot i Secondary) trailer))
+refused w i s (no.Flash flash.Off) long trailer j =
+    (long, erased_stands (w.trailer i Secondary) (w.slot i Secondary) trailer)
 
 -- the last unit is written, and the slot is judged
 module _ (i start : ℕ) (old mid judged : View) (u : Upload)
@@ -86,9 +90,17 @@ module _ (i start : ℕ) (old mid judged : View) (u : Upload)
 
     pub finish_cut : (error : FlashError) → (new.trailer i Secondary ≡ requested_fields u.kind)
         ⊎ (is_good (new.trailer i Secondary).magic ≡ false)
-        → (written : List ℕ) → IsUploadAt old i u written
+        → (error ≡ flash.Off → new ≡ judged) → (written : List ℕ) → IsUploadAt old i u written
         → EndsFinish new i (session_of u written) (Err (no.Flash error))
-    finish_cut error either written was = ⊎_elim
-        (λ trailer. inr (finish_done trailer written was))
-        (λ torn. inl (not_good_stands (new.trailer i Secondary) (new.slot i Secondary) torn))
-        either
+    finish_cut flash.Cut either off written was = (
+      long written was,
+      ⊎_elim
+          (λ trailer. inr (finish_done trailer written was))
+          (λ torn. inl (not_good_stands (new.trailer i Secondary) (new.slot i Secondary) torn))
+          either,
+    )
+    finish_cut flash.Off either off written was = (
+      long written was,
+      erased_stands (new.trailer i Secondary) (new.slot i Secondary)
+          (ap (λ (w : View). w.trailer i Secondary) (off refl) ∙ erased written was),
+    )

@@ -61,11 +61,16 @@ module _ (i : ℕ) (old new : View) (keeps : KeepsView (only (Slot i Secondary))
       )
 
   pub piece_cut : (bytes : List ℕ) (error : FlashError) (tnew : List (Option Upload)) → AllClosed tnew
-      → (m : Machine) → IsUpAt old told m
+      → u.received + length bytes ≤ u.size → (m : Machine) → IsUpAt old told m
       → (next : Machine) × Pieces m i bytes (Err (no.Flash error)) next × IsUpAt new tnew next
-  piece_cut bytes error tnew none m up =
-      let (asked, rest) = rests m up in
-      (closed m m.kept, (asked, refl), record { up = up.up; rest = rest; open_ones = sessions_closed new tnew none })
+  piece_cut bytes error tnew none fits m up =
+      let (written, at, is) = session_here old i u told m here up in
+      let long = long_session u written old i at in
+      let (asked, rest) = rests m up in (
+        closed m m.kept,
+        (session_of u written, is, omega (arith, long, fits), asked, refl),
+        record { up = up.up; rest = rest; open_ones = sessions_closed new tnew none },
+      )
 
 same_with : (i : ℕ) (told tnew : List (Option Upload)) (o : Option Upload) → o ≡ upload_at told i
     → IsWith i o told tnew → (j : ℕ) → upload_at tnew j ≡ upload_at told j

@@ -1,5 +1,5 @@
 -- The row of accepting a manifest, by what taking it answered.
-use Rattle.std.proofs.Common.{◌≡◌, ℕ, ◌<◌, ◌≤◌, false, List, length, Option, Some, None, Ok, Err, Result, refl, sym, ◌∙◌, ap, subst, arith, inl}
+use Rattle.std.proofs.Common.{◌≡◌, ℕ, ◌<◌, ◌≤◌, false, List, length, Option, Some, None, Ok, Err, Result, refl, sym, ◌∙◌, ap, subst, arith}
 use Rattle.std.specs.Prelude.{All, slice_index_or}
 use Rattle.sector_map.specs.declared.layout.SectorMap.{SectorMap}
 use Rattle.sector_map.specs.declared.layout.Side.TheVariants.{Primary, Secondary}
@@ -7,6 +7,8 @@ use Rattle.sector_map.specs.Part.{Slot}
 use Rattle.sector_map.specs.Map.{IsLaidOut, length_of, part_of}
 use Rattle.sector_map.proofs.PartBytes.{length_part}
 use Rattle.flash_model.specs.Chip.{Chip}
+use Rattle.flash_model.specs.declared.error.FlashError.{FlashError}
+use Rattle.flash_model.specs.declared.error.FlashError.TheVariants as flash
 use Rattle.set_log.specs.declared.state.State.{State}
 use Rattle.set_log.specs.declared.state.Kind.TheVariants.{Steady}
 use Rattle.manifest.specs.declared.manifest.Component.{Component}
@@ -15,8 +17,8 @@ use Rattle.upload.specs.Device.{DeviceState, Machine, closed}
 use Rattle.upload.specs.Steady.{IsFront, IsSteadyAt, logged}
 use Rattle.upload.specs.Sessions.{AllOpenAt, IsUpAt}
 use Rattle.upload.specs.Ending.{IsClosedAfter}
-use Rattle.upload.specs.Accepted.{Accepts, AllFit, AreThere, latest, AllFollow, AllFollowAt, FrontHasDigest, HasDigest, IsPrecursor, accepted}
-use Rattle.upload.specs.Taking.{EndsAccept, IsNewer, IsUnchanged, Refuses}
+use Rattle.upload.specs.Accepted.{Accepts, AllFit, AreThere, MayAccept, latest, AllFollow, AllFollowAt, FrontHasDigest, HasDigest, IsPrecursor, accepted}
+use Rattle.upload.specs.Taking.{CutsAccept, EndsAccept, IsNewer, IsUnchanged, MayTake, Refuses}
 use Rattle.upload.specs.declared.sessions.Upload.{Upload}
 use Rattle.upload.specs.declared.error.UploadError.{UploadError}
 use Rattle.upload.specs.declared.error.UploadError.TheVariants as no
@@ -72,6 +74,14 @@ not_older w state s q newer was = let same = sequence_is w state s newer.read wa
 
 module _ (map : SectorMap) (old new : View) (told tmid tnew : List (Option Upload)) (q : ℕ) (cs : List Component)
     (there : All (λ (c : Component). c.image < old.images) cs) where
+  -- what the log and the slots let be taken the device lets be taken
+  may_accept : (s : DeviceState) (state : State) → IsSteadyAt old s → MayTake map old state q cs → MayAccept map s q cs
+  may_accept s state was may = record {
+    newer = not_older old state s q may.newer was;
+    fit = may.fit;
+    follow = all_follow map old s cs was there may.follow;
+  }
+
   same_up : (m : Machine) → IsUnchanged old new told tmid → tnew ≡ tmid → IsUpAt old told m → IsUpAt new tnew m
   same_up m same after up = subst (λ w. IsUpAt w tnew m) (sym same.flash)
       (subst (λ t. IsUpAt old t m) (sym (after ∙ same.table)) up)
@@ -82,12 +92,7 @@ module _ (map : SectorMap) (old new : View) (told tmid tnew : List (Option Uploa
   accept_row (Ok done) ends after m up =
       let may = ends.0.1 in (
         accepted m q cs,
-        (
-          not_older old ends.0.0 m.kept q may.newer up.rest,
-          may.fit,
-          all_follow map old m.kept cs up.rest there may.follow,
-          refl,
-        ),
+        (may_accept m.kept ends.0.0 up.rest may, refl),
         subst (λ t. IsUpAt new t (accepted m q cs)) (sym (after.same refl)) (ends.1.steps m up),
       )
   accept_row (Err no.OldSequence) ends after m up =
@@ -105,12 +110,21 @@ module _ (map : SectorMap) (old new : View) (told tmid tnew : List (Option Uploa
     ),
     same_up m ends.1 (after.same refl) up,
   )
-  accept_row (Err (no.Flash error)) ends after m up =
-      let (next, cut, rest) = ends m.kept up.rest in (
+  accept_row (Err (no.Flash flash.Cut)) ends after m up =
+      let (next, cut, rest) = ends.1 m.kept up.rest in (
         closed m next,
-        (cut, refl),
+        (may_accept m.kept ends.0.0 up.rest ends.0.1, cut, refl),
         record { up = up.up; rest = rest; open_ones = sessions_closed new tnew (after.closed refl) },
       )
+  accept_row (Err (no.Flash flash.Off)) ends after m up = (
+    closed m m.kept,
+    refl,
+    record {
+      up = up.up;
+      rest = subst (λ w. IsSteadyAt w m.kept) (sym ends) up.rest;
+      open_ones = sessions_closed new tnew (after.closed refl);
+    },
+  )
   accept_row (Err no.NoSession) ends after m up = absurd ends
   accept_row (Err no.TooMuch) ends after m up = absurd ends
   accept_row (Err no.SizeWrong) ends after m up = absurd ends
@@ -145,8 +159,8 @@ pub refuses : (map : SectorMap) (w : View) (sessions : List (Option Upload)) (q 
 refuses map w sessions q cs no.OldSequence because = (because, record { flash = refl; table = refl })
 refuses map w sessions q cs no.TooBig because = (because, record { flash = refl; table = refl })
 refuses map w sessions q cs no.WrongPrecursor because = (because, record { flash = refl; table = refl })
-refuses map w sessions q cs (no.Flash error) because =
-    λ s was. (s, record { rest = refl; others = λ i e. refl; either = inl (refl, λ i. refl) }, was)
+refuses map w sessions q cs (no.Flash flash.Cut) because = absurd because
+refuses map w sessions q cs (no.Flash flash.Off) because = refl
 refuses map w sessions q cs no.NoSession because = absurd because
 refuses map w sessions q cs no.TooMuch because = absurd because
 refuses map w sessions q cs no.SizeWrong because = absurd because
@@ -154,6 +168,13 @@ refuses map w sessions q cs no.DigestWrong because = absurd because
 refuses map w sessions q cs (no.NotAnImage code) because = absurd because
 refuses map w sessions q cs no.NothingRequested because = absurd because
 refuses map w sessions q cs no.NoMemory because = absurd because
+
+-- the flash stops a manifest that is being taken
+pub stopped : (map : SectorMap) (old new : View) (told tnew : List (Option Upload)) (q : ℕ) (cs : List Component)
+    (error : FlashError) (state : State) → MayTake map old state q cs → CutsAccept old new q cs
+    → (error ≡ flash.Off → new ≡ old) → EndsAccept map old new told tnew q cs (Err (no.Flash error))
+stopped map old new told tnew q cs flash.Cut state may cuts off = ((state, may), cuts)
+stopped map old new told tnew q cs flash.Off state may cuts off = off refl
 
 -- each named image is there, and its file fits the slot
 pub named_fit : (map : SectorMap) (chip : Chip) (cs : List Component) → IsLaidOut map chip → AreThere map cs

@@ -2,6 +2,7 @@
 use Rattle.std.proofs.Common.{◌≡◌, ◌≢◌, ℕ, ◌<◌, ◌≤◌, ◌==◌, Bool, true, false, List, Option, Some, None, Result, Ok, Err, refl, sym, ◌∙◌, ap, subst, arith, ⊎_elim, inl, inr, if◌then◌else◌}
 use Rattle.std.specs.Prelude.{option_map}
 use Rattle.std.proofs.lemmas.Bool.{eq-eqb, eqb-true}
+use Rattle.flash_model.specs.declared.error.FlashError.TheVariants as flash
 use Rattle.sector_map.specs.declared.layout.Side.TheVariants.{Secondary}
 use Rattle.sector_map.specs.Part.{incoming_of}
 use Rattle.trailer.specs.Fields.{erased_fields}
@@ -68,12 +69,15 @@ module _ (i : ℕ) (old new : View) (lt : i < old.images) (keeps : KeepsView (in
   none_stands s was none = (was.each i (subst (λ n. i < n) was.images lt)).request.kind ∙ ap
       (λ o. option_map (λ (w : Wanted). w.kind) o) none
 
+  asked : (m : Machine) → request_in old i ≢ None → IsUpAt old told m → m.kept.request i ≢ None
+  asked m stands up none = stands (none_stands m.kept up.rest none)
+
   pub withdraw_row : (result : Result Unit UploadError) → EndsWithdraw old new i result
       → IsClosedAfter result told tnew
       → (m : Machine) → IsUpAt old told m → (next : Machine) × Withdraws m i result next × IsUpAt new tnew next
   withdraw_row (Ok done) (stands, trailer) after m up = (
     record m { kept = with_request m.kept i None },
-    ((λ none. stands (none_stands m.kept up.rest none)), refl),
+    (asked m stands up, refl),
     record {
       up = up.up;
       rest = steady_gone m.kept (erased_stands (new.trailer i Secondary) (new.slot i Secondary) trailer) up.rest;
@@ -90,11 +94,20 @@ module _ (i : ℕ) (old new : View) (lt : i < old.images) (keeps : KeepsView (in
     ),
     subst (λ w. IsUpAt w tnew m) (sym same) (subst (λ t. IsUpAt old t m) (sym (after.same refl)) up),
   )
-  withdraw_row (Err (no.Flash error)) either after m up = ⊎_elim
+  withdraw_row (Err (no.Flash flash.Off)) same after m up = (
+    closed m m.kept,
+    refl,
+    record {
+      up = up.up;
+      rest = subst (λ w. IsSteadyAt w m.kept) (sym same) up.rest;
+      open_ones = sessions_closed new tnew (after.closed refl);
+    },
+  )
+  withdraw_row (Err (no.Flash flash.Cut)) (stands, either) after m up = ⊎_elim
       (λ (same : (new.slot i Secondary ≡ old.slot i Secondary) × (new.trailer i Secondary ≡ old.trailer i Secondary)).
-      (closed m m.kept, inl refl, record { up = up.up; rest = steady_kept m.kept same.0 same.1 up.rest; open_ones = sessions_closed new tnew (after.closed refl) }))
+      (closed m m.kept, (asked m stands up, inl refl), record { up = up.up; rest = steady_kept m.kept same.0 same.1 up.rest; open_ones = sessions_closed new tnew (after.closed refl) }))
       (λ (none : request_in new i ≡ None).
-      (closed m (with_request m.kept i None), inr refl, record { up = up.up; rest = steady_gone m.kept none up.rest; open_ones = sessions_closed new tnew (after.closed refl) }))
+      (closed m (with_request m.kept i None), (asked m stands up, inr refl), record { up = up.up; rest = steady_gone m.kept none up.rest; open_ones = sessions_closed new tnew (after.closed refl) }))
       either
   withdraw_row (Err no.OldSequence) ends after m up = absurd ends
   withdraw_row (Err no.TooBig) ends after m up = absurd ends

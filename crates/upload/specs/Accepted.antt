@@ -1,5 +1,6 @@
 -- The step of a machine that takes a manifest.
 use Rattle.std.specs.Prelude.{◌≡◌, ◌⊎◌, ℕ, ◌<◌, ◌≤◌, ◌==◌, ◌&&◌, Bool, true, false, List, [], ◌∷◌, length, Option, Some, None, Result, Ok, Err, All, if◌then◌else◌}
+use Rattle.flash_model.specs.declared.error.FlashError.TheVariants as flash
 use Rattle.sector_map.specs.declared.layout.SectorMap.{SectorMap}
 use Rattle.sector_map.specs.declared.layout.Side.TheVariants.{Primary, Secondary}
 use Rattle.sector_map.specs.Part.{Part, Slot, TrailerOf, Scratch, Log, same_side}
@@ -76,7 +77,14 @@ IsPrecursor (Some digest) (Some bytes) = HasDigest bytes digest
 abbrev pub AllFollow : DeviceState → List Component → Type 0
 AllFollow s cs = All (λ c. IsPrecursor c.precursor (s.running c.image)) cs
 
--- The same of what stands at the front of a slot.
+-- A manifest may be taken: no check of it fails.
+pub record MayAccept (map : SectorMap) (s : DeviceState) (sequence : ℕ) (cs : List Component)
+    : Type 0 where
+  pub newer : s.sequence ≤ sequence
+  pub fit : AllFit map cs
+  pub follow : AllFollow s cs
+
+-- What stands at the front of a slot is an image of this digest entry, where one is asked for.
 abbrev pub FrontHasDigest : List ℕ → Option (List ℕ) → Type 0
 FrontHasDigest slot None = Unit
 FrontHasDigest slot (Some digest) =
@@ -126,19 +134,20 @@ pub record IsAcceptCut (s : DeviceState) (sequence : ℕ) (cs : List Component) 
 
 -- The manifest is taken, or the first check that fails is answered, each made of all components: its sequence isn't
 -- below the last one; each image fits its slot; each follows the image that runs. Where the flash stops the call all
--- sessions are closed.
+-- sessions are closed: in a cut the manifest had passed all checks, and nothing else changed where the flash was off.
 abbrev pub Accepts : SectorMap → Machine → ℕ → List Component → Result Unit UploadError → Machine
     → Type 0
-Accepts map m sequence cs (Ok done) next = (m.kept.sequence ≤ sequence) × AllFit map cs
-    × AllFollow m.kept cs × (next ≡ accepted m sequence cs)
+Accepts map m sequence cs (Ok done) next =
+    MayAccept map m.kept sequence cs × (next ≡ accepted m sequence cs)
 Accepts map m sequence cs (Err no.OldSequence) next =
     (sequence < m.kept.sequence) × (next ≡ m)
 Accepts map m sequence cs (Err no.TooBig) next =
     (m.kept.sequence ≤ sequence) × (AllFit map cs → ⊥) × (next ≡ m)
 Accepts map m sequence cs (Err no.WrongPrecursor) next =
     (m.kept.sequence ≤ sequence) × AllFit map cs × (AllFollow m.kept cs → ⊥) × (next ≡ m)
-Accepts map m sequence cs (Err (no.Flash error)) next =
-    IsAcceptCut m.kept sequence cs next.kept × (next ≡ closed m next.kept)
+Accepts map m sequence cs (Err (no.Flash flash.Cut)) next = MayAccept map m.kept sequence cs
+    × IsAcceptCut m.kept sequence cs next.kept × (next ≡ closed m next.kept)
+Accepts map m sequence cs (Err (no.Flash flash.Off)) next = next ≡ closed m m.kept
 Accepts map m sequence cs (Err no.NoSession) next = ⊥
 Accepts map m sequence cs (Err no.TooMuch) next = ⊥
 Accepts map m sequence cs (Err no.SizeWrong) next = ⊥

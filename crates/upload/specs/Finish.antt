@@ -1,6 +1,7 @@
 -- The step of a machine that finishes an upload.
 use Rattle.std.specs.Prelude.{◌≡◌, ◌≢◌, ◌⊎◌, ℕ, List, length, Some, None, Result, Ok, Err}
 use Rattle.sha2.specs.Sha256.{sha256}
+use Rattle.flash_model.specs.declared.error.FlashError.TheVariants as flash
 use Rattle.sector_map.specs.declared.layout.Side.TheVariants.{Secondary}
 use Rattle.trailer.specs.Fields.{erased_fields}
 use Rattle.trailer.specs.Standing.{requested_fields}
@@ -34,8 +35,8 @@ abbrev pub HasSizeAndDigest : Session → Type 0
 HasSizeAndDigest session = HasSize session × (sha256 session.received ≡ session.digest)
 
 -- Finishing a session: the image is requested, or the first check that fails is answered; the session is closed in any
--- case. Where the flash stops the call all sessions are closed, and no request stands, or the one that was asked for,
--- of a good upload.
+-- case. Where the flash stops the call the upload had the manifest's length, and all sessions are closed: after a cut
+-- no request stands, or the one that was asked for, of a good upload; nothing else changed where the flash was off.
 abbrev pub Finishes : Machine → ℕ → Session → Result Unit UploadError → Machine → Type 0
 Finishes m i session (Ok done) next = IsGoodUpload session × (next ≡ with_session
     (record m { kept = with_request m.kept i (Some (asked session)) }) i None)
@@ -45,9 +46,11 @@ Finishes m i session (Err no.DigestWrong) next = HasSize session
     × (sha256 session.received ≢ session.digest) × (next ≡ with_session m i None)
 Finishes m i session (Err (no.NotAnImage fault)) next = HasSizeAndDigest session
     × IsFirstFault session.received fault × (next ≡ with_session m i None)
-Finishes m i session (Err (no.Flash error)) next = (m.kept.request i ≡ None)
+Finishes m i session (Err (no.Flash flash.Cut)) next = HasSize session × (m.kept.request i ≡ None)
     × ((next ≡ closed m m.kept) ⊎ (IsGoodUpload session
     × (next ≡ closed m (with_request m.kept i (Some (asked session))))))
+Finishes m i session (Err (no.Flash flash.Off)) next =
+    HasSize session × (m.kept.request i ≡ None) × (next ≡ closed m m.kept)
 Finishes m i session (Err no.OldSequence) next = ⊥
 Finishes m i session (Err no.TooBig) next = ⊥
 Finishes m i session (Err no.NoSession) next = ⊥
@@ -93,8 +96,9 @@ EndsFinish w i session (Err no.DigestWrong) = HasSize session
     × (sha256 session.received ≢ session.digest) × (w.trailer i Secondary ≡ erased_fields)
 EndsFinish w i session (Err (no.NotAnImage fault)) = HasSizeAndDigest session
     × IsFirstFault session.received fault × (w.trailer i Secondary ≡ erased_fields)
-EndsFinish w i session (Err (no.Flash error)) =
-    (request_in w i ≡ None) ⊎ IsFinishedAt w i session
+EndsFinish w i session (Err (no.Flash flash.Cut)) =
+    HasSize session × ((request_in w i ≡ None) ⊎ IsFinishedAt w i session)
+EndsFinish w i session (Err (no.Flash flash.Off)) = HasSize session × (request_in w i ≡ None)
 EndsFinish w i session (Err no.OldSequence) = ⊥
 EndsFinish w i session (Err no.TooBig) = ⊥
 EndsFinish w i session (Err no.NoSession) = ⊥

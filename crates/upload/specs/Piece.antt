@@ -21,19 +21,22 @@ TakesMore old new i before after bytes = (written : List ℕ) → IsUploadAt old
     → (more : List ℕ) × IsUploadAt new i after more
     × (session_of after more ≡ appended (session_of before written) bytes)
 
+-- There is room for bytes in what is left of a session.
+abbrev pub HasRoom : Session → List ℕ → Type 0
+HasRoom session bytes = length session.received + length bytes ≤ session.size
+
 -- The bytes are appended; or the image has no session; or they are more than its size allows, and the session is
--- closed. Where the flash stops the call all sessions are closed, and what the flash keeps stays: nothing was
--- requested for the image.
+-- closed. Where the flash stops the call a session was open that has room for the bytes, all sessions are closed, and
+-- what the flash keeps stays: nothing was requested for the image.
 abbrev pub Pieces : Machine → ℕ → List ℕ → Result Unit UploadError → Machine → Type 0
 Pieces m i bytes (Ok done) next = (session : Session) × (m.session i ≡ Some session)
-    × (length session.received + length bytes ≤ session.size)
-    × (next ≡ with_session m i (Some (appended session bytes)))
+    × HasRoom session bytes × (next ≡ with_session m i (Some (appended session bytes)))
 Pieces m i bytes (Err no.NoSession) next = (m.session i ≡ None) × (next ≡ m)
 Pieces m i bytes (Err no.TooMuch) next = (session : Session) × (m.session i ≡ Some session)
     × (session.size < length session.received + length bytes)
     × (next ≡ with_session m i None)
-Pieces m i bytes (Err (no.Flash error)) next =
-    (m.kept.request i ≡ None) × (next ≡ closed m m.kept)
+Pieces m i bytes (Err (no.Flash error)) next = (session : Session) × (m.session i ≡ Some session)
+    × HasRoom session bytes × (m.kept.request i ≡ None) × (next ≡ closed m m.kept)
 Pieces m i bytes (Err no.OldSequence) next = ⊥
 Pieces m i bytes (Err no.TooBig) next = ⊥
 Pieces m i bytes (Err no.SizeWrong) next = ⊥

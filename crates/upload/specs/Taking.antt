@@ -1,5 +1,6 @@
 -- Whether a manifest may be taken, and what taking it leaves on the flash.
 use Rattle.std.specs.Prelude.{◌≡◌, ℕ, ◌<◌, ◌≤◌, List, Option, Some, Result, Ok, Err}
+use Rattle.flash_model.specs.declared.error.FlashError.TheVariants as flash
 use Rattle.sector_map.specs.declared.layout.SectorMap.{SectorMap}
 use Rattle.set_log.specs.declared.state.State.{State}
 use Rattle.manifest.specs.declared.manifest.Component.{Component}
@@ -24,7 +25,7 @@ pub record MayTake (map : SectorMap) (w : View) (state : State) (sequence : ℕ)
   pub fit : AllFit map cs
   pub follow : AllFollowAt w cs
 
--- The first check of a manifest that fails.
+-- The first check of a manifest that fails. The checks only read, so that none is cut.
 abbrev pub Refuses : SectorMap → View → ℕ → List Component → UploadError → Type 0
 Refuses map w sequence cs no.OldSequence =
     (state : State) × (w.log ≡ Some state) × (sequence < state.sequence)
@@ -32,7 +33,8 @@ Refuses map w sequence cs no.TooBig =
     (state : State) × IsNewer w state sequence × (AllFit map cs → ⊥)
 Refuses map w sequence cs no.WrongPrecursor =
     (state : State) × IsNewer w state sequence × AllFit map cs × (AllFollowAt w cs → ⊥)
-Refuses map w sequence cs (no.Flash error) = Unit
+Refuses map w sequence cs (no.Flash flash.Cut) = ⊥
+Refuses map w sequence cs (no.Flash flash.Off) = Unit
 Refuses map w sequence cs no.NoSession = ⊥
 Refuses map w sequence cs no.TooMuch = ⊥
 Refuses map w sequence cs no.SizeWrong = ⊥
@@ -68,8 +70,9 @@ EndsAccept map old new told tnew sequence cs (Err no.TooBig) =
     Refuses map old sequence cs no.TooBig × IsUnchanged old new told tnew
 EndsAccept map old new told tnew sequence cs (Err no.WrongPrecursor) =
     Refuses map old sequence cs no.WrongPrecursor × IsUnchanged old new told tnew
-EndsAccept map old new told tnew sequence cs (Err (no.Flash error)) =
-    CutsAccept old new sequence cs
+EndsAccept map old new told tnew sequence cs (Err (no.Flash flash.Cut)) =
+    ((state : State) × MayTake map old state sequence cs) × CutsAccept old new sequence cs
+EndsAccept map old new told tnew sequence cs (Err (no.Flash flash.Off)) = new ≡ old
 EndsAccept map old new told tnew sequence cs (Err no.NoSession) = ⊥
 EndsAccept map old new told tnew sequence cs (Err no.TooMuch) = ⊥
 EndsAccept map old new told tnew sequence cs (Err no.SizeWrong) = ⊥

@@ -1,5 +1,6 @@
 -- The step of a machine that takes a request back.
 use Rattle.std.specs.Prelude.{◌≡◌, ◌≢◌, ◌⊎◌, ℕ, ◌<◌, ◌==◌, Option, None, Result, Ok, Err, if◌then◌else◌}
+use Rattle.flash_model.specs.declared.error.FlashError.TheVariants as flash
 use Rattle.sector_map.specs.declared.layout.Side.TheVariants.{Secondary}
 use Rattle.trailer.specs.Fields.{erased_fields}
 use Rattle.upload.specs.declared.error.UploadError.{UploadError}
@@ -13,14 +14,16 @@ abbrev pub with_request : DeviceState → ℕ → Option Wanted → DeviceState
 with_request s i wanted = record s { request = λ j. if j == i then wanted else s.request j }
 
 -- A request that stood is gone; or none stood, or there is no such image. Where the flash stops the call all
--- sessions are closed, and the request is as it was or gone.
+-- sessions are closed: after a cut a request that stood is as it was or gone, and nothing else changed where the
+-- flash was off.
 abbrev pub Withdraws : Machine → ℕ → Result Unit UploadError → Machine → Type 0
 Withdraws m i (Ok done) next =
     (m.kept.request i ≢ None) × (next ≡ record m { kept = with_request m.kept i None })
 Withdraws m i (Err no.NothingRequested) next =
     (i < m.kept.images → m.kept.request i ≡ None) × (next ≡ m)
-Withdraws m i (Err (no.Flash error)) next =
-    (next ≡ closed m m.kept) ⊎ (next ≡ closed m (with_request m.kept i None))
+Withdraws m i (Err (no.Flash flash.Cut)) next = (m.kept.request i ≢ None)
+    × ((next ≡ closed m m.kept) ⊎ (next ≡ closed m (with_request m.kept i None)))
+Withdraws m i (Err (no.Flash flash.Off)) next = next ≡ closed m m.kept
 Withdraws m i (Err no.OldSequence) next = ⊥
 Withdraws m i (Err no.TooBig) next = ⊥
 Withdraws m i (Err no.NoSession) next = ⊥
@@ -41,7 +44,9 @@ abbrev pub EndsWithdraw : View → View → ℕ → Result Unit UploadError → 
 EndsWithdraw old new i (Ok done) =
     (request_in old i ≢ None) × (new.trailer i Secondary ≡ erased_fields)
 EndsWithdraw old new i (Err no.NothingRequested) = (request_in old i ≡ None) × (new ≡ old)
-EndsWithdraw old new i (Err (no.Flash error)) = IsKeptOrGone old new i
+EndsWithdraw old new i (Err (no.Flash flash.Cut)) =
+    (request_in old i ≢ None) × IsKeptOrGone old new i
+EndsWithdraw old new i (Err (no.Flash flash.Off)) = new ≡ old
 EndsWithdraw old new i (Err no.OldSequence) = ⊥
 EndsWithdraw old new i (Err no.TooBig) = ⊥
 EndsWithdraw old new i (Err no.NoSession) = ⊥

@@ -122,10 +122,10 @@ impl Uploads {
     /// # Errors
     /// The first check that fails, each made of all components, and nothing changed: `OldSequence` where the sequence
     /// number is below the one in the log, `TooBig` where an image is longer than its slot, `WrongPrecursor` where an
-    /// image is to follow another than the one that runs. `Flash` with `Cut` where power failed: all uploads are
-    /// closed; the log has the old sequence number and each request is as it was, or it has the new one and each
-    /// request of a named image is as it was or gone. `Flash` with `Off` where the flash was off: all uploads are
-    /// closed.
+    /// image is to follow another than the one that runs. `Flash` with `Cut` where power failed after all checks had
+    /// passed: all uploads are closed; the log has the old sequence number and each request is as it was, or it has
+    /// the new one and each request of a named image is as it was or gone. `Flash` with `Off` where the flash was off:
+    /// all uploads are closed, and nothing else changed.
     pub fn accept<F: Flash>(
         &mut self,
         flash: &mut F,

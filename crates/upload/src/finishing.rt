@@ -110,6 +110,7 @@ fn finish_upload<F: Flash>(
     ensures finish { (written : List ℕ)
         → IsUploadAt (view map.now (F.chip flash.old)) image upload written
         → EndsFinish (view map.now (F.chip flash.new)) image (session_of upload written) result }
+    ensures erases { OnOk result ((F.chip flash.new).erases ≡ (F.chip flash.old).erases) }
     ensures ends { EndsUpload result (F.chip flash.old) (F.chip flash.new) }
 {
     if upload.received != upload.size {
@@ -142,8 +143,9 @@ impl Uploads {
     /// `NoSession` where no upload of the image is open: nothing changed. The first check that fails, and nothing is
     /// requested for the image: `SizeWrong` where fewer bytes came than the manifest said, `DigestWrong` where their
     /// SHA-256 isn't the manifest's, `NotAnImage` where they are no intact image, with the first check that fails of
-    /// it. `Flash` with `Cut` where power failed: all uploads are closed, and nothing is requested for the image, or
-    /// it is requested as asked; with `Off` where the flash was off: all uploads are closed.
+    /// it. Past the check of the length, `Flash` with `Cut` where power failed: all uploads are closed, and nothing is
+    /// requested for the image, or it is requested as asked; with `Off` where the flash was off: all uploads are
+    /// closed, and nothing is requested.
     pub fn finish<F: Flash>(
         &mut self,
         flash: &mut F,
@@ -160,6 +162,7 @@ impl Uploads {
             → IsUpAt (view map.now (F.chip flash.old)) self.old.sessions m
             → (next : Machine) × FinishRow m image result next
             × IsUpAt (view map.now (F.chip flash.new)) self.new.sessions next }
+        ensures erases { OnOk result ((F.chip flash.new).erases ≡ (F.chip flash.old).erases) }
         ensures ends { EndsUpload result (F.chip flash.old) (F.chip flash.new) }
     {
         let Some(upload) = self.take(image) else {

@@ -186,6 +186,22 @@ fn take<F: Flash>(
     }
 }
 
+/// Sends bytes for an image, which are taken.
+fn send<F: Flash>(
+    rt: &impl Abort,
+    uploads: &mut Uploads,
+    flash: &mut F,
+    map: &SectorMap,
+    image: u8,
+    bytes: &[u8],
+) -> Result<(), Fail>
+    requires { AllOpenAt (view map.now (F.chip flash.old)) uploads.old.sessions }
+    ensures { AllOpenAt (view map.now (F.chip flash.new)) uploads.new.sessions }
+{
+    take(rt, uploads, flash, map, Step::Piece(image, bytes))??;
+    Ok(())
+}
+
 /// How many bytes came of the upload of an image.
 fn received(uploads: &Uploads, image: usize) -> Option<u32>
     requires { image < 8 }
@@ -294,36 +310,21 @@ fn refused_manifests<L: Ledger>(rt: &impl Abort, alloc: Global, blank: Blank) ->
     let mut uploads = Uploads::new();
     let whole = one_component(4, component(0, 1024, FIRST_DIGEST))?;
     take(rt, &mut uploads, &mut flash, &map, Step::Accept(&whole))??;
-    take(
-        rt,
-        &mut uploads,
-        &mut flash,
-        &map,
-        Step::Piece(0, &FIRST[..5]),
-    )??;
+    send(rt, &mut uploads, &mut flash, &map, 0, &FIRST[..5])?;
     let long = one_component(5, component(0, 1025, FIRST_DIGEST))?;
     assert_eq!(rt;
         take(rt, &mut uploads, &mut flash, &map, Step::Accept(&long))?,
         Err(UploadError::TooBig)
     );
-    let long_and_old = one_component(3, component(0, 1025, FIRST_DIGEST))?;
+    let long = one_component(3, component(0, 1025, FIRST_DIGEST))?;
     assert_eq!(rt;
-        take(
-            rt,
-            &mut uploads,
-            &mut flash,
-            &map,
-            Step::Accept(&long_and_old)
-        )?,
+        take(rt, &mut uploads, &mut flash, &map, Step::Accept(&long))?,
         Err(UploadError::OldSequence)
     );
-    let one_long = two_components(
-        5,
-        component(0, 96, FIRST_DIGEST),
-        component(1, 1025, SECOND_DIGEST),
-    )?;
+    let second = component(1, 1025, SECOND_DIGEST);
+    let long = two_components(5, component(0, 96, FIRST_DIGEST), second)?;
     assert_eq!(rt;
-        take(rt, &mut uploads, &mut flash, &map, Step::Accept(&one_long))?,
+        take(rt, &mut uploads, &mut flash, &map, Step::Accept(&long))?,
         Err(UploadError::TooBig)
     );
     assert_eq!(rt; received(&uploads, 0), Some(5));
@@ -331,13 +332,7 @@ fn refused_manifests<L: Ledger>(rt: &impl Abort, alloc: Global, blank: Blank) ->
     take(rt, &mut uploads, &mut flash, &map, Step::Accept(&other))??;
     assert_eq!(rt; received(&uploads, 0), Some(5));
     assert_eq!(rt; received(&uploads, 1), Some(0));
-    take(
-        rt,
-        &mut uploads,
-        &mut flash,
-        &map,
-        Step::Piece(0, &FIRST[5..16]),
-    )??;
+    send(rt, &mut uploads, &mut flash, &map, 0, &FIRST[5..16])?;
     take(rt, &mut uploads, &mut flash, &map, Step::Accept(&whole))??;
     assert_eq!(rt; received(&uploads, 0), Some(0));
     assert_eq!(rt; flash.bytes().len(), 8192);
@@ -401,39 +396,25 @@ fn refused_uploads<L: Ledger>(rt: &impl Abort, alloc: Global, blank: Blank) -> R
     let manifest = one_component(4, component(0, 3, ABC_DIGEST))?;
     take(rt, &mut uploads, &mut flash, &map, Step::Accept(&manifest))??;
     take(rt, &mut uploads, &mut flash, &map, Step::Piece(0, b"abc"))??;
-    assert_eq!(rt;
-        take(rt, &mut uploads, &mut flash, &map, Step::Finish(0))?,
-        Err(UploadError::NotAnImage(ImageError::Short))
-    );
+    let answer = take(rt, &mut uploads, &mut flash, &map, Step::Finish(0))?;
+    assert_eq!(rt; answer, Err(UploadError::NotAnImage(ImageError::Short)));
     take(rt, &mut uploads, &mut flash, &map, Step::Accept(&manifest))??;
     take(rt, &mut uploads, &mut flash, &map, Step::Piece(0, b"abd"))??;
-    assert_eq!(rt;
-        take(rt, &mut uploads, &mut flash, &map, Step::Finish(0))?,
-        Err(UploadError::DigestWrong)
-    );
+    let answer = take(rt, &mut uploads, &mut flash, &map, Step::Finish(0))?;
+    assert_eq!(rt; answer, Err(UploadError::DigestWrong));
     take(rt, &mut uploads, &mut flash, &map, Step::Accept(&manifest))??;
     take(rt, &mut uploads, &mut flash, &map, Step::Piece(0, b"ab"))??;
-    assert_eq!(rt;
-        take(rt, &mut uploads, &mut flash, &map, Step::Finish(0))?,
-        Err(UploadError::SizeWrong)
-    );
+    let answer = take(rt, &mut uploads, &mut flash, &map, Step::Finish(0))?;
+    assert_eq!(rt; answer, Err(UploadError::SizeWrong));
     take(rt, &mut uploads, &mut flash, &map, Step::Accept(&manifest))??;
-    assert_eq!(rt;
-        take(rt, &mut uploads, &mut flash, &map, Step::Piece(0, b"abcd"))?,
-        Err(UploadError::TooMuch)
-    );
-    assert_eq!(rt;
-        take(rt, &mut uploads, &mut flash, &map, Step::Finish(0))?,
-        Err(UploadError::NoSession)
-    );
-    assert_eq!(rt;
-        take(rt, &mut uploads, &mut flash, &map, Step::Piece(2, b"a"))?,
-        Err(UploadError::NoSession)
-    );
-    assert_eq!(rt;
-        take(rt, &mut uploads, &mut flash, &map, Step::Withdraw(2))?,
-        Err(UploadError::NothingRequested)
-    );
+    let answer = take(rt, &mut uploads, &mut flash, &map, Step::Piece(0, b"abcd"))?;
+    assert_eq!(rt; answer, Err(UploadError::TooMuch));
+    let answer = take(rt, &mut uploads, &mut flash, &map, Step::Finish(0))?;
+    assert_eq!(rt; answer, Err(UploadError::NoSession));
+    let answer = take(rt, &mut uploads, &mut flash, &map, Step::Piece(2, b"a"))?;
+    assert_eq!(rt; answer, Err(UploadError::NoSession));
+    let answer = take(rt, &mut uploads, &mut flash, &map, Step::Withdraw(2))?;
+    assert_eq!(rt; answer, Err(UploadError::NothingRequested));
     assert_eq!(rt; request_of(rt, &mut flash, &map, 0)?, None);
     Ok(())
 }

@@ -43,8 +43,8 @@ impl Uploads {
     ///
     /// # Errors
     /// `NothingRequested` where no request stands, or there is no such image: nothing changed. `Flash` with `Cut`
-    /// where power failed: all uploads are closed, and the request stands as before or not at all; with `Off` where
-    /// the flash was off: all uploads are closed.
+    /// where power failed: all uploads are closed, and the request that stood stands as before or not at all; with
+    /// `Off` where the flash was off: all uploads are closed, and nothing else changed.
     pub fn withdraw<F: Flash>(
         &mut self,
         flash: &mut F,

@@ -1,6 +1,8 @@
-use Rattle.std.proofs.Common.{ap, subst}
+use Rattle.std.proofs.Common.{◌∙◌, ap, subst}
 use Rattle.upload.specs.View.{view}
 use Rattle.upload.specs.Taking.{CutsAccept, IsTaken}
+use Rattle.upload.proofs.Ends.{same_off}
+use Rattle.upload.proofs.TakenRow.{stopped}
 use Rattle.upload.proofs.accepting.take_manifest.Goals as goal
 
 pub returns-in-Ok-write_manifest-clause-accepts : goal.returns-in-Ok-write_manifest-clause-accepts
@@ -22,6 +24,11 @@ returns-in-Err-write_manifest-clause-accepts g c =
     let same = ap (λ chip. view c.args.map.now chip) c.judge_manifest.ensures.same in
     let new = view c.args.map.now (g.F.Flash.chip c.write_manifest.new.flash) in
     let sequence = c.args.manifest.now.sequence in
-    subst (λ cs. CutsAccept (view c.args.map.now (g.F.Flash.chip c.args.flash.now)) new sequence cs)
+    stopped c.args.map.now (view c.args.map.now (g.F.Flash.chip c.args.flash.now)) new c.args.uploads.now.sessions
+    c.write_manifest.new.uploads.sessions sequence c.args.manifest.now.components.items c.in-Err-write_manifest.error
+    c.in-Ok.state c.in-Ok.ensures.ok
+    (subst (λ cs. CutsAccept (view c.args.map.now (g.F.Flash.chip c.args.flash.now)) new sequence cs)
     c.as_slice-components.ensures.value
-    (subst (λ w. CutsAccept w new sequence c.as_slice-components.result.now) same c.write_manifest.ensures.cut)
+    (subst (λ w. CutsAccept w new sequence c.as_slice-components.result.now) same c.write_manifest.ensures.cut))
+    (λ is. ap (λ chip. view c.args.map.now chip) (same_off c.in-Err-write_manifest.error _ _
+    c.in-Err-write_manifest.ensures.ends is) ∙ same)

@@ -1,16 +1,16 @@
 use Rattle.std.proofs.Common.{◌-◌, arith, ◌∙◌, ap, subst}
-use Rattle.std.proofs.Common.{Err, inl, refl}
+use Rattle.std.proofs.Common.{Err, length-append, refl, sym}
 use Rattle.sector_map.specs.declared.layout.Side.TheVariants.{Secondary}
 use Rattle.sector_map.specs.Part.{Slot}
 use Rattle.sector_map.proofs.PartBytes.{length_part}
 use Rattle.trailer.specs.Fields.{fields_at}
 use Rattle.upload.specs.View.{view}
+use Rattle.upload.specs.Sessions.{session_of}
 use Rattle.upload.specs.Ending.{EndsUpload}
 use Rattle.upload.specs.declared.error.UploadError.TheVariants as no
 use Rattle.upload.proofs.Views.{view_kept, slot_then_trailer}
-use Rattle.upload.proofs.Ends.{ends_flash, ends_later}
-use Rattle.upload.proofs.Frames.{erased_stands}
-use Rattle.upload.proofs.Finished.{finish_refused, finish_done, finish_cut}
+use Rattle.upload.proofs.Ends.{ends_flash, ends_later, same_off}
+use Rattle.upload.proofs.Finished.{refused, finish_refused, finish_done, finish_cut}
 use Rattle.upload.proofs.finishing.finish_upload.Goals as goal
 
 pub write_last-requires-clause-room : goal.write_last-requires-clause-room
@@ -36,9 +36,10 @@ request-requires-clause-erased g c =
 
 pub returns-in-Err-clause-finish : goal.returns-in-Err-clause-finish
 returns-in-Err-clause-finish g c = λ written was.
-    let new = view c.args.map.now (g.F.Flash.chip c.write_last.new.flash) in
-    inl (erased_stands (new.trailer c.args.image Secondary) (new.slot c.args.image Secondary)
-    ((view_kept c.args.map.now _ _ _ c.write_last.ensures.outside).trailers c.args.image Secondary refl ∙ was.trailer))
+    refused (view c.args.map.now (g.F.Flash.chip c.write_last.new.flash)) c.args.image
+    (session_of c.args.upload written) (no.Flash c.in-Err.error)
+    (length-append written c.args.upload.held.items ∙ sym was.count ∙ omega (arith, c.if-upload.false))
+    ((view_kept c.args.map.now _ _ _ c.write_last.ensures.outside).trailers c.args.image Secondary refl ∙ was.trailer) tt
 
 pub returns-in-Ok-request-clause-outside : goal.returns-in-Ok-request-clause-outside
 returns-in-Ok-request-clause-outside g c =
@@ -89,3 +90,4 @@ returns-in-Err-request-clause-finish g c =
     c.in-Ok.ensures.ok (omega (arith, n, was.count)) (omega (arith, c.if-upload.false)) _
     (view_kept map _ _ _ c.request.ensures.outside) c.in-Ok-judge.ensures.judges c.in-Err-request.error
     c.request.ensures.either
+    (λ is. ap (λ chip. view map chip) (same_off c.in-Err-request.error _ _ c.in-Err-request.ensures.ends is))

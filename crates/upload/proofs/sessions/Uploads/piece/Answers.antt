@@ -31,3 +31,4 @@ pub returns-in-Err-clause-row : goal.returns-in-Err-clause-row
 returns-in-Err-clause-row g c =
     piece_cut c.args.image _ _ (view_kept c.args.map.now _ _ _ c.add_bytes.ensures.outside) c.args.self.now.sessions
     c.in-Some.upload c.in-Some.ensures.value c.args.bytes.now c.in-Err.error _ c.close.ensures
+    (let fits = (c.requires.open c.in-Some.upload (sym c.in-Some.ensures.value)).1.fits in omega (arith, fits))

@@ -1,0 +1,337 @@
+-- Each boot of a run that answers a report starts the greatest set.
+use Rattle.std.proofs.Common.{◌≡◌, ◌⊎◌, ℕ, ◌/◌, ◌%◌, ◌^◌, ◌<◌, Bool, true, false, List, [], ◌∷◌, drop, Some, None}
+use Rattle.std.proofs.Common.{refl, sym, ◌∙◌, ap, subst, arith, slice_get, ⊎_elim, inl, inr, zero, suc, if◌then◌else◌}
+use Rattle.std.proofs.lemmas.Bool.Decides.{nat_tests}
+use Rattle.std.proofs.Math.Nat.{div-one, div-div-eq-div-mul, pow-succ'}
+use Rattle.std.proofs.Math.Numerals.{add-one}
+use Rattle.sector_map.specs.Part.{is_member}
+use Rattle.certificate.specs.declared.table.Table.{Table}
+use Rattle.certificate.specs.declared.report.Report.{Report}
+use Rattle.certificate.specs.Rightness.{taken_in}
+use Rattle.upload.specs.Device.{DeviceState, Machine, Trial}
+use Rattle.machine.specs.States.{IsConfirmed, IsRaised, IsBegun, left_after, running_after, taken_for_good}
+use Rattle.machine.specs.States.{taken_on_trial, wanted_bytes}
+use Rattle.machine.specs.Boots.{Boots, IsDecision, IsOver, IsPlain, IsReadAs, IsReported, IsTaken}
+use Rattle.machine.specs.Intake.{Setup}
+use Rattle.machine.specs.Steps.{IsRun, IsStep}
+use Rattle.machine.specs.Headline.{AreCut, HasFinished, IsBootedAt, IsTriedBy, StartsGreatest, StaysForGood}
+use Rattle.machine.specs.Headline.{TakesNone, request_by, running_by}
+use Rattle.machine.specs.declared.event.Event.{Event}
+use Rattle.machine.specs.declared.event.Event.TheVariants as event
+use Rattle.machine.specs.declared.reply.Reply.{Reply}
+use Rattle.machine.specs.declared.reply.Reply.TheVariants.{Booted}
+
+true_false : true ≡ false → ⊥
+true_false e = cc
+
+some_none : {X : Type 0} (x : X) → None ≡ Some x → ⊥
+some_none x e = cc
+
+the_one : {X : Type 0} (x y : X) → Some x ≡ Some y → x ≡ y
+the_one x y e = cc
+
+-- ---- a mask that isn't empty has an image
+
+below_power : (n : ℕ) → n < 2 ^ n
+below_power zero = omega arith
+below_power (suc n) = omega (arith, below_power n, pow-succ' 2 n)
+
+no_bits : (k q : ℕ) → q < 2 ^ k → ((i : ℕ) → q / 2 ^ i % 2 ≡ 0) → q ≡ 0
+no_bits zero q lt none = omega arith
+no_bits (suc k) q lt none =
+    let even : q % 2 ≡ 0 = ap (λ x. x % 2) (sym (div-one q)) ∙ none 0 in
+    let small : q / 2 < 2 ^ k = omega (arith, pow-succ' 2 k) in
+    let half : q / 2 ≡ 0 =
+    no_bits k (q / 2) small
+    (λ i. ap (λ x. x % 2) (div-div-eq-div-mul q 2 (2 ^ i) ∙ ap (λ p. q / p) (sym (pow-succ' 2 i)))
+    ∙ none (suc i)) in
+    omega arith
+
+not_member : (mask i : ℕ) → is_member mask i ≡ false → mask / 2 ^ i % 2 ≡ 0
+unfolding is_member
+not_member mask i clear = grind (arith, nat_tests, clear)
+
+pub no_members : (mask : ℕ) → ((i : ℕ) → is_member mask i ≡ false) → mask ≡ 0
+no_members mask none = no_bits mask mask (below_power mask) (λ i. not_member mask i (none i))
+
+-- ---- what a boot starts
+
+module _ (boots : ℕ) (found read next : DeviceState) (table : Table) (report : Report)
+    (reads : IsReadAs found read) (steady : read.trial ≡ None) (told : IsReported read table report) where
+  starts_nothing : (permanent : Bool) → IsPlain read report permanent next
+      → StartsGreatest boots found table report permanent next
+  starts_nothing permanent (none, not_good, same) = record {
+    read = read;
+    reads = reads;
+    steady = steady;
+    rows = told.rows;
+    greatest = told.greatest;
+    right = told.right;
+    standard = told.standard;
+    runs = λ i. ap (λ (s : DeviceState). s.running i) same ∙ ap
+        (λ b. if b then wanted_bytes (read.request i) else read.running i) (sym (none i));
+    asks = λ i. ap (λ (s : DeviceState). s.request i) same ∙ ap
+        (λ b. if b then None else read.request i) (sym (none i));
+    images = ap (λ (s : DeviceState). s.images) same;
+    sequence = ap (λ (s : DeviceState). s.sequence) same;
+    good = λ e. absurd (true_false (sym e ∙ not_good));
+    only = λ stays. absurd (stays.some none);
+    stays = λ e. absurd (true_false (sym e ∙ not_good));
+    raised = λ e. absurd (true_false (sym e ∙ not_good));
+    floors = λ e. ap (λ (s : DeviceState). s.floors) same;
+    plain = λ e. ap (λ (s : DeviceState). s.trial) same ∙ steady;
+    tries = λ e some. absurd (some none);
+  }
+
+  module _ (mask : ℕ) (set : is_member mask ≡ taken_in report) where
+    takes_some : (permanent : Bool) → IsDecision read table mask permanent → TakesNone report → ⊥
+    takes_some permanent decision none =
+        decision.some (no_members mask (λ i. ap (λ t. t i) set ∙ none i))
+
+    stays_of : (permanent : Bool) → IsDecision read table mask permanent → permanent ≡ true
+        → StaysForGood read report
+    stays_of permanent decision e = record {
+      some = takes_some permanent decision;
+      each = λ i wanted taken asked.
+          let member : is_member mask i ≡ true = ap (λ t. t i) set ∙ taken in
+          (decision.good e).each i wanted (decision.within i member) member asked;
+    }
+
+    only_of : (permanent : Bool) → IsDecision read table mask permanent → StaysForGood read report
+        → permanent ≡ true
+    only_of permanent decision stays = decision.trial (record {
+      each = λ i wanted lt member asked. stays.each i wanted (sym (ap (λ t. t i) set) ∙ member) asked;
+    })
+
+    runs_of : (i : ℕ) → running_after read mask i ≡ running_by read report i
+    runs_of i = ap (λ (t : ℕ → Bool). if t i then wanted_bytes (read.request i) else read.running i) set
+
+    asks_of : (i : ℕ) → left_after read mask i ≡ request_by read report i
+    asks_of i = ap (λ (t : ℕ → Bool). if t i then None else read.request i) set
+
+    starts_for_good : (permanent : Bool) → permanent ≡ true → IsDecision read table mask permanent
+        → (floors : List ℕ) → IsRaised read.images (running_after read mask) read.floors floors
+        → next ≡ taken_for_good read mask floors
+        → StartsGreatest boots found table report permanent next
+    starts_for_good permanent good decision floors raised same = record {
+      read = read;
+      reads = reads;
+      steady = steady;
+      rows = told.rows;
+      greatest = told.greatest;
+      right = told.right;
+      standard = told.standard;
+      runs = λ i. ap (λ (s : DeviceState). s.running i) same ∙ runs_of i;
+      asks = λ i. ap (λ (s : DeviceState). s.request i) same ∙ asks_of i;
+      images = ap (λ (s : DeviceState). s.images) same;
+      sequence = ap (λ (s : DeviceState). s.sequence) same;
+      good = stays_of permanent decision;
+      only = only_of permanent decision;
+      stays = λ e. ap (λ (s : DeviceState). s.trial) same;
+      raised = λ e. subst (λ (s : DeviceState). IsRaised read.images s.running read.floors s.floors) (sym same) raised;
+      floors = λ e. absurd (true_false (sym good ∙ e));
+      plain = λ none. ap (λ (s : DeviceState). s.trial) same;
+      tries = λ e some. absurd (true_false (sym good ∙ e));
+    }
+
+    tried_of : (permanent : Bool) → IsDecision read table mask permanent → (trial : Trial)
+        → IsBegun read mask boots trial → IsTriedBy boots read report trial
+    tried_of permanent decision trial begun = record {
+      set = λ i. ap (λ m. is_member m i) begun.set ∙ ap (λ t. t i) set;
+      confirmed = begun.confirmed;
+      old = λ i taken.
+          let member : is_member mask i ≡ true = ap (λ t. t i) set ∙ taken in
+          begun.old i (decision.within i member) member;
+      left = begun.left;
+    }
+
+    starts_trial : (permanent : Bool) → permanent ≡ false → IsDecision read table mask permanent
+        → (trial : Trial) → IsBegun read mask boots trial → next ≡ taken_on_trial read mask trial
+        → StartsGreatest boots found table report permanent next
+    starts_trial permanent tried decision trial begun same = record {
+      read = read;
+      reads = reads;
+      steady = steady;
+      rows = told.rows;
+      greatest = told.greatest;
+      right = told.right;
+      standard = told.standard;
+      runs = λ i. ap (λ (s : DeviceState). s.running i) same ∙ runs_of i;
+      asks = λ i. ap (λ (s : DeviceState). s.request i) same ∙ asks_of i;
+      images = ap (λ (s : DeviceState). s.images) same;
+      sequence = ap (λ (s : DeviceState). s.sequence) same;
+      good = stays_of permanent decision;
+      only = only_of permanent decision;
+      stays = λ e. absurd (true_false (sym e ∙ tried));
+      raised = λ e. absurd (true_false (sym e ∙ tried));
+      floors = λ e. ap (λ (s : DeviceState). s.floors) same;
+      plain = λ none. absurd (takes_some permanent decision none);
+      tries = λ e some.
+          (trial, ap (λ (s : DeviceState). s.trial) same, tried_of permanent decision trial begun);
+    }
+
+    starts_set : (permanent : Bool) → IsDecision read table mask permanent
+        → IsTaken boots read mask permanent next → StartsGreatest boots found table report permanent next
+    starts_set true decision (floors, raised, same) = starts_for_good true refl decision floors raised same
+    starts_set false decision (trial, begun, same) = starts_trial false refl decision trial begun same
+
+pub boot_starts : (boots : ℕ) (s : DeviceState) (table : Table) (report : Report) (permanent : Bool)
+    (next : DeviceState) → Boots boots s (Booted table report permanent) next
+    → StartsGreatest boots s table report permanent next
+boot_starts boots s table report permanent next (read, reads, steady, (told, either)) = ⊎_elim
+    (λ (plain : IsPlain read report permanent next).
+    starts_nothing boots s read next table report reads steady told permanent plain)
+    (λ (taken : (mask : ℕ) × (is_member mask ≡ taken_in report) × IsDecision read table mask permanent
+    × IsTaken boots read mask permanent next).
+    starts_set boots s read next table report reads steady told taken.0 taken.1 permanent taken.2 taken.3)
+    either
+
+-- ---- in a run
+
+-- a step that answers a report is a boot
+booted_step : (setup : Setup) (m next : Machine) (happened : Event) (table : Table) (report : Report)
+    (permanent : Bool) → IsStep setup m happened (Booted table report permanent) next
+    → (happened ≡ event.Boot) × StartsGreatest setup.boots m.kept table report permanent next.kept
+    × (next.is_up ≡ true) × ((i : ℕ) → next.session i ≡ None)
+booted_step setup m next (event.Accept bytes) table report permanent step = absurd step
+booted_step setup m next (event.Piece i bytes) table report permanent step = absurd step
+booted_step setup m next (event.Finish i) table report permanent step = absurd step
+booted_step setup m next (event.Withdraw i) table report permanent step = absurd step
+booted_step setup m next (event.Confirm i) table report permanent step = absurd step
+booted_step setup m next event.Reset table report permanent step = absurd step
+booted_step setup m next event.Boot table report permanent (booted, is) = (
+  refl,
+  boot_starts setup.boots m.kept table report permanent next.kept booted,
+  ap (λ (k : Machine). k.is_up) is,
+  λ i. ap (λ (k : Machine). k.session i) is,
+)
+
+pub booted_at : (setup : Setup) (m : Machine) (events : List Event) (replies : List Reply) (last : Machine)
+    (place : ℕ) (table : Table) (report : Report) (permanent : Bool) → IsRun setup m events replies last
+    → slice_get replies place ≡ Some (Booted table report permanent)
+    → IsBootedAt setup m events replies last place table report permanent
+booted_at setup m [] [] last zero table report permanent run at = absurd (some_none _ at)
+booted_at setup m [] [] last (suc place) table report permanent run at = absurd (some_none _ at)
+booted_at setup m [] (r ∷ replies) last place table report permanent run at = absurd run
+booted_at setup m (e ∷ events) [] last place table report permanent run at = absurd run
+booted_at setup m (e ∷ events) (r ∷ replies) last zero table report permanent (next, step, run) at =
+    let is : r ≡ Booted table report permanent = the_one r (Booted table report permanent) at in
+    let here = booted_step setup m next e table report permanent
+    (subst (λ reply. IsStep setup m e reply next) is step) in
+    record {
+      before = m;
+      after = next;
+      so_far = refl;
+      event = ap (λ happened. Some happened) here.0;
+      starts = here.1;
+      is_up = here.2;
+      closed = here.3;
+      goes_on = run;
+    }
+booted_at setup m (e ∷ events) (r ∷ replies) last (suc place) table report permanent (next, step, run) at =
+    let later = booted_at setup next events replies last place table report permanent run at in
+    record {
+      before = later.before;
+      after = later.after;
+      so_far = (next, step, later.so_far);
+      event = later.event;
+      starts = later.starts;
+      is_up = later.is_up;
+      closed = later.closed;
+      goes_on = subst (λ n. IsRun setup later.after (drop n (e ∷ events)) (drop n (r ∷ replies)) last)
+          (sym (add-one (suc place)))
+          (subst (λ n. IsRun setup later.after (drop n events) (drop n replies) last) (add-one place) later.goes_on);
+    }
+
+-- ---- however often it was cut on the way
+
+-- a state as it is read that is on trial is the state itself
+pub read_same : (s t : DeviceState) (trial : Trial) → t.trial ≡ Some trial → IsReadAs s t → t ≡ s
+read_same s t trial tried reads = ⊎_elim
+    (λ (plain : (s.trial ≡ None) × (t ≡ s)). plain.1)
+    (λ (begun : (own : Trial) × (s.trial ≡ Some own)
+    × ((IsConfirmed s own → ⊥) × (t ≡ s) ⊎ IsOver s own t)). ⊎_elim
+    (λ (still : (IsConfirmed s begun.0 → ⊥) × (t ≡ s)). still.1)
+    (λ (over : IsOver s begun.0 t).
+    absurd (some_none trial (sym (ap (λ (k : DeviceState). k.trial) over.1.2) ∙ tried)))
+    begun.2)
+    reads
+
+-- what is read of a state as it is read
+read_again : (s t r : DeviceState) → IsReadAs s t → IsReadAs t r → IsReadAs s r
+read_again s t r first second = ⊎_elim
+    (λ (plain : (t.trial ≡ None) × (r ≡ t)). subst (λ k. IsReadAs s k) (sym plain.1) first)
+    (λ (begun : (trial : Trial) × (t.trial ≡ Some trial)
+    × ((IsConfirmed t trial → ⊥) × (r ≡ t) ⊎ IsOver t trial r)).
+    subst (λ k. IsReadAs k r) (read_same s t begun.0 begun.1 first) second)
+    second
+
+starts_from : (boots : ℕ) (s t : DeviceState) (table : Table) (report : Report) (permanent : Bool)
+    (next : DeviceState) → (t ≡ s) ⊎ IsReadAs s t → StartsGreatest boots t table report permanent next
+    → StartsGreatest boots s table report permanent next
+starts_from boots s t table report permanent next kept starts = ⊎_elim
+    (λ (same : t ≡ s). subst (λ k. StartsGreatest boots k table report permanent next) same starts)
+    (λ (reads : IsReadAs s t). record {
+      read = starts.read;
+      reads = read_again s t starts.read reads starts.reads;
+      steady = starts.steady;
+      rows = starts.rows;
+      greatest = starts.greatest;
+      right = starts.right;
+      standard = starts.standard;
+      runs = starts.runs;
+      asks = starts.asks;
+      images = starts.images;
+      sequence = starts.sequence;
+      good = starts.good;
+      only = starts.only;
+      stays = starts.stays;
+      raised = starts.raised;
+      floors = starts.floors;
+      plain = starts.plain;
+      tries = starts.tries;
+    })
+    kept
+
+pub cut_boots : (setup : Setup) (times : ℕ) (m mid last : Machine) (table : Table) (report : Report)
+    (permanent : Bool) → AreCut setup m times mid
+    → IsStep setup mid event.Boot (Booted table report permanent) last
+    → StartsGreatest setup.boots m.kept table report permanent last.kept ⊎ HasFinished setup m mid times
+cut_boots setup zero m mid last table report permanent same step = inl (subst
+    (λ (k : Machine). StartsGreatest setup.boots k.kept table report permanent last.kept) same
+    (boot_starts setup.boots mid.kept table report permanent last.kept step.0))
+cut_boots setup (suc times) m mid last table report permanent (next, (cut, is), run) step =
+    let later = cut_boots setup times next mid last table report permanent run step in
+    ⊎_elim (λ (same : next.kept ≡ m.kept). on (inl same) later)
+    (λ rest. ⊎_elim (λ (reads : IsReadAs m.kept next.kept). on (inr reads) later)
+    (λ (done : (reply : Reply) × Boots setup.boots m.kept reply next.kept). inr (record {
+      earlier = 0;
+      later = times;
+      count = omega arith;
+      before = m;
+      so_far = refl;
+      reply = done.0;
+      next = next.kept;
+      boots = done.1;
+      goes_on = subst (λ k. AreCut setup k times mid) is run;
+    })) rest)
+    cut
+  where
+    on : (next.kept ≡ m.kept) ⊎ IsReadAs m.kept next.kept
+        → StartsGreatest setup.boots next.kept table report permanent last.kept ⊎ HasFinished setup next mid times
+        → StartsGreatest setup.boots m.kept table report permanent last.kept ⊎ HasFinished setup m mid (suc times)
+    on kept later = ⊎_elim
+        (λ (starts : StartsGreatest setup.boots next.kept table report permanent last.kept).
+        inl (starts_from setup.boots m.kept next.kept table report permanent last.kept kept starts))
+        (λ (finished : HasFinished setup next mid times). inr (record {
+          earlier = suc finished.earlier;
+          later = finished.later;
+          count = omega (arith, finished.count);
+          before = finished.before;
+          so_far = (next, (cut, is), finished.so_far);
+          reply = finished.reply;
+          next = finished.next;
+          boots = finished.boots;
+          goes_on = finished.goes_on;
+        }))
+        later
