@@ -5,12 +5,15 @@ use Rattle.std.specs.Io.KnownBytes.{Keeps}
 use Rattle.boot_cli.specs.declared.answer.Answer.{Answer}
 use Rattle.boot_cli.specs.declared.answer.Answer.TheVariants.{Done}
 use Rattle.boot_cli.specs.declared.commands.image.DescribeEnd.{DescribeEnd}
+use Rattle.boot_cli.specs.declared.commands.manifest_file.ManifestEnd.{ManifestEnd}
 use Rattle.boot_cli.specs.declared.words.Task.{Task}
 use Rattle.boot_cli.specs.declared.words.Task.TheVariants as task
 use Rattle.boot_cli.specs.declared.source.Source.{Source}
 use Rattle.boot_cli.specs.declared.source.Source.TheVariants.{StandardInput, File}
-use Rattle.boot_cli.specs.AnswerEnd.{AnswersTask, FileBytes, description_end}
+use Rattle.boot_cli.specs.AnswerEnd.{AnswersTask, FileBytes, description_end, manifest_end}
 use Rattle.boot_cli.specs.DescribeEnd.{Tells}
+use Rattle.boot_cli.specs.ManifestEnd.{TellsManifest}
+use Rattle.manifest.specs.declared.identity.Identity.{Identity}
 use Rattle.boot_cli.specs.Input.{Gives, GiveBoth, IsKnownAs, KeepsFiles, KeepsOthers}
 
 -- a flush after the answer changes nothing
@@ -27,6 +30,15 @@ AnswersTask-kept (task.Check table report) input file old mid new answered kept 
 AnswersTask-kept (task.Image image) input file old mid new answered kept =
     let told = answered.2 in
     (answered.0, answered.1, (told.0, told.1, Appends-kept old mid new _ told.2 kept))
+AnswersTask-kept (task.Manifest device named) input file old mid new answered kept =
+    let told = answered.5 in (
+      answered.0,
+      answered.1,
+      answered.2,
+      answered.3,
+      answered.4,
+      (told.0, told.1, Appends-kept old mid new _ told.2 kept),
+    )
 
 -- known bytes that were kept are those that were known before
 pub IsKnownAs-kept : (old new : Option (List ℕ)) (bytes : List ℕ)
@@ -59,3 +71,12 @@ pub Tells-answer : (answer : Answer) (end : DescribeEnd) (shown bytes : List ℕ
     → Tells end shown old new → Tells (description_end answer) bytes old new
 Tells-answer answer end shown bytes old new ends same told =
     subst (λ e. Tells e bytes old new) ends (subst (λ b. Tells end b old new) same told)
+
+-- the same of a manifest
+pub TellsManifest-answer : (answer : Answer) (end : ManifestEnd) (identity : Identity)
+    (shown bytes : List ℕ) (old new : Option (List ℕ)) → end ≡ manifest_end answer → shown ≡ bytes
+    → TellsManifest end identity shown old new
+    → TellsManifest (manifest_end answer) identity bytes old new
+TellsManifest-answer answer end identity shown bytes old new ends same told =
+    subst (λ e. TellsManifest e identity bytes old new) ends
+    (subst (λ b. TellsManifest end identity b old new) same told)

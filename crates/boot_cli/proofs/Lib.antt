@@ -1,1 +1,2 @@
 mod AnswerLaws
+mod DeviceLaws

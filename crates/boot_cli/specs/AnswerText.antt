@@ -8,3 +8,8 @@ line_text word said = word ++ 32 ∷ (said ++ 10 ∷ [])
 -- A refusal: its number and its name.
 abbrev pub refused_text : ℕ → List ℕ → List ℕ
 refused_text code name = line_text (codes "refused") (decimal code ++ 32 ∷ name)
+
+-- A refusal of a layer below: the layer's word, the number and the name.
+abbrev pub refused_group_text : List ℕ → ℕ → List ℕ → List ℕ
+refused_group_text group code name =
+    line_text (codes "refused") (group ++ 32 ∷ (decimal code ++ 32 ∷ name))

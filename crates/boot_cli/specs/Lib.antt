@@ -3,5 +3,8 @@ pub mod AnswerText
 pub mod CheckEnd
 pub mod ChooseEnd
 pub mod DescribeEnd
+pub mod DeviceFile
 pub mod ImageText
 pub mod Input
+pub mod ManifestEnd
+pub mod ManifestText

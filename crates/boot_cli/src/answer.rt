@@ -1,7 +1,7 @@
 //! What comes of a command: its answer or its refusal, and the exit status.
 ghost use Rattle.std.specs.Prelude.{◌≡◌, IfOk, Ok, is_ok, if◌then◌else◌, string_bytes};
 ghost use Rattle.std.specs.Io.KnownBytes.{Keeps};
-ghost use Rattle.boot_cli.specs.AnswerText.{refused_text};
+ghost use Rattle.boot_cli.specs.AnswerText.{refused_group_text, refused_text};
 
 use crate::error::Refusal;
 use std::alloc::{AllocError, Allocator};
@@ -32,6 +32,20 @@ pub fn refused_text<'a, A: Allocator>(
     ensures { IfOk result (λ text. string_bytes text ≡ refused_text code name.now) }
 {
     format!(in alloc; "refused {code} {name}\n")
+}
+
+/// The text `refused GROUP CODE NAME`, for standard output: what a layer below refused, by the layer's word, the number
+/// and the name.
+pub fn refused_group_text<'a, A: Allocator>(
+    alloc: &'a A,
+    group: &str,
+    code: u8,
+    name: &str,
+) -> Result<String<&'a A>, AllocError>
+    ensures { IfOk result
+        (λ text. string_bytes text ≡ refused_group_text group.now code name.now) }
+{
+    format!(in alloc; "refused {group} {code} {name}\n")
 }
 
 /// Brings a command to its end, and returns the exit status: an answer is flushed, and a refusal is an error

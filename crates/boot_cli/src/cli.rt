@@ -3,7 +3,7 @@ ghost use Rattle.std.specs.Prelude.{◌≡◌, IfOk};
 ghost use Rattle.boot_cli.specs.AnswerEnd.{AnswersTask};
 
 use crate::answer::{Answer, finish, refuse, status_after};
-use crate::commands::{check, choose, image};
+use crate::commands::{check, choose, image, manifest_file};
 use crate::error::Refusal;
 use crate::host::Host;
 use crate::words::{Task, fault_of, no_text, task_of};
@@ -21,8 +21,8 @@ const USAGE: u8 = 2;
 
 /// Does what `words` ask for, and returns the exit status: 0 done, 1 refused, 2 usage.
 ///
-/// The first word is the program's own name. The words are parsed in memory of `alloc`, and all else stands in
-/// memory of `heap`. Input comes from `host`. Answers go to `out`, error lines and the words on a wrong usage
+/// The first word is the program's own name. The words and JSON texts are parsed in memory of `alloc`, and all else
+/// stands in memory of `heap`. Input comes from `host`. Answers go to `out`, error lines and the words on a wrong usage
 /// to `err`, and both are flushed. After a write that failed nothing more is written, and the status is 1.
 pub fn cli<S: AsStr, A: Allocator, H: Host, O: Write, E: Write>(
     alloc: Global,
@@ -33,7 +33,7 @@ pub fn cli<S: AsStr, A: Allocator, H: Host, O: Write, E: Write>(
     err: &mut E,
 ) -> u8 {
     match task_of(alloc, words) {
-        Ok(task) => run_task(heap, task, host, out, err),
+        Ok(task) => run_task(alloc, heap, task, host, out, err),
         Err(error) if error.use_stderr() => tell_fault(&fault_of(alloc, words, error), err),
         Err(error) => status_after(write_text(&error, out), HELPED),
     }
@@ -41,6 +41,7 @@ pub fn cli<S: AsStr, A: Allocator, H: Host, O: Write, E: Write>(
 
 /// Runs the command of a task to its exit status: 0 only where the whole answer is written, and is a yes.
 pub fn run_task<A: Allocator, H: Host, O: Write, E: Write>(
+    alloc: Global,
     heap: &A,
     task: Task<'_>,
     host: &mut H,
@@ -50,11 +51,12 @@ pub fn run_task<A: Allocator, H: Host, O: Write, E: Write>(
     ensures { result ≡ 0 → AnswersTask Answer.Done task.entry (H.input host.old) (H.file host.old)
         (O.contents out.old) (O.contents out.new) }
 {
-    finish(perform(heap, task, host, out), out, err)
+    finish(perform(alloc, heap, task, host, out), out, err)
 }
 
 /// Runs the command of a task.
 fn perform<'a, A: Allocator, H: Host, O: Write>(
+    alloc: Global,
     heap: &A,
     task: Task<'a>,
     host: &mut H,
@@ -67,6 +69,9 @@ fn perform<'a, A: Allocator, H: Host, O: Write>(
         Task::Choose(table) => choose::perform(heap, table, host, out),
         Task::Check { table, report } => check::perform(heap, table, report, host, out),
         Task::Image(image) => image::perform(heap, image, host, out),
+        Task::Manifest { device, file } => {
+            manifest_file::perform(alloc, heap, device, file, host, out)
+        }
     }
 }
 

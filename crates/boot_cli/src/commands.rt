@@ -3,3 +3,4 @@
 pub mod check;
 pub mod choose;
 pub mod image;
+pub mod manifest_file;

@@ -15,6 +15,9 @@ pub enum Refusal<'a> {
     /// The running images of a table don't fit each other.
     #[error("running set not valid")]
     NotValid,
+    /// The text is no device file.
+    #[error("device file")]
+    DeviceFile,
     /// A file or standard input could not be read to its end.
     #[error("cannot read {0}")]
     CannotRead(Source<'a>),

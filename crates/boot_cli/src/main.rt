@@ -1,9 +1,11 @@
-//! `bootswap`: which of the images that a device is asked to boot may run together, decided from a table.
+//! `bootswap`: which of the images that a device is asked to boot may run together, decided from a table; what images
+//! say of themselves; and what manifests say to a device.
 #![tactic(auto)]
 
 mod answer;
 mod cli;
 mod commands;
+mod device;
 mod error;
 mod escaped;
 mod host;

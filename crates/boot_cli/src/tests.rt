@@ -10,6 +10,7 @@ mod host;
 mod image_bytes;
 mod images;
 mod made_images;
+mod manifests;
 mod random_tables;
 mod sizes;
 mod slow_checker;

@@ -23,6 +23,13 @@ pub enum Task<'a> {
     },
     /// What this image says of itself.
     Image(Source<'a>),
+    /// What this manifest says to this device, of which standard input is one at most.
+    Manifest {
+        /// Where the device file is read from.
+        device: Source<'a>,
+        /// Where the manifest is read from.
+        file: Source<'a>,
+    },
 }
 
 const CHOOSE: &str = "choose";
@@ -31,9 +38,13 @@ const CHECK: &str = "check";
 
 const IMAGE: &str = "image";
 
+const MANIFEST: &str = "manifest";
+
 const TABLE: &str = "TABLE";
 
 const REPORT: &str = "REPORT";
+
+const DEVICE: &str = "DEVICE";
 
 const FILE: &str = "FILE";
 
@@ -43,7 +54,7 @@ pub fn task_of<'a, S: AsStr>(alloc: Global, words: &'a [S]) -> Result<Task<'a>, 
     let matches = bootswap(alloc)?.try_get_matches_from(words)?;
     let task = task_in(&matches);
     if names_standard_input_twice(task) {
-        return Err(twice(alloc)?);
+        return Err(twice(alloc, task)?);
     }
     Ok(task)
 }
@@ -75,10 +86,12 @@ fn no_text_error(alloc: Global) -> Result<Error, AllocError> {
     bootswap(alloc)?.error(ErrorKind::InvalidValue, help::NO_TEXT)
 }
 
-fn twice(alloc: Global) -> Result<Error, AllocError> {
-    check(alloc)?
-        .bin_name("bootswap check")?
-        .error(ErrorKind::ArgumentConflict, help::TWICE)
+fn twice(alloc: Global, task: Task<'_>) -> Result<Error, AllocError> {
+    let mut command = match task {
+        Task::Manifest { .. } => manifest(alloc)?.bin_name("bootswap manifest")?,
+        _ => check(alloc)?.bin_name("bootswap check")?,
+    };
+    command.error(ErrorKind::ArgumentConflict, help::TWICE)
 }
 
 fn escaped_words<S: AsStr>(alloc: Global, words: &[S]) -> Result<Vec<String>, AllocError> {
@@ -93,7 +106,8 @@ fn escaped_words<S: AsStr>(alloc: Global, words: &[S]) -> Result<Vec<String>, Al
 fn names_standard_input_twice(task: Task<'_>) -> bool {
     match task {
         Task::Check { table, report } => table.is_standard_input() && report.is_standard_input(),
-        _ => false,
+        Task::Manifest { device, file } => device.is_standard_input() && file.is_standard_input(),
+        Task::Choose(_) | Task::Image(_) => false,
     }
 }
 
@@ -104,6 +118,8 @@ fn task_in<'a>(matches: &ArgMatches<'a>) -> Task<'a> {
         check_in(check)
     } else if let Some(image) = matches.subcommand_matches(IMAGE) {
         source_in(image, FILE).map(Task::Image)
+    } else if let Some(manifest) = matches.subcommand_matches(MANIFEST) {
+        manifest_in(manifest)
     } else {
         None
     };
@@ -114,6 +130,12 @@ fn check_in<'a>(check: &ArgMatches<'a>) -> Option<Task<'a>> {
     let table = source_in(check, TABLE)?;
     let report = source_in(check, REPORT)?;
     Some(Task::Check { table, report })
+}
+
+fn manifest_in<'a>(manifest: &ArgMatches<'a>) -> Option<Task<'a>> {
+    let device = source_in(manifest, DEVICE)?;
+    let file = source_in(manifest, FILE)?;
+    Some(Task::Manifest { device, file })
 }
 
 fn source_in<'a>(matches: &ArgMatches<'a>, name: &str) -> Option<Source<'a>> {
@@ -130,7 +152,8 @@ fn bootswap<'a>(alloc: Global) -> Result<Command<'a>, AllocError> {
         .after_long_help(help::AFTER_LONG_HELP)
         .subcommand(choose(alloc)?)?
         .subcommand(check(alloc)?)?
-        .subcommand(image(alloc)?)
+        .subcommand(image(alloc)?)?
+        .subcommand(manifest(alloc)?)
 }
 
 fn choose<'a>(alloc: Global) -> Result<Command<'a>, AllocError> {
@@ -159,6 +182,16 @@ fn image<'a>(alloc: Global) -> Result<Command<'a>, AllocError> {
         .after_help(help::IMAGE_AFTER_HELP)
         .after_long_help(help::IMAGE_AFTER_LONG_HELP)
         .arg(file(alloc, FILE, help::FILE_HELP))
+}
+
+fn manifest<'a>(alloc: Global) -> Result<Command<'a>, AllocError> {
+    Command::new(alloc, MANIFEST)
+        .about(help::MANIFEST_ABOUT)
+        .long_about(help::MANIFEST_LONG_ABOUT)
+        .after_help(help::MANIFEST_AFTER_HELP)
+        .after_long_help(help::MANIFEST_AFTER_LONG_HELP)
+        .arg(file(alloc, DEVICE, help::DEVICE_HELP))?
+        .arg(file(alloc, FILE, help::MANIFEST_HELP))
 }
 
 /// The name of a file, which has to be there.

@@ -26,6 +26,10 @@ abbrev pub values_of : Items → List Data
 values_of no_items = []
 values_of (item value items) = value ∷ values_of items
 
+-- The whole number from 0 on that a value is: one that is written without a fraction or an exponent.
+abbrev pub whole_number : Data → Option ℕ
+whole_number value = option_and_then as_u64 (as_number value)
+
 -- The whole number from 0 on at a key: one that is written without a fraction or an exponent.
 abbrev pub number_at : List ℕ → Data → Option ℕ
 number_at key value = option_and_then as_u64 (option_and_then as_number (get key value))

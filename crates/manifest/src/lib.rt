@@ -3,14 +3,15 @@
 //!
 //! Promises: a manifest is read exactly where the bytes are JSON that means it to a device of the given identity, and
 //! a refusal is the lowest one that applies to the JSON value, whatever is met first. The identifiers of vendors and
-//! classes are UUIDs of version 5. Allocates to read a manifest, and for nothing else. Whoever takes updates calls it.
+//! classes are UUIDs of version 5. Allocates to read a JSON text, and for nothing else. Whoever takes updates calls it, and
+//! `json` is there for other files of the same kind.
 #![tactic(auto)]
 
 mod components;
 mod error;
 mod identity;
 mod ids;
-mod json;
+pub mod json;
 mod manifest;
 mod reading;
 #[cfg(test)]

@@ -1,6 +1,7 @@
 //! Memory that runs out, and reads, writes and flushes that fail, for every command.
 use super::host::{AMPLE, Case, Files, Limits, MemoryHost, ONE_IMAGE, ONE_IMAGE_RUNS, run_within};
 use super::image_bytes::ONE;
+use super::manifests::{DEVICE, SAMPLE, SAMPLE_TOLD, SMALL};
 use linked_list_allocator::LocalHeap;
 use std::io::ErrorKind;
 use std::process::Abort;
@@ -18,7 +19,7 @@ const UNKNOWN_COMMAND: &str =
     "error: unrecognized subcommand 'frob'\n\nUsage: bootswap [COMMAND]\n\nFor more information, try '--help'.\n";
 
 /// Every command, with each way to end that reads all its input.
-const COMMANDS: [Case<'static>; 6] = [
+const COMMANDS: [Case<'static>; 9] = [
     Case {
         words: &["bootswap", "choose", "table.txt"],
         input: "",
@@ -61,10 +62,31 @@ const COMMANDS: [Case<'static>; 6] = [
         out: "refused 1 Short\n",
         err: "",
     },
+    Case {
+        words: &["bootswap", "manifest", "device.json", "-"],
+        input: SAMPLE,
+        status: 0,
+        out: SAMPLE_TOLD,
+        err: "",
+    },
+    Case {
+        words: &["bootswap", "manifest", "device.json", "table.txt"],
+        input: "",
+        status: 1,
+        out: "refused 1 NotJson\n",
+        err: "",
+    },
+    Case {
+        words: &["bootswap", "manifest", "-", "manifest.json"],
+        input: SMALL,
+        status: 1,
+        out: "refused map 1 BadSector\n",
+        err: "",
+    },
 ];
 
 /// Runs that end in an error line or in the text of the words' parser.
-const REFUSALS: [Case<'static>; 4] = [
+const REFUSALS: [Case<'static>; 5] = [
     Case {
         words: &["bootswap", "choose", "absent"],
         input: "",
@@ -78,6 +100,13 @@ const REFUSALS: [Case<'static>; 4] = [
         status: 1,
         out: "",
         err: "error: report line 1\n",
+    },
+    Case {
+        words: &["bootswap", "manifest", "table.txt", "absent"],
+        input: "",
+        status: 1,
+        out: "",
+        err: "error: device file\n",
     },
     Case {
         words: &["bootswap", "frob"],
@@ -144,11 +173,13 @@ fn expect_each_beginning(rt: &(impl Abort + AllocGlobal), cases: &[Case<'_>]) ->
 }
 
 /// The files that the commands name.
-fn files_with(image: &[u8]) -> [(&str, &[u8]); 3] {
+fn files_with(image: &[u8]) -> [(&str, &[u8]); 5] {
     [
         ("table.txt", ONE_IMAGE.as_bytes()),
         ("other.txt", b"run 0 1.0.0+1\n".as_slice()),
         ("firmware.img", image),
+        ("device.json", DEVICE.as_bytes()),
+        ("manifest.json", SAMPLE.as_bytes()),
     ]
 }
 

@@ -43,6 +43,11 @@ fn a_wrong_usage_is_told_by_the_parser_of_words(rt: HostRuntime) {
                 err: "error: unexpected argument 'b' found\n\nUsage: bootswap choose <TABLE>\n\nFor more information, try '--help'.\n",
                 ..FAULT
             },
+            Case {
+                words: &["bootswap", "manifest", "a"],
+                err: "error: the following required arguments were not provided:\n  <FILE>\n\nUsage: bootswap manifest <DEVICE> <FILE>\n\nFor more information, try '--help'.\n",
+                ..FAULT
+            },
         ],
     );
 }
@@ -107,12 +112,12 @@ struct Help {
 }
 
 /// Every help. The short ones name the exit statuses and an example, the long ones what is read and printed.
-const HELPS: [Help; 10] = [
+const HELPS: [Help; 12] = [
     Help {
         words: &["bootswap", "-h"],
         parts: &[
             "Usage: bootswap [COMMAND]\n",
-            "  choose  Reads a table",
+            "  choose    Reads a table",
             "Exit status: 0 done, 1 refused, 2",
         ],
     },
@@ -184,6 +189,25 @@ const HELPS: [Help; 10] = [
             "refused 10 BadDigest",
             "  2  the words",
             "  bootswap image firmware.img\n",
+        ],
+    },
+    Help {
+        words: &["bootswap", "manifest", "-h"],
+        parts: &[
+            "Usage: bootswap manifest <DEVICE> <FILE>\n",
+            "Exit status: 0 ",
+            "Example: bootswap manifest ",
+        ],
+    },
+    Help {
+        words: &["bootswap", "help", "manifest"],
+        parts: &[
+            "  {\"sector\":512,\"sectors\":[2,2],\n",
+            "  {\"manifest-version\":1,\"sequence-number\":1,\n",
+            "refused 4 WrongVendor",
+            "refused map 1 BadSector",
+            "  2  the words",
+            "  bootswap manifest device.json manifest.json\n",
         ],
     },
 ];

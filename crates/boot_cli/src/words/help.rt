@@ -13,6 +13,8 @@ to have the images that it needs, with at least the versions that it needs. Of
 all sets of requests that can be taken together the greatest is chosen: it
 contains every other.
 
+It also says what an image is, and what a manifest says to a device.
+
 With no command the program does `choose` on standard input. A file that is
 named `-` is standard input.";
 
@@ -21,9 +23,9 @@ pub const AFTER_HELP: &str = "Exit status: 0 done, 1 refused, 2 the words are wr
 
 pub const AFTER_LONG_HELP: &str = "Exit status:
   0  done; `check` says yes
-  1  refused: `check` says no; `image` refuses the image; standard error has a
-     line `error: ..`, such as `error: table line 3`; or what had to be printed
-     could not be written
+  1  refused: `check` says no; `image` refuses the image, or `manifest` the
+     manifest or the device's sizes; standard error has a line `error: ..`, such
+     as `error: table line 3`; or what had to be printed could not be written
   2  the words of the command are wrong
 
 Examples:
@@ -31,6 +33,7 @@ Examples:
   bootswap choose table.txt > report.txt
   bootswap check table.txt report.txt
   bootswap image firmware.img
+  bootswap manifest device.json manifest.json
 
 `bootswap help COMMAND` tells what the command reads and prints.";
 
@@ -153,11 +156,63 @@ pub const IMAGE_AFTER_LONG_HELP: &str = "Exit status:
 Example:
   bootswap image firmware.img";
 
+pub const MANIFEST_ABOUT: &str = "Checks a manifest for a device and prints what it says";
+
+pub const MANIFEST_LONG_ABOUT: &str =
+    "Reads a device file and a manifest, checks whether the manifest is for that
+device, and prints what it says: its sequence number, and for each component
+the image, the length of the file, the kind of the request and the digest of the
+file; and behind them `precursor` and the digest of the image that has to run,
+where the manifest asks for one. Such as, with all 64 digits:
+  sequence 1
+  component 0 3 test ba7816bf8f01cfea414140de5dae2223..
+
+A device file is a JSON object: the length of a sector, the sectors of each
+image's slots, and for whom manifests have to be. It may have `trial-boots`, the
+boots of a trial, 1 to 7; without it there is one:
+  {\"sector\":512,\"sectors\":[2,2],
+   \"vendor-id\":\"886313e1-3b8a-5372-9b90-0c9aee199e5d\",
+   \"class-id\":\"11111111-2222-5333-8444-555555555555\"}
+
+A manifest is a JSON object too. A component may have a `precursor-digest`, and
+its `kind` is `test` or `permanent`:
+  {\"manifest-version\":1,\"sequence-number\":1,
+   \"vendor-id\":\"886313e1-3b8a-5372-9b90-0c9aee199e5d\",
+   \"class-id\":\"11111111-2222-5333-8444-555555555555\",
+   \"components\":[{\"component-id\":0,\"kind\":\"test\",\"size\":3,
+    \"payload-digest\":
+    \"ba7816bf8f01cfea414140de5dae2223b00361a396177a9cb410ff61f20015ad\"}]}
+
+Of a file that is no manifest for the device it prints the lowest refusal that
+applies, by its number and its name: `refused CODE NAME`, such as
+`refused 4 WrongVendor`. Where the device's sizes make no map of its flash it
+prints `refused map CODE NAME`, such as `refused map 1 BadSector`.";
+
+pub const MANIFEST_AFTER_HELP: &str =
+    "Exit status: 0 for that device, 1 refused, 2 the words are wrong.
+Example: bootswap manifest device.json manifest.json
+`bootswap manifest --help` tells what both files look like.";
+
+pub const MANIFEST_AFTER_LONG_HELP: &str = "Exit status:
+  0  the file is a manifest for the device, and what it says is printed
+  1  it isn't, or the device's sizes are refused; or standard error has a line
+     `error: ..`, such as `error: device file` where DEVICE is none; or the
+     answer could not be written
+  2  the words of the command are wrong
+
+Examples:
+  bootswap manifest device.json manifest.json
+  bootswap manifest device.json - < manifest.json";
+
 pub const TABLE_HELP: &str = "The file that the table is read from; `-` is standard input";
 
 pub const REPORT_HELP: &str = "The file that the report is read from; `-` is standard input";
 
 pub const FILE_HELP: &str = "The file that the image is read from; `-` is standard input";
+
+pub const DEVICE_HELP: &str = "The device file; `-` is standard input";
+
+pub const MANIFEST_HELP: &str = "The file that the manifest is read from; `-` is standard input";
 
 pub const NO_TEXT: &str = "invalid UTF-8 was detected in one or more arguments";
 
