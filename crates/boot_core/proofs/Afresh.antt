@@ -1,0 +1,460 @@
+-- A flash that is made a device's.
+use Rattle.std.proofs.Common.{◌≡◌, ◌⊎◌, ℕ, ◌+◌, ◌<◌, ◌≤◌, ◌==◌, max, true, false, List, [], ◌∷◌, ◌++◌, length, Option, Some, None, Result, Ok, Err}
+use Rattle.std.proofs.Common.{OnOk, IfErr, refl, sym, ◌∙◌, ap, subst, arith, slice_get, slice_index, get_or, ⊎_elim, inl, inr, zero, suc, replicate, length-append}
+use Rattle.std.proofs.Math.Bool.{and-false}
+use Rattle.std.proofs.lemmas.Bool.{cases_lt}
+use Rattle.std.proofs.lemmas.List.{same_lists}
+use Rattle.std.proofs.lemmas.Option.{slice_get-get_or, slice_get_cases, slice_get_within}
+use Rattle.flash_model.specs.Chip.{Chip, Ends, IsUncut}
+use Rattle.flash_model.specs.declared.error.FlashError.{FlashError}
+use Rattle.flash_model.specs.declared.error.FlashError.TheVariants as flash
+use Rattle.sector_map.specs.declared.layout.SectorMap.{SectorMap}
+use Rattle.sector_map.specs.declared.layout.Side.{Side}
+use Rattle.sector_map.specs.declared.layout.Side.TheVariants.{Primary, Secondary}
+use Rattle.sector_map.specs.Part.{Part, Slot, TrailerOf, Scratch, Log, is_member, only, trailers_of}
+use Rattle.sector_map.specs.Map.{Keeps}
+use Rattle.sector_map.proofs.Parts.{keeps_trans, keeps_wider}
+use Rattle.trailer.specs.Fields.{erased_fields, fields_at}
+use Rattle.set_log.specs.Log.{state_of}
+use Rattle.set_log.specs.Record.{fits}
+use Rattle.set_log.proofs.Table.{fits_of}
+use Rattle.tlv.specs.declared.desc.Desc.{Desc}
+use Rattle.tlv.specs.Image.{IsIntact}
+use Rattle.tlv.proofs.Descriptions.{front-unique}
+use Rattle.certificate.specs.declared.table.Table.{Table}
+use Rattle.certificate.specs.declared.table.Image.{Image}
+use Rattle.certificate.specs.declared.table.Entry.{Entry}
+use Rattle.certificate.specs.declared.table.Request.{Request}
+use Rattle.certificate.specs.declared.table.Request.TheVariants as request
+use Rattle.certificate.specs.Combination.{entry_in, IsValid, running_set}
+use Rattle.upload.specs.View.{view}
+use Rattle.upload.proofs.Views.{view_kept}
+use Rattle.upload.specs.Device.{DeviceState}
+use Rattle.upload.specs.Steady.{IsFront, IsSteadyAt, Starts}
+use Rattle.machine.specs.States.{entry_of}
+use Rattle.machine.specs.Boots.{IsEntryOf, IsSound, IsTableOf}
+use Rattle.machine.specs.Reading.{AreRaisedBy}
+use Rattle.machine.specs.declared.error.Fault.{Fault}
+use Rattle.machine.specs.declared.error.Fault.TheVariants as no
+use Rattle.machine.proofs.Ending.{none_asked}
+use Rattle.machine.proofs.Preparing.{eqb_no}
+use Rattle.machine.proofs.SoundBoots.{all_sound}
+use Rattle.machine.proofs.Steadying.{no_member}
+use Rattle.machine.proofs.Unique.{one_description}
+use Rattle.boot_core.proofs.Records.{none_within}
+use Rattle.boot_core.specs.Provisioned.{AnswersMaking, AreCleared, AreCounters, AreRunningRows, EndsMaking, HasCounters}
+use Rattle.boot_core.specs.Provisioned.{HoldsImage, IsBegunAfresh, IsDoneOrCut, IsFirstDamaged, IsFirstState}
+use Rattle.boot_core.specs.Provisioned.{IsInvalidThere, IsProvisioned, IsRunningRow, IsRunningTable}
+use Rattle.boot_core.specs.Provisioned.{IsValidThere, RefusesMaking, first_record, provided, running_bytes}
+
+none_some : {X : Type 0} (x : X) → None ≡ Some x → ⊥
+none_some x e = cc
+
+the_one : {X : Type 0} (x y : X) → Some x ≡ Some y → x ≡ y
+the_one x y e = cc
+
+true_false : true ≡ false → ⊥
+true_false e = cc
+
+-- ---- rows are read
+
+pub rows_none : (map : SectorMap) (chip : Chip) → AreRunningRows map chip 0 []
+rows_none map chip = record { count = refl; each = λ i row e. absurd (none_some row e) }
+
+push_cases : {X : Type 0} (xs : List X) (y : X) (k : ℕ) (x : X) → slice_get (xs ++ y ∷ []) k ≡ Some x
+    → (slice_get xs k ≡ Some x) ⊎ ((k ≡ length xs) × (y ≡ x))
+push_cases [] y zero x e = inr (refl, the_one y x e)
+push_cases [] y (suc k) x e = absurd (none_some x e)
+push_cases (z ∷ zs) y zero x e = inl e
+push_cases (z ∷ zs) y (suc k) x e = ⊎_elim (λ (at : slice_get zs k ≡ Some x). inl at)
+    (λ (last : (k ≡ length zs) × (y ≡ x)). inr (ap suc last.0, last.1)) (push_cases zs y k x e)
+
+pub rows_more : (map : SectorMap) (chip : Chip) (n : ℕ) (rows : List Image) (row : Image)
+    → AreRunningRows map chip n rows → IsRunningRow (running_bytes map chip n) row
+    → AreRunningRows map chip (n + 1) (rows ++ row ∷ [])
+rows_more map chip n rows row before next = record {
+  count = length-append rows (row ∷ []) ∙ ap (λ m. m + 1) before.count;
+  each = λ k found e. ⊎_elim
+      (λ (at : slice_get rows k ≡ Some found). before.each k found at)
+      (λ (last : (k ≡ length rows) × (row ≡ found)).
+      let here : n ≡ k = sym (last.0 ∙ before.count) in
+      subst (λ r. IsRunningRow (running_bytes map chip k) r) last.1
+      (subst (λ m. IsRunningRow (running_bytes map chip m) row) here next))
+      (push_cases rows row k found e);
+}
+
+-- the row of an image that was read
+pub row_there : (map : SectorMap) (chip : Chip) (n : ℕ) (rows : List Image) (i : ℕ)
+    → AreRunningRows map chip n rows → i < n
+    → (row : Image) × (slice_get rows i ≡ Some row) × IsRunningRow (running_bytes map chip i) row
+row_there map chip n rows i there lt = ⊎_elim
+    (λ (found : (x : Image) × (i < length rows) × (slice_get rows i ≡ Some x) × (get_or rows i x ≡ x)).
+    (found.0, found.2, there.each i found.0 found.2))
+    (λ (past : (length rows ≤ i) × (slice_get rows i ≡ None)). absurd (too_far past.0))
+    (slice_get_cases rows i).1
+  where
+    too_far : length rows ≤ i → ⊥
+    too_far le = omega (arith, le, lt, there.count)
+
+pub first_damaged : (map : SectorMap) (chip : Chip) (i : ℕ) (rows : List Image) → AreRunningRows map chip i rows
+    → i < map.images → (HoldsImage (running_bytes map chip i) → ⊥) → IsFirstDamaged map chip i
+first_damaged map chip i rows before lt damaged = record {
+  there = lt;
+  damaged = damaged;
+  lower = λ j less.
+      let row = (row_there map chip i rows j before less).2 in
+      (row.description, row.begins);
+}
+
+-- ---- the counters
+
+pub zeros_at : (i : ℕ) → slice_index (replicate 8 0) i ≡ 0
+zeros_at i = zeros 8 i where
+  zeros : (n i : ℕ) → get_or {A = ℕ} (replicate n 0) i 0 ≡ 0
+  zeros zero i = refl
+  zeros (suc n) zero = refl
+  zeros (suc n) (suc i) = zeros n i
+
+-- the counters are raised from 0
+pub counters_of : (rows : List Image) (zeros floors : List ℕ) → ((i : ℕ) → slice_index zeros i ≡ 0)
+    → AreRaisedBy rows 0 (length rows) zeros floors → AreCounters rows floors
+counters_of rows zeros floors none raised = record {
+  each = λ i row at.
+      raised.each i row (slice_get_within rows i row at) at
+      ∙ ap (λ n. max n (entry_in row (is_member 0 i)).counter) (none i)
+      ∙ from_zero (entry_in row (is_member 0 i)).counter
+      ∙ ap (λ b. (entry_in row b).counter) (no_member i);
+  rest = λ i le. raised.rest i le ∙ none i;
+} where
+  from_zero : (n : ℕ) → max 0 n ≡ n
+  from_zero n = omega arith
+
+pub counters_rest : (map : SectorMap) (chip : Chip) (floors : List ℕ) → HasCounters map chip floors → (i : ℕ)
+    → map.images ≤ i → slice_index floors i ≡ 0
+counters_rest map chip floors (table, there, valid, counters) i le =
+    counters.rest i (subst (λ n. n ≤ i) (sym there.count) le)
+
+-- ---- trailers are erased
+
+pub both_cleared : (map : SectorMap) (mid new : Chip) (i : ℕ) → fields_at map mid i Primary ≡ erased_fields
+    → Keeps map (only (TrailerOf i Secondary)) mid new → fields_at map new i Secondary ≡ erased_fields
+    → (side : Side) → fields_at map new i side ≡ erased_fields
+both_cleared map mid new i first keeps second Primary =
+    (view_kept map _ _ _ keeps).trailers i Primary (and-false (i == i)) ∙ first
+both_cleared map mid new i first keeps second Secondary = second
+
+trailers_provided : (j : ℕ) (part : Part) → provided part ≡ false → trailers_of j part ≡ false
+trailers_provided j (Slot i side) e = refl
+trailers_provided j (TrailerOf i side) e = absurd (true_false e)
+trailers_provided j Scratch e = refl
+trailers_provided j Log e = refl
+
+log_provided : (part : Part) → provided part ≡ false → only Log part ≡ false
+log_provided (Slot i side) e = refl
+log_provided (TrailerOf i side) e = refl
+log_provided Scratch e = refl
+log_provided Log e = absurd (true_false e)
+
+pub provided_more : (map : SectorMap) (j : ℕ) (old mid new : Chip) → Keeps map provided old mid
+    → Keeps map (trailers_of j) mid new → Keeps map provided old new
+provided_more map j old mid new first second = keeps_trans map provided old mid new first
+    (keeps_wider map (trailers_of j) provided mid new (trailers_provided j) second)
+
+pub provided_log : (map : SectorMap) (old mid new : Chip) → Keeps map provided old mid
+    → Keeps map (only Log) mid new → Keeps map provided old new
+provided_log map old mid new first second = keeps_trans map provided old mid new first
+    (keeps_wider map (only Log) provided mid new log_provided second)
+
+pub cleared_more : (map : SectorMap) (mid new : Chip) (n : ℕ) → AreCleared map mid n
+    → Keeps map (trailers_of n) mid new
+    → ((side : Side) → fields_at map new n side ≡ erased_fields) → AreCleared map new (n + 1)
+cleared_more map mid new n before keeps here i lt side = ⊎_elim
+    (λ (below : i < n).
+    let other : i ≡ n → ⊥ = λ e. not_below e below in
+    (view_kept map _ _ _ keeps).trailers i side (eqb_no i n (i == n) refl other) ∙ before i below side)
+    (λ (above : n ≤ i).
+    let same : n ≡ i = omega (arith, lt, above) in
+    subst (λ k. fields_at map new k side ≡ erased_fields) same (here side))
+    (cases_lt i n)
+  where
+    not_below : i ≡ n → i < n → ⊥
+    not_below e below = omega (arith, e, below)
+
+-- ---- the log is begun
+
+pub first_fits : (map : SectorMap) (floors : List ℕ)
+    → ((i : ℕ) → map.images ≤ i → slice_index floors i ≡ 0) → fits map.images (first_record floors) ≡ true
+first_fits map floors rest = fits_of map (first_record floors) (omega arith) (none_within map) refl rest
+
+pub begun_afresh : (map : SectorMap) (floors : List ℕ) (mid new : Chip) → AreCleared map mid map.images
+    → Keeps map (only Log) mid new → state_of map new ≡ Some (first_record floors)
+    → IsBegunAfresh map floors new
+begun_afresh map floors mid new cleared keeps log = record {
+  cleared = λ i lt side. (view_kept map _ _ _ keeps).trailers i side refl ∙ cleared i lt side;
+  log = log;
+}
+
+-- ---- the state that is left
+
+-- What a row says of the bytes that are held.
+record IsHeld (whole : List ℕ) (held : Option (List ℕ)) (row : Image) : Type 0 where
+  bytes : List ℕ
+  description : Desc
+  is : held ≡ Some bytes
+  starts : Starts whole bytes
+  intact : IsIntact bytes description
+  running : row.running ≡ entry_of description
+  request : row.request ≡ request.None
+  floor : row.floor ≡ description.counter
+
+abbrev held_by : (whole : List ℕ) (found : Option Image)
+    → ((row : Image) → found ≡ Some row → IsRunningRow whole row) → Option (List ℕ)
+held_by whole None tells = None
+held_by whole (Some row) tells = Some (tells row refl).begins.0
+
+is_held : (whole : List ℕ) (found : Option Image)
+    (tells : (row : Image) → found ≡ Some row → IsRunningRow whole row) (row : Image) → found ≡ Some row
+    → IsHeld whole (held_by whole found tells) row
+is_held whole None tells row e = absurd (none_some row e)
+is_held whole (Some first) tells row e =
+    let told = tells first refl in
+    subst (λ r. IsHeld whole (held_by whole (Some first) tells) r) (the_one first row e) (record {
+      bytes = told.begins.0;
+      description = told.description;
+      is = refl;
+      starts = (told.begins.1, told.begins.2);
+      intact = told.begins.3;
+      running = told.running;
+      request = told.request;
+      floor = told.floor;
+    })
+
+held_front : (whole : List ℕ) (held : Option (List ℕ)) (row : Image) → IsHeld whole held row → IsFront whole held
+held_front whole held row is = record {
+  image = λ bytes e.
+      let same : is.bytes ≡ bytes = the_one is.bytes bytes (sym is.is ∙ e) in (
+        subst (λ l. Starts whole l) same is.starts,
+        (is.description, subst (λ l. IsIntact l is.description) same is.intact),
+      );
+  none = λ e. absurd (none_some is.bytes (sym e ∙ is.is));
+}
+
+module _ (map : SectorMap) (old new : Chip) (floors : List ℕ) (table : Table)
+    (there : IsRunningTable map old table) (counters : AreCounters table.images.items floors) where
+  abbrev first_state : DeviceState
+  first_state = record {
+    images = map.images;
+    running = λ i. held_by (running_bytes map old i) (slice_get table.images.items i) (there.each i);
+    request = λ i. None;
+    floors = floors;
+    sequence = 0;
+    trial = None;
+  }
+
+  held_at : (i : ℕ) (row : Image) → slice_get table.images.items i ≡ Some row
+      → IsHeld (running_bytes map old i) (first_state.running i) row
+  held_at i row at = is_held (running_bytes map old i) (slice_get table.images.items i) (there.each i) row at
+
+  held_below : (i : ℕ) → i < map.images
+      → (row : Image) × (slice_get table.images.items i ≡ Some row)
+      × IsHeld (running_bytes map old i) (first_state.running i) row
+  held_below i lt =
+      let found = row_there map old map.images table.images.items i there lt in
+      (found.0, found.1, held_at i found.0 found.1)
+
+  is_first : IsFirstState map old first_state
+  is_first = record {
+    images = refl;
+    running = λ i lt.
+        let held = (held_below i lt).2 in
+        (held.bytes, held.is, held.starts, (held.description, held.intact));
+    request = λ i. refl;
+    trial = refl;
+    sequence = refl;
+    floors = λ i bytes description lt runs intact.
+        let found = held_below i lt in
+        let held = found.2 in
+        let same : held.bytes ≡ bytes = the_one held.bytes bytes (sym held.is ∙ runs) in
+        let one : held.description ≡ description = one_description bytes held.description description
+        (subst (λ l. IsIntact l held.description) same held.intact) intact in
+        counters.each i found.0 found.1 ∙ ap (λ (e : Entry). e.counter) held.running
+        ∙ ap (λ (d : Desc). d.counter) one;
+    rest = λ i le. counters.rest i (subst (λ n. n ≤ i) (sym there.count) le);
+  }
+
+  first_table : IsTableOf first_state table
+  first_table = record {
+    count = there.count;
+    rows = λ i row at.
+        let held = held_at i row at in
+        record {
+          running = subst (λ h. IsEntryOf h row.running) (sym held.is)
+              (held.description, held.intact, sym held.running);
+          request = held.request;
+          floor = held.floor ∙ sym (counters.each i row at ∙ ap (λ (e : Entry). e.counter) held.running);
+        };
+  }
+
+  rests_first : Keeps map provided old new → IsBegunAfresh map floors new
+      → IsSteadyAt (view map new) first_state
+  rests_first keeps begun = record {
+    trial = refl;
+    images = refl;
+    log = begun.log;
+    each = λ i lt.
+        let found = held_below i lt in
+        record {
+          running = subst (λ l. IsFront l (first_state.running i))
+              (sym ((view_kept map _ _ _ keeps).slots i Primary refl))
+              (held_front (running_bytes map old i) (first_state.running i) found.0 found.2);
+          request = none_asked ((view map new).trailer i Secondary) ((view map new).slot i Secondary)
+              (begun.cleared i lt Secondary);
+        };
+  }
+
+pub made_device : (map : SectorMap) (old new : Chip) (floors : List ℕ) → HasCounters map old floors
+    → Keeps map provided old new → IsBegunAfresh map floors new → IsProvisioned map old new
+made_device map old new floors (table, there, valid, counters) keeps begun =
+    let s = first_state map old new floors table there counters in
+    let sound : IsSound s = (table, first_table map old new floors table there counters, valid) in (
+      s,
+      is_first map old new floors table there counters,
+      rests_first map old new floors table there counters keeps begun,
+      sound,
+      all_sound s refl sound,
+    )
+
+-- ---- each flash has one answer
+
+one_row : (whole : List ℕ) (a b : Image) → IsRunningRow whole a → IsRunningRow whole b → a ≡ b
+one_row whole a b first second =
+    let same = front-unique whole first.description second.description first.begins second.begins in
+    let row : Entry → Request → ℕ → Image = λ r q f. record { running = r; request = q; floor = f } in
+    ap (λ r. row r a.request a.floor) (first.running ∙ ap entry_of same ∙ sym second.running)
+    ∙ ap (λ q. row b.running q a.floor) (first.request ∙ sym second.request)
+    ∙ ap (λ f. row b.running b.request f)
+    (first.floor ∙ ap (λ (d : Desc). d.counter) same ∙ sym second.floor)
+
+one_running : (map : SectorMap) (chip : Chip) (a b : Table) → IsRunningTable map chip a → IsRunningTable map chip b
+    → a ≡ b
+one_running map chip a b first second =
+    let long : length a.images.items ≡ length b.images.items = first.count ∙ sym second.count in
+    let rows : a.images.items ≡ b.images.items = same_lists a.images.items b.images.items long
+    (λ k d lt. one_row (running_bytes map chip k) _ _
+    (first.each k _ (slice_get-get_or a.images.items k d lt))
+    (second.each k _ (slice_get-get_or b.images.items k d (subst (λ n. k < n) long lt)))) in
+    let table : List Image → Table = λ l. record { images = record { items = l } } in
+    ap table rows
+
+valid_or_not : (map : SectorMap) (chip : Chip) → IsValidThere map chip → IsInvalidThere map chip → ⊥
+valid_or_not map chip (a, first, valid) (b, second, not_valid) =
+    not_valid (subst (λ t. IsValid t running_set) (one_running map chip a b first second) valid)
+
+whole_or_not : (map : SectorMap) (chip : Chip) (i : ℕ) (table : Table) → IsRunningTable map chip table
+    → IsFirstDamaged map chip i → ⊥
+whole_or_not map chip i table there first =
+    let row = (row_there map chip map.images table.images.items i there first.there).2 in
+    first.damaged (row.description, row.begins)
+
+one_first : (map : SectorMap) (chip : Chip) (i j : ℕ) → IsFirstDamaged map chip i → IsFirstDamaged map chip j
+    → i ≡ j
+one_first map chip i j first second = ⊎_elim
+    (λ (below : i < j). absurd (first.damaged (second.lower i below)))
+    (λ (from : j ≤ i). ⊎_elim
+    (λ (below : j < i). absurd (second.damaged (first.lower j below)))
+    (λ (to : i ≤ j). both from to)
+    (cases_lt j i))
+    (cases_lt i j)
+  where
+    both : j ≤ i → i ≤ j → i ≡ j
+    both a b = omega (arith, a, b)
+
+pub damaged_answer : (map : SectorMap) (old new : Chip) (result : Result Unit Fault) (i : ℕ)
+    → AnswersMaking map old new result → old.is_on ≡ true → IsFirstDamaged map old i
+    → result ≡ Err (no.RunningDamaged i)
+damaged_answer map old new (Ok done) i (valid, made, uncut) on first =
+    absurd (whole_or_not map old i valid.0 valid.1 first)
+damaged_answer map old new (Err (no.RunningDamaged j)) i (other, same) on first =
+    ap (λ k. Err (no.RunningDamaged k)) (one_first map old j i other first)
+damaged_answer map old new (Err no.InvalidSet) i (there, same) on first =
+    absurd (whole_or_not map old i there.0 there.1 first)
+damaged_answer map old new (Err (no.Flash flash.Cut)) i (valid, cut) on first =
+    absurd (whole_or_not map old i valid.0 valid.1 first)
+damaged_answer map old new (Err (no.Flash flash.Off)) i (off, same) on first =
+    absurd (true_false (sym on ∙ off))
+damaged_answer map old new (Err no.NotBooted) i never on first = absurd never
+damaged_answer map old new (Err no.OnTrial) i never on first = absurd never
+damaged_answer map old new (Err no.NotOnTrial) i never on first = absurd never
+damaged_answer map old new (Err no.NotProvisioned) i never on first = absurd never
+damaged_answer map old new (Err no.NoMemory) i never on first = absurd never
+damaged_answer map old new (Err (no.Manifest error)) i never on first = absurd never
+damaged_answer map old new (Err (no.Upload error)) i never on first = absurd never
+
+pub invalid_answer : (map : SectorMap) (old new : Chip) (result : Result Unit Fault)
+    → AnswersMaking map old new result → old.is_on ≡ true → IsInvalidThere map old → result ≡ Err no.InvalidSet
+invalid_answer map old new (Ok done) (valid, made, uncut) on there = absurd (valid_or_not map old valid there)
+invalid_answer map old new (Err (no.RunningDamaged j)) (first, same) on there =
+    absurd (whole_or_not map old j there.0 there.1 first)
+invalid_answer map old new (Err no.InvalidSet) (also, same) on there = refl
+invalid_answer map old new (Err (no.Flash flash.Cut)) (valid, cut) on there =
+    absurd (valid_or_not map old valid there)
+invalid_answer map old new (Err (no.Flash flash.Off)) (off, same) on there = absurd (true_false (sym on ∙ off))
+invalid_answer map old new (Err no.NotBooted) never on there = absurd never
+invalid_answer map old new (Err no.OnTrial) never on there = absurd never
+invalid_answer map old new (Err no.NotOnTrial) never on there = absurd never
+invalid_answer map old new (Err no.NotProvisioned) never on there = absurd never
+invalid_answer map old new (Err no.NoMemory) never on there = absurd never
+invalid_answer map old new (Err (no.Manifest error)) never on there = absurd never
+invalid_answer map old new (Err (no.Upload error)) never on there = absurd never
+
+pub whole_answer : (map : SectorMap) (old new : Chip) (result : Result Unit Fault)
+    → AnswersMaking map old new result → old.is_on ≡ true → IsValidThere map old → IsDoneOrCut result
+whole_answer map old new (Ok done) (valid, made, uncut) on there = tt
+whole_answer map old new (Err (no.RunningDamaged j)) (first, same) on there =
+    absurd (whole_or_not map old j there.0 there.1 first)
+whole_answer map old new (Err no.InvalidSet) (also, same) on there = absurd (valid_or_not map old there also)
+whole_answer map old new (Err (no.Flash flash.Cut)) (valid, cut) on there = refl
+whole_answer map old new (Err (no.Flash flash.Off)) (off, same) on there = absurd (true_false (sym on ∙ off))
+whole_answer map old new (Err no.NotBooted) never on there = absurd never
+whole_answer map old new (Err no.OnTrial) never on there = absurd never
+whole_answer map old new (Err no.NotOnTrial) never on there = absurd never
+whole_answer map old new (Err no.NotProvisioned) never on there = absurd never
+whole_answer map old new (Err no.NoMemory) never on there = absurd never
+whole_answer map old new (Err (no.Manifest error)) never on there = absurd never
+whole_answer map old new (Err (no.Upload error)) never on there = absurd never
+
+-- ---- the parts of an answer
+
+pub ok_answer : (map : SectorMap) (old new : Chip) (result : Result Unit Fault)
+    → AnswersMaking map old new result → OnOk result (IsProvisioned map old new)
+ok_answer map old new (Ok done) answer = answer.1
+ok_answer map old new (Err fault) answer = tt
+
+pub refused_answer : (map : SectorMap) (old new : Chip) (result : Result Unit Fault)
+    → AnswersMaking map old new result → IfErr result (RefusesMaking map old new)
+refused_answer map old new (Ok done) answer = tt
+refused_answer map old new (Err fault) answer = answer
+
+uncut_answer : (map : SectorMap) (old new : Chip) (result : Result Unit Fault)
+    → AnswersMaking map old new result → OnOk result (IsUncut old new)
+uncut_answer map old new (Ok done) answer = answer.2
+uncut_answer map old new (Err fault) answer = tt
+
+pub ends_answer : (map : SectorMap) (old new : Chip) (result : Result Unit Fault)
+    → AnswersMaking map old new result → (old.is_on ≡ false → new ≡ old) → EndsMaking result old new
+ends_answer map old new result answer asleep = record {
+  asleep = asleep;
+  uncut = uncut_answer map old new result answer;
+  cut = λ e. (subst (λ r. AnswersMaking map old new r) e answer).1;
+  off = λ e. (subst (λ r. AnswersMaking map old new r) e answer).0;
+}
+
+-- a call on the flash failed
+pub stopped_answer : (map : SectorMap) (old new : Chip) (error : FlashError) → IsValidThere map old
+    → Ends {T = Unit} (Err error) old new → AnswersMaking map old new (Err (no.Flash error))
+stopped_answer map old new flash.Cut valid ends = (valid, ends.cut refl)
+stopped_answer map old new flash.Off valid ends = let off = ends.off refl in (off, ends.asleep off)
+
+pub valid_there : (map : SectorMap) (chip : Chip) (floors : List ℕ) → HasCounters map chip floors
+    → IsValidThere map chip
+valid_there map chip floors (table, there, valid, counters) = (table, there, valid)

@@ -1,0 +1,13 @@
+pub mod Records
+pub mod Concluding
+pub mod Fronts
+mod Described
+mod Masks
+mod SwapSizes
+pub mod Again
+pub mod Stopping
+pub mod Texts
+pub mod Steps
+mod Afresh
+pub mod Measured
+pub mod Wears

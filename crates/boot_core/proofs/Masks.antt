@@ -1,0 +1,44 @@
+-- Masks of images: those of reports, and facts of their members.
+use Rattle.std.proofs.Common.{◌≡◌, ◌≢◌, ℕ, ◌+◌, ◌<◌, ◌≤◌, Bool, true, false, Option, Some, None, List, length, map, take, take_all, option_map, unwrap_or, sym, ◌∙◌, ap, subst, refl, arith, slice_get, get_or, ⊎_elim}
+use Rattle.std.specs.Option.{option_map_or}
+use Rattle.std.proofs.lemmas.Bool.{cases_eq}
+use Rattle.std.proofs.lemmas.Option.{slice_get-map, unwrap_or-slice_get}
+use Rattle.sector_map.specs.Part.{is_member}
+use Rattle.certificate.specs.declared.report.Report.{Report}
+use Rattle.certificate.specs.declared.report.ReportedImage.{ReportedImage}
+use Rattle.certificate.specs.Rightness.{taken_in}
+use Rattle.machine.specs.Wear.{IsSetIn}
+
+-- a mask that is that of a report is its set
+pub set_found : (mask given : ℕ) (report : Report) → given ≡ mask
+    → ((i : ℕ) → is_member given i ≡ taken_in report i) → IsSetIn mask report
+set_found mask given report same each = record { each = λ i. ap (λ m. is_member m i) (sym same) ∙ each i }
+
+abbrev is_taken : ReportedImage → Bool
+is_taken image = image.is_taken
+
+of_option : (found : Option ReportedImage)
+    → unwrap_or (option_map is_taken found) false ≡ option_map_or is_taken found false
+of_option None = refl
+of_option (Some image) = refl
+
+-- a list that says of each image of a report whether it is taken says what the report takes
+pub taken_of : (report : Report) (n : ℕ) (bits : List Bool) → length report.images.items ≤ n
+    → bits ≡ map (λ (image : ReportedImage). image.is_taken) (take n report.images.items)
+    → (i : ℕ) → get_or bits i false ≡ taken_in report i
+taken_of report n bits all is i =
+    let images = report.images.items in
+    let whole : bits ≡ map is_taken images =
+    is ∙ ap (map is_taken) (take_all n images all) in
+    ap (λ l. get_or l i false) whole
+    ∙ sym (unwrap_or-slice_get (map is_taken images) i false)
+    ∙ ap (λ o. unwrap_or o false) (slice_get-map is_taken images i)
+    ∙ of_option (slice_get images i)
+
+-- a fact of the members below a number holds of those below the next one
+pub members_more : (P : ℕ → Type 0) (mask n : ℕ) → ((i : ℕ) → i < n → is_member mask i ≡ true → P i)
+    → (is_member mask n ≡ true → P n) → (i : ℕ) → i < n + 1 → is_member mask i ≡ true → P i
+members_more P mask n before here i lt member = ⊎_elim
+    (λ (is : i ≡ n). subst P (sym is) (here (subst (λ j. is_member mask j ≡ true) is member)))
+    (λ (other : i ≢ n). before i (omega arith) member)
+    (cases_eq i n)

@@ -1,0 +1,80 @@
+-- How many erases a boot makes, from one function to the next.
+use Rattle.std.proofs.Common.{◌≡◌, ℕ, ◌+◌, ◌≤◌, List, Some, refl, sym, subst, ◌∙◌}
+use Rattle.flash_model.specs.Chip.{Chip}
+use Rattle.sector_map.specs.declared.layout.SectorMap.{SectorMap}
+use Rattle.sector_map.specs.declared.layout.Side.TheVariants.{Secondary}
+use Rattle.sector_map.specs.Map.{Keeps}
+use Rattle.sector_map.specs.Part.{Log, only}
+use Rattle.set_log.specs.Log.{state_of}
+use Rattle.set_log.specs.declared.state.State.{State}
+use Rattle.set_log.specs.declared.state.Kind.{Kind}
+use Rattle.set_log.specs.declared.state.Kind.TheVariants as log
+use Rattle.upload.specs.Device.{DeviceState, Trial}
+use Rattle.upload.specs.View.{view}
+use Rattle.upload.specs.Steady.{IsSteadyAt}
+use Rattle.machine.specs.Holding.{IsTrialAt, IsTrialOpen, Stands}
+use Rattle.machine.specs.Passing.{IsOpenOrAt}
+use Rattle.machine.specs.Reading.{IsPassage}
+use Rattle.machine.specs.States.{IsConfirmed, settled}
+use Rattle.machine.specs.Wear.{members, IsResumed, IsSetOf}
+use Rattle.machine.specs.declared.finding.Passage.{Passage}
+use Rattle.machine.specs.declared.reply.Reply.{Reply}
+use Rattle.machine.proofs.Standing.{stands_trial}
+use Rattle.machine.proofs.Trying.{open_of, rest_over}
+use Rattle.boot_core.specs.Wear.{AreMeasured, IsAfresh, IsWorn}
+use Rattle.boot_core.proofs.Measured.{fresh_after, fresh_more, fresh_same, fresh_wear}
+
+-- a set goes back: its trailers are prepared, going back is recorded, and the swap is carried out
+pub fresh_back : (map : SectorMap) (old mid new : Chip) (mask : ℕ) (reply : Reply)
+    → mid.erases ≤ old.erases + members map mask + 1
+    → AreMeasured (view map old) (view map mid) Secondary mask
+    → IsResumed map mid new Secondary mask × IsSetOf mask reply → IsAfresh map old new 4 reply
+fresh_back map old mid new mask reply begun says (carried, is) =
+    fresh_more map old new mask reply is (fresh_wear map old old mid new Secondary mask refl begun says carried)
+
+-- a trial is over: the record is written, and a boot at rest follows
+pub over_worn : (map : SectorMap) (old read mid new : Chip) (floors : List ℕ) (reply : Reply) → read ≡ old
+    → mid.erases ≤ read.erases + 1 → Keeps map (only Log) read mid
+    → ((s : DeviceState) (trial : Trial) → IsTrialAt (view map read) s trial
+    → IsSteadyAt (view map mid) (settled s floors))
+    → ((s : DeviceState) → IsSteadyAt (view map mid) s → IsAfresh map mid new 3 reply)
+    → (s : DeviceState) (trial : Trial) → IsConfirmed s trial → IsOpenOrAt (view map old) s trial
+    → IsAfresh map old new 4 reply
+over_worn map old read mid new floors reply same one keeps records worn s trial confirmed was =
+    let at : IsTrialAt (view map old) s trial = rest_over map old s trial confirmed was in
+    fresh_after map old read mid new reply same one keeps (worn (settled s floors)
+    (records s trial (subst (λ w. IsTrialAt (view map w) s trial) (sym same) at)))
+
+-- a boot from a trial, by its passage
+pub trial_worn : (map : SectorMap) (old mid new : Chip) (state : State) (found passage : Passage) (reply : Reply)
+    → (view map old).log ≡ Some state → state.kind ≡ log.Trial → mid ≡ old
+    → ((s : DeviceState) (trial : Trial) → IsTrialOpen (view map old) s trial → IsPassage s trial found)
+    → found ≡ passage
+    → ((s : DeviceState) (trial : Trial) → IsPassage s trial passage → IsOpenOrAt (view map mid) s trial
+    → IsAfresh map mid new 4 reply)
+    → (s : DeviceState) → Stands map old s → IsAfresh map old new 4 reply
+trial_worn map old mid new state found passage reply read kind same decides is worn s stands =
+    let at = stands_trial map old s state read kind stands in
+    fresh_same map old mid new 4 reply same (worn s at.0
+    (subst (λ p. IsPassage s at.0 p) is (decides s at.0 (open_of map old s at.0 at.2)))
+    (subst (λ w. IsOpenOrAt (view map w) s at.0) (sym same) at.2))
+
+one_some : {X : Type 0} (x y : X) → Some x ≡ Some y → x ≡ y
+one_some x y same = cc
+
+-- the record that was read is the one that stands
+pub worn_read : (map : SectorMap) (old read new : Chip) (found state : State) (reply : Reply) → read ≡ old
+    → state_of map old ≡ Some found → state_of map old ≡ Some state
+    → ((s : DeviceState) → Stands map read s → IsWorn map found.kind found.mask read new reply)
+    → (s : DeviceState) → Stands map old s → IsWorn map state.kind state.mask old new reply
+worn_read map old read new found state reply same is stood worn s stands =
+    let one : found ≡ state = one_some found state (sym is ∙ stood) in
+    subst (λ (given : State). IsWorn map given.kind given.mask old new reply) one
+    (subst (λ chip. IsWorn map found.kind found.mask chip new reply) same
+    (worn s (subst (λ chip. Stands map chip s) (sym same) stands)))
+
+-- the wear by the record that stands
+pub worn_as : (map : SectorMap) (old new : Chip) (state : State) (kind : Kind) (reply : Reply)
+    → state.kind ≡ kind → IsWorn map kind state.mask old new reply
+    → IsWorn map state.kind state.mask old new reply
+worn_as map old new state kind reply is worn = subst (λ k. IsWorn map k state.mask old new reply) (sym is) worn

@@ -1,0 +1,22 @@
+use Rattle.std.proofs.Common.{◌+◌, subst, sym}
+use Rattle.machine.specs.Holding.{Stands}
+use Rattle.machine.specs.Passing.{EndsBoot}
+use Rattle.machine.proofs.Standing.{settle_cut, settle_ends}
+use Rattle.upload.specs.Device.{DeviceState}
+use Rattle.boot_core.proofs.booting.boot_from_settle.Goals as goal
+
+pub returns-in_err-finding-clause-stands : goal.returns-in_err-finding-clause-stands
+returns-in_err-finding-clause-stands g c = settle_cut c.args.map.now _ _ _ c.args.left c.requires.read
+    c.requires.kind c.finish_settle.ensures.stands
+
+pub returns-clause-stands : goal.returns-clause-stands
+returns-clause-stands g c = settle_cut c.args.map.now _ _ _ c.args.left c.requires.read c.requires.kind
+    c.finish_settle.ensures.stands
+
+pub returns-clause-ok : goal.returns-clause-ok
+returns-clause-ok g c = subst
+    (λ reply. (s : DeviceState) → Stands c.args.map.now (g.F.Flash.chip c.args.flash.now) s
+    → EndsBoot c.args.map.now (c.args.left + 1) (g.F.Flash.chip c.finish_settle.new.flash) s reply)
+    (sym c.answer.ensures.is)
+    (settle_ends c.args.map.now _ _ _ c.args.left c.requires.read c.requires.kind _
+    c.in_ok-finding.ensures.ok)

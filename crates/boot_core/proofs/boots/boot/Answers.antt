@@ -1,0 +1,19 @@
+use Rattle.std.proofs.Common.{◌+◌, subst, sym}
+use Rattle.std.proofs.lemmas.Result.{IfOk-weaker}
+use Rattle.machine.specs.Holding.{Stands}
+use Rattle.machine.proofs.Stepping.{sound_answers}
+use Rattle.boot_core.proofs.Wears.{worn_read}
+use Rattle.boot_core.proofs.boots.boot.Goals as goal
+
+pub returns-in-Ok-clause-answers : goal.returns-in-Ok-clause-answers
+returns-in-Ok-clause-answers g c = IfOk-weaker c.boot_from.result _ _ (λ reply ends. λ s stands sound.
+    sound_answers c.args.map.now (c.args.left + 1) (g.F.Flash.chip c.boot_from.new.flash) s reply sound
+    (ends s (subst (λ w. Stands c.args.map.now w s) (sym c.read_state.ensures.same) stands)))
+    c.boot_from.ensures.ok
+
+pub returns-in-Ok-clause-erases : goal.returns-in-Ok-clause-erases
+returns-in-Ok-clause-erases g c = IfOk-weaker c.boot_from.result _ _ (λ reply worn. λ state s stood stands.
+    worn_read c.args.map.now (g.F.Flash.chip c.args.flash.now) (g.F.Flash.chip c.read_state.new.flash)
+    (g.F.Flash.chip c.boot_from.new.flash) _ state reply c.read_state.ensures.same c.in-Ok.ensures.answers.0
+    stood worn s stands)
+    c.boot_from.ensures.erases

@@ -1,0 +1,36 @@
+use Rattle.std.proofs.Common.{rules, ◌≡◌, arith, sym}
+use Rattle.certificate.specs.Combination.{IsValid, running_set}
+use Rattle.machine.proofs.FoundAgain.{chosen_again, damaged_never, found_again, read_is, valid_again}
+use Rattle.boot_core.proofs.Masks.{set_found}
+use Rattle.boot_core.proofs.deciding.find_again.Goals as goal
+
+pub returns-then-not-is_valid-clause-ok : goal.returns-then-not-is_valid-clause-ok
+returns-then-not-is_valid-clause-ok g c = λ s table permanent can decision.
+    let read = read_is c.args.map.now _ s table _ permanent _ _ _ can decision c.in_ok-image.ensures.ok
+    c.in-Read.is in
+    let no : IsValid c.in-Read.table running_set → ⊥ = search rules in
+    no (valid_again _ table s c.args.mask permanent read.1 decision)
+
+pub returns-then-taken_mask-mask-clause-ok : goal.returns-then-taken_mask-mask-clause-ok
+returns-then-taken_mask-mask-clause-ok g c = λ s table permanent can decision.
+    let read = read_is c.args.map.now _ s table _ permanent _ _ _ can decision c.in_ok-image.ensures.ok
+    c.in-Read.is in
+    let same : c.args.mask ≡ c.taken_mask.result = c.taken_mask.ensures.only c.args.mask (omega arith)
+    (chosen_again _ table s c.args.mask permanent c.choose-report.result read.1 decision
+    c.choose-report.ensures.greatest) in
+    c.if-taken_mask-mask.true (sym same)
+
+pub returns-in-DamagedAt-clause-ok : goal.returns-in-DamagedAt-clause-ok
+returns-in-DamagedAt-clause-ok g c = λ s table permanent can decision. damaged_never c.args.map.now _ s table _
+    permanent _ _ _ can decision c.in_ok-image.ensures.ok c.in-DamagedAt.is
+
+pub returns-else-taken_mask-mask-clause-ok : goal.returns-else-taken_mask-mask-clause-ok
+returns-else-taken_mask-mask-clause-ok g c = λ s table permanent can decision.
+    let read = read_is c.args.map.now _ s table _ permanent _ _ _ can decision c.in_ok-image.ensures.ok
+    c.in-Read.is in
+    found_again _ table s c.args.mask permanent _ read.0 read.1 decision c.choose-report.ensures.right
+    c.choose-report.ensures.greatest c.choose-report.ensures.standard
+
+pub returns-else-taken_mask-mask-clause-set : goal.returns-else-taken_mask-mask-clause-set
+returns-else-taken_mask-mask-clause-set g c = set_found c.args.mask c.taken_mask.result _
+    c.if-taken_mask-mask.false c.taken_mask.ensures.each

@@ -1,0 +1,35 @@
+use Rattle.std.proofs.Common.{◌≡◌, true, Some, subst}
+use Rattle.machine.specs.Boots.{IsReadSound, is_answer}
+use Rattle.machine.specs.Holding.{Stands}
+use Rattle.machine.specs.Passing.{StepsTo}
+use Rattle.machine.specs.Steps.{cut_of}
+use Rattle.boot_core.specs.Wear.{IsWorn}
+use Rattle.set_log.specs.Log.{state_of}
+use Rattle.set_log.specs.declared.state.State.{State}
+use Rattle.upload.specs.Device.{DeviceState}
+use Rattle.machine.specs.declared.event.Event.TheVariants as event
+use Rattle.boot_core.specs.Answers.{reply_of_boot}
+use Rattle.boot_core.specs.Device.{Whole, seen}
+use Rattle.boot_core.proofs.device.Device.boot.Goals as goal
+
+pub returns-clause-steps : goal.returns-clause-steps
+returns-clause-steps g c = subst
+    (λ (whole : Whole). whole.here.flash.is_on ≡ true → StepsTo whole.setup whole.here
+    (seen (g.F.Flash.chip c.boot_device.new.flash) c.boot_device.new.uploads.sessions c.boot_device.new.is_up)
+    event.Boot (reply_of_boot c.boot_device.result)) c.self.view_is
+    (λ on. c.boot_device.ensures.steps c.self.inside.identity on)
+
+pub returns-clause-answers : goal.returns-clause-answers
+returns-clause-answers g c = subst
+    (λ (whole : Whole). whole.here.flash.is_on ≡ true → cut_of (reply_of_boot c.boot_device.result) ≡ 0
+    → (s : DeviceState) → Stands whole.setup.map whole.here.flash s → IsReadSound s
+    → is_answer (reply_of_boot c.boot_device.result) ≡ true) c.self.view_is c.boot_device.ensures.answers
+
+pub returns-clause-erases : goal.returns-clause-erases
+returns-clause-erases g c = subst
+    (λ (whole : Whole). whole.here.flash.is_on ≡ true → cut_of (reply_of_boot c.boot_device.result) ≡ 0
+    → (state : State) (s : DeviceState) → state_of whole.setup.map whole.here.flash ≡ Some state
+    → Stands whole.setup.map whole.here.flash s
+    → IsWorn whole.setup.map state.kind state.mask whole.here.flash
+    (g.F.Flash.chip c.boot_device.new.flash) (reply_of_boot c.boot_device.result))
+    c.self.view_is c.boot_device.ensures.erases

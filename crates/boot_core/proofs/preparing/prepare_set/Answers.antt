@@ -1,0 +1,31 @@
+use Rattle.std.proofs.Common.{rules, arith}
+use Rattle.sector_map.proofs.Parts.{keeps_refl, keeps_trans, laid_out_kept}
+use Rattle.swap_scratch.proofs.Sums.{sum_none, sum_more}
+use Rattle.boot_core.proofs.SwapSizes.{ready_more}
+use Rattle.boot_core.proofs.preparing.prepare_set.Goals as goal
+
+pub loop-image-init : goal.loop-image-init
+loop-image-init g c = record {
+  laid_out = c.requires.laid_out;
+  outside = keeps_refl _ _ _;
+  ready = λ i lt member. absurd (omega arith);
+  erases = omega (arith, sum_none);
+  uncut = search rules;
+  asleep = search rules;
+}
+
+pub loop-image-preserved : goal.loop-image-preserved
+loop-image-preserved g c =
+    let kept = c.loop-image.invariant in
+    record {
+      laid_out = laid_out_kept _ _ _ _ kept.laid_out c.prepare_member.ensures.outside;
+      outside = keeps_trans _ _ _ _ _ kept.outside c.prepare_member.ensures.outside;
+      ready = ready_more c.args.map.now c.args.mask c.loop-image.image c.args.side _ _ kept.ready
+          c.prepare_member.ensures.kept c.in_ok-prepare_member.ensures.ok;
+      erases = omega (arith, kept.erases, c.in_ok-prepare_member.ensures.erases, sum_more);
+      uncut = search rules;
+      asleep = search rules;
+    }
+
+pub returns-clause-ok : goal.returns-clause-ok
+returns-clause-ok g c = λ i lt member. (c.loop-image.invariant.ready i (omega arith) member).prepared

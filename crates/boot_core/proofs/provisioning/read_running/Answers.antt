@@ -1,0 +1,40 @@
+use Rattle.std.proofs.Common.{rules, sym, subst, arith, ◌<◌, ◌+◌, ◌∙◌}
+use Rattle.sector_map.specs.Map.{IsLaidOut}
+use Rattle.boot_core.specs.Provisioned.{AreRunningRows, IsRowThere, running_bytes}
+use Rattle.boot_core.proofs.Afresh.{first_damaged, rows_more, rows_none}
+use Rattle.boot_core.proofs.provisioning.read_running.Goals as goal
+
+pub loop-image-init : goal.loop-image-init
+loop-image-init g c = record {
+  laid_out = c.requires.laid_out;
+  few = c.requires.laid_out.is_map.counts.few;
+  same = search rules;
+  rows = subst (λ l. AreRunningRows c.args.map.now (g.F.Flash.chip c.args.flash.now) 0 l)
+      (sym c.new-images.ensures) (rows_none c.args.map.now (g.F.Flash.chip c.args.flash.now));
+}
+
+pub returns-in-None-clause-ok : goal.returns-in-None-clause-ok
+returns-in-None-clause-ok g c =
+    let map = c.args.map.now in
+    let old = g.F.Flash.chip c.args.flash.now in
+    let lt : c.loop-image.image < c.args.map.now.images = omega arith in
+    first_damaged map old c.loop-image.image _ c.loop-image.invariant.rows lt
+    (subst (λ found. IsRowThere (running_bytes map old c.loop-image.image) found) c.in-None.is
+    (subst (λ chip. IsRowThere (running_bytes map chip c.loop-image.image) c.in_ok-read_row.field-0)
+    c.loop-image.invariant.same c.in_ok-read_row.ensures.ok))
+
+pub loop-image-preserved : goal.loop-image-preserved
+loop-image-preserved g c =
+    let map = c.args.map.now in
+    let old = g.F.Flash.chip c.args.flash.now in
+    record {
+      laid_out = subst (λ chip. IsLaidOut c.args.map.now chip) (sym c.read_row.ensures.same)
+          c.loop-image.invariant.laid_out;
+      few = search rules;
+      same = c.read_row.ensures.same ∙ c.loop-image.invariant.same;
+      rows = subst (λ l. AreRunningRows map old (c.loop-image.image + 1) l) (sym c.push.ensures.items)
+          (rows_more map old c.loop-image.image _ _ c.loop-image.invariant.rows
+          (subst (λ found. IsRowThere (running_bytes map old c.loop-image.image) found) c.in-Some.is
+          (subst (λ chip. IsRowThere (running_bytes map chip c.loop-image.image) c.in_ok-read_row.field-0)
+          c.loop-image.invariant.same c.in_ok-read_row.ensures.ok)));
+    }

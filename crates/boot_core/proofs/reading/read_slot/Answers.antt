@@ -1,0 +1,19 @@
+use Rattle.std.proofs.Common.{sym, subst}
+use Rattle.tlv.specs.Slot.{slot_bytes}
+use Rattle.machine.specs.Boots.{IsEntryOf}
+use Rattle.machine.proofs.Rows.{read_some}
+use Rattle.boot_core.proofs.Described.{described_front, fault_front}
+use Rattle.boot_core.proofs.reading.read_slot.Goals as goal
+
+pub returns-in-Ok-clause-ok : goal.returns-in-Ok-clause-ok
+returns-in-Ok-clause-ok g c = λ held front.
+    let slot = slot_bytes c.args.map.now (g.F.Flash.chip c.args.flash.now) c.args.image c.args.side in
+    subst (λ entry. IsEntryOf held entry) (sym c.entry_of.ensures)
+    (read_some slot c.in-Ok.description held
+    (described_front slot c.in-Ok.description c.in-Ok.ensures.described) front)
+
+pub returns-in-Err-Image-clause-ok : goal.returns-in-Err-Image-clause-ok
+returns-in-Err-Image-clause-ok g c = λ held front.
+    let slot = slot_bytes c.args.map.now (g.F.Flash.chip c.args.flash.now) c.args.image c.args.side in
+    let fault = rw c.in-Err-Image.field-0-is at c.in-Err-Image.ensures.fault in
+    fault_front slot c.in-Err-Image.field-0-0 held fault.1 front

@@ -1,0 +1,23 @@
+use Rattle.std.proofs.Common.{rules, arith, ◌≡◌, ◌+◌, [], ◌∷◌}
+use Rattle.std.proofs.lemmas.List.{take_more}
+use Rattle.machine.specs.Steps.{cuts_in}
+use Rattle.machine.proofs.Runs.{cuts_on, runs_on}
+use Rattle.boot_core.proofs.running.run.Goals as goal
+
+pub loop-event-preserved : goal.loop-event-preserved
+loop-event-preserved g c =
+    let so_far = c.loop-event.invariant in
+    let counted : c.step-reply.new.device.here.flash.cuts
+    ≡ c.loop-event.device.here.flash.cuts + cuts_in (c.step-reply.result ∷ []) =
+    omega (arith, c.step-reply.ensures.cuts) in
+    record {
+      setup = search rules;
+      on = search rules;
+      room = search rules;
+      filled = search rules;
+      count = search rules;
+      runs = runs_on _ _ _ _ _ _ _ _ _ _ _ so_far.setup
+          (take_more c.args.events.now c.loop-event.event-index _ (omega arith)) c.in-Ok.ensures.items so_far.runs
+          c.step-reply.ensures.steps;
+      cuts = cuts_on _ _ _ _ _ _ c.in-Ok.ensures.items so_far.cuts counted;
+    }

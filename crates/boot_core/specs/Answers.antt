@@ -1,0 +1,102 @@
+-- What a device's calls answer, as replies of the machine, and what each answer tells.
+use Rattle.std.specs.Prelude.{◌≡◌, ◌+◌, Bool, true, false, Result, Ok, Err}
+use Rattle.flash_model.specs.declared.error.FlashError.TheVariants as flash
+use Rattle.upload.specs.declared.error.UploadError.{UploadError}
+use Rattle.upload.specs.declared.error.UploadError.TheVariants as upload
+use Rattle.upload.specs.Ending.{is_flash}
+use Rattle.upload.specs.Sessions.{AllClosed}
+use Rattle.machine.specs.Holding.{DeviceView}
+use Rattle.machine.specs.Steps.{cut_of}
+use Rattle.machine.specs.declared.error.Fault.{Fault}
+use Rattle.machine.specs.declared.error.Fault.TheVariants as no
+use Rattle.machine.specs.declared.reply.Reply.{Reply}
+use Rattle.machine.specs.declared.reply.Reply.TheVariants.{Done, Booted, Reverted, TrialAgain, Refused, Cut}
+
+-- The reply of the machine to a refused upload: a cut is a reply of its own.
+abbrev pub error_reply : UploadError → Reply
+error_reply upload.OldSequence = Refused (no.Upload upload.OldSequence)
+error_reply upload.TooBig = Refused (no.Upload upload.TooBig)
+error_reply upload.NoSession = Refused (no.Upload upload.NoSession)
+error_reply upload.TooMuch = Refused (no.Upload upload.TooMuch)
+error_reply upload.SizeWrong = Refused (no.Upload upload.SizeWrong)
+error_reply upload.DigestWrong = Refused (no.Upload upload.DigestWrong)
+error_reply (upload.NotAnImage fault) = Refused (no.Upload (upload.NotAnImage fault))
+error_reply upload.WrongPrecursor = Refused (no.Upload upload.WrongPrecursor)
+error_reply upload.NothingRequested = Refused (no.Upload upload.NothingRequested)
+error_reply (upload.Flash flash.Cut) = Cut
+error_reply (upload.Flash flash.Off) = Refused (no.Upload (upload.Flash flash.Off))
+error_reply upload.NoMemory = Refused (no.Upload upload.NoMemory)
+
+-- The reply of the machine to a refused call.
+abbrev pub fault_reply : Fault → Reply
+fault_reply no.NotBooted = Refused no.NotBooted
+fault_reply no.OnTrial = Refused no.OnTrial
+fault_reply no.NotOnTrial = Refused no.NotOnTrial
+fault_reply no.NotProvisioned = Refused no.NotProvisioned
+fault_reply (no.RunningDamaged image) = Refused (no.RunningDamaged image)
+fault_reply no.InvalidSet = Refused no.InvalidSet
+fault_reply (no.Flash flash.Cut) = Cut
+fault_reply (no.Flash flash.Off) = Refused (no.Flash flash.Off)
+fault_reply no.NoMemory = Refused no.NoMemory
+fault_reply (no.Manifest error) = Refused (no.Manifest error)
+fault_reply (no.Upload error) = error_reply error
+
+-- The reply of the machine for the result of a call ..
+abbrev pub reply_of_result : Result Unit Fault → Reply
+reply_of_result (Ok done) = Done
+reply_of_result (Err fault) = fault_reply fault
+
+-- .. and for that of a boot.
+abbrev pub reply_of_boot : Result Reply Fault → Reply
+reply_of_boot (Ok reply) = reply
+reply_of_boot (Err fault) = fault_reply fault
+
+-- Whether a call stopped at the flash, where power failed or was off.
+abbrev pub is_stop : Fault → Bool
+is_stop no.NotBooted = false
+is_stop no.OnTrial = false
+is_stop no.NotOnTrial = false
+is_stop no.NotProvisioned = false
+is_stop (no.RunningDamaged image) = false
+is_stop no.InvalidSet = false
+is_stop (no.Flash error) = true
+is_stop no.NoMemory = false
+is_stop (no.Manifest error) = false
+is_stop (no.Upload error) = is_flash {T = Unit} (Err error)
+
+-- Whether a reply tells so.
+abbrev pub is_stopped : Reply → Bool
+is_stopped Done = false
+is_stopped (Booted table report permanent) = false
+is_stopped (Reverted mask) = false
+is_stopped (TrialAgain set left) = false
+is_stopped (Refused fault) = is_stop fault
+is_stopped Cut = true
+
+-- How a call of a device ends, by its reply. Cut is answered where a write was cut and nowhere else; else the power is
+-- as it was. That the flash is off is answered where it was. After either no upload is open, and the device isn't up.
+pub record EndsCall (reply : Reply) (old new : DeviceView) : Type 0 where
+  pub cuts : new.flash.cuts ≡ old.flash.cuts + cut_of reply
+  pub power : cut_of reply ≡ 0 → new.flash.is_on ≡ old.flash.is_on
+  pub off : is_stopped reply ≡ true → cut_of reply ≡ 0 → old.flash.is_on ≡ false
+  pub down : is_stopped reply ≡ true → new.up ≡ false
+  pub closed : is_stopped reply ≡ true → AllClosed new.sessions
+
+-- What a boot replies that isn't cut: a report, that a set is tried or reverted, or why it stops. No other refusal is
+-- among them.
+abbrev pub IsBootReply : Reply → Type 0
+IsBootReply (Booted table report permanent) = Unit
+IsBootReply (Reverted mask) = Unit
+IsBootReply (TrialAgain set left) = Unit
+IsBootReply (Refused no.NotProvisioned) = Unit
+IsBootReply (Refused (no.RunningDamaged image)) = Unit
+IsBootReply (Refused no.InvalidSet) = Unit
+IsBootReply (Refused no.NotBooted) = ⊥
+IsBootReply (Refused no.OnTrial) = ⊥
+IsBootReply (Refused no.NotOnTrial) = ⊥
+IsBootReply (Refused (no.Flash error)) = ⊥
+IsBootReply (Refused no.NoMemory) = ⊥
+IsBootReply (Refused (no.Manifest error)) = ⊥
+IsBootReply (Refused (no.Upload error)) = ⊥
+IsBootReply Done = ⊥
+IsBootReply Cut = ⊥

@@ -1,0 +1,33 @@
+-- What contracts see of a device, and what is true of each.
+use Rattle.std.specs.Prelude.{◌≡◌, ℕ, ◌≤◌, Bool, List, Option}
+use Rattle.flash_model.specs.Chip.{Chip}
+use Rattle.sector_map.specs.Map.{IsLaidOut}
+use Rattle.sector_map.specs.declared.layout.SectorMap.{SectorMap}
+use Rattle.manifest.specs.declared.identity.Identity.{Identity}
+use Rattle.upload.specs.View.{view}
+use Rattle.upload.specs.Sessions.{AllOpenAt}
+use Rattle.upload.specs.declared.sessions.Upload.{Upload}
+use Rattle.machine.specs.Intake.{Setup}
+use Rattle.machine.specs.Holding.{DeviceView}
+
+-- A device as contracts see it: what it was made with, and what there is of it now.
+pub record Whole : Type 0 where
+  pub setup : Setup
+  pub here : DeviceView
+
+-- What it was made with ..
+abbrev pub made : SectorMap → Identity → ℕ → Setup
+made map identity boots = record { map = map; identity = identity; boots = boots }
+
+-- .. and what there is of it now.
+abbrev pub seen : Chip → List (Option Upload) → Bool → DeviceView
+seen chip sessions up = record { flash = chip; sessions = sessions; up = up }
+
+-- What is true of each device.
+pub record IsDevice (map : SectorMap) (identity : Identity) (chip : Chip)
+    (sessions : List (Option Upload)) (left : ℕ) : Type 0 where
+  pub laid_out : IsLaidOut map chip
+  pub images : identity.images ≡ map.images
+  -- A trial has 7 boots at most, and the one that begins it is the first of them.
+  pub few : left ≤ 6
+  pub opens : AllOpenAt (view map chip) sessions

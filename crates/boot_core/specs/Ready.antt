@@ -1,0 +1,60 @@
+-- Whether a device takes uploads now.
+use Rattle.std.specs.Prelude.{◌≡◌, ℕ, Bool, true, false, List, Option, Some, None, Result, Ok, Err}
+use Rattle.flash_model.specs.declared.error.FlashError.TheVariants as flash
+use Rattle.manifest.specs.declared.identity.Identity.{Identity}
+use Rattle.manifest.specs.Fault.{IsRefusal}
+use Rattle.manifest.specs.declared.error.ManifestError.{ManifestError}
+use Rattle.manifest.specs.declared.error.ManifestError.TheVariants as text
+use Rattle.set_log.specs.declared.state.State.{State}
+use Rattle.set_log.specs.declared.state.Kind.TheVariants as log
+use Rattle.machine.specs.declared.error.Fault.{Fault}
+use Rattle.machine.specs.declared.error.Fault.TheVariants as no
+
+-- A set is on trial, by the log.
+abbrev pub LogsTrial : Option State → Type 0
+LogsTrial recorded = (state : State) × (recorded ≡ Some state) × (state.kind ≡ log.Trial)
+
+-- The log has a state, and no set is on trial.
+abbrev pub LogsNoTrial : Option State → Type 0
+LogsNoTrial recorded =
+    (state : State) × (recorded ≡ Some state) × (state.kind ≡ log.Trial → ⊥)
+
+-- Whether uploads are taken, by the first check that fails: the device is up, the log has a state, and no set is on
+-- trial.
+abbrev pub IsReadiness : Result Unit Fault → Bool → Option State → Bool → Type 0
+IsReadiness (Ok done) up recorded on = (up ≡ true) × LogsNoTrial recorded
+IsReadiness (Err no.NotBooted) up recorded on = up ≡ false
+IsReadiness (Err no.OnTrial) up recorded on = (up ≡ true) × LogsTrial recorded
+IsReadiness (Err no.NotProvisioned) up recorded on = (up ≡ true) × (recorded ≡ None)
+IsReadiness (Err (no.Flash flash.Off)) up recorded on = (up ≡ true) × (on ≡ false)
+IsReadiness (Err (no.Flash flash.Cut)) up recorded on = ⊥
+IsReadiness (Err no.NotOnTrial) up recorded on = ⊥
+IsReadiness (Err (no.RunningDamaged image)) up recorded on = ⊥
+IsReadiness (Err no.InvalidSet) up recorded on = ⊥
+IsReadiness (Err no.NoMemory) up recorded on = ⊥
+IsReadiness (Err (no.Manifest error)) up recorded on = ⊥
+IsReadiness (Err (no.Upload error)) up recorded on = ⊥
+
+-- The refusal of a text: want of memory is one of the device.
+abbrev pub text_fault : ManifestError → Fault
+text_fault text.NoMemory = no.NoMemory
+text_fault text.NotJson = no.Manifest text.NotJson
+text_fault text.BadKey = no.Manifest text.BadKey
+text_fault text.BadValue = no.Manifest text.BadValue
+text_fault text.WrongVendor = no.Manifest text.WrongVendor
+text_fault text.WrongClass = no.Manifest text.WrongClass
+text_fault text.NoComponent = no.Manifest text.NoComponent
+text_fault text.RepeatedComponent = no.Manifest text.RepeatedComponent
+
+-- Why bytes aren't taken for a manifest: they are none for this device, or memory ran out.
+abbrev pub RefusesText : Identity → List ℕ → Fault → Type 0
+RefusesText identity bytes (no.Manifest error) = IsRefusal identity bytes error
+RefusesText identity bytes no.NoMemory = Unit
+RefusesText identity bytes no.NotBooted = ⊥
+RefusesText identity bytes no.OnTrial = ⊥
+RefusesText identity bytes no.NotOnTrial = ⊥
+RefusesText identity bytes no.NotProvisioned = ⊥
+RefusesText identity bytes (no.RunningDamaged image) = ⊥
+RefusesText identity bytes no.InvalidSet = ⊥
+RefusesText identity bytes (no.Flash error) = ⊥
+RefusesText identity bytes (no.Upload error) = ⊥

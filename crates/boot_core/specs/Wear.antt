@@ -1,0 +1,49 @@
+-- How many erases a boot makes, by the images that its set has in its slots.
+use Rattle.std.specs.Prelude.{◌≡◌, ℕ, ◌+◌, ◌*◌, ◌<◌, ◌≤◌, true, Some}
+use Rattle.flash_model.specs.Chip.{Chip}
+use Rattle.sector_map.specs.declared.layout.SectorMap.{SectorMap}
+use Rattle.sector_map.specs.declared.layout.Side.{Side}
+use Rattle.sector_map.specs.declared.layout.Side.TheVariants.{Primary, Secondary}
+use Rattle.sector_map.specs.Map.{slot_sectors}
+use Rattle.sector_map.specs.Part.{is_member}
+use Rattle.set_log.specs.declared.state.Kind.{Kind}
+use Rattle.set_log.specs.declared.state.Kind.TheVariants as log
+use Rattle.swap_scratch.specs.Used.{sectors_for}
+use Rattle.swap_scratch.specs.Swap.{sum_over}
+use Rattle.upload.specs.View.{View, view}
+use Rattle.machine.specs.Wear.{members, IsResumed, IsSetOf, IsSettling}
+use Rattle.machine.specs.declared.reply.Reply.{Reply}
+use Rattle.boot_core.specs.SwapSize.{IsSwapSize}
+
+-- How many sectors of each slot of an image a swap moves, by the bytes that it moves.
+abbrev pub sectors_moved : SectorMap → (ℕ → ℕ) → ℕ → ℕ
+sectors_moved map sizes i = sectors_for (slot_sectors map i) map.sector_size (Some (sizes i))
+
+-- The trailers of a set say how many bytes its swap moves, by the images that were in its slots.
+abbrev pub AreMeasured : View → View → Side → ℕ → Type 0
+AreMeasured old new side mask = (i : ℕ) → i < old.images → is_member mask i ≡ true
+    → (size : ℕ) × ((new.trailer i side).size ≡ Some size) × IsSwapSize old i size
+
+-- A swap of a set that is begun: three erases for each sector that it moves, three for each image, and some more.
+abbrev pub IsFreshWear : SectorMap → Chip → Chip → ℕ → ℕ → Type 0
+IsFreshWear map old new mask more = (sizes : ℕ → ℕ)
+    → ((i : ℕ) → is_member mask i ≡ true → IsSwapSize (view map old) i (sizes i))
+    → new.erases ≤ old.erases + 3 * sum_over mask (sectors_moved map sizes) map.images
+    + 3 * members map mask + more
+
+-- A swap of the set of a reply that is begun.
+abbrev pub IsAfresh : SectorMap → Chip → Chip → ℕ → Reply → Type 0
+IsAfresh map old new more reply =
+    (mask : ℕ) × IsSetOf mask reply × IsFreshWear map old new mask more
+
+-- The wear of a boot that isn't cut, by the record that stood.
+abbrev pub IsWorn : SectorMap → Kind → ℕ → Chip → Chip → Reply → Type 0
+IsWorn map log.Steady mask old new reply = IsAfresh map old new 3 reply
+IsWorn map log.Swap mask old new reply =
+    IsResumed map old new Primary mask × IsSetOf mask reply
+IsWorn map log.Settle mask old new reply = IsSettling map old new mask × IsSetOf mask reply
+IsWorn map log.Trial mask old new reply = IsAfresh map old new 4 reply
+IsWorn map log.Back mask old new reply =
+    IsResumed map old new Secondary mask × IsSetOf mask reply
+IsWorn map log.BackSettle mask old new reply =
+    IsSettling map old new mask × IsSetOf mask reply

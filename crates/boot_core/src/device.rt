@@ -1,0 +1,303 @@
+//! The device that programs and bootloaders hold.
+
+ghost use Rattle.std.specs.Prelude.{◌≡◌, ◌+◌, ◌≤◌, true, false, None, Some, Err, IfOk};
+ghost use Rattle.boot_core.specs.Answers.{EndsCall, reply_of_boot, reply_of_result};
+ghost use Rattle.boot_core.specs.Device.{made};
+ghost use Rattle.boot_core.specs.Wear.{IsWorn};
+ghost use Rattle.machine.specs.Boots.{IsReadSound, is_answer};
+ghost use Rattle.machine.specs.Holding.{Holds, Stands};
+ghost use Rattle.machine.specs.Passing.{StepsTo};
+ghost use Rattle.machine.specs.States.{asleep};
+ghost use Rattle.machine.specs.Steps.{cut_of};
+ghost use Rattle.machine.specs.declared.error.Fault.TheVariants.{NotProvisioned};
+ghost use Rattle.machine.specs.declared.event.Event.TheVariants as event;
+ghost use Rattle.sector_map.specs.Map.{IsLaidOut};
+ghost use Rattle.set_log.specs.Log.{state_of};
+ghost use Rattle.set_log.specs.declared.state.State.{State as LogState};
+ghost use Rattle.upload.specs.Device.{DeviceState, Machine};
+ghost use Rattle.upload.specs.Sessions.{AllClosed};
+
+use crate::boots::boot_device;
+use crate::confirming::confirm_on;
+use crate::intake::{accept, finish, piece, withdraw};
+use flash_model::Flash;
+use machine::{Fault, Reply};
+use manifest::Identity;
+use sector_map::SectorMap;
+use std::alloc::Global;
+use std::marker::Model;
+use upload::Uploads;
+
+/// A device: its flash and what it holds besides. Contracts see what it was made with (`setup`), and what there is of
+/// it now (`here`): the flash, the uploads that are open, and whether it is up, which it is from a boot that answers
+/// until the power fails or it is reset.
+///
+/// No call has a condition. On a flash that holds a state each is a step of the machine of whole images (`machine`);
+/// on any other it returns too, and its answer is one of the faults that it lists.
+#[derive(Drop)]
+pub struct Device<F: Flash> {
+    flash: F,
+    map: SectorMap,
+    identity: Identity,
+    uploads: Uploads,
+    left: u8,
+    is_up: bool,
+}
+
+impl<F: Flash> Model for Device<F> {
+    ghost use Rattle.std.specs.Prelude.{◌+◌};
+    ghost use Rattle.boot_core.specs.Device.{IsDevice, Whole, made, seen};
+
+    ghost Value = { Whole };
+
+    ghost view = { λ d. record {
+      setup = made d.map d.identity (d.left + 1);
+      here = seen (F.chip d.flash) d.uploads.sessions d.is_up;
+    } };
+
+    ghost invariant = { λ d. IsDevice d.map d.identity (F.chip d.flash) d.uploads.sessions d.left };
+}
+
+impl<F: Flash> Device<F> {
+    /// A device whose trials have one boot: a set on trial that isn't confirmed until the next boot goes back.
+    ///
+    /// The map is laid out on the flash, of which its `fits` is the test, and has as many images as the identity says.
+    /// The device isn't up. Does not allocate.
+    pub fn new(flash: F, map: SectorMap, identity: Identity) -> Self
+        requires laid_out { IsLaidOut map (F.chip flash) }
+        requires images { identity.images ≡ map.images }
+        ensures setup { result.setup ≡ made map identity 1 }
+        ensures flash { result.here.flash ≡ F.chip flash }
+        ensures down { result.here.up ≡ false }
+        ensures closed { AllClosed result.here.sessions }
+    {
+        Device {
+            flash,
+            map,
+            identity,
+            uploads: Uploads::new(),
+            left: 0,
+            is_up: false,
+        }
+    }
+
+    /// A device whose trials have so many boots, 1 to 7: a set on trial that isn't confirmed goes back at the boot
+    /// after the last of them.
+    ///
+    /// The map is laid out on the flash, of which its `fits` is the test, and has as many images as the identity says.
+    /// The device isn't up. Does not allocate.
+    pub fn with_trial(flash: F, map: SectorMap, identity: Identity, boots: u8) -> Self
+        requires laid_out { IsLaidOut map (F.chip flash) }
+        requires images { identity.images ≡ map.images }
+        requires some { 1 ≤ boots }
+        requires few { boots ≤ 7 }
+        ensures setup { result.setup ≡ made map identity boots }
+        ensures flash { result.here.flash ≡ F.chip flash }
+        ensures down { result.here.up ≡ false }
+        ensures closed { AllClosed result.here.sessions }
+    {
+        Device {
+            flash,
+            map,
+            identity,
+            uploads: Uploads::new(),
+            left: boots - 1,
+            is_up: false,
+        }
+    }
+
+    /// Boots: what was interrupted is finished, or the images that run next are decided. All uploads end. The answer
+    /// is what the boot did: `Booted` with the table and the report of its decision, `Reverted`, or `TrialAgain`; the
+    /// device is up then. Does not allocate.
+    ///
+    /// # Errors
+    /// The device isn't up. `NotProvisioned` where the log has no state: nothing changed. `RunningDamaged` and
+    /// `InvalidSet` where the images that run are damaged or don't meet their dependencies, which comes of no state
+    /// that a device was provisioned to. `Flash` with `Cut` where power failed: the state is the one before the boot,
+    /// that state as it is read, or the one after it; with `Off` where the flash was off.
+    pub fn boot(&mut self) -> Result<Reply, Fault>
+        ensures setup { self.new.setup ≡ self.old.setup }
+        ensures steps { self.old.here.flash.is_on ≡ true → StepsTo self.old.setup self.old.here
+            self.new.here event.Boot (reply_of_boot result) }
+        ensures ok { IfOk result (λ reply. is_answer reply ≡ true) }
+        // From a state that is read sound a boot answers, unless it is cut.
+        ensures answers { self.old.here.flash.is_on ≡ true → cut_of (reply_of_boot result) ≡ 0
+            → (s : DeviceState) → Stands self.old.setup.map self.old.here.flash s → IsReadSound s
+            → is_answer (reply_of_boot result) ≡ true }
+        ensures empty { state_of self.old.setup.map self.old.here.flash ≡ None
+            → self.new.here.flash ≡ self.old.here.flash }
+        ensures refused { self.old.here.flash.is_on ≡ true
+            → state_of self.old.setup.map self.old.here.flash ≡ None
+            → result ≡ Err NotProvisioned }
+        // How many erases a boot makes that isn't cut, by the record that stood.
+        ensures erases { self.old.here.flash.is_on ≡ true → cut_of (reply_of_boot result) ≡ 0
+            → (state : LogState) (s : DeviceState)
+            → state_of self.old.setup.map self.old.here.flash ≡ Some state
+            → Stands self.old.setup.map self.old.here.flash s
+            → IsWorn self.old.setup.map state.kind state.mask self.old.here.flash
+            self.new.here.flash (reply_of_boot result) }
+        ensures closed { AllClosed self.new.here.sessions }
+        ensures ends { EndsCall (reply_of_boot result) self.old.here self.new.here }
+    {
+        boot_device(
+            &mut self.flash,
+            &self.map,
+            &mut self.uploads,
+            &mut self.is_up,
+            self.left,
+        )
+    }
+
+    /// Takes a manifest, given by the bytes of its JSON text: an upload is opened for each image that it names, and
+    /// what was requested for these is gone. Allocates while the text is read.
+    ///
+    /// # Errors
+    /// The first of: `NotBooted`; `OnTrial`; `NotProvisioned` where the log has no state; `Manifest` with the lowest
+    /// refusal that applies, or `NoMemory` while the text is read; `Upload` with `OldSequence`, `TooBig` or
+    /// `WrongPrecursor`. Nothing changed then. `Upload` with `Flash` where power failed or the flash was off: the
+    /// device isn't up and no upload is open; after a cut the old sequence number stands and each request as it was,
+    /// or the new one and each request of a named image as it was or gone.
+    pub fn accept(&mut self, alloc: Global, text: &[u8]) -> Result<(), Fault>
+        ensures setup { self.new.setup ≡ self.old.setup }
+        ensures steps { self.old.here.flash.is_on ≡ true → StepsTo self.old.setup self.old.here
+            self.new.here (event.Accept text.entry) (reply_of_result result) }
+        ensures ends { EndsCall (reply_of_result result) self.old.here self.new.here }
+    {
+        accept(
+            &mut self.flash,
+            &self.map,
+            &self.identity,
+            &mut self.uploads,
+            &mut self.is_up,
+            alloc,
+            text,
+        )
+    }
+
+    /// Takes a piece of the upload of an image, told by its number from 0: the bytes that follow those before. Does
+    /// not allocate.
+    ///
+    /// # Errors
+    /// The first of: `NotBooted`; `OnTrial`; `NotProvisioned` where the log has no state; `Upload` with `NoSession`:
+    /// nothing changed. `Upload` with `TooMuch`: this upload is closed. `Upload` with `Flash` where power failed or
+    /// the flash was off: the device isn't up, and no upload is open.
+    pub fn piece(&mut self, image: u8, more: &[u8]) -> Result<(), Fault>
+        ensures setup { self.new.setup ≡ self.old.setup }
+        ensures steps { self.old.here.flash.is_on ≡ true → StepsTo self.old.setup self.old.here
+            self.new.here (event.Piece image more.entry) (reply_of_result result) }
+        ensures ends { EndsCall (reply_of_result result) self.old.here self.new.here }
+    {
+        piece(
+            &mut self.flash,
+            &self.map,
+            &mut self.uploads,
+            &mut self.is_up,
+            image,
+            more,
+        )
+    }
+
+    /// Finishes the upload of an image, told by its number from 0: where it is whole, of the digest that the manifest
+    /// names, and an intact image, it is requested. Does not allocate.
+    ///
+    /// # Errors
+    /// The first of: `NotBooted`; `OnTrial`; `NotProvisioned` where the log has no state; `Upload` with `NoSession`:
+    /// nothing changed. `Upload` with `SizeWrong`, `DigestWrong` or `NotAnImage`: this upload is closed, and nothing
+    /// is requested. `Upload` with `Flash` where power failed or the flash was off: the device isn't up, no upload is
+    /// open, and after a cut the image is requested whole or not at all.
+    pub fn finish(&mut self, image: u8) -> Result<(), Fault>
+        ensures setup { self.new.setup ≡ self.old.setup }
+        ensures steps { self.old.here.flash.is_on ≡ true → StepsTo self.old.setup self.old.here
+            self.new.here (event.Finish image) (reply_of_result result) }
+        ensures ends { EndsCall (reply_of_result result) self.old.here self.new.here }
+    {
+        finish(
+            &mut self.flash,
+            &self.map,
+            &mut self.uploads,
+            &mut self.is_up,
+            image,
+        )
+    }
+
+    /// Takes the request of an image back, told by its number from 0. Does not allocate.
+    ///
+    /// # Errors
+    /// The first of: `NotBooted`; `OnTrial`; `NotProvisioned` where the log has no state; `Upload` with
+    /// `NothingRequested`: nothing changed. `Upload` with `Flash` where power failed or the flash was off: the device
+    /// isn't up, no upload is open, and after a cut the request stands as before or not at all.
+    pub fn withdraw(&mut self, image: u8) -> Result<(), Fault>
+        ensures setup { self.new.setup ≡ self.old.setup }
+        ensures steps { self.old.here.flash.is_on ≡ true → StepsTo self.old.setup self.old.here
+            self.new.here (event.Withdraw image) (reply_of_result result) }
+        ensures ends { EndsCall (reply_of_result result) self.old.here self.new.here }
+    {
+        withdraw(
+            &mut self.flash,
+            &self.map,
+            &mut self.uploads,
+            &mut self.is_up,
+            image,
+        )
+    }
+
+    /// Confirms an image of the set on trial, told by its number from 0. Confirming it again is no fault. Does not
+    /// allocate.
+    ///
+    /// # Errors
+    /// `NotBooted`, then `NotOnTrial` where no set is on trial that has the image: nothing changed. `Flash` where
+    /// power failed or the flash was off: the device isn't up and no upload is open; after a cut the image is
+    /// confirmed or as it was.
+    pub fn confirm(&mut self, image: u8) -> Result<(), Fault>
+        ensures setup { self.new.setup ≡ self.old.setup }
+        ensures steps { self.old.here.flash.is_on ≡ true → StepsTo self.old.setup self.old.here
+            self.new.here (event.Confirm image) (reply_of_result result) }
+        ensures ends { EndsCall (reply_of_result result) self.old.here self.new.here }
+    {
+        confirm_on(
+            &mut self.flash,
+            &self.map,
+            &mut self.uploads,
+            &mut self.is_up,
+            image,
+        )
+    }
+
+    /// Resets the device: all uploads end, it isn't up, and its flash has power again. No byte of the flash changes.
+    /// Does not allocate.
+    pub fn reset(&mut self)
+        ensures setup { self.new.setup ≡ self.old.setup }
+        ensures flash { self.new.here.flash ≡ record (self.old.here.flash) { is_on = true } }
+        ensures down { self.new.here.up ≡ false }
+        ensures closed { AllClosed self.new.here.sessions }
+        // It holds what it held, without uploads.
+        ensures holds { (m : Machine) → Holds self.old.setup.map self.old.here m
+            → Holds self.old.setup.map self.new.here (asleep m.kept) }
+    {
+        self.flash.restart();
+        self.uploads = Uploads::new();
+        self.is_up = false;
+    }
+
+    /// The flash.
+    pub fn flash(&self) -> &F
+        ensures { F.chip result.now ≡ self.now.here.flash }
+    {
+        &self.flash
+    }
+
+    /// The flash, of which the device lets go.
+    pub fn into_flash(self) -> F
+        ensures { F.chip result ≡ self.here.flash }
+    {
+        let Device {
+            flash,
+            map: _,
+            identity: _,
+            uploads: _,
+            left: _,
+            is_up: _,
+        } = self;
+        flash
+    }
+}

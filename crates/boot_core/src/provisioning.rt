@@ -1,0 +1,196 @@
+//! Making a flash a device's.
+
+ghost use Rattle.std.specs.Prelude.{◌≡◌, ℕ, ◌<◌, ◌≤◌, List, false, true, Err, OnOk, IfOk, IfErr, slice_index};
+ghost use Rattle.flash_model.specs.Chip.{Ends};
+ghost use Rattle.sector_map.specs.Map.{IsLaidOut, Keeps};
+ghost use Rattle.sector_map.specs.Part.{trailers_of};
+ghost use Rattle.tlv.specs.Image.{BeginsIntact};
+ghost use Rattle.trailer.specs.Fields.{erased_fields, fields_at};
+ghost use Rattle.machine.specs.declared.error.Fault.TheVariants.{InvalidSet, RunningDamaged};
+ghost use Rattle.boot_core.specs.Provisioned.{AnswersMaking, AreCleared, AreCounters, EndsMaking, IsBegunAfresh};
+ghost use Rattle.boot_core.specs.Provisioned.{IsFirstDamaged, IsInvalidThere, IsJudged, IsProvisioned, IsReadThere};
+ghost use Rattle.boot_core.specs.Provisioned.{IsRowThere, IsRunningRow, IsValidThere, RefusesMaking, provided};
+ghost use Rattle.boot_core.specs.Provisioned.{IsDoneOrCut, running_bytes};
+
+use crate::deciding::raised_floors;
+use crate::reading::entry_of;
+use arrayvec::ArrayVec;
+use certificate::{Image, Request, Table, is_valid};
+use common::limits::MOST_IMAGES;
+use flash_model::{Flash, FlashError};
+use machine::{Fault, Reading};
+use sector_map::{SectorMap, Side};
+use set_log::{Kind, State, start};
+use tlv::{Desc, SlotError, describe_slot};
+use trailer::clear;
+
+/// The row of an image that runs, by its description: nothing is requested, and its own counter is the floor.
+fn running_image(description: Desc) -> Image
+    ensures { (whole : List ℕ) → BeginsIntact whole description → IsRunningRow whole result }
+{
+    let floor = description.counter;
+    Image {
+        running: entry_of(description),
+        request: Request::None,
+        floor,
+    }
+}
+
+/// The row of the image that a primary slot begins with, if that is intact.
+fn read_row<F: Flash>(
+    flash: &mut F,
+    map: &SectorMap,
+    image: u8,
+) -> Result<Option<Image>, FlashError>
+    requires laid_out { IsLaidOut map.now (F.chip flash.old) }
+    requires there { image < map.now.images }
+    ensures same { F.chip flash.new ≡ F.chip flash.old }
+    ensures ok { IfOk result (IsRowThere (running_bytes map.now (F.chip flash.old) image)) }
+    ensures ends { Ends result (F.chip flash.old) (F.chip flash.new) }
+    ensures off { IfErr result (λ error. error ≡ FlashError.Off) }
+{
+    match describe_slot(flash, map, image, Side::Primary) {
+        Ok(description) => Ok(Some(running_image(description))),
+        Err(SlotError::Image(_)) => Ok(None),
+        Err(SlotError::Flash(error)) => Err(error),
+        Err(SlotError::NoMemory) => unreachable!(),
+    }
+}
+
+/// The table of what the primary slots begin with, or the lowest image that isn't intact.
+fn read_running<F: Flash>(flash: &mut F, map: &SectorMap) -> Result<Reading, FlashError>
+    requires laid_out { IsLaidOut map.now (F.chip flash.old) }
+    ensures same { F.chip flash.new ≡ F.chip flash.old }
+    ensures ok { IfOk result (IsReadThere map.now (F.chip flash.old)) }
+    ensures ends { Ends result (F.chip flash.old) (F.chip flash.new) }
+    ensures off { IfErr result (λ error. error ≡ FlashError.Off) }
+{
+    let mut images = ArrayVec::new();
+    for image in 0..map.images {
+        match read_row(flash, map, image)? {
+            None => return Ok(Reading::DamagedAt(image)),
+            Some(row) => images.push(row),
+        }
+    }
+    Ok(Reading::Read(Table { images }))
+}
+
+/// The security counters of the running images of a table.
+fn running_counters(table: &Table) -> [u32; MOST_IMAGES]
+    ensures { AreCounters table.now.images.items result }
+{
+    raised_floors(table, 0, &[0; MOST_IMAGES])
+}
+
+/// The security counters of what runs, where that is intact and valid.
+fn judge<F: Flash>(flash: &mut F, map: &SectorMap) -> Result<[u32; MOST_IMAGES], Fault>
+    requires laid_out { IsLaidOut map.now (F.chip flash.old) }
+    ensures same { F.chip flash.new ≡ F.chip flash.old }
+    ensures judged { IsJudged map.now (F.chip flash.old) result }
+{
+    match read_running(flash, map) {
+        Err(error) => Err(Fault::Flash(error)),
+        Ok(Reading::DamagedAt(image)) => Err(Fault::RunningDamaged(image)),
+        Ok(Reading::Read(table)) => {
+            if !is_valid(&table) {
+                return Err(Fault::InvalidSet);
+            }
+            Ok(running_counters(&table))
+        }
+    }
+}
+
+/// Erases both trailers of an image.
+fn clear_image<F: Flash>(flash: &mut F, map: &SectorMap, image: u8) -> Result<(), FlashError>
+    requires laid_out { IsLaidOut map.now (F.chip flash.old) }
+    requires there { image < map.now.images }
+    ensures outside { Keeps map.now (trailers_of image) (F.chip flash.old) (F.chip flash.new) }
+    ensures ok { OnOk result ((side : Side)
+        → fields_at map.now (F.chip flash.new) image side ≡ erased_fields) }
+    ensures ends { Ends result (F.chip flash.old) (F.chip flash.new) }
+{
+    clear(flash, map, image, Side::Primary)?;
+    clear(flash, map, image, Side::Secondary)
+}
+
+/// Erases the trailers of all images.
+fn clear_all<F: Flash>(flash: &mut F, map: &SectorMap) -> Result<(), FlashError>
+    requires laid_out { IsLaidOut map.now (F.chip flash.old) }
+    ensures outside { Keeps map.now provided (F.chip flash.old) (F.chip flash.new) }
+    ensures ok { OnOk result (AreCleared map.now (F.chip flash.new) map.now.images) }
+    ensures ends { Ends result (F.chip flash.old) (F.chip flash.new) }
+{
+    let images = map.images;
+    for image in 0..images {
+        clear_image(flash, map, image)?;
+    }
+    Ok(())
+}
+
+/// Erases the trailers of all images, and begins the log at rest, with these floors.
+fn begin_afresh<F: Flash>(
+    flash: &mut F,
+    map: &SectorMap,
+    floors: &[u32; MOST_IMAGES],
+) -> Result<(), FlashError>
+    requires laid_out { IsLaidOut map.now (F.chip flash.old) }
+    requires rest { (i : ℕ) → map.now.images ≤ i → slice_index floors.now i ≡ 0 }
+    ensures outside { Keeps map.now provided (F.chip flash.old) (F.chip flash.new) }
+    ensures ok { OnOk result (IsBegunAfresh map.now floors.now (F.chip flash.new)) }
+    ensures ends { Ends result (F.chip flash.old) (F.chip flash.new) }
+{
+    clear_all(flash, map)?;
+    let state = State {
+        kind: Kind::Steady,
+        mask: 0,
+        permanent: false,
+        sequence: 0,
+        floors: *floors,
+        left: 0,
+    };
+    start(flash, map, &state)
+}
+
+/// Makes a flash a device's, where what runs is intact and valid.
+fn make_device<F: Flash>(flash: &mut F, map: &SectorMap) -> Result<(), Fault>
+    requires laid_out { IsLaidOut map.now (F.chip flash.old) }
+    ensures outside { Keeps map.now provided (F.chip flash.old) (F.chip flash.new) }
+    ensures answers { AnswersMaking map.now (F.chip flash.old) (F.chip flash.new) result }
+    ensures asleep { (F.chip flash.old).is_on ≡ false → F.chip flash.new ≡ F.chip flash.old }
+{
+    let floors = judge(flash, map)?;
+    match begin_afresh(flash, map, &floors) {
+        Ok(()) => Ok(()),
+        Err(error) => Err(Fault::Flash(error)),
+    }
+}
+
+/// Makes a flash a device's: the images that the primary slots begin with run, nothing is requested, no set is on trial,
+/// the sequence number is 0, and the floors are the security counters of what runs. The secondary slots may hold anything.
+///
+/// The map is laid out on the flash, of which its `fits` is the test, and the primary slots hold images. These are read and
+/// judged first; then the trailers of all images are erased, and a new log is begun. Does not allocate.
+///
+/// # Errors
+/// `RunningDamaged` with the lowest image whose primary slot begins with no intact image; else `InvalidSet` where the
+/// images don't meet their dependencies: nothing changed. `Flash(Cut)` where power failed: trailers and log hold any
+/// bytes, and all else is as it was; the call may be made again. `Flash(Off)` where the flash was off: nothing changed.
+pub fn provision<F: Flash>(flash: &mut F, map: &SectorMap) -> Result<(), Fault>
+    requires laid_out { IsLaidOut map.now (F.chip flash.old) }
+    // Slots and scratch are as they were, whatever happened.
+    ensures outside { Keeps map.now provided (F.chip flash.old) (F.chip flash.new) }
+    ensures laid { IsLaidOut map.now (F.chip flash.new) }
+    ensures ok { OnOk result (IsProvisioned map.now (F.chip flash.old) (F.chip flash.new)) }
+    // A refusal tells why, and but for a cut nothing changed ..
+    ensures refused { IfErr result (RefusesMaking map.now (F.chip flash.old) (F.chip flash.new)) }
+    // .. and where it applies, that is the answer.
+    ensures damaged { (F.chip flash.old).is_on ≡ true → (i : ℕ)
+        → IsFirstDamaged map.now (F.chip flash.old) i → result ≡ Err (RunningDamaged i) }
+    ensures invalid { (F.chip flash.old).is_on ≡ true
+        → IsInvalidThere map.now (F.chip flash.old) → result ≡ Err InvalidSet }
+    ensures whole { (F.chip flash.old).is_on ≡ true
+        → IsValidThere map.now (F.chip flash.old) → IsDoneOrCut result }
+    ensures ends { EndsMaking result (F.chip flash.old) (F.chip flash.new) }
+{
+    make_device(flash, map)
+}

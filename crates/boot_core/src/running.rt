@@ -1,0 +1,113 @@
+//! Runs: events in order, and a reply to each.
+
+ghost use Rattle.std.specs.Prelude.{◌≡◌, ◌+◌, true, length, IfErr, IfOk};
+ghost use Rattle.machine.specs.Passing.{RunsTo, StepsTo};
+ghost use Rattle.machine.specs.Steps.{cut_of, cuts_in};
+ghost use Rattle.machine.specs.declared.reply.Reply.TheVariants.{Done};
+ghost use Rattle.boot_core.specs.Answers.{fault_reply, reply_of_boot, reply_of_result};
+
+use crate::device::Device;
+use flash_model::{Flash, FlashError};
+use machine::{Event, Fault, Reply};
+use std::alloc::{AllocError, Global};
+use upload::UploadError;
+
+/// The reply to a refused call: a cut is a reply of its own.
+fn reply_of(fault: Fault) -> Reply
+    ensures { result ≡ fault_reply fault }
+{
+    match fault {
+        Fault::Flash(FlashError::Cut) => Reply::Cut,
+        Fault::Upload(UploadError::Flash(FlashError::Cut)) => Reply::Cut,
+        fault => Reply::Refused(fault),
+    }
+}
+
+/// The reply to a call.
+fn answer(given: Result<(), Fault>) -> Reply
+    ensures { result ≡ reply_of_result given }
+{
+    match given {
+        Ok(()) => Reply::Done,
+        Err(fault) => reply_of(fault),
+    }
+}
+
+/// What a device answers to an event.
+fn call<F: Flash>(alloc: Global, device: &mut Device<F>, event: &Event) -> Reply
+    requires { device.old.here.flash.is_on ≡ true }
+    ensures setup { device.new.setup ≡ device.old.setup }
+    ensures steps { StepsTo device.old.setup device.old.here device.new.here event.now result }
+    ensures cuts { device.new.here.flash.cuts
+        ≡ device.old.here.flash.cuts + cut_of result }
+    ensures power { cut_of result ≡ 0 → device.new.here.flash.is_on ≡ true }
+{
+    match event {
+        Event::Accept(bytes) => answer(device.accept(alloc, bytes)),
+        Event::Piece(image, bytes) => answer(device.piece(*image, bytes)),
+        Event::Finish(image) => answer(device.finish(*image)),
+        Event::Withdraw(image) => answer(device.withdraw(*image)),
+        Event::Confirm(image) => answer(device.confirm(*image)),
+        Event::Boot => match device.boot() {
+            Ok(reply) => reply,
+            Err(fault) => reply_of(fault),
+        },
+        Event::Reset => {
+            device.reset();
+            Reply::Done
+        }
+    }
+}
+
+/// What a device answers to an event. After a cut it is reset.
+fn step<F: Flash>(alloc: Global, device: &mut Device<F>, event: &Event) -> Reply
+    requires { device.old.here.flash.is_on ≡ true }
+    ensures setup { device.new.setup ≡ device.old.setup }
+    ensures steps { StepsTo device.old.setup device.old.here device.new.here event.now result }
+    ensures cuts { device.new.here.flash.cuts
+        ≡ device.old.here.flash.cuts + cut_of result }
+    ensures on { device.new.here.flash.is_on ≡ true }
+{
+    let reply = call(alloc, device, event);
+    match reply {
+        Reply::Cut => {
+            device.reset();
+            Reply::Cut
+        }
+        reply => reply,
+    }
+}
+
+/// Runs events on a device, in order, and gives the reply to each. After a cut the device is reset, which gives its flash
+/// power again, so that what follows is refused with `NotBooted` until it boots.
+///
+/// For every list of events and wherever power fails in it: where the device holds a state of the machine of whole images,
+/// the events with these replies are a run of that machine to a state which the device holds then, and as many replies are
+/// `Cut` as writes were cut. The flash has power as the run begins.
+///
+/// # Errors
+/// `AllocError` where there is no memory for the replies, which are reserved first: nothing was done.
+pub fn run<F: Flash>(
+    alloc: Global,
+    device: &mut Device<F>,
+    events: &[Event],
+) -> Result<Vec<Reply>, AllocError>
+    requires { device.old.here.flash.is_on ≡ true }
+    ensures run { IfOk result (λ replies. RunsTo device.old.setup device.old.here device.new.here
+        events.now replies.items) }
+    ensures each { IfOk result (λ replies. length replies.items ≡ length events.now) }
+    ensures cuts { IfOk result (λ replies. device.new.here.flash.cuts
+        ≡ device.old.here.flash.cuts + cuts_in replies.items) }
+    ensures setup { device.new.setup ≡ device.old.setup }
+    ensures nothing { IfErr result (λ error. device.new ≡ device.old) }
+{
+    let mut replies = Vec::with_capacity(alloc, events.len())?;
+    for event in events {
+        let reply = step(alloc, device, event);
+        match replies.push(reply) {
+            Ok(()) => {}
+            Err(_) => unreachable!(),
+        }
+    }
+    Ok(replies)
+}

@@ -1,0 +1,262 @@
+//! Trials: what stays, and what goes back.
+
+use super::images::{FIRST, FIRST_DIGEST, PLAIN, PLAIN_DIGEST, RUNNING, SECOND, SECOND_DIGEST};
+use super::playing::{expect, manifest, outcome_of, provisioned, two_images};
+use machine::Event;
+use std::process::Abort;
+use std::test::Fail;
+
+/// A manifest of two images that need each other, for a test.
+pub(super) fn pair(alloc: std::alloc::Global) -> Result<String, Fail> {
+    manifest(
+        alloc,
+        1,
+        &[(0, false, FIRST_DIGEST, 96), (1, false, SECOND_DIGEST, 96)],
+    )
+}
+
+/// What is told of the boot of a new device of two images and of the upload of two others.
+pub(super) const UPLOADED: &str = "1 plain
+run 0 1.0.0+0
+run 1 1.0.0+0
+2 done
+3 done
+4 done
+5 done
+6 done
+";
+
+/// Asserts what follows the boot of a new device, an upload of two images that need each other, and the boot that takes
+/// them on trial.
+fn expect_in_trial(
+    rt: &(impl Abort + AllocGlobal),
+    boots: u8,
+    events: &[Event],
+    told: &str,
+) -> Result<(), Fail> {
+    let text = pair(rt.alloc())?;
+    let mut all = Vec::from_slice(
+        rt.alloc(),
+        &[
+            Event::Boot,
+            Event::Accept(text.as_bytes()),
+            Event::Piece(0, &FIRST),
+            Event::Piece(1, &SECOND),
+            Event::Finish(1),
+            Event::Finish(0),
+            Event::Boot,
+        ],
+    )?;
+    all.extend_from_slice(events)?;
+    let outcome = outcome_of(rt, &[2, 2], boots, two_images(rt)?, &[], all.as_slice())?;
+    let wanted = format!(in rt.alloc();
+        "{UPLOADED}7 trial\ntake 0 2.0.0+0\ntake 1 2.0.0+0\n{told}"
+    )?;
+    assert_eq!(rt; outcome.told.as_str(), wanted.as_str());
+    Ok(())
+}
+
+#[test]
+fn of_two_that_need_each_other_one_confirmed_is_too_few(rt: HostRuntime) -> Result<(), Fail> {
+    expect_in_trial(
+        &rt,
+        1,
+        &[Event::Confirm(0), Event::Boot, Event::Boot],
+        "8 done
+9 reverted 0 1
+10 plain
+run 0 1.0.0+0
+run 1 1.0.0+0
+",
+    )
+}
+
+#[test]
+fn both_confirmed_stay_and_before_the_next_boot_nothing_is_uploaded(
+    rt: HostRuntime,
+) -> Result<(), Fail> {
+    expect_in_trial(
+        &rt,
+        1,
+        &[
+            Event::Accept(b"{}"),
+            Event::Piece(0, b"abc"),
+            Event::Finish(0),
+            Event::Withdraw(0),
+            Event::Confirm(2),
+            Event::Confirm(1),
+            Event::Confirm(1),
+            Event::Confirm(0),
+            Event::Accept(b"{}"),
+            Event::Boot,
+            Event::Confirm(0),
+            Event::Accept(b"{}"),
+            Event::Boot,
+        ],
+        "8 refused boot 2 OnTrial
+9 refused boot 2 OnTrial
+10 refused boot 2 OnTrial
+11 refused boot 2 OnTrial
+12 refused boot 3 NotOnTrial
+13 done
+14 done
+15 done
+16 refused boot 2 OnTrial
+17 plain
+run 0 2.0.0+0
+run 1 2.0.0+0
+18 refused boot 3 NotOnTrial
+19 refused manifest 2 BadKey
+20 plain
+run 0 2.0.0+0
+run 1 2.0.0+0
+",
+    )
+}
+
+#[test]
+fn a_reset_ends_no_trial(rt: HostRuntime) -> Result<(), Fail> {
+    expect_in_trial(
+        &rt,
+        1,
+        &[
+            Event::Reset,
+            Event::Confirm(0),
+            Event::Reset,
+            Event::Boot,
+            Event::Confirm(0),
+        ],
+        "8 done
+9 refused boot 1 NotBooted
+10 done
+11 reverted 0 1
+12 refused boot 3 NotOnTrial
+",
+    )
+}
+
+#[test]
+fn of_three_images_two_are_tried_and_go_back(rt: HostRuntime) -> Result<(), Fail> {
+    let bytes = provisioned(
+        &rt,
+        11264,
+        &[RUNNING.as_slice(), RUNNING.as_slice(), RUNNING.as_slice()],
+    )?;
+    let text = manifest(
+        rt.alloc(),
+        1,
+        &[(0, false, PLAIN_DIGEST, 76), (2, false, PLAIN_DIGEST, 76)],
+    )?;
+    let outcome = outcome_of(
+        &rt,
+        &[2, 2, 2],
+        1,
+        bytes,
+        &[],
+        &[
+            Event::Boot,
+            Event::Accept(text.as_bytes()),
+            Event::Piece(2, &PLAIN),
+            Event::Piece(0, &PLAIN),
+            Event::Finish(0),
+            Event::Finish(2),
+            Event::Boot,
+            Event::Confirm(0),
+            Event::Reset,
+            Event::Boot,
+            Event::Withdraw(0),
+            Event::Boot,
+        ],
+    )?;
+    assert_eq!(rt;
+        outcome.told.as_str(),
+        "1 plain
+run 0 1.0.0+0
+run 1 1.0.0+0
+run 2 1.0.0+0
+2 done
+3 done
+4 done
+5 done
+6 done
+7 trial
+take 0 2.0.0+0
+run 1 1.0.0+0
+take 2 2.0.0+0
+8 done
+9 done
+10 reverted 0 2
+11 refused upload 9 NothingRequested
+12 plain
+run 0 1.0.0+0
+run 1 1.0.0+0
+run 2 1.0.0+0
+"
+    );
+    Ok(())
+}
+
+#[test]
+fn a_trial_of_three_boots_goes_back_at_the_fourth(rt: HostRuntime) -> Result<(), Fail> {
+    expect_in_trial(
+        &rt,
+        3,
+        &[Event::Boot, Event::Boot, Event::Boot, Event::Boot],
+        "8 trial-again 0 1 left 1
+9 trial-again 0 1 left 0
+10 reverted 0 1
+11 plain
+run 0 1.0.0+0
+run 1 1.0.0+0
+",
+    )
+}
+
+#[test]
+fn a_trial_of_three_boots_may_be_confirmed_in_parts(rt: HostRuntime) -> Result<(), Fail> {
+    expect_in_trial(
+        &rt,
+        3,
+        &[
+            Event::Confirm(0),
+            Event::Boot,
+            Event::Confirm(1),
+            Event::Boot,
+        ],
+        "8 done
+9 trial-again 0 1 left 1
+10 done
+11 plain
+run 0 2.0.0+0
+run 1 2.0.0+0
+",
+    )
+}
+
+#[test]
+fn a_trial_of_three_boots_is_recorded_with_two_left(rt: HostRuntime) -> Result<(), Fail> {
+    let text = pair(rt.alloc())?;
+    let outcome = outcome_of(
+        &rt,
+        &[2, 2],
+        3,
+        two_images(&rt)?,
+        &[],
+        &[
+            Event::Boot,
+            Event::Accept(text.as_bytes()),
+            Event::Piece(0, &FIRST),
+            Event::Piece(1, &SECOND),
+            Event::Finish(1),
+            Event::Finish(0),
+            Event::Boot,
+        ],
+    )?;
+    // The fifth record of the log: provisioned, accepted, swap, settle, trial.
+    let mut record = [0; 64];
+    record[..8].copy_from_slice(&[0x04, 0x03, 0x00, 0x02, 0x01, 0x00, 0x00, 0x00]);
+    record[56..].copy_from_slice(&[0x01, 0xff, 0xff, 0xff, 0xff, 0xff, 0xff, 0xff]);
+    assert_eq!(rt; outcome.bytes.len(), 8192);
+    assert_eq!(rt; &outcome.bytes[6912..6976], record.as_slice());
+    Ok(())
+}
