@@ -16,6 +16,12 @@ use timing::Rounds;
 /// The most that describing an image of a megabyte may take, measured by its digest alone.
 const MOST_OVER_DIGEST: f64 = 1.05;
 
+/// The most that describing a slot with that image may take, measured by the same.
+const MOST_OVER_DIGEST_IN_SLOT: f64 = 1.1;
+
+/// How many calls a time in a slot is taken of, beside the one that comes with the flash's making.
+const SLOT_CALLS: u32 = 8;
+
 const MEGABYTE: usize = 1 << 20;
 
 /// How many random images, and how many random tables, both sides are asked about.
@@ -38,16 +44,73 @@ fn main() -> ExitCode {
     let over_digest = time_image("1 MiB", MEGABYTE);
     time_image("64 KiB", 1 << 16);
     time_image("no body", 0);
+    let over_digest_in_slot = time_slot();
+    let reads_once = counts_reads();
     time_choice();
     time_sha256sum(&folder);
-    if over_digest < MOST_OVER_DIGEST {
+    let limits = [
+        is_below("describe", over_digest, MOST_OVER_DIGEST),
+        is_below(
+            "describe_slot",
+            over_digest_in_slot,
+            MOST_OVER_DIGEST_IN_SLOT,
+        ),
+        reads_once,
+    ];
+    if limits.iter().all(|kept| *kept) {
         ExitCode::SUCCESS
     } else {
-        eprintln!(
-            "describe of a megabyte takes {over_digest:.3} of its digest, not below {MOST_OVER_DIGEST}"
-        );
         ExitCode::FAILURE
     }
+}
+
+fn is_below(name: &str, over_digest: f64, limit: f64) -> bool {
+    let kept = over_digest < limit;
+    if !kept {
+        eprintln!("{name} of a megabyte takes {over_digest:.3} of its digest, not below {limit}");
+    }
+    kept
+}
+
+/// Prints how often describing a slot with an image of a megabyte holds the time of its digest, and returns it.
+fn time_slot() -> f64 {
+    let image = inputs::image(MEGABYTE);
+    let (bytes, hashed) = (&image.bytes[..], &image.bytes[..image.hashed]);
+    let digests = || (0..SLOT_CALLS).fold(0, |sum, _| sum ^ proved::digest(black_box(hashed)));
+    let ratio = timing::ratio_of_shortest(
+        &|| proved::describe_slot(black_box(bytes), SLOT_CALLS),
+        &|| proved::describe_slot(black_box(bytes), 0),
+        &digests,
+    );
+    print_ratio("1 MiB: describe_slot / digest", ratio);
+    ratio
+}
+
+/// Prints how many bytes are read to describe a slot with the image of the most dependencies, and answers whether each
+/// slot is read as much as it has to be, and no more.
+fn counts_reads() -> bool {
+    let full = inputs::full_image();
+    let read = proved::slot_reads(&full.bytes);
+    println!("{:<36} {read:6}", "16 dependencies: bytes read");
+    let images = [
+        full,
+        inputs::image(0),
+        inputs::image(1),
+        inputs::image(MEGABYTE),
+    ];
+    images.iter().all(|image| {
+        let (read, needed) = (
+            proved::slot_reads(&image.bytes),
+            plain_image::needed_reads(&image.bytes),
+        );
+        if read != needed {
+            eprintln!(
+                "{read} bytes are read of an image of {}, and not {needed}",
+                image.bytes.len()
+            );
+        }
+        read == needed
+    })
 }
 
 /// Both sides answer the same to intact and to damaged images.
@@ -55,6 +118,13 @@ fn expect_same_answers() {
     for body_size in [0, 1, 1 << 16, MEGABYTE] {
         let image = inputs::image(body_size);
         let length = image.bytes.len() as u64;
+        for again in [0, 1] {
+            assert_eq!(
+                proved::describe_slot(&image.bytes, again),
+                length,
+                "body of {body_size} bytes"
+            );
+        }
         assert_eq!(
             proved::describe(&image.bytes),
             length,

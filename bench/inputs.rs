@@ -35,6 +35,11 @@ pub fn image(body_size: usize) -> Image {
     image_of(body_size, 1, 2, 1)
 }
 
+/// An intact image without a body, with a security counter and as many dependencies as an image may have.
+pub fn full_image() -> Image {
+    image_of(0, 1, 16, 1)
+}
+
 /// An image with a body of so many bytes, and so many entries of each type that is read.
 fn image_of(body_size: usize, counters: usize, dependencies: usize, digests: usize) -> Image {
     let mut random = Random::new();

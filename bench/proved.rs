@@ -1,6 +1,7 @@
 //! The exports of the proved static library `bench_exports`. A slice crosses as a pointer and a length.
 
 #[link(name = "bench_exports", kind = "static")]
+#[link(name = "libc_c", kind = "static")] // the toolchain's way to `malloc` and `free`
 unsafe extern "C" {
     fn bench_describe(bytes: *const u8, length: usize) -> u64;
     fn bench_digest(bytes: *const u8, length: usize) -> u64;
@@ -11,6 +12,8 @@ unsafe extern "C" {
         report: *const u8,
         report_length: usize,
     ) -> bool;
+    fn bench_describe_slot(bytes: *const u8, length: usize, again: u32) -> u64;
+    fn bench_slot_reads(bytes: *const u8, length: usize) -> u64;
 }
 
 /// The length of the intact image that the bytes are, or 2^63 and the number of the first check that fails.
@@ -36,4 +39,18 @@ pub fn choose(text: &[u8]) -> u64 {
 pub fn check(table: &[u8], report: &[u8]) -> bool {
     // SAFETY: as in `describe`, for two slices.
     unsafe { bench_check(table.as_ptr(), table.len(), report.as_ptr(), report.len()) }
+}
+
+/// What a slot is described by that begins with the bytes: the length of its image, or 2^63 and the number of the
+/// first check that fails; 2^63 where the bytes don't fit the slot or memory is refused. It is described once, and
+/// `again` times more.
+pub fn describe_slot(bytes: &[u8], again: u32) -> u64 {
+    // SAFETY: as in `describe`. No signal handler calls it, and what it allocates is freed when it returns.
+    unsafe { bench_describe_slot(bytes.as_ptr(), bytes.len(), again) }
+}
+
+/// How many bytes of the flash are read to describe that slot once.
+pub fn slot_reads(bytes: &[u8]) -> u64 {
+    // SAFETY: as in `describe_slot`.
+    unsafe { bench_slot_reads(bytes.as_ptr(), bytes.len()) }
 }

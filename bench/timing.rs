@@ -34,6 +34,17 @@ impl<const N: usize> Rounds<N> {
     }
 }
 
+/// How often the time that one side takes more than another holds that of a third: by the shortest time of each.
+pub fn ratio_of_shortest(more: Side, less: Side, other: Side) -> f64 {
+    let mut shortest = [f64::INFINITY; 3];
+    for _ in 0..ROUNDS {
+        for (time, side) in shortest.iter_mut().zip([more, less, other]) {
+            *time = time.min(seconds(side, 1));
+        }
+    }
+    (shortest[0] - shortest[1]) / shortest[2]
+}
+
 /// The seconds that so many calls of a side take.
 pub fn seconds(side: Side, calls: u32) -> f64 {
     let start = Instant::now();

@@ -1,2 +1,3 @@
+mod FirstSlot
 mod Lengths
 mod Numbers

@@ -1,10 +1,10 @@
 -- Answers as one number, and what each says.
-use Rattle.std.specs.Prelude.{◌≡◌, ℕ, ◌+◌, ◌*◌, ◌^◌, ◌<◌, List, [], ◌∷◌, length}
+use Rattle.std.specs.Prelude.{◌≡◌, ℕ, ◌+◌, ◌*◌, ◌^◌, ◌<◌, ◌-◌, List, [], ◌∷◌, ◌++◌, length, replicate, take}
 use Rattle.tlv.specs.declared.desc.Desc.{Desc}
 use Rattle.tlv.specs.declared.error.ImageError.{ImageError}
 use Rattle.tlv.specs.Codes.{code_of}
-use Rattle.tlv.specs.Fault.{IsFirstFault}
-use Rattle.tlv.specs.Image.{IsIntact}
+use Rattle.tlv.specs.Fault.{IsFirstFault, IsFrontFault}
+use Rattle.tlv.specs.Image.{BeginsIntact, IsIntact}
 use Rattle.certificate.specs.declared.table.Table.{Table}
 use Rattle.certificate.specs.declared.report.ReportedImage.{ReportedImage}
 use Rattle.certificate.specs.declared.report.Report.{Report}
@@ -20,6 +20,26 @@ pub data IsDescribeAnswer (bytes : List ℕ) (answer : ℕ) : Type 0 where
       → answer ≡ description.length → answer < 2 ^ 63 → IsDescribeAnswer bytes answer
   refused : (fault : ImageError) → IsFirstFault bytes fault
       → answer ≡ 2 ^ 63 + code_of fault → IsDescribeAnswer bytes answer
+
+-- The flash, of 3145728 bytes: it begins with these bytes, and is erased behind them.
+abbrev pub flash_of : List ℕ → List ℕ
+flash_of bytes = bytes ++ replicate (3145728 - length bytes) 0xff
+
+-- Its first slot.
+abbrev pub slot_of : List ℕ → List ℕ
+slot_of bytes = take 1179648 (flash_of bytes)
+
+-- What the answer to a slot says: the length of the intact image that it begins with, or the first check that fails.
+pub data IsFrontAnswer (slot : List ℕ) (answer : ℕ) : Type 0 where
+  intact : (description : Desc) → BeginsIntact slot description
+      → answer ≡ description.length → answer < 2 ^ 63 → IsFrontAnswer slot answer
+  refused : (fault : ImageError) → IsFrontFault slot fault
+      → answer ≡ 2 ^ 63 + code_of fault → IsFrontAnswer slot answer
+
+-- What the answer to bytes at the front of the slot says: that of the slot, or that there was none.
+pub data IsSlotAnswer (bytes : List ℕ) (answer : ℕ) : Type 0 where
+  described : IsFrontAnswer (slot_of bytes) answer → IsSlotAnswer bytes answer
+  no_slot : answer ≡ 2 ^ 63 → IsSlotAnswer bytes answer
 
 -- The number whose bit j says whether the request of the j-th image is taken.
 abbrev pub taken_mask : List ReportedImage → ℕ

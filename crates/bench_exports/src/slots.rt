@@ -1,0 +1,150 @@
+//! Slots: what an image in a slot of a flash in memory is described by, and how many bytes are read for it.
+
+ghost use Rattle.std.specs.Prelude.{◌≡◌, ◌≤◌, length, vec_len, IfOk, IfSome, true};
+ghost use Rattle.flash_model.specs.Memory.{chip_of};
+ghost use Rattle.sector_map.specs.Map.{IsLaidOut};
+ghost use Rattle.sector_map.specs.declared.layout.Side.TheVariants.{Primary};
+ghost use Rattle.tlv.specs.Slot.{slot_bytes};
+ghost use Rattle.bench_exports.specs.Answers.{IsFrontAnswer, IsSlotAnswer, flash_of, slot_of};
+
+use crate::counted::Counted;
+use flash_model::{Flash, MemFlash};
+use sector_map::{SectorMap, Side};
+use std::alloc::{AllocError, Global};
+use std::marker::Brand;
+use std::sync::ledger::{Blank, Ledger};
+use tlv::{SlotError, describe_slot};
+
+/// The length in bytes of a sector of the flash.
+const SECTOR_SIZE: u32 = 131_072;
+
+/// How many sectors the slot has: room for an image of a megabyte.
+const SLOT_SECTORS: u32 = 9;
+
+/// The length of the slot in bytes.
+const SLOT_LENGTH: usize = 1_179_648;
+
+/// The length of the flash in bytes: two slots, each with a trailer, scratch, and three sectors of the log.
+const FLASH_LENGTH: usize = 3_145_728;
+
+/// The answer where no slot was described.
+const NO_SLOT: u64 = 1 << 63;
+
+/// The answer above which a refusal has the number of its check.
+const REFUSED: u64 = 1 << 63;
+
+/// What a slot of 1179648 bytes is described by that begins with these bytes and is erased behind them: the length
+/// of the image that it begins with, which is below 2^63, or 2^63 and the number of the first check that fails. It
+/// is 2^63 where the bytes don't fit the slot, or where memory for the flash, twice 3 MiB at most, is refused.
+///
+/// The flash is made once, and the slot is described `again` times more, so that a time without the flash's making
+/// is that of some calls less that of none more.
+#[unsafe(no_mangle)]
+pub extern "C" fn bench_describe_slot(alloc: Global, bytes: &[u8], again: u32) -> u64
+    ensures { IsSlotAnswer bytes.now result }
+{
+    slot_answer::<Brand>(alloc, Blank::new(2), bytes, again)
+}
+
+/// How many bytes of the flash are read to describe that slot once; 2^63 where no slot was described. What it
+/// answers is tested: a contract of `describe_slot` speaks of what is answered, and not of how often it reads.
+#[unsafe(no_mangle)]
+pub extern "C" fn bench_slot_reads(alloc: Global, bytes: &[u8]) -> u64 {
+    bytes_read::<Brand>(alloc, Blank::new(2), bytes)
+}
+
+fn slot_answer<L: Ledger>(alloc: Global, blank: Blank, bytes: &[u8], again: u32) -> u64
+    requires name { blank.name ≡ L.name }
+    requires parts { blank.parts ≡ L.parts }
+    requires two { L.parts ≡ 2 }
+    ensures { IsSlotAnswer bytes.now result }
+{
+    let Some((map, mut flash)) = device::<L>(alloc, blank, bytes) else {
+        return NO_SLOT;
+    };
+    last_answer(&mut flash, &map, again)
+}
+
+fn bytes_read<L: Ledger>(alloc: Global, blank: Blank, bytes: &[u8]) -> u64
+    requires name { blank.name ≡ L.name }
+    requires parts { blank.parts ≡ L.parts }
+    requires two { L.parts ≡ 2 }
+{
+    let Some((map, flash)) = device::<L>(alloc, blank, bytes) else {
+        return NO_SLOT;
+    };
+    let mut counted = Counted { flash, read: 0 };
+    front_answer(&mut counted, &map);
+    counted.read
+}
+
+// A flash whose first slot begins with these bytes, and which is erased behind them; none where they don't fit the
+// slot or memory is refused.
+fn device<L: Ledger>(alloc: Global, blank: Blank, bytes: &[u8]) -> Option<(SectorMap, MemFlash<L>)>
+    requires name { blank.name ≡ L.name }
+    requires parts { blank.parts ≡ L.parts }
+    requires two { L.parts ≡ 2 }
+    ensures laid_out { IfSome result (λ made. IsLaidOut made.0 (chip_of made.1)) }
+    ensures one { IfSome result (λ made. made.0.images ≡ 1) }
+    ensures on { IfSome result (λ made. (chip_of made.1).is_on ≡ true) }
+    ensures slot { IfSome result (λ made.
+        slot_bytes made.0 (chip_of made.1) 0 Primary ≡ slot_of bytes.now) }
+{
+    if bytes.len() > SLOT_LENGTH {
+        return None;
+    }
+    let Ok(map) = SectorMap::new(SECTOR_SIZE, &[SLOT_SECTORS]) else {
+        return None;
+    };
+    let Ok(contents) = erased_behind(alloc, bytes) else {
+        return None;
+    };
+    let flash = MemFlash::from_bytes(alloc, blank, SECTOR_SIZE, contents);
+    if map.fits(&flash) {
+        Some((map, flash))
+    } else {
+        None
+    }
+}
+
+// The bytes of the flash.
+fn erased_behind(alloc: Global, bytes: &[u8]) -> Result<Vec<u8>, AllocError>
+    requires { length bytes.now ≤ 1179648 }
+    ensures contents { IfOk result (λ contents. contents.items ≡ flash_of bytes.now) }
+    ensures whole { IfOk result (λ contents. vec_len contents ≡ 3145728) }
+{
+    let erased = vec![in alloc; 0xff; FLASH_LENGTH - bytes.len()]?;
+    let mut contents = Vec::new(alloc);
+    contents.extend_from_slice(bytes)?;
+    contents.extend_from_slice(&erased)?;
+    Ok(contents)
+}
+
+// What the first slot of a flash that is on is described by.
+fn front_answer<F: Flash>(flash: &mut F, map: &SectorMap) -> u64
+    requires laid_out { IsLaidOut map.now (F.chip flash.old) }
+    requires one { map.now.images ≡ 1 }
+    requires on { (F.chip flash.old).is_on ≡ true }
+    ensures same { F.chip flash.new ≡ F.chip flash.old }
+    ensures answer { IsFrontAnswer (slot_bytes map.now (F.chip flash.old) 0 Primary) result }
+{
+    match describe_slot(flash, map, 0, Side::Primary) {
+        Ok(description) => description.length,
+        Err(SlotError::Image(fault)) => REFUSED + u64::from(fault.code()),
+        Err(_) => unreachable!(),
+    }
+}
+
+// The same, which is asked for so many times more.
+fn last_answer<F: Flash>(flash: &mut F, map: &SectorMap, again: u32) -> u64
+    requires laid_out { IsLaidOut map.now (F.chip flash.old) }
+    requires one { map.now.images ≡ 1 }
+    requires on { (F.chip flash.old).is_on ≡ true }
+    ensures { IsFrontAnswer (slot_bytes map.now (F.chip flash.old) 0 Primary) result }
+{
+    let mut answer = front_answer(flash, map);
+    for _ in 0..again {
+        answer = front_answer(flash, map);
+    }
+    answer
+}
