@@ -7,6 +7,7 @@ mod manifests;
 mod playing;
 mod printing;
 mod provisioned;
+mod reads;
 mod refusals;
 mod requests;
 mod trials;
