@@ -70,6 +70,9 @@ impl<F: Flash> Device<F> {
         ensures flash { result.here.flash ≡ F.chip flash }
         ensures down { result.here.up ≡ false }
         ensures closed { AllClosed result.here.sessions }
+        // What stands on the flash, as what provisioning leaves, is what it holds.
+        ensures holds { (s : DeviceState) → Stands map (F.chip flash) s
+            → Holds map result.here (asleep s) }
     {
         Device {
             flash,
@@ -95,6 +98,9 @@ impl<F: Flash> Device<F> {
         ensures flash { result.here.flash ≡ F.chip flash }
         ensures down { result.here.up ≡ false }
         ensures closed { AllClosed result.here.sessions }
+        // What stands on the flash, as what provisioning leaves, is what it holds.
+        ensures holds { (s : DeviceState) → Stands map (F.chip flash) s
+            → Holds map result.here (asleep s) }
     {
         Device {
             flash,

@@ -165,11 +165,12 @@ fn make_device<F: Flash>(flash: &mut F, map: &SectorMap) -> Result<(), Fault>
     }
 }
 
-/// Makes a flash a device's: the images that the primary slots begin with run, nothing is requested, no set is on trial,
-/// the sequence number is 0, and the floors are the security counters of what runs. The secondary slots may hold anything.
+/// Makes a flash a device's: the images that the primary slots begin with run, nothing is requested, no set is on
+/// trial, the sequence number is 0, and the floors are the security counters of what runs. The secondary slots may
+/// hold anything.
 ///
-/// The map is laid out on the flash, of which its `fits` is the test, and the primary slots hold images. These are read and
-/// judged first; then the trailers of all images are erased, and a new log is begun. Does not allocate.
+/// The map is laid out on the flash, of which its `fits` is the test, and the primary slots hold images. These are
+/// read and judged first; then the trailers of all images are erased, and a new log is begun. Does not allocate.
 ///
 /// # Errors
 /// `RunningDamaged` with the lowest image whose primary slot begins with no intact image; else `InvalidSet` where the

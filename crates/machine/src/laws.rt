@@ -143,9 +143,9 @@ pub fn runs_without_a_cut_are_complete()
         → IsRun setup m events replies last × (cuts_in replies ≡ 0) }
 {}
 
-/// The trailers tell by MCUboot's table of swap types (its design document, "Swapping") what stands: of each image of a
-/// set on trial that isn't confirmed, that it goes back; and of each request that stands while nothing is on trial, that
-/// it is tried or stays, as it was asked for.
+/// The trailers tell by MCUboot's table of swap types (its design document, "Swapping") what stands: of each image of
+/// a set on trial that isn't confirmed, that it goes back; and of each request that stands while nothing is on trial,
+/// that it is tried or stays, as it was asked for.
 ///
 /// It does nothing: its contract is the law.
 pub fn trailers_tell_trials_and_requests()

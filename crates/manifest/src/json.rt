@@ -79,7 +79,8 @@ pub fn number(value: &Value, key: &str) -> Option<u32>
     u32::try_from(value.get(key)?.as_u64()?).ok()
 }
 
-/// The text at a key. None where no text stands there, or where the value is no object with this key. Does not allocate.
+/// The text at a key. None where no text stands there, or where the value is no object with this key. Does not
+/// allocate.
 pub fn text<'v>(value: &'v Value, key: &str) -> Option<&'v str>
     ensures { option_map (λ text. text.now) result ≡ text_at key.now (view value.now) }
 {

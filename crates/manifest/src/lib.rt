@@ -3,8 +3,8 @@
 //!
 //! Promises: a manifest is read exactly where the bytes are JSON that means it to a device of the given identity, and
 //! a refusal is the lowest one that applies to the JSON value, whatever is met first. The identifiers of vendors and
-//! classes are UUIDs of version 5. Allocates to read a JSON text, and for nothing else. Whoever takes updates calls it, and
-//! `json` is there for other files of the same kind.
+//! classes are UUIDs of version 5. Allocates to read a JSON text, and for nothing else. Whoever takes updates calls
+//! it, and `json` is there for other files of the same kind.
 #![tactic(auto)]
 
 mod components;
