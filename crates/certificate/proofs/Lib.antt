@@ -1,8 +1,10 @@
 pub mod BestVersion
 pub mod CheckingRequests
 pub mod Counts
+pub mod DependantLaws
 pub mod Greatest
 pub mod LineLaws
+pub mod Masks
 pub mod Members
 pub mod Newest
 pub mod PrintedLines

@@ -1,4 +1,5 @@
 pub mod Combination
+pub mod Dependants
 pub mod DependencyText
 pub mod LineReading
 pub mod Reasons

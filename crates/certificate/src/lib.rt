@@ -15,6 +15,7 @@
 #![tactic(auto)]
 
 mod checking;
+mod depending;
 mod error;
 mod laws;
 mod needs;
@@ -29,6 +30,7 @@ mod table_reading;
 mod validity;
 
 pub use checking::check;
+pub use depending::dependants;
 pub use error::{BadReport, BadTable};
 pub use laws::{
     greatest_sets_are_equal, greatest_sets_have_the_newest_versions, reports_are_read_back,

@@ -1,5 +1,7 @@
-pub mod OwnRefusals
-pub mod Order
+pub mod Counting
 pub mod Founded
-pub mod Taken
+pub mod Marking
+pub mod Order
+pub mod OwnRefusals
 pub mod Right
+pub mod Taken

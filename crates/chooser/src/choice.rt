@@ -1,14 +1,17 @@
 //! The choice among the requests of a table.
 
-ghost use Rattle.std.specs.Prelude.{◌≡◌, ℕ, ◌≤◌, None, false};
+ghost use Rattle.std.specs.Prelude.{◌≡◌, ◌+◌, ◌≤◌, ℕ, None, false};
 ghost use Rattle.certificate.specs.Combination.{IsGreatest, IsValid, running_set};
 ghost use Rattle.certificate.specs.Reasons.{is_refused, times_refused};
 ghost use Rattle.certificate.specs.Rightness.{IsRight, has_request, once_if, taken_in};
 ghost use Rattle.certificate.specs.StandardOrder.{IsInStandardOrder, needs_reason};
+ghost use Rattle.chooser.specs.Counted.{HasRoom, RisesAtMost, drops_in};
 
+use crate::marks::{mark_dependants, marks_after};
 use crate::needs::next_need;
 use crate::own_reasons::own_refusals;
 use crate::reporting::report_of;
+use crate::steps::{MOST_LOOKS, Steps};
 use arrayvec::ArrayVec;
 use certificate::{MOST_REFUSALS, Refusal, Report, Table, right_reports_are_greatest};
 
@@ -25,25 +28,53 @@ pub fn choose(table: &Table) -> Report
     ensures greatest { IsGreatest table.now (taken_in result) }
     ensures standard { IsInStandardOrder table.now result.refusals.items }
 {
-    right_reports_are_greatest();
-    report_of(table, all_refusals(table))
+    choose_counted(table, &mut Steps::default())
 }
 
-/// All refusals of a table. First come those of the requests that are refused by themselves; then,
-/// again and again, the lowest request that needs what can't come any more is refused, until no
-/// request is left that does.
-fn all_refusals(table: &Table) -> ArrayVec<Refusal, MOST_REFUSALS>
+/// The same choice, which adds to a count of its steps: one pass over all requests at most, a drop
+/// for each refusal with a reason above 4 (`Needs`), and after each drop a look at the remaining
+/// requests that depend on what was dropped.
+pub fn choose_counted(table: &Table, steps: &mut Steps) -> Report
+    requires running { IsValid table.now running_set }
+    requires room { HasRoom steps.old }
+    ensures right { IsRight table.now result }
+    ensures greatest { IsGreatest table.now (taken_in result) }
+    ensures standard { IsInStandardOrder table.now result.refusals.items }
+
+    ensures passes { RisesAtMost 1 steps.old.passes steps.new.passes }
+    ensures drops { steps.new.drops ≡ steps.old.drops + drops_in result.refusals.items }
+    ensures most_drops { steps.new.drops ≤ steps.old.drops + MOST_REFUSALS }
+    ensures looks { RisesAtMost MOST_LOOKS steps.old.looks steps.new.looks }
+{
+    right_reports_are_greatest();
+    report_of(table, all_refusals(table, steps))
+}
+
+/// All refusals of a table. First come those of the requests that are refused by themselves. One
+/// pass then marks the requests that need what can't come; again and again the lowest marked one is
+/// refused, and those that depend on it are marked anew, until no mark is left.
+fn all_refusals(table: &Table, steps: &mut Steps) -> ArrayVec<Refusal, MOST_REFUSALS>
+    requires { HasRoom steps.old }
     ensures standard { IsInStandardOrder table.now result.items }
     ensures once { (j : ℕ)
         → times_refused result.items j ≤ once_if (has_request table.now j) }
     ensures none_left { (j : ℕ)
         → is_refused result.items j ≡ false → needs_reason table.now result.items j ≡ None }
+
+    ensures passes { steps.new.passes ≡ steps.old.passes + 1 }
+    ensures drops { steps.new.drops ≡ steps.old.drops + drops_in result.items }
+    ensures looks { RisesAtMost MOST_LOOKS steps.old.looks steps.new.looks }
 {
     let mut refusals = own_refusals(table);
-    while let Some(refusal) = next_need(table, &refusals) {
+    let mut marks = marks_after(table, &refusals);
+    steps.passes += 1;
+    while let Some(refusal) = next_need(table, &refusals, &marks) {
         // No image is refused twice, so there is room for one more.
         prove!(refusals.len() < table.images.len());
         refusals.push(refusal);
+        steps.drops += 1;
+        marks[usize::from(refusal.image)] = false;
+        mark_dependants(table, &refusals, refusal.image, &mut marks, steps);
     }
     refusals
 }

@@ -1,32 +1,41 @@
 //! Requests that need what can't come, given those that are refused so far.
 
 ghost use Rattle.std.specs.Option.{option_copied};
-ghost use Rattle.std.specs.Prelude.{◌≡◌, ℕ, false, IfNone, IfSome, None, find};
+ghost use Rattle.std.specs.Prelude.{◌≡◌, ℕ, false, IfNone, IfSome, None, find, position};
 ghost use Rattle.certificate.specs.Combination.{intact_entry};
 ghost use Rattle.certificate.specs.Reasons.{best_version, is_out_of_reach, is_refused, newest_version, requested_version};
 ghost use Rattle.certificate.specs.StandardOrder.{IsNextNeed, needs_reason};
+ghost use Rattle.chooser.specs.Marks.{AreMarks};
 
 use certificate::{Entry, Image, Reason, Refusal, Request, Table};
+use common::limits::MOST_IMAGES;
 use version_order::{Dependency, Version};
 
-/// After these refusals comes this one: the lowest request not yet refused of which a dependency is
-/// out of reach. `None` where there is no such request.
-pub(crate) fn next_need(table: &Table, before: &[Refusal]) -> Option<Refusal>
+/// After these refusals comes this one: the lowest request that is marked, with the first of its
+/// dependencies that is out of reach. `None` where no request is marked.
+pub(crate) fn next_need(
+    table: &Table,
+    before: &[Refusal],
+    marks: &[bool; MOST_IMAGES],
+) -> Option<Refusal>
+    requires { AreMarks table.now before.now marks.now }
     ensures next { IfSome result (IsNextNeed table.now before.now) }
     ensures none_left { IfNone result
         ((i : ℕ) → is_refused before.now i ≡ false → needs_reason table.now before.now i ≡ None) }
 {
-    for number in 0..table.images.len() as u8 {
-        if !is_refused(before, number)
-            && let Some(reason) = needs_reason(table, before, number)
-        {
-            return Some(Refusal {
-                image: number,
-                reason,
-            });
-        }
-    }
-    None
+    let number = lowest_marked(marks)? as u8;
+    // Its reason is found now and not when it was marked: more may be out of reach since then.
+    let reason = needs_reason(table, before, number)?;
+    Some(Refusal {
+        image: number,
+        reason,
+    })
+}
+
+fn lowest_marked(marks: &[bool; MOST_IMAGES]) -> Option<usize>
+    ensures { result ≡ position (λ is_marked. is_marked) marks.now }
+{
+    marks.iter().position(|&is_marked| is_marked)
 }
 
 /// Whether the list refuses the request of an image.
@@ -38,7 +47,7 @@ pub(crate) fn is_refused(refusals: &[Refusal], number: u8) -> bool
 
 /// The first dependency of the intact request of an image that is out of reach after these
 /// refusals, as a reason.
-fn needs_reason(table: &Table, before: &[Refusal], number: u8) -> Option<Reason>
+pub(crate) fn needs_reason(table: &Table, before: &[Refusal], number: u8) -> Option<Reason>
     ensures { result ≡ needs_reason table.now before.now number }
 {
     let image = table.images.get(usize::from(number))?;

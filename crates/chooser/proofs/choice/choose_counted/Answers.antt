@@ -3,7 +3,7 @@ use Rattle.arrayvec.specs.ArrayVec.{ArrayVec}
 use Rattle.certificate.specs.declared.report.Refusal.{Refusal}
 use Rattle.chooser.specs.Reported.{reported_images}
 use Rattle.chooser.proofs.Right.{IsComplete, IsRight-from_complete}
-use Rattle.chooser.proofs.choice.choose.Goals as goal
+use Rattle.chooser.proofs.choice.choose_counted.Goals as goal
 
 pub returns-clause-right : goal.returns-clause-right
 returns-clause-right c =
@@ -15,7 +15,7 @@ returns-clause-right c =
     IsRight-from_complete table c.report_of.result
     (subst (λ (refusals : ArrayVec Refusal). IsComplete table refusals.items) same complete)
     (c.report_of.ensures.images ∙ ap (λ (refusals : ArrayVec Refusal).
-    reported_images table refusals.items) same) c.requires
+    reported_images table refusals.items) same) c.requires.running
 
 pub returns-clause-greatest : goal.returns-clause-greatest
 returns-clause-greatest c =

@@ -1,0 +1,169 @@
+-- How many drops and looks a choice makes.
+use Rattle.std.proofs.Common.{◌≡◌, ℕ, zero, suc, ◌+◌, ◌-◌, ◌≤◌, true, false, List, [], ◌∷◌, ◌++◌, length, Option, Some, None, refl, sym, ap, subst, ◌∙◌, add-one, append_assoc, length-append, arith}
+use Rattle.std.specs.Prelude.{◌==◌, IfSome, find, filter_map, nat_lt, option_map}
+use Rattle.std.specs.List.{cons_option, enumerate_from, list_any}
+use Rattle.std.proofs.lemmas.Bool.{cond_both, ne_eqb, or_from}
+use Rattle.std.proofs.lemmas.List.{length_push}
+use Rattle.std.proofs.lemmas.List.Folds.{list_any-append}
+use Rattle.std.proofs.lemmas.List.Sums.{sum_by_push}
+use Rattle.version_order.specs.declared.dependency.Dependency.{Dependency}
+use Rattle.version_order.specs.Order.{is_older}
+use Rattle.certificate.specs.declared.table.Entry.{Entry}
+use Rattle.certificate.specs.declared.table.Request.{Request}
+use Rattle.certificate.specs.declared.table.Request.TheVariants as request
+use Rattle.certificate.specs.declared.table.Image.{Image}
+use Rattle.certificate.specs.declared.table.Table.{Table}
+use Rattle.certificate.specs.declared.report.Reason.{Reason}
+use Rattle.certificate.specs.declared.report.Reason.TheVariants.{Damaged, Older, Counter, NoSuchImage}
+use Rattle.certificate.specs.declared.report.Refusal.{Refusal}
+use Rattle.certificate.specs.Combination.{image_at, intact_entry}
+use Rattle.certificate.specs.Dependants.{asks_for, is_dependant}
+use Rattle.certificate.specs.Reasons.{depends_on, is_refused}
+use Rattle.certificate.specs.Rightness.{has_request, once_if}
+use Rattle.certificate.specs.StandardOrder.{is_missing, own_reason, own_refusal, own_refusals, IsNextNeed}
+use Rattle.common.proofs.Options.{option_map_or-true}
+use Rattle.common.proofs.Lists.{count_by-none}
+use Rattle.certificate.proofs.Counts.{IsOnce, IsOnce-push, length-once}
+use Rattle.certificate.proofs.Requests.{has_request-intact}
+use Rattle.chooser.specs.declared.steps.Steps.{Steps}
+use Rattle.chooser.specs.Counted.{drops_in, is_drop, reason_number}
+use Rattle.chooser.proofs.Order.{HasNeed-from_reason}
+
+-- ---- drops
+
+-- no drop, if there is a reason at all
+abbrev IsNoDrop : Option Reason → Type 0
+IsNoDrop found = IfSome found (λ reason. nat_lt 4 (reason_number reason) ≡ false)
+
+-- a missing image is no drop
+missing-no_drop : (found : Option Dependency)
+    → IsNoDrop (option_map (λ (dependency : Dependency). NoSuchImage dependency.image) found)
+missing-no_drop None = tt
+missing-no_drop (Some dependency) = refl
+
+-- what is refused by itself is no drop
+own-no_drop : (table : Table) (image : Image) (asked : Request) → IsNoDrop (own_reason table image asked)
+own-no_drop table image request.None = tt
+own-no_drop table image request.Damaged = refl
+own-no_drop table image (request.Entry entry) =
+    cond_both (is_older entry.version image.running.version) (Some Older) _ IsNoDrop (λ _. refl)
+    (λ _. cond_both (nat_lt entry.counter image.floor) (Some Counter) _ IsNoDrop (λ _. refl)
+    (λ _. missing-no_drop (find (is_missing table) entry.dependencies.items)))
+
+-- a refusal for such a reason, before others of which none is a drop
+no_drop-cons : (n : ℕ) (found : Option Reason) (refusals : List Refusal) → IsNoDrop found
+    → list_any is_drop refusals ≡ false
+    → list_any is_drop (cons_option (option_map (λ reason. record { image = n; reason = reason }) found) refusals)
+    ≡ false
+no_drop-cons n None refusals first rest = rest
+no_drop-cons n (Some reason) refusals first rest =
+    or_from (nat_lt 4 (reason_number reason)) (list_any is_drop refusals) first rest
+
+-- none of the requests that are refused by themselves is a drop
+no_drop-own : (table : Table) (n : ℕ) (images : List Image)
+    → list_any is_drop (filter_map (own_refusal table) (enumerate_from n images)) ≡ false
+no_drop-own table n [] = refl
+no_drop-own table n (image ∷ images) =
+    no_drop-cons n (own_reason table image image.request)
+    (filter_map (own_refusal table) (enumerate_from (n + 1) images)) (own-no_drop table image image.request)
+    (no_drop-own table (n + 1) images)
+
+pub drops_in-own : (table : Table) → drops_in (own_refusals table) ≡ 0
+drops_in-own table = count_by-none is_drop (own_refusals table) (no_drop-own table 0 table.images.items)
+
+-- the next need is a drop
+pub drops_in-push : (table : Table) (refusals : List Refusal) (refusal : Refusal) → IsNextNeed table refusals refusal
+    → drops_in (refusals ++ refusal ∷ []) ≡ drops_in refusals + 1
+drops_in-push table refusals refusal need =
+    let has = HasNeed-from_reason table refusals refusal.image refusal.reason need.reason in
+    let drop : is_drop refusal ≡ true = ap (λ reason. nat_lt 4 (reason_number reason)) (sym has.names) in
+    sum_by_push (λ (any_refusal : Refusal). once_if (is_drop any_refusal)) refusals refusal
+    ∙ ap (λ passes. drops_in refusals + once_if passes) drop
+
+-- ---- looks
+
+-- how many looks there are at most until so many requests are refused
+abbrev pub most_looks : ℕ → ℕ
+most_looks zero = 0
+most_looks (suc refused) = most_looks refused + (7 - refused)
+
+-- after one refusal more each request that is left is looked at once more at most
+pub most_looks-more : (refused : ℕ) → most_looks (refused + 1) ≡ most_looks refused + (7 - refused)
+most_looks-more refused = ap most_looks (add-one refused)
+
+-- they are at most 28, since no more than eight are refused
+pub most_looks-le : (refused : ℕ) → refused ≤ 8 → most_looks refused ≤ 28
+most_looks-le refused few = omega (arith, grows refused (8 - refused) 8 (omega arith))
+  where
+    grows : (m k n : ℕ) → m + k ≡ n → most_looks m ≤ most_looks n
+    grows m zero n is = let same : m ≡ n = omega arith in omega (arith, ap most_looks same)
+    grows m (suc k) n is = omega (arith, grows (suc m) k n (omega arith))
+
+-- looks change nothing but their count
+pub counts_only_looks : (before now next : Steps) → now ≡ record before { looks = now.looks }
+    → next ≡ record now { looks = now.looks + 1 } → next ≡ record before { looks = next.looks }
+counts_only_looks before now next so_far looked =
+    let count : next.looks ≡ now.looks + 1 = ap (λ (steps : Steps). steps.looks) looked in
+    looked ∙ ap (λ (steps : Steps). record steps { looks = now.looks + 1 }) so_far
+    ∙ ap (λ (n : ℕ). record before { looks = n }) (sym count)
+
+-- the requests that were looked at among the first images, each in the place of a refusal: so many looks were made
+pub record AreLooks (table : Table) (refusals : List Refusal) (n before after : ℕ) : Type 0 where
+  pub looked : List Refusal
+  pub once : IsOnce table (refusals ++ looked)
+  pub below : (i : ℕ) → n ≤ i → is_refused looked i ≡ false
+  pub few : length looked ≤ n
+  pub count : after ≡ before + length looked
+
+-- no look at image n
+pub AreLooks-skip : (table : Table) (refusals : List Refusal) (n before after : ℕ)
+    → AreLooks table refusals n before after → AreLooks table refusals (n + 1) before after
+AreLooks-skip table refusals n before after so_far = record {
+  looked = so_far.looked;
+  once = so_far.once;
+  below = λ i from. so_far.below i (omega arith);
+  few = omega (arith, so_far.few);
+  count = so_far.count;
+}
+
+-- a dependant has a request
+has_request-dependant : (table : Table) (j i : ℕ) → is_dependant table j i ≡ true → has_request table i ≡ true
+has_request-dependant table j i dependant =
+    let (image, has_image, asks) = option_map_or-true (asks_for j) (image_at table i) dependant in
+    let (entry, has_entry, _) =
+    option_map_or-true (λ (any_entry : Entry). depends_on any_entry j) (intact_entry image.request) asks in
+    has_request-intact table i image entry has_image has_entry
+
+-- a look at image n
+pub AreLooks-look : (table : Table) (refusals : List Refusal) (j n before after : ℕ)
+    → is_dependant table j n ≡ true → is_refused refusals n ≡ false → AreLooks table refusals n before after
+    → AreLooks table refusals (n + 1) before (after + 1)
+AreLooks-look table refusals j n before after dependant unrefused so_far =
+    let look : Refusal = record { image = n; reason = Damaged } in
+    let looked = so_far.looked in
+    let unlisted : is_refused (refusals ++ looked) n ≡ false =
+    list_any-append (λ (any_refusal : Refusal). any_refusal.image == n) refusals looked
+    ∙ or_from (is_refused refusals n) (is_refused looked n) unrefused (so_far.below n (omega arith)) in
+    record {
+      looked = looked ++ look ∷ [];
+      once = subst (λ (listed : List Refusal). IsOnce table listed) (append_assoc refusals looked (look ∷ []))
+          (IsOnce-push table (refusals ++ looked) look so_far.once unlisted
+          (has_request-dependant table j n dependant));
+      below = λ i from.
+          list_any-append (λ (any_refusal : Refusal). any_refusal.image == i) looked (look ∷ [])
+          ∙ or_from (is_refused looked i) _ (so_far.below i (omega arith))
+          (or_from (n == i) false (ne_eqb n i (λ same. absurd (omega arith))) refl);
+      few = omega (arith, length_push looked look, so_far.few);
+      count = omega (arith, length_push looked look, so_far.count);
+    }
+
+-- no more looks than there are images whose requests aren't refused
+pub looks-le : (table : Table) (refusals : List Refusal) (n before after : ℕ)
+    → AreLooks table refusals n before after → after + length refusals ≤ before + length table.images.items
+looks-le table refusals n before after so_far =
+    omega (
+      arith,
+      so_far.count,
+      length-append refusals so_far.looked,
+      length-once table (refusals ++ so_far.looked) so_far.once,
+    )

@@ -1,0 +1,315 @@
+-- What a pass, a look and a drop make of the marks.
+use Rattle.std.proofs.Common.{◌≡◌, ℕ, zero, suc, ◌+◌, ◌<◌, ◌≤◌, Bool, true, false, cond, not, ◌&&◌, ◌||◌, eqb, List, [], ◌∷◌, ◌++◌, length, get_or, set, get_or-set_same, get_or-set_other, Option, Some, None, inl, inr, refl, sym, ap, ◌∙◌, arith}
+use Rattle.std.specs.Prelude.{◌==◌, find, is_some, nat_lt, option_and_then, option_map, position}
+use Rattle.std.specs.List.{list_any, position_or_len}
+use Rattle.std.specs.Option.{option_map_or}
+use Rattle.std.proofs.lemmas.Bool.{false≢true, and_left, and_parts, and_right, cases_Bool, cases_eq, cases_lt, eqb-false, eqb-true, eq-eqb, ltb-false, ne_eqb, not-true, not_from_true, or_left, or_parts, or_right}
+use Rattle.std.proofs.lemmas.List.Folds.{list_any-append}
+use Rattle.std.proofs.lemmas.List.Quantifiers.{position-Some}
+use Rattle.std.proofs.lemmas.List.Sums.{fails_before_first}
+use Rattle.std.proofs.lemmas.Option.{none-some, slice_get_past, slice_get_within}
+use Rattle.version_order.specs.declared.dependency.Dependency.{Dependency}
+use Rattle.version_order.specs.Order.{is_older}
+use Rattle.certificate.specs.declared.table.Entry.{Entry}
+use Rattle.certificate.specs.declared.table.Image.{Image}
+use Rattle.certificate.specs.declared.table.Table.{Table}
+use Rattle.certificate.specs.declared.report.Reason.{Reason}
+use Rattle.certificate.specs.declared.report.Reason.TheVariants.{Needs}
+use Rattle.certificate.specs.declared.report.Refusal.{Refusal}
+use Rattle.certificate.specs.Combination.{image_at, intact_entry}
+use Rattle.certificate.specs.Dependants.{asks_for, is_dependant}
+use Rattle.certificate.specs.Reasons.{depends_on, is_out_of_reach, is_refused, newest_version, requested_version}
+use Rattle.certificate.specs.Rightness.{once_if}
+use Rattle.certificate.specs.StandardOrder.{needs_reason, needs_reason_of_entry, IsNextNeed}
+use Rattle.certificate.proofs.DependantLaws.{is_dependant-past}
+use Rattle.chooser.specs.Marks.{AreMarks, AreMarksApartFrom, has_need, is_left_dependant}
+use Rattle.chooser.proofs.Order.{HasNeed-from_reason}
+
+-- behind the last image no request needs anything
+pub has_need-past : (table : Table) (refusals : List Refusal) (i : ℕ) → length table.images.items ≤ i
+    → has_need table refusals i ≡ false
+has_need-past table refusals i past =
+    and_right (not (is_refused refusals i)) _
+    (ap (λ (found : Option Image). is_some
+    (option_and_then (λ image. option_and_then (needs_reason_of_entry table refusals i) (intact_entry image.request)) found))
+    (slice_get_past table.images.items i past))
+
+-- a request that isn't refused needs what it needs
+has_need-unrefused : (table : Table) (refusals : List Refusal) (i : ℕ) → is_refused refusals i ≡ false
+    → has_need table refusals i ≡ is_some (needs_reason table refusals i)
+has_need-unrefused table refusals i unrefused =
+    ap (λ refused. not refused && is_some (needs_reason table refusals i)) unrefused
+
+-- what is marked stands in the list of marks
+pub marked_within : (marks : List Bool) (i : ℕ) → get_or marks i false ≡ true → i < length marks
+marked_within [] zero marked = absurd (false≢true marked)
+marked_within [] (suc i) marked = absurd (false≢true marked)
+marked_within (mark ∷ marks) zero marked = omega arith
+marked_within (mark ∷ marks) (suc i) marked = omega (arith, marked_within marks i marked)
+
+-- ---- the lowest mark
+
+-- where a search for a mark finds none, there is none
+unmarked : (marks : List Bool) → position (λ is_marked. is_marked) marks ≡ None → (i : ℕ)
+    → get_or marks i false ≡ false
+unmarked marks none i =
+    let test = λ (is_marked : Bool). is_marked in
+    let past : length marks ≤ position_or_len test marks =
+    ltb-false _ _ (fails_for_none (nat_lt (position_or_len test marks) (length marks)) (position_or_len test marks) none)
+    in
+    elim (cases_Bool (get_or marks i false)) [
+      | inl marked ↦ absurd (false≢true (sym (fails_before_first test marks i false
+          (omega (arith, marked_within marks i marked, past))) ∙ marked))
+      | inr is ↦ is
+    ]
+  where
+    fails_for_none : (test : Bool) (n : ℕ) → cond test (Some n) None ≡ None → test ≡ false
+    fails_for_none true n none = absurd (none-some n (sym none))
+    fails_for_none false n none = refl
+
+-- no value
+none_left : {X : Type 0} (o : Option X) → is_some o ≡ false → o ≡ None
+none_left None none = refl
+none_left (Some x) none = absurd (false≢true (sym none))
+
+module _ (table : Table) (refusals : List Refusal) (marks : List Bool) (right : AreMarks table refusals marks) where
+  -- a request that isn't refused and isn't marked needs nothing that can't come
+  none-unmarked : (i : ℕ) → get_or marks i false ≡ false → is_refused refusals i ≡ false
+      → needs_reason table refusals i ≡ None
+  none-unmarked i is unrefused =
+      none_left (needs_reason table refusals i)
+      (sym (has_need-unrefused table refusals i unrefused) ∙ sym (right.each i) ∙ is)
+
+  -- where none is marked, none does
+  pub none-left : position (λ is_marked. is_marked) marks ≡ None
+      → (i : ℕ) → is_refused refusals i ≡ false → needs_reason table refusals i ≡ None
+  none-left none i unrefused = none-unmarked i (unmarked marks none i) unrefused
+
+  -- the lowest that is marked has a reason
+  pub lowest-reason : (n : ℕ) → position (λ is_marked. is_marked) marks ≡ Some n
+      → needs_reason table refusals n ≡ None → ⊥
+  lowest-reason n lowest none =
+      let found = position-Some (λ (is_marked : Bool). is_marked) marks n false lowest in
+      let need = and_parts (not (is_refused refusals n)) (is_some (needs_reason table refusals n))
+      (sym (right.each n) ∙ found.1) in
+      false≢true (ap is_some (sym none) ∙ need.1)
+
+  -- and is the next need
+  pub lowest-next : (n : ℕ) → position (λ is_marked. is_marked) marks ≡ Some n → (reason : Reason)
+      → needs_reason table refusals n ≡ Some reason
+      → IsNextNeed table refusals (record { image = n; reason = reason })
+  lowest-next n lowest reason is =
+      let found = position-Some (λ (is_marked : Bool). is_marked) marks n false lowest in
+      let need = and_parts (not (is_refused refusals n)) (is_some (needs_reason table refusals n))
+      (sym (right.each n) ∙ found.1) in
+      record {
+        unrefused = not-true _ need.0;
+        reason = is;
+        lowest = λ i lower unrefused. none-unmarked i (found.2 i lower) unrefused;
+      }
+
+-- ---- a pass
+
+-- the images below n are marked that need what can't come, and none from n on
+pub record AreMarksBelow (table : Table) (refusals : List Refusal) (n : ℕ) (marks : List Bool) : Type 0 where
+  pub below : (i : ℕ) → i < n → get_or marks i false ≡ has_need table refusals i
+  pub above : (i : ℕ) → n ≤ i → get_or marks i false ≡ false
+
+-- one image more
+pub AreMarksBelow-more : (table : Table) (refusals : List Refusal) (n : ℕ) (marks : List Bool) → n < length marks
+    → AreMarksBelow table refusals n marks
+    → AreMarksBelow table refusals (n + 1) (set marks n (has_need table refusals n))
+AreMarksBelow-more table refusals n marks within so_far =
+    let here = has_need table refusals n in
+    record {
+      below = λ i less. elim (cases_eq i n) [
+        | inl same ↦ ap (λ k. get_or (set marks n here) k false) same ∙ get_or-set_same marks n here false within
+            ∙ ap (has_need table refusals) (sym same)
+        | inr other ↦ get_or-set_other marks n i here false other ∙ so_far.below i (omega arith)
+      ];
+      above = λ i from. get_or-set_other marks n i here false (λ same. absurd (omega arith))
+          ∙ so_far.above i (omega arith);
+    }
+
+-- all images
+pub AreMarks-from_below : (table : Table) (refusals : List Refusal) (n : ℕ) (marks : List Bool)
+    → length table.images.items ≤ n → AreMarksBelow table refusals n marks → AreMarks table refusals marks
+AreMarks-from_below table refusals n marks past so_far = record {
+  each = λ i. elim (cases_lt i n) [
+    | inl less ↦ so_far.below i less
+    | inr from ↦ so_far.above i from ∙ sym (has_need-past table refusals i (omega arith))
+  ];
+}
+
+-- ---- looks after a drop
+
+-- tests that count the same are the same
+pub once_if-same : (a b : Bool) → once_if a ≡ once_if b → a ≡ b
+once_if-same true true same = refl
+once_if-same true false same = absurd (omega arith)
+once_if-same false true same = absurd (omega arith)
+once_if-same false false same = refl
+
+-- the marks are right but for the remaining dependants of image j from n on
+pub record AreMarksUpTo (table : Table) (refusals : List Refusal) (j n : ℕ) (marks : List Bool) : Type 0 where
+  pub each : (i : ℕ) → (n ≤ i → is_left_dependant table refusals j i ≡ false)
+      → get_or marks i false ≡ has_need table refusals i
+
+-- a look at image n
+pub AreMarksUpTo-look : (table : Table) (refusals : List Refusal) (j n : ℕ) (marks : List Bool) → n < length marks
+    → is_refused refusals n ≡ false → AreMarksUpTo table refusals j n marks
+    → AreMarksUpTo table refusals j (n + 1) (set marks n (is_some (needs_reason table refusals n)))
+AreMarksUpTo-look table refusals j n marks within unrefused so_far =
+    let here = is_some (needs_reason table refusals n) in
+    record {
+      each = λ i no_later. elim (cases_eq i n) [
+        | inl same ↦ ap (λ k. get_or (set marks n here) k false) same ∙ get_or-set_same marks n here false within
+            ∙ sym (ap (has_need table refusals) same ∙ has_need-unrefused table refusals n unrefused)
+        | inr other ↦ get_or-set_other marks n i here false other
+            ∙ so_far.each i (λ from. no_later (omega arith))
+      ];
+    }
+
+-- no look at image n
+pub AreMarksUpTo-skip : (table : Table) (refusals : List Refusal) (j n : ℕ) (marks : List Bool)
+    → is_left_dependant table refusals j n ≡ false → AreMarksUpTo table refusals j n marks
+    → AreMarksUpTo table refusals j (n + 1) marks
+AreMarksUpTo-skip table refusals j n marks other so_far = record {
+  each = λ i no_later. so_far.each i (λ from. elim (cases_eq i n) [
+    | inl same ↦ ap (is_left_dependant table refusals j) same ∙ other
+    | inr apart ↦ no_later (omega arith)
+  ]);
+}
+
+-- after the last image
+pub AreMarks-from_up_to : (table : Table) (refusals : List Refusal) (j n : ℕ) (marks : List Bool)
+    → length table.images.items ≤ n → AreMarksUpTo table refusals j n marks → AreMarks table refusals marks
+AreMarks-from_up_to table refusals j n marks past so_far = record {
+  each = λ i. so_far.each i (λ from. and_left (is_dependant table j i) _
+      (is_dependant-past table j i (omega arith)));
+}
+
+-- ---- a drop
+
+-- what is added to a list that another refusal doesn't refuse
+or_none : (b : Bool) → (b || false) ≡ b
+or_none true = refl
+or_none false = refl
+
+-- a refusal more refuses no other image
+pub is_refused-push_other : (refusals : List Refusal) (refusal : Refusal) (i : ℕ) → (refusal.image == i) ≡ false
+    → is_refused (refusals ++ refusal ∷ []) i ≡ is_refused refusals i
+is_refused-push_other refusals refusal i other =
+    list_any-append (λ (any_refusal : Refusal). any_refusal.image == i) refusals (refusal ∷ [])
+    ∙ ap (λ b. is_refused refusals i || (b || false)) other ∙ or_none (is_refused refusals i)
+
+-- and it refuses its own
+pub is_refused-push_same : (refusals : List Refusal) (refusal : Refusal)
+    → is_refused (refusals ++ refusal ∷ []) refusal.image ≡ true
+is_refused-push_same refusals refusal =
+    list_any-append (λ (any_refusal : Refusal). any_refusal.image == refusal.image) refusals (refusal ∷ [])
+    ∙ or_right (is_refused refusals refusal.image) _
+    (or_left (refusal.image == refusal.image) false (eq-eqb refusal.image refusal.image refl))
+
+-- two searches that agree but where a third test passes, which passes nowhere
+find-same : {X : Type 0} (p q other : X → Bool) → ((x : X) → other x ≡ false → p x ≡ q x) → (xs : List X)
+    → list_any other xs ≡ false → find p xs ≡ find q xs
+find-same p q other same [] none = refl
+find-same p q other same (x ∷ xs) none =
+    let parts = or_parts (other x) (list_any other xs) none in
+    ap (λ b. cond b (Some x) (find p xs)) (same x parts.0)
+    ∙ ap (λ found. cond (q x) (Some x) found) (find-same p q other same xs parts.1)
+
+module _ (table : Table) (refusals : List Refusal) (refusal : Refusal) (i : ℕ) where
+  -- a dependency on another image is as far out of reach as before
+  is_out_of_reach-push : (dependency : Dependency) → (dependency.image == refusal.image) ≡ false
+      → is_out_of_reach table (refusals ++ refusal ∷ []) i dependency ≡ is_out_of_reach table refusals i dependency
+  is_out_of_reach-push dependency other =
+      let j = dependency.image in
+      let apart : (refusal.image == j) ≡ false =
+      ne_eqb refusal.image j (λ same. eqb-false j refusal.image other (sym same)) in
+      ap (λ refused. option_map_or
+      (λ image. is_older (cond (eqb j i) (requested_version image)
+      (cond refused image.running.version (newest_version image))) dependency.minimum) (image_at table j) false)
+      (is_refused-push_other refusals refusal j apart)
+
+  -- an entry that doesn't depend on the dropped image needs what it needed
+  reason_of_entry-push : (requested : Option Entry)
+      → option_map_or (λ (entry : Entry). depends_on entry refusal.image) requested false ≡ false
+      → option_and_then (needs_reason_of_entry table (refusals ++ refusal ∷ []) i) requested
+      ≡ option_and_then (needs_reason_of_entry table refusals i) requested
+  reason_of_entry-push None independent = refl
+  reason_of_entry-push (Some entry) independent =
+      ap (option_map (λ (dependency : Dependency). Needs dependency.image dependency.minimum))
+      (find-same (is_out_of_reach table (refusals ++ refusal ∷ []) i) (is_out_of_reach table refusals i)
+      (λ (dependency : Dependency). dependency.image == refusal.image) is_out_of_reach-push entry.dependencies.items
+      independent)
+
+  -- nor does what is requested of an image
+  reason_of_image-push : (found : Option Image) → option_map_or (asks_for refusal.image) found false ≡ false
+      → option_and_then (λ (image : Image). option_and_then
+      (needs_reason_of_entry table (refusals ++ refusal ∷ []) i) (intact_entry image.request)) found
+      ≡ option_and_then (λ (image : Image). option_and_then
+      (needs_reason_of_entry table refusals i) (intact_entry image.request)) found
+  reason_of_image-push None independent = refl
+  reason_of_image-push (Some image) independent = reason_of_entry-push (intact_entry image.request) independent
+
+  -- a request that doesn't depend on the dropped image needs what it needed
+  needs_reason-push : is_dependant table refusal.image i ≡ false
+      → needs_reason table (refusals ++ refusal ∷ []) i ≡ needs_reason table refusals i
+  needs_reason-push independent = reason_of_image-push (image_at table i) independent
+
+  -- a request that remains and isn't a dependant of the dropped image needs what can't come after the drop exactly
+  -- where it did before
+  has_need-push : (refusal.image == i) ≡ false
+      → is_left_dependant table (refusals ++ refusal ∷ []) refusal.image i ≡ false
+      → has_need table (refusals ++ refusal ∷ []) i ≡ has_need table refusals i
+  has_need-push apart not_left =
+      let kept = is_refused-push_other refusals refusal i apart in
+      elim (cases_Bool (is_refused refusals i)) [
+        | inl refused ↦
+            and_left (not (is_refused (refusals ++ refusal ∷ []) i)) _ (not_from_true _ (kept ∙ refused))
+            ∙ sym (and_left (not (is_refused refusals i)) _ (not_from_true _ refused))
+        | inr unrefused ↦
+            let independent : is_dependant table refusal.image i ≡ false =
+            sym (and_true (is_dependant table refusal.image i))
+            ∙ ap (λ refused. is_dependant table refusal.image i && not refused) (sym (kept ∙ unrefused))
+            ∙ not_left in
+            has_need-unrefused table (refusals ++ refusal ∷ []) i (kept ∙ unrefused)
+            ∙ ap is_some (needs_reason-push independent)
+            ∙ sym (has_need-unrefused table refusals i unrefused)
+      ]
+    where
+      and_true : (b : Bool) → (b && true) ≡ b
+      and_true true = refl
+      and_true false = refl
+
+-- without the mark of the dropped image the marks are right but for those that depend on it
+pub AreMarksApartFrom-drop : (table : Table) (refusals : List Refusal) (refusal : Refusal) (marks : List Bool)
+    → IsNextNeed table refusals refusal → AreMarks table refusals marks
+    → AreMarksApartFrom table (refusals ++ refusal ∷ []) refusal.image (set marks refusal.image false)
+AreMarksApartFrom-drop table refusals refusal marks need right =
+    let was_marked : get_or marks refusal.image false ≡ true =
+    right.each refusal.image ∙ has_need-unrefused table refusals refusal.image need.unrefused ∙ ap is_some need.reason in
+    let within = marked_within marks refusal.image was_marked in
+    record {
+      others = λ i not_left. elim (cases_Bool (refusal.image == i)) [
+        | inl same ↦
+            let here : i ≡ refusal.image = sym (eqb-true refusal.image i same) in
+            ap (λ k. get_or (set marks refusal.image false) k false) here
+            ∙ get_or-set_same marks refusal.image false false within
+            ∙ sym (ap (has_need table (refusals ++ refusal ∷ [])) here
+            ∙ and_left (not (is_refused (refusals ++ refusal ∷ []) refusal.image)) _
+            (not_from_true _ (is_refused-push_same refusals refusal)))
+        | inr apart ↦
+            get_or-set_other marks refusal.image i false false (λ same. eqb-false refusal.image i apart (sym same))
+            ∙ right.each i ∙ sym (has_need-push table refusals refusal i apart not_left)
+      ];
+    }
+
+-- what is dropped is the request of an image of the table
+pub next_need-within : (table : Table) (refusals : List Refusal) (refusal : Refusal)
+    → IsNextNeed table refusals refusal → refusal.image < length table.images.items
+next_need-within table refusals refusal need =
+    let has = HasNeed-from_reason table refusals refusal.image refusal.reason need.reason in
+    slice_get_within table.images.items refusal.image has.image has.has_image

@@ -1,0 +1,65 @@
+//! Marks: which of the remaining requests need what can't come.
+
+ghost use Rattle.std.specs.Prelude.{◌≡◌, ◌+◌, ◌^◌, ◌<◌, ◌≤◌, ℕ, false, length};
+ghost use Rattle.std.specs.Int.{bit_at};
+ghost use Rattle.certificate.specs.Reasons.{times_refused};
+ghost use Rattle.certificate.specs.Rightness.{has_request, once_if};
+ghost use Rattle.chooser.specs.Marks.{AreMarks, AreMarksApartFrom, has_need};
+
+use crate::needs::{is_refused, needs_reason};
+use crate::steps::Steps;
+use certificate::{Refusal, Table, dependants};
+use common::limits::MOST_IMAGES;
+
+/// The marks after these refusals, by one look at each remaining request.
+pub(crate) fn marks_after(table: &Table, refusals: &[Refusal]) -> [bool; MOST_IMAGES]
+    ensures { AreMarks table.now refusals.now result }
+{
+    let mut marks = [false; MOST_IMAGES];
+    for number in 0..table.images.len() as u8 {
+        marks[usize::from(number)] = has_need(table, refusals, number);
+    }
+    marks
+}
+
+/// Whether the request of an image remains after these refusals and needs what can't come.
+fn has_need(table: &Table, refusals: &[Refusal], number: u8) -> bool
+    ensures { result ≡ has_need table.now refusals.now number }
+{
+    !is_refused(refusals, number) && needs_reason(table, refusals, number).is_some()
+}
+
+/// Marks anew the remaining requests that depend on an image, now that its request is refused, and
+/// counts the looks. The marks of all others are right: what they need can come as it could before.
+pub(crate) fn mark_dependants(
+    table: &Table,
+    refusals: &[Refusal],
+    dropped: u8,
+    marks: &mut [bool; MOST_IMAGES],
+    steps: &mut Steps,
+)
+    requires others { AreMarksApartFrom table.now refusals.now dropped marks.old }
+    requires once { (i : ℕ) → times_refused refusals.now i ≤ once_if (has_request table.now i) }
+    requires room { steps.old.looks + MOST_IMAGES < 2 ^ 32 }
+    ensures marks { AreMarks table.now refusals.now marks.new }
+    ensures looks { steps.new.looks + length refusals.now
+        ≤ steps.old.looks + length table.now.images.items }
+    ensures only_looks { (steps.old.looks ≤ steps.new.looks)
+        × (steps.new ≡ record steps.old { looks = steps.new.looks }) }
+{
+    let dependants = dependants(table, dropped);
+    for number in 0..table.images.len() as u8 {
+        if is_member(dependants, number) && !is_refused(refusals, number) {
+            steps.looks += 1;
+            marks[usize::from(number)] = needs_reason(table, refusals, number).is_some();
+        }
+    }
+}
+
+/// Whether an image is in a mask.
+fn is_member(mask: u8, number: u8) -> bool
+    requires { number < MOST_IMAGES }
+    ensures { once_if result ≡ bit_at mask number }
+{
+    (mask >> number) % 2 == 1
+}
