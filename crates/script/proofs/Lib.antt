@@ -1,0 +1,4 @@
+pub mod LineLaws
+pub mod Parts
+pub mod WideNumbers
+pub mod WordLaws

@@ -1,0 +1,378 @@
+-- Reading a line finds what its text says, and nothing else.
+use Rattle.std.proofs.Common.{◌≡◌, ◌≢◌, ℕ, ◌%◌, ◌^◌, ◌<◌, ◌≤◌, List, [], ◌∷◌, ◌++◌, length, cond, eqb, Option, Some, None, refl, sym, ap, ◌∙◌, subst, inl, inr, arith}
+use Rattle.std.specs.Prelude.{IfNone, IfSome, bytes_eq, codes, decimal, option_and_then, option_map}
+use Rattle.std.specs.Char.{is_ascii_hexdigit}
+use Rattle.std.specs.List.{list_all}
+use Rattle.std.proofs.lemmas.Bool.{and_parts, cases_Bool, eq-eqb, eqb-true, eqb-false, ne_eqb}
+use Rattle.std.proofs.lemmas.List.Sums.{AllPass-from_list_all, list_all-from_AllPass}
+use Rattle.std.proofs.lemmas.Option.{cond_some, option_and_then_some, none-some, same_Some}
+use Rattle.std.proofs.lemmas.Slice.Eq.{bytes_eq-Decides}
+use Rattle.common.specs.Ascii.{cut, number_below, number_of}
+use Rattle.common.specs.Lines.{◌␣◌}
+use Rattle.common.proofs.AsciiLaws.{LacksByte-decimal, cut-found, cut-missing, cut-parts, cut-whole, number_below-decimal, number_below-spelled, number_of-decimal, number_of-spelled}
+use Rattle.common.proofs.Options.{cases_option, option_map-Some}
+use Rattle.script.specs.declared.line.Line.{Line}
+use Rattle.script.specs.LineReading.{accept_of, cut_line_of, event_at, hex_of, image_event, line_at, name_of, part_of, piece_of, piece_with, said_of, torn_of, word_of}
+use Rattle.script.specs.LineText.{AreDigits, FitsEvent, FitsPart, FitsTorn, IsLineText, IsWord, event_text, line_text, piece_text, torn_text}
+use Rattle.script.specs.Said.{PartWords, Said, SaidEvent, SaidTorn, said}
+use Rattle.script.specs.Said.{Accept, Boot, Confirm, Cut, Done, Event, Finish, Hex, Keep, Piece, Reset, Withdraw}
+use Rattle.script.proofs.WordLaws.{name_of-spelled, name_of-text, word_of-spelled, word_of-text}
+
+-- ---- what is spelled is read
+
+-- A number is cut off at the space after it.
+cut-number : (n : ℕ) (after : List ℕ) → n < 2 ^ 32 → cut 32 (decimal n ␣ after) ≡ (decimal n, Some after)
+cut-number n after fits = cut-found 32 (decimal n) after (LacksByte-decimal 32 n (omega arith) (omega arith))
+
+part_of-text : (part : PartWords) → FitsPart (Some part) → part_of (part.from ␣ part.count) ≡ Some part
+unfolding part_of
+part_of-text part fits =
+    rw (
+      cut-found 32 part.from part.count fits.0.1,
+      word_of-text part.from fits.0,
+      word_of-text part.count fits.1,
+    ) refl
+
+hex_of-text : (digits : List ℕ) → AreDigits digits → hex_of digits ≡ Some (Hex digits)
+unfolding hex_of
+hex_of-text [] are = absurd (are.0 refl)
+hex_of-text (d ∷ ds) are =
+    rw (
+      ne_eqb (length (d ∷ ds)) 0 (λ e. omega arith),
+      eq-eqb (length (d ∷ ds) % 2) 0 are.1,
+      list_all-from_AllPass is_ascii_hexdigit (d ∷ ds) are.2,
+    ) refl
+
+torn_of-hex : (digits : List ℕ) → torn_of (codes "hex:" ++ digits) ≡ hex_of digits
+unfolding torn_of cut
+torn_of-hex digits = refl
+
+torn_of-text : (torn : SaidTorn) → FitsTorn torn → torn_of (torn_text torn) ≡ Some torn
+unfolding torn_of
+torn_of-text Keep fits = refl
+torn_of-text Done fits = refl
+torn_of-text (Hex digits) fits = torn_of-hex digits ∙ hex_of-text digits fits
+
+cut_line_of-text : (write : ℕ) (torn : SaidTorn) → 1 ≤ write → write < 2 ^ 32 → FitsTorn torn
+    → cut_line_of (decimal write ␣ torn_text torn) ≡ Some (Cut write torn)
+unfolding cut_line_of
+cut_line_of-text write torn some fits torn_fits =
+    rw (
+      cut-number write (torn_text torn) fits,
+      number_of-decimal write fits,
+      torn_of-text torn torn_fits,
+      ne_eqb write 0 (λ e. omega arith),
+    ) refl
+
+accept_of-text : (file : List ℕ) → FitsEvent (Accept file) → accept_of file ≡ Some (Accept file)
+unfolding accept_of
+accept_of-text file fits = rw (name_of-text file fits) refl
+
+piece_of-whole : (image : ℕ) (file : List ℕ) → FitsEvent (Piece image file None)
+    → piece_of (decimal image ␣ file) ≡ Some (Piece image file None)
+unfolding piece_of
+piece_of-whole image file (small, named, whole) =
+    rw (
+      cut-number image file (omega arith),
+      number_below-decimal (2 ^ 8) image small (omega arith),
+      cut-missing 32 file named.0.1,
+      name_of-text file named,
+    ) refl
+
+piece_of-part : (image : ℕ) (file : List ℕ) (part : PartWords) → FitsEvent (Piece image file (Some part))
+    → piece_of (decimal image ␣ file ␣ part.from ␣ part.count) ≡ Some (Piece image file (Some part))
+unfolding piece_of
+piece_of-part image file part (small, named, fits) =
+    rw (
+      cut-number image (file ␣ part.from ␣ part.count) (omega arith),
+      number_below-decimal (2 ^ 8) image small (omega arith),
+      cut-found 32 file (part.from ␣ part.count) named.0.1,
+      name_of-text file named,
+      part_of-text part fits,
+    ) refl
+
+-- The first word tells which fields follow.
+said_of-cut : (fields : List ℕ) → said_of (codes "cut" ␣ fields) ≡ cut_line_of fields
+unfolding said_of cut
+said_of-cut fields = refl
+
+said_of-accept : (fields : List ℕ)
+    → said_of (codes "accept" ␣ fields) ≡ option_map (λ event. Event event) (accept_of fields)
+unfolding said_of event_at cut
+said_of-accept fields = refl
+
+said_of-piece : (fields : List ℕ)
+    → said_of (codes "piece" ␣ fields) ≡ option_map (λ event. Event event) (piece_of fields)
+unfolding said_of event_at cut
+said_of-piece fields = refl
+
+said_of-finish : (fields : List ℕ)
+    → said_of (codes "finish" ␣ fields)
+    ≡ option_map (λ event. Event event) (option_and_then (λ i. Some (Finish i)) (number_below (2 ^ 8) fields))
+unfolding said_of event_at cut
+said_of-finish fields = refl
+
+said_of-withdraw : (fields : List ℕ)
+    → said_of (codes "withdraw" ␣ fields)
+    ≡ option_map (λ event. Event event) (option_and_then (λ i. Some (Withdraw i)) (number_below (2 ^ 8) fields))
+unfolding said_of event_at cut
+said_of-withdraw fields = refl
+
+said_of-confirm : (fields : List ℕ)
+    → said_of (codes "confirm" ␣ fields)
+    ≡ option_map (λ event. Event event) (option_and_then (λ i. Some (Confirm i)) (number_below (2 ^ 8) fields))
+unfolding said_of event_at cut
+said_of-confirm fields = refl
+
+said_of-boot : said_of (codes "boot") ≡ Some (Event Boot)
+unfolding said_of
+said_of-boot = refl
+
+said_of-reset : said_of (codes "reset") ≡ Some (Event Reset)
+unfolding said_of
+said_of-reset = refl
+
+-- A line that fits is read in its spelling.
+said_of-line : (found : Said) → IsLineText (line_text found) found → said_of (line_text found) ≡ Some found
+said_of-line (Cut write torn) ((some, fits, torn_fits), is) =
+    said_of-cut (decimal write ␣ torn_text torn) ∙ cut_line_of-text write torn some fits torn_fits
+said_of-line (Event (Accept file)) (fits, is) =
+    said_of-accept file ∙ ap (option_map (λ event. Event event)) (accept_of-text file fits)
+said_of-line (Event (Piece image file None)) (fits, is) =
+    said_of-piece (decimal image ␣ file) ∙ ap (option_map (λ event. Event event)) (piece_of-whole image file fits)
+said_of-line (Event (Piece image file (Some part))) (fits, is) =
+    said_of-piece (decimal image ␣ file ␣ part.from ␣ part.count)
+    ∙ ap (option_map (λ event. Event event)) (piece_of-part image file part fits)
+said_of-line (Event (Finish image)) (small, is) =
+    said_of-finish (decimal image) ∙ rw (number_below-decimal (2 ^ 8) image small (omega arith)) refl
+said_of-line (Event (Withdraw image)) (small, is) =
+    said_of-withdraw (decimal image) ∙ rw (number_below-decimal (2 ^ 8) image small (omega arith)) refl
+said_of-line (Event (Confirm image)) (small, is) =
+    said_of-confirm (decimal image) ∙ rw (number_below-decimal (2 ^ 8) image small (omega arith)) refl
+said_of-line (Event Boot) is = said_of-boot
+said_of-line (Event Reset) is = said_of-reset
+
+pub said_of-text : (text : List ℕ) (found : Said) → IsLineText text found → said_of text ≡ Some found
+said_of-text text found (fits, is) = ap said_of is ∙ said_of-line found (fits, refl)
+
+-- ---- what is read is spelled so
+
+-- The two parts of a text that is cut, where the first is known.
+cut-spelled : (text word rest : List ℕ) → (cut 32 text).0 ≡ word → (cut 32 text).1 ≡ Some rest → text ≡ word ␣ rest
+cut-spelled text word rest is_word is_rest = cut-parts 32 text rest is_rest ∙ ap (λ first. first ␣ rest) is_word
+
+part_of-spelled : (text : List ℕ) (part : PartWords) → part_of text ≡ Some part
+    → FitsPart (Some part) × (text ≡ part.from ␣ part.count)
+unfolding part_of
+part_of-spelled text part read =
+    option_and_then_some _ (word_of (cut 32 text).0) part read (λ from is_from after_from.
+    option_and_then_some _ (cut 32 text).1 part after_from (λ rest is_rest from_count.
+    option_and_then_some _ (word_of rest) part from_count (λ count is_count made.
+    let from_found = word_of-spelled (cut 32 text).0 from is_from in
+    let count_found = word_of-spelled rest count is_count in
+    let whole : text ≡ from ␣ count =
+    cut-spelled text from rest from_found.1 is_rest ∙ ap (λ t. from ␣ t) count_found.1 in
+    subst (λ (p : PartWords). FitsPart (Some p) × (text ≡ p.from ␣ p.count))
+    (same_Some (record { from = from; count = count }) part made)
+    ((from_found.0, count_found.0), whole))))
+
+hex_of-spelled : (digits : List ℕ) (torn : SaidTorn) → hex_of digits ≡ Some torn
+    → FitsTorn torn × (codes "hex:" ++ digits ≡ torn_text torn)
+unfolding hex_of
+hex_of-spelled digits torn read =
+    elim (cases_Bool (eqb (length digits) 0)) [
+      | inl empty ↦ absurd (none-some torn (rw empty at read))
+      | inr some ↦
+          let found = cond_some _ (Hex digits) torn (rw some at read) in
+          let tests = and_parts (eqb (length digits % 2) 0) (list_all is_ascii_hexdigit digits) found.0 in
+          let are : AreDigits digits = (
+            λ e. eqb-false (length digits) 0 some (ap (λ (t : List ℕ). length t) e),
+            eqb-true (length digits % 2) 0 tests.0,
+            AllPass-from_list_all is_ascii_hexdigit digits tests.1,
+          ) in
+          subst (λ (t : SaidTorn). FitsTorn t × (codes "hex:" ++ digits ≡ torn_text t)) found.1 (are, refl)
+    ]
+
+torn_of-spelled : (word : List ℕ) (torn : SaidTorn) → torn_of word ≡ Some torn
+    → FitsTorn torn × (word ≡ torn_text torn)
+unfolding torn_of
+torn_of-spelled word torn read =
+    elim (cases_Bool (bytes_eq word (codes "keep"))) [
+      | inl keep ↦ subst (λ (t : SaidTorn). FitsTorn t × (word ≡ torn_text t))
+          (same_Some Keep torn (rw keep at read)) (tt, (bytes_eq-Decides word (codes "keep")).0 keep)
+      | inr not_keep ↦
+          let read = rw not_keep at read in
+          elim (cases_Bool (bytes_eq word (codes "done"))) [
+            | inl done ↦ subst (λ (t : SaidTorn). FitsTorn t × (word ≡ torn_text t))
+                (same_Some Done torn (rw done at read)) (tt, (bytes_eq-Decides word (codes "done")).0 done)
+            | inr not_done ↦
+                option_and_then_some _ (cut 58 word).1 torn (rw not_done at read) (λ digits is_digits read_on.
+                elim (cases_Bool (bytes_eq (cut 58 word).0 (codes "hex"))) [
+                  | inl hex ↦
+                      let found = hex_of-spelled digits torn (rw hex at read_on) in
+                      let whole : word ≡ codes "hex:" ++ digits =
+                      cut-parts 58 word digits is_digits
+                      ∙ ap (λ (t : List ℕ). t ++ 58 ∷ digits) ((bytes_eq-Decides (cut 58 word).0 (codes "hex")).0 hex) in
+                      (found.0, whole ∙ found.1)
+                  | inr other ↦ absurd (none-some torn (rw other at read_on))
+                ])
+          ]
+    ]
+
+cut_line_of-spelled : (fields : List ℕ) (found : Said) → cut_line_of fields ≡ Some found
+    → IsLineText (codes "cut" ␣ fields) found
+unfolding cut_line_of
+cut_line_of-spelled fields found read =
+    option_and_then_some _ (number_of (cut 32 fields).0) found read (λ write is_write after_write.
+    option_and_then_some _ (cut 32 fields).1 found after_write (λ rest is_rest from_torn.
+    option_and_then_some _ (torn_of rest) found from_torn (λ torn is_torn made.
+    let write_found = number_of-spelled (cut 32 fields).0 write is_write in
+    let torn_found = torn_of-spelled rest torn is_torn in
+    let whole : fields ≡ decimal write ␣ torn_text torn =
+    cut-spelled fields (decimal write) rest write_found.0 is_rest ∙ ap (λ t. decimal write ␣ t) torn_found.1 in
+    elim (cases_Bool (eqb write 0)) [
+      | inl zero ↦ absurd (none-some found (rw zero at made))
+      | inr some ↦
+          let counted : 1 ≤ write = omega (arith, eqb-false write 0 some) in
+          subst (λ (s : Said). IsLineText (codes "cut" ␣ fields) s)
+          (same_Some (Cut write torn) found (rw some at made))
+          ((counted, write_found.1, torn_found.0), ap (λ t. codes "cut" ␣ t) whole)
+    ])))
+
+-- An event that was read in a text.
+abbrev SaysEvent : List ℕ → SaidEvent → Type 0
+SaysEvent text event = FitsEvent event × (text ≡ event_text event)
+
+accept_of-spelled : (fields : List ℕ) (event : SaidEvent) → accept_of fields ≡ Some event
+    → SaysEvent (codes "accept" ␣ fields) event
+unfolding accept_of
+accept_of-spelled fields event read =
+    let (file, is_file, made) = option_map-Some _ (name_of fields) event read in
+    let found = name_of-spelled fields file is_file in
+    subst (λ (e : SaidEvent). SaysEvent (codes "accept" ␣ fields) e) made
+    (found.0, ap (λ t. codes "accept" ␣ t) found.1)
+
+piece_with-spelled : (image : ℕ) (file rest : List ℕ) (event : SaidEvent) → image < 2 ^ 8
+    → name_of (cut 32 rest).0 ≡ Some file → piece_with image file (cut 32 rest).1 ≡ Some event
+    → SaysEvent (codes "piece" ␣ decimal image ␣ rest) event
+piece_with-spelled image file rest event small is_file read =
+    let file_found = name_of-spelled (cut 32 rest).0 file is_file in
+    elim (cases_option (cut 32 rest).1) [
+      | inl none ↦
+          let whole : rest ≡ file = cut-whole 32 rest none ∙ file_found.1 in
+          subst (λ (e : SaidEvent). SaysEvent (codes "piece" ␣ decimal image ␣ rest) e)
+          (same_Some (Piece image file None) event (rw none at read))
+          ((small, file_found.0, tt), ap (λ t. codes "piece" ␣ decimal image ␣ t) whole)
+      | inr (words, some) ↦
+          option_and_then_some _ (part_of words) event (rw some at read) (λ part is_part made.
+          let part_found = part_of-spelled words part is_part in
+          let whole : rest ≡ file ␣ part.from ␣ part.count =
+          cut-spelled rest file words file_found.1 some ∙ ap (λ t. file ␣ t) part_found.1 in
+          subst (λ (e : SaidEvent). SaysEvent (codes "piece" ␣ decimal image ␣ rest) e)
+          (same_Some (Piece image file (Some part)) event made)
+          ((small, file_found.0, part_found.0), ap (λ t. codes "piece" ␣ decimal image ␣ t) whole))
+    ]
+
+piece_of-spelled : (fields : List ℕ) (event : SaidEvent) → piece_of fields ≡ Some event
+    → SaysEvent (codes "piece" ␣ fields) event
+unfolding piece_of
+piece_of-spelled fields event read =
+    option_and_then_some _ (number_below (2 ^ 8) (cut 32 fields).0) event read (λ image is_image after_image.
+    option_and_then_some _ (cut 32 fields).1 event after_image (λ rest is_rest from_file.
+    option_and_then_some _ (name_of (cut 32 rest).0) event from_file (λ file is_file from_part.
+    let image_found = number_below-spelled (2 ^ 8) (cut 32 fields).0 image is_image in
+    let whole = cut-spelled fields (decimal image) rest image_found.0 is_rest in
+    rw whole (piece_with-spelled image file rest event image_found.1 is_file from_part))))
+
+image_event-spelled : (word fields : List ℕ) (image : ℕ) (event : SaidEvent) → image < 2 ^ 8
+    → fields ≡ decimal image → image_event word image ≡ Some event → SaysEvent (word ␣ fields) event
+image_event-spelled word fields image event small is_image read =
+    rw is_image (elim (cases_Bool (bytes_eq word (codes "finish"))) [
+      | inl finish ↦
+          rw ((bytes_eq-Decides word (codes "finish")).0 finish)
+          (subst (λ (e : SaidEvent). SaysEvent (codes "finish" ␣ decimal image) e)
+          (same_Some (Finish image) event (rw finish at read)) (small, refl))
+      | inr not_finish ↦
+          let read = rw not_finish at read in
+          elim (cases_Bool (bytes_eq word (codes "withdraw"))) [
+            | inl withdraw ↦
+                rw ((bytes_eq-Decides word (codes "withdraw")).0 withdraw)
+                (subst (λ (e : SaidEvent). SaysEvent (codes "withdraw" ␣ decimal image) e)
+                (same_Some (Withdraw image) event (rw withdraw at read)) (small, refl))
+            | inr not_withdraw ↦
+                let read = rw not_withdraw at read in
+                elim (cases_Bool (bytes_eq word (codes "confirm"))) [
+                  | inl confirm ↦
+                      rw ((bytes_eq-Decides word (codes "confirm")).0 confirm)
+                      (subst (λ (e : SaidEvent). SaysEvent (codes "confirm" ␣ decimal image) e)
+                      (same_Some (Confirm image) event (rw confirm at read)) (small, refl))
+                  | inr other ↦ absurd (none-some event (rw other at read))
+                ]
+          ]
+    ])
+
+event_at-spelled : (word fields : List ℕ) (event : SaidEvent) → event_at word fields ≡ Some event
+    → SaysEvent (word ␣ fields) event
+unfolding event_at
+event_at-spelled word fields event read =
+    elim (cases_Bool (bytes_eq word (codes "accept"))) [
+      | inl accept ↦ rw ((bytes_eq-Decides word (codes "accept")).0 accept)
+          (accept_of-spelled fields event (rw accept at read))
+      | inr not_accept ↦
+          let read = rw not_accept at read in
+          elim (cases_Bool (bytes_eq word (codes "piece"))) [
+            | inl piece ↦ rw ((bytes_eq-Decides word (codes "piece")).0 piece)
+                (piece_of-spelled fields event (rw piece at read))
+            | inr not_piece ↦
+                option_and_then_some _ (number_below (2 ^ 8) fields) event (rw not_piece at read)
+                (λ image is_image made.
+                let found = number_below-spelled (2 ^ 8) fields image is_image in
+                image_event-spelled word fields image event found.1 found.0 made)
+          ]
+    ]
+
+line_at-spelled : (word fields : List ℕ) (found : Said) → line_at word fields ≡ Some found
+    → IsLineText (word ␣ fields) found
+line_at-spelled word fields found read =
+    elim (cases_Bool (bytes_eq word (codes "cut"))) [
+      | inl cuts ↦ rw ((bytes_eq-Decides word (codes "cut")).0 cuts)
+          (cut_line_of-spelled fields found (rw cuts at read))
+      | inr other ↦
+          let (event, is_event, made) = option_map-Some _ (event_at word fields) found (rw other at read) in
+          subst (λ (s : Said). IsLineText (word ␣ fields) s) made (event_at-spelled word fields event is_event)
+    ]
+
+-- A text that is read as a line says that line.
+pub said_of-spelled : (text : List ℕ) (found : Said) → said_of text ≡ Some found → IsLineText text found
+unfolding said_of
+said_of-spelled text found read =
+    elim (cases_Bool (bytes_eq text (codes "boot"))) [
+      | inl boot ↦ subst (λ (s : Said). IsLineText text s) (same_Some (Event Boot) found (rw boot at read))
+          (tt, (bytes_eq-Decides text (codes "boot")).0 boot)
+      | inr not_boot ↦
+          let read = rw not_boot at read in
+          elim (cases_Bool (bytes_eq text (codes "reset"))) [
+            | inl reset ↦ subst (λ (s : Said). IsLineText text s)
+                (same_Some (Event Reset) found (rw reset at read)) (tt, (bytes_eq-Decides text (codes "reset")).0 reset)
+            | inr not_reset ↦
+                option_and_then_some _ (cut 32 text).1 found (rw not_reset at read) (λ fields is_fields read_on.
+                rw (cut-parts 32 text fields is_fields) (line_at-spelled (cut 32 text).0 fields found read_on))
+          ]
+    ]
+
+-- ---- what the reader promises
+
+-- A text says one line at most.
+pub one_line : (text : List ℕ) (one other : Said) → IsLineText text one → IsLineText text other → one ≡ other
+one_line text one other says_one says_other =
+    same_Some one other (sym (said_of-text text one says_one) ∙ said_of-text text other says_other)
+
+pub says-read : (text : List ℕ) (result : Option Line) → option_map said result ≡ said_of text
+    → IfSome result (λ found. IsLineText text (said found))
+says-read text None read = tt
+says-read text (Some found) read = said_of-spelled text (said found) (sym read)
+
+pub other-read : (text : List ℕ) (result : Option Line) → option_map said result ≡ said_of text
+    → IfNone result ((found : Said) → IsLineText text found → ⊥)
+other-read text None read = λ found says. none-some found (read ∙ said_of-text text found says)
+other-read text (Some line) read = tt

@@ -1,0 +1,109 @@
+-- Reading a line from left to right, step by step: words are cut at spaces (32), the first word
+-- tells what the line says, and the last field takes the whole rest of the line. The reader follows
+-- these steps; what they mean is in `LineText`.
+use Rattle.std.specs.Prelude.{ℕ, ◌%◌, ◌^◌, ◌==◌, ◌&&◌, ◌||◌, List, length, Option, Some, None, codes, is_some, option_and_then, option_map, if◌then◌else◌}
+use Rattle.std.specs.Char.{is_ascii_hexdigit}
+use Rattle.std.specs.List.{list_all}
+use Rattle.std.specs.Str.{bytes_eq, is_utf8}
+use Rattle.common.specs.Ascii.{number_of, number_below, cut}
+use Rattle.script.specs.Said.{PartWords, Said, SaidEvent, SaidTorn}
+use Rattle.script.specs.Said.{Accept, Boot, Confirm, Cut, Done, Event, Finish, Hex, Keep, Piece, Reset, Withdraw}
+
+infixl 10 ◌>>=◌
+abbrev pub ◌>>=◌ : {A B : Type 0} → Option A → (A → Option B) → Option B
+o >>= f = option_and_then f o
+
+-- The word that a text is: some bytes, and no space among them.
+unfoldable pub word_of : List ℕ → Option (List ℕ)
+word_of text =
+    let words = cut 32 text in
+    if is_some words.1 || length words.0 == 0 then None else Some words.0
+
+-- The name of a file that a text is: a word in UTF-8.
+unfoldable pub name_of : List ℕ → Option (List ℕ)
+name_of text = do
+  word ← word_of text
+  if is_utf8 word then Some word else None
+
+-- The words FROM and COUNT.
+unfoldable pub part_of : List ℕ → Option PartWords
+part_of text = do
+  let words = cut 32 text
+  from ← word_of words.0
+  rest ← words.1
+  count ← word_of rest
+  Some (record { from = from; count = count })
+
+-- The digits behind `hex:`.
+unfoldable pub hex_of : List ℕ → Option SaidTorn
+hex_of digits =
+    if length digits == 0 then None
+    else (if length digits % 2 == 0 && list_all is_ascii_hexdigit digits
+    then Some (Hex digits) else None)
+
+-- What a cut leaves. A colon (58) parts `hex` from the digits.
+unfoldable pub torn_of : List ℕ → Option SaidTorn
+torn_of word =
+    if bytes_eq word (codes "keep") then Some Keep
+    else (if bytes_eq word (codes "done") then Some Done else (do
+      let parts = cut 58 word
+      digits ← parts.1
+      if bytes_eq parts.0 (codes "hex") then hex_of digits else None))
+
+-- What follows `cut`: the number of a write, and what it leaves.
+unfoldable pub cut_line_of : List ℕ → Option Said
+cut_line_of fields = do
+  let words = cut 32 fields
+  write ← number_of words.0
+  rest ← words.1
+  torn ← torn_of rest
+  if write == 0 then None else Some (Cut write torn)
+
+-- What follows `accept`: the name of a file.
+unfoldable pub accept_of : List ℕ → Option SaidEvent
+accept_of fields = option_map (λ file. Accept file) (name_of fields)
+
+-- A piece of this file, whole where nothing follows its name.
+abbrev pub piece_with : ℕ → List ℕ → Option (List ℕ) → Option SaidEvent
+piece_with image file None = Some (Piece image file None)
+piece_with image file (Some rest) =
+    option_and_then (λ part. Some (Piece image file (Some part))) (part_of rest)
+
+-- What follows `piece`: the number of an image, the name of a file, and which part of it.
+unfoldable pub piece_of : List ℕ → Option SaidEvent
+piece_of fields = do
+  let words = cut 32 fields
+  image ← number_below (2 ^ 8) words.0
+  rest ← words.1
+  let words = cut 32 rest
+  file ← name_of words.0
+  piece_with image file words.1
+
+-- The event of an image that a word names.
+abbrev pub image_event : List ℕ → ℕ → Option SaidEvent
+image_event word image =
+    if bytes_eq word (codes "finish") then Some (Finish image)
+    else (if bytes_eq word (codes "withdraw") then Some (Withdraw image)
+    else (if bytes_eq word (codes "confirm") then Some (Confirm image) else None))
+
+-- The event that begins with this word, with these fields after it.
+unfoldable pub event_at : List ℕ → List ℕ → Option SaidEvent
+event_at word fields =
+    if bytes_eq word (codes "accept") then accept_of fields
+    else (if bytes_eq word (codes "piece") then piece_of fields
+    else option_and_then (image_event word) (number_below (2 ^ 8) fields))
+
+-- The line that begins with this word, with these fields after it.
+abbrev pub line_at : List ℕ → List ℕ → Option Said
+line_at word fields =
+    if bytes_eq word (codes "cut") then cut_line_of fields
+    else option_map (λ event. Event event) (event_at word fields)
+
+-- The line that a text says.
+unfoldable pub said_of : List ℕ → Option Said
+said_of text =
+    if bytes_eq text (codes "boot") then Some (Event Boot)
+    else (if bytes_eq text (codes "reset") then Some (Event Reset) else (do
+      let words = cut 32 text
+      fields ← words.1
+      line_at words.0 fields))

@@ -1,0 +1,48 @@
+//! Words of a line.
+
+ghost use Rattle.std.specs.Prelude.{◌≡◌, ◌≢◌, ◌^◌, ◌<◌, ◌↔◌, ◌⊎◌, ℕ, IfNone, IfSome, IsTrue, decimal, length, slice_index};
+ghost use Rattle.std.specs.Option.{option_copied};
+ghost use Rattle.script.specs.LineReading.{name_of, word_of};
+
+use common::ascii::cut;
+
+/// The word that a text is: some bytes, and no space among them.
+#[tactic(auto, unfolding(crate::specs::LineReading::word_of))]
+pub(crate) fn word(text: &[u8]) -> Option<&[u8]>
+    ensures { option_copied result ≡ word_of text.now }
+{
+    let (word, rest) = cut(text, b' ');
+    if rest.is_some() || word.is_empty() {
+        return None;
+    }
+    Some(word)
+}
+
+/// The name of a file that a text is: a word in UTF-8.
+#[tactic(auto, unfolding(crate::specs::LineReading::name_of))]
+pub(crate) fn name(text: &[u8]) -> Option<&str>
+    ensures { option_copied result ≡ name_of text.now }
+{
+    str::from_utf8(word(text)?).ok()
+}
+
+/// Whether a text begins as no number is printed: with a plus sign, or with a zero before anything
+/// else.
+fn begins_padded(text: &[u8]) -> bool
+    ensures { IsTrue result ↔ ((slice_index text.now 0 ≡ 43)
+        ⊎ ((slice_index text.now 0 ≡ 48) × (1 < length text.now))) }
+{
+    matches!(text, [b'+', ..] | [b'0', _, ..])
+}
+
+/// The number that a text spells, decimal and without leading zeros, as `common::ascii::number`
+/// reads those of 32 bits.
+pub(crate) fn number_usize(text: &[u8]) -> Option<usize>
+    ensures spelled { IfSome result (λ n. text.now ≡ decimal n) }
+    ensures other { IfNone result ((n : ℕ) → n < 2 ^ 64 → text.now ≢ decimal n) }
+{
+    if begins_padded(text) {
+        return None;
+    }
+    str::from_utf8(text).ok()?.parse().ok()
+}
