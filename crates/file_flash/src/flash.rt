@@ -1,0 +1,267 @@
+//! A flash in memory that is written through to a file.
+
+ghost use Rattle.std.specs.Prelude.{◌≡◌, ◌+◌, ◌*◌, ◌%◌, ◌<◌, ◌≤◌, ◌⊎◌, ℕ, length, false, true, replicate, slice_range, option_map, IfSome, IsErrOf, OnErr, OnOk};
+ghost use Rattle.std.specs.Bool.{OnFalse};
+ghost use Rattle.std.specs.Option.{ForSome};
+ghost use Rattle.flash_model.specs.Chip.{size_of, Reads, IsErased, SameOutside, Ends};
+ghost use Rattle.flash_model.specs.Memory.{erased, memory_of, programmed};
+ghost use Rattle.flash_model.specs.Torn.{replaced};
+
+use crate::file::FlashFile;
+use flash_model::{Flash, FlashError, MemFlash};
+use std::io;
+use std::sync::ledger::{Blank, Book, Ledger, Share};
+
+/// A flash in memory whose changed ranges are written through to a file at once.
+///
+/// A write, that is a program or an erase, is made in memory first, done or cut as that flash was armed. Then the
+/// range that it may have changed goes to the file as it is in memory now, torn bytes too, by one `write_at`. The
+/// write is done where both are; where the flash in memory was cut or the file failed it answers `Cut`, which is
+/// counted once, and the flash is off until `restart`. Once a write of the file failed, each later write is cut,
+/// also after a restart, and changes nothing, in memory or in the file. Reading goes on.
+///
+/// As long as no write of the file failed, what the file is known to hold (`contents` of `FlashFile`) is what the
+/// flash holds. That is kept in the type, whoever calls the flash, and told by `has_failed`.
+///
+/// No call allocates.
+///
+/// Contracts see it as an `OverFile` (`over_file`): the chip, the flash in memory, and whether a write of the file
+/// failed; and the file itself (`file_of`). The counts of cuts and of completed erases are tokens of a ledger of its
+/// own, `L`, since an erase that was completed in memory and didn't reach the file is a cut; those of the flash in
+/// memory, of the ledger `M`, count for nothing. So it is made in a function that is generic in both ledgers:
+///
+/// ```text
+/// fn helper<L: Ledger, M: Ledger>(alloc: Global, blanks: (Blank, Blank), ..) -> Result<(), AllocError>
+///     requires name { blanks.0.name ≡ L.name }
+///     requires parts { blanks.0.parts ≡ L.parts }
+///     requires two { L.parts ≡ 2 }
+///     requires memory_name { blanks.1.name ≡ M.name }
+///     requires memory_parts { blanks.1.parts ≡ M.parts }
+///     requires memory_two { M.parts ≡ 2 }
+/// {
+///     let memory = MemFlash::<M>::new(alloc, blanks.1, 512, 16)?;
+///     let mut flash = FileFlash::<TheFile, L, M>::over(memory, blanks.0, file);
+///     ..
+/// }
+///
+/// helper::<Brand, Brand>(rt.alloc(), (Blank::new(2), Blank::new(2)), ..)?;
+/// ```
+///
+/// and in `proofs/CALLER/Invariants.antt` of the function that calls `helper` (without `g` where the caller isn't
+/// generic):
+///
+/// ```text
+/// use Rattle.CRATE.proofs.CALLER.Given as goal
+///
+/// abbrev pub ghosts-helper-L-Ledger : goal.ghosts-helper-L-Ledger
+/// ghosts-helper-L-Ledger g a = record { name = a.blanks.0.name; parts = a.blanks.0.parts }
+///
+/// abbrev pub ghosts-helper-M-Ledger : goal.ghosts-helper-M-Ledger
+/// ghosts-helper-M-Ledger g a = record { name = a.blanks.1.name; parts = a.blanks.1.parts }
+/// ```
+#[derive(Drop)]
+pub struct FileFlash<F: FlashFile, L: Ledger, M: Ledger> {
+    memory: MemFlash<M>,
+    file: F,
+    is_on: bool,
+    has_failed: bool,
+    book: Book<L>,
+    cuts: Share<L>,
+    erases: Share<L>,
+    ghost powered: { is_on ≡ true → (memory_of memory).chip.is_on ≡ true },
+    ghost written: { has_failed ≡ false
+        → ForSome (F.contents file) (λ all. all ≡ (memory_of memory).chip.bytes) },
+    ghost counts_cuts: { 0 < cuts.parts },
+    ghost counts_erases: { 0 < erases.parts },
+}
+
+/// Writes a range of the bytes in memory to its place in the file.
+fn write_through<F: FlashFile, M: Ledger>(
+    file: &mut F,
+    memory: &MemFlash<M>,
+    at: u32,
+    len: usize,
+) -> io::Result<()>
+    requires inside { at + len ≤ size_of (memory_of memory.now).chip }
+    requires file { ForSome (F.contents file.old) (λ all. at + len ≤ length all) }
+    ensures { OnOk result (F.contents file.new
+        ≡ option_map (replaced at (slice_range (memory_of memory.now).chip.bytes at (at + len)))
+        (F.contents file.old)) }
+{
+    let from = at as usize;
+    file.write_at(at, &memory.bytes()[from..from + len])
+}
+
+impl<F: FlashFile, L: Ledger, M: Ledger> FileFlash<F, L, M> {
+    ghost use Rattle.file_flash.specs.FileFlash.{chip_of, cut_short, file_of, new_over, over_file};
+
+    /// A flash with the sectors and bytes of `memory`, which is on, over a file that holds these bytes already. It
+    /// is on, and what was armed stays armed.
+    ///
+    /// The ledger's token has two parts, as `Blank::new(2)` makes it.
+    pub fn over(memory: MemFlash<M>, blank: Blank, file: F) -> Self
+        requires name { blank.name ≡ L.name }
+        requires parts { blank.parts ≡ L.parts }
+        requires two { L.parts ≡ 2 }
+        requires on { (memory_of memory).chip.is_on ≡ true }
+        requires held { ForSome (F.contents file) (λ all. all ≡ (memory_of memory).chip.bytes) }
+        ensures made { over_file result ≡ new_over (memory_of memory) }
+        ensures file { file_of result ≡ file }
+    {
+        let (book, mut cuts) = blank.open::<L>();
+        let erases = cuts.split_off(1, 0);
+        FileFlash {
+            memory,
+            file,
+            is_on: true,
+            has_failed: false,
+            book,
+            cuts,
+            erases,
+        }
+    }
+
+    /// Whether a write of the file failed. Until one has, what the file is known to hold is what the flash holds.
+    pub fn has_failed(&self) -> bool
+        ensures answer { result ≡ (over_file self.now).has_failed }
+        ensures written { OnFalse result
+            (IfSome (F.contents (file_of self.now)) (λ all. all ≡ (chip_of self.now).bytes)) }
+    {
+        self.has_failed
+    }
+
+    /// The bytes, in the order of their addresses, whether it is on or off.
+    pub fn bytes(&self) -> &[u8]
+        ensures { result.now ≡ (chip_of self.now).bytes }
+    {
+        self.memory.bytes()
+    }
+
+    /// The file, as the last write left it.
+    pub fn file(&self) -> &F
+        ensures { result.now ≡ file_of self.now }
+    {
+        &self.file
+    }
+
+    /// Ends a write that is cut: counts it, and turns the flash off.
+    fn cut(&mut self) -> Result<(), FlashError>
+        ensures cut { IsErrOf result FlashError.Cut }
+        ensures flash { over_file self.new ≡ cut_short (over_file self.old) }
+        ensures file { file_of self.new ≡ file_of self.old }
+    {
+        self.is_on = false;
+        self.book.add(&mut self.cuts, 1);
+        Err(FlashError::Cut)
+    }
+}
+
+impl<F: FlashFile, L: Ledger, M: Ledger> Flash for FileFlash<F, L, M> {
+    ghost use Rattle.file_flash.specs.FileFlash.{chip_of, file_of, over_file, restarted, WritesThrough};
+
+    ghost chip = { chip_of };
+
+    ghost whole = { λ f. f.memory.whole };
+
+    ghost addressed = { λ f. f.memory.addressed };
+
+    ghost bytes = { λ f. f.memory.are_bytes };
+
+    fn sector_size(&self) -> u32 {
+        self.memory.sector_size()
+    }
+
+    fn sectors(&self) -> u32 {
+        self.memory.sectors()
+    }
+
+    fn read(&mut self, at: u32, out: &mut [u8]) -> Result<(), FlashError>
+        requires { at + length out.old ≤ size_of (chip_of self.old) }
+        ensures same { chip_of self.new ≡ chip_of self.old }
+        ensures ok { OnOk result (Reads (chip_of self.old) at out.new) }
+        ensures on { OnOk result ((chip_of self.old).is_on ≡ true) }
+        ensures erases { OnOk result ((chip_of self.new).erases ≡ (chip_of self.old).erases) }
+        ensures ends { Ends result (chip_of self.old) (chip_of self.new) }
+        ensures flash { over_file self.new ≡ over_file self.old }
+        ensures file { file_of self.new ≡ file_of self.old }
+    {
+        if !self.is_on {
+            return Err(FlashError::Off);
+        }
+        self.memory.read(at, out)
+    }
+
+    fn program(&mut self, at: u32, bytes: &[u8]) -> Result<(), FlashError>
+        requires inside { at + length bytes.now ≤ size_of (chip_of self.old) }
+        requires erased { IsErased (chip_of self.old) at (length bytes.now) }
+        requires place { at % 8 ≡ 0 }
+        requires units { length bytes.now % 8 ≡ 0 }
+        requires some { 8 ≤ length bytes.now }
+        ensures outside { SameOutside at (length bytes.now) (chip_of self.old) (chip_of self.new) }
+        ensures ok { OnOk result (Reads (chip_of self.new) at bytes.now) }
+        ensures on { OnOk result ((chip_of self.old).is_on ≡ true) }
+        ensures erases { (chip_of self.new).erases ≡ (chip_of self.old).erases }
+        ensures ends { Ends result (chip_of self.old) (chip_of self.new) }
+        ensures flash { let old = over_file self.old in
+            WritesThrough result at bytes.now (programmed at bytes.now old.memory)
+            old (over_file self.new) }
+        ensures file { ((chip_of self.old).is_on ≡ false ⊎ (over_file self.old).has_failed ≡ true)
+            → file_of self.new ≡ file_of self.old }
+    {
+        if !self.is_on {
+            return Err(FlashError::Off);
+        }
+        if self.has_failed {
+            return self.cut();
+        }
+        self.is_on = self.memory.program(at, bytes).is_ok();
+        self.has_failed = write_through(&mut self.file, &self.memory, at, bytes.len()).is_err();
+        if self.has_failed || !self.is_on {
+            return self.cut();
+        }
+        Ok(())
+    }
+
+    fn erase(&mut self, sector: u32) -> Result<(), FlashError>
+        requires { sector < (chip_of self.old).sectors }
+        ensures outside { SameOutside (sector * (chip_of self.old).sector_size)
+            (chip_of self.old).sector_size (chip_of self.old) (chip_of self.new) }
+        ensures ok { OnOk result (IsErased (chip_of self.new)
+            (sector * (chip_of self.old).sector_size) (chip_of self.old).sector_size) }
+        ensures on { OnOk result ((chip_of self.old).is_on ≡ true) }
+        ensures erases { OnOk result ((chip_of self.new).erases ≡ (chip_of self.old).erases + 1) }
+        ensures uncounted { OnErr result ((chip_of self.new).erases ≡ (chip_of self.old).erases) }
+        ensures ends { Ends result (chip_of self.old) (chip_of self.new) }
+        ensures flash { let old = over_file self.old in
+            let at = sector * old.chip.sector_size in
+            let blank = replicate old.chip.sector_size 0xff in
+            WritesThrough result at blank (erased at blank old.memory) old (over_file self.new) }
+        ensures file { ((chip_of self.old).is_on ≡ false ⊎ (over_file self.old).has_failed ≡ true)
+            → file_of self.new ≡ file_of self.old }
+    {
+        if !self.is_on {
+            return Err(FlashError::Off);
+        }
+        if self.has_failed {
+            return self.cut();
+        }
+        let n = self.memory.sector_size();
+        let at = sector * n;
+        self.is_on = self.memory.erase(sector).is_ok();
+        self.has_failed = write_through(&mut self.file, &self.memory, at, n as usize).is_err();
+        if self.has_failed || !self.is_on {
+            return self.cut();
+        }
+        self.book.add(&mut self.erases, 1);
+        Ok(())
+    }
+
+    fn restart(&mut self)
+        ensures chip { chip_of self.new ≡ record (chip_of self.old) { is_on = true } }
+        ensures flash { over_file self.new ≡ restarted (over_file self.old) }
+        ensures file { file_of self.new ≡ file_of self.old }
+    {
+        self.memory.restart();
+        self.is_on = true;
+    }
+}
