@@ -1,0 +1,60 @@
+-- The program's subcommands, and the names that each of them asks for, in the words of `clap`.
+use Rattle.std.specs.Prelude.{List, [], ◌∷◌, Some, codes, true, false}
+use Rattle.clap.specs.Lexer.{usize_max}
+use Rattle.clap.specs.Simple.{new_shape}
+use Rattle.clap.specs.Words.{App, Rule, Shape, Text, new_rule}
+
+-- A name that has to be given.
+abbrev pub one_name : Text → Rule
+one_name name = record (new_rule name) { required = true }
+
+-- Names, of which one at least has to be given.
+abbrev pub all_names : Text → Rule
+all_names name = record (new_rule name) {
+  required = true;
+  range = Some (record { start_inclusive = 1; end_inclusive = usize_max });
+}
+
+-- A subcommand that asks for these names, in this order.
+abbrev pub asking : Text → List Rule → Shape
+asking command rules = record (new_shape command) { rules = rules }
+
+abbrev pub choose_shape : Shape
+choose_shape = asking (codes "choose") (one_name (codes "TABLE") ∷ [])
+
+abbrev pub check_shape : Shape
+check_shape =
+    asking (codes "check") (one_name (codes "TABLE") ∷ one_name (codes "REPORT") ∷ [])
+
+abbrev pub image_shape : Shape
+image_shape = asking (codes "image") (one_name (codes "FILE") ∷ [])
+
+abbrev pub manifest_shape : Shape
+manifest_shape =
+    asking (codes "manifest") (one_name (codes "DEVICE") ∷ one_name (codes "FILE") ∷ [])
+
+abbrev pub provision_shape : Shape
+provision_shape = asking (codes "provision")
+    (one_name (codes "DEVICE") ∷ one_name (codes "FLASH") ∷ all_names (codes "IMAGE") ∷ [])
+
+abbrev pub show_shape : Shape
+show_shape = asking (codes "show") (one_name (codes "DEVICE") ∷ one_name (codes "FLASH") ∷ [])
+
+abbrev pub run_shape : Shape
+run_shape = asking (codes "run")
+    (one_name (codes "DEVICE") ∷ one_name (codes "FLASH") ∷ one_name (codes "SCRIPT") ∷ [])
+
+-- The program without its subcommands: it has a version, and asks for a subcommand.
+abbrev pub program : App
+program = record {
+  top = record (new_shape (codes "bootswap")) { has_version = true; subcommand_required = true };
+  subs = [];
+}
+
+-- The program.
+abbrev pub bootswap : App
+bootswap = record {
+  top = record program.top { is_leaf = false };
+  subs = choose_shape ∷ check_shape ∷ image_shape ∷ manifest_shape ∷ provision_shape ∷ show_shape
+      ∷ run_shape ∷ [];
+}

@@ -1,0 +1,4 @@
+pub mod Codes
+pub mod Commands
+pub mod Faults
+pub mod Orders

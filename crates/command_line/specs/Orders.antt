@@ -1,0 +1,89 @@
+-- What an order says, by the matches that `clap` gives for the words.
+use Rattle.std.specs.Prelude.{◌≡◌, ℕ, Bool, false, List, [], ◌∷◌, Option, Some, None, codes, count_by, if◌then◌else◌, map, nat_lt}
+use Rattle.std.specs.Borrow.{Bor}
+use Rattle.std.specs.Str.{bytes_eq}
+use Rattle.clap.specs.Words.{Row, Text, all_of, first_of, subcommand_of}
+use Rattle.clap.specs.declared.error.kind.ErrorKind.{ErrorKind}
+use Rattle.clap.specs.declared.error.kind.ErrorKind.TheVariants.{ArgumentConflict, InvalidValue}
+use Rattle.command_line.specs.Commands.{bootswap}
+use Rattle.command_line.specs.declared.orders.Order.{Order}
+use Rattle.command_line.specs.declared.orders.Order.TheVariants.{Choose, Check, Image, Manifest, Provision, Show, Run}
+
+-- The subcommand of an order.
+abbrev pub command_of : Order → Text
+command_of (Choose table) = codes "choose"
+command_of (Check table report) = codes "check"
+command_of (Image file) = codes "image"
+command_of (Manifest device file) = codes "manifest"
+command_of (Provision device flash images) = codes "provision"
+command_of (Show device flash) = codes "show"
+command_of (Run device flash script) = codes "run"
+
+-- The matches of a subcommand have this name for an argument.
+abbrev pub IsNamed : List Row → Text → Text → Type 0
+IsNamed rows argument name = first_of argument rows ≡ Some name
+
+-- The names of an order are those that the matches of its subcommand have.
+abbrev pub HasNames : List Row → Order → Type 0
+HasNames rows (Choose table) = IsNamed rows (codes "TABLE") table.now
+HasNames rows (Check table report) =
+    IsNamed rows (codes "TABLE") table.now × IsNamed rows (codes "REPORT") report.now
+HasNames rows (Image file) = IsNamed rows (codes "FILE") file.now
+HasNames rows (Manifest device file) =
+    IsNamed rows (codes "DEVICE") device.now × IsNamed rows (codes "FILE") file.now
+HasNames rows (Provision device flash images) =
+    IsNamed rows (codes "DEVICE") device.now × IsNamed rows (codes "FLASH") flash.now
+    × (all_of (codes "IMAGE") rows ≡ Some (map (λ image. image.now) images.items))
+HasNames rows (Show device flash) =
+    IsNamed rows (codes "DEVICE") device.now × IsNamed rows (codes "FLASH") flash.now
+HasNames rows (Run device flash script) =
+    IsNamed rows (codes "DEVICE") device.now × IsNamed rows (codes "FLASH") flash.now
+    × IsNamed rows (codes "SCRIPT") script.now
+
+-- A subcommand with these matches asks for this order.
+abbrev pub Asks : Text → List Row → Order → Type 0
+Asks command rows order = (command ≡ command_of order) × HasNames rows order
+
+-- The order that is asked for by the subcommand that was named, with its matches.
+abbrev pub IsOrderOf : Option (Text × List Row) → Order → Type 0
+IsOrderOf None order = ⊥
+IsOrderOf (Some named) order = Asks named.0 named.1 order
+
+-- The words ask for this order: they name its subcommand, and give it its names.
+abbrev pub IsOrder : List Text → Order → Type 0
+IsOrder words = IsOrderOf (subcommand_of bootswap words)
+
+-- What was found is so, and where nothing was found, nothing is so.
+abbrev pub Finds : (Order → Type 0) → Option Order → Type 0
+Finds IsSo None = (order : Order) → IsSo order → ⊥
+Finds IsSo (Some order) = IsSo order
+
+-- All the names of an order.
+abbrev pub names_of : Order → List (Bor Text)
+names_of (Choose table) = table ∷ []
+names_of (Check table report) = table ∷ report ∷ []
+names_of (Image file) = file ∷ []
+names_of (Manifest device file) = device ∷ file ∷ []
+names_of (Provision device flash images) = device ∷ flash ∷ images.items
+names_of (Show device flash) = device ∷ flash ∷ []
+names_of (Run device flash script) = device ∷ flash ∷ script ∷ []
+
+-- `-` is standard input.
+abbrev pub is_standard_input : Bor Text → Bool
+is_standard_input name = bytes_eq name.now (codes "-")
+
+-- How many of the names are standard input.
+abbrev pub standard_inputs : List (Bor Text) → ℕ
+standard_inputs names = count_by is_standard_input names
+
+-- The flash file is standard input, and would be written to.
+abbrev pub writes_to_standard_input : Order → Bool
+writes_to_standard_input (Provision device flash images) = is_standard_input flash
+writes_to_standard_input (Run device flash script) = is_standard_input flash
+writes_to_standard_input _ = false
+
+-- The fault of an order in its use of standard input: it would write to it, or read it twice.
+abbrev pub misuse_of : Order → Option ErrorKind
+misuse_of order =
+    if writes_to_standard_input order then Some InvalidValue
+    else (if nat_lt 1 (standard_inputs (names_of order)) then Some ArgumentConflict else None)

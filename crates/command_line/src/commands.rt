@@ -1,0 +1,174 @@
+//! The program and its subcommands, as `clap` is told of them.
+
+ghost use Rattle.std.specs.Prelude.{◌≡◌, IfOk, codes, true};
+ghost use Rattle.clap.specs.Words.{app_of, new_app, shape_of, with_rule, with_subcommand};
+ghost use Rattle.command_line.specs.Commands.{all_names, bootswap, check_shape, choose_shape};
+ghost use Rattle.command_line.specs.Commands.{image_shape, manifest_shape, one_name, program};
+ghost use Rattle.command_line.specs.Commands.{provision_shape, run_shape, show_shape};
+
+use crate::help;
+use crate::help::Help;
+use clap::{Arg, Command};
+use std::alloc::{AllocError, Global};
+
+pub const CHOOSE: &str = "choose";
+
+pub const CHECK: &str = "check";
+
+pub const IMAGE: &str = "image";
+
+pub const MANIFEST: &str = "manifest";
+
+pub const PROVISION: &str = "provision";
+
+pub const SHOW: &str = "show";
+
+pub const RUN: &str = "run";
+
+/// What the words name, as help calls it.
+pub mod named {
+    pub const TABLE: &str = "TABLE";
+
+    pub const REPORT: &str = "REPORT";
+
+    pub const FILE: &str = "FILE";
+
+    pub const DEVICE: &str = "DEVICE";
+
+    pub const FLASH: &str = "FLASH";
+
+    pub const IMAGE: &str = "IMAGE";
+
+    pub const SCRIPT: &str = "SCRIPT";
+}
+
+/// The program with its subcommands.
+pub fn bootswap<'a>(alloc: Global) -> Result<Command<'a>, AllocError>
+    ensures { IfOk result (λ command. app_of command ≡ bootswap) }
+{
+    let program = with_command(program(alloc)?, choose(alloc)?)?;
+    let program = with_command(program, check(alloc)?)?;
+    let program = with_command(program, image(alloc)?)?;
+    let program = with_command(program, manifest(alloc)?)?;
+    let program = with_command(program, provision(alloc)?)?;
+    let program = with_command(program, show(alloc)?)?;
+    with_command(program, run(alloc)?)
+}
+
+/// The program without its subcommands. It asks for one; that it does without a word what `choose` does is its own.
+fn program<'a>(alloc: Global) -> Result<Command<'a>, AllocError>
+    ensures { IfOk result (λ command. app_of command ≡ program) }
+{
+    let command = command(alloc, "bootswap", help::PROGRAM)
+        .version("0.1.0")
+        .subcommand_required(true)
+        .override_usage("bootswap [COMMAND]");
+    command.bin_name("bootswap")
+}
+
+pub fn choose<'a>(alloc: Global) -> Result<Command<'a>, AllocError>
+    ensures { IfOk result (λ command. shape_of command ≡ choose_shape) }
+{
+    let command = command(alloc, CHOOSE, help::CHOOSE);
+    with_name(alloc, command, named::TABLE, help::TABLE_FILE)
+}
+
+pub fn check<'a>(alloc: Global) -> Result<Command<'a>, AllocError>
+    ensures { IfOk result (λ command. shape_of command ≡ check_shape) }
+{
+    let command = command(alloc, CHECK, help::CHECK);
+    let command = with_name(alloc, command, named::TABLE, help::TABLE_FILE)?;
+    with_name(alloc, command, named::REPORT, help::REPORT_FILE)
+}
+
+pub fn image<'a>(alloc: Global) -> Result<Command<'a>, AllocError>
+    ensures { IfOk result (λ command. shape_of command ≡ image_shape) }
+{
+    let command = command(alloc, IMAGE, help::IMAGE);
+    with_name(alloc, command, named::FILE, help::IMAGE_FILE)
+}
+
+pub fn manifest<'a>(alloc: Global) -> Result<Command<'a>, AllocError>
+    ensures { IfOk result (λ command. shape_of command ≡ manifest_shape) }
+{
+    let command = command(alloc, MANIFEST, help::MANIFEST);
+    let command = with_name(alloc, command, named::DEVICE, help::DEVICE_FILE)?;
+    with_name(alloc, command, named::FILE, help::MANIFEST_FILE)
+}
+
+pub fn provision<'a>(alloc: Global) -> Result<Command<'a>, AllocError>
+    ensures { IfOk result (λ command. shape_of command ≡ provision_shape) }
+{
+    let command = command(alloc, PROVISION, help::PROVISION);
+    let command = with_name(alloc, command, named::DEVICE, help::DEVICE_FILE)?;
+    let command = with_name(alloc, command, named::FLASH, help::NEW_FLASH_FILE)?;
+    with_names(alloc, command, named::IMAGE, help::IMAGE_FILES)
+}
+
+pub fn show<'a>(alloc: Global) -> Result<Command<'a>, AllocError>
+    ensures { IfOk result (λ command. shape_of command ≡ show_shape) }
+{
+    let command = command(alloc, SHOW, help::SHOW);
+    let command = with_name(alloc, command, named::DEVICE, help::DEVICE_FILE)?;
+    with_name(alloc, command, named::FLASH, help::SHOWN_FLASH_FILE)
+}
+
+pub fn run<'a>(alloc: Global) -> Result<Command<'a>, AllocError>
+    ensures { IfOk result (λ command. shape_of command ≡ run_shape) }
+{
+    let command = command(alloc, RUN, help::RUN);
+    let command = with_name(alloc, command, named::DEVICE, help::DEVICE_FILE)?;
+    let command = with_name(alloc, command, named::FLASH, help::FLASH_FILE)?;
+    with_name(alloc, command, named::SCRIPT, help::SCRIPT_FILE)
+}
+
+/// A command without arguments, with what help says of it.
+fn command<'a>(alloc: Global, name: &'a str, help: Help) -> Command<'a>
+    ensures { app_of result ≡ new_app name.entry.now }
+{
+    Command::new(alloc, name)
+        .about(help.about)
+        .long_about(help.long_about)
+        .after_help(help.after)
+        .after_long_help(help.long_after)
+}
+
+/// The command with the name of a file more, which has to be given.
+fn with_name<'a>(
+    alloc: Global,
+    command: Command<'a>,
+    name: &'a str,
+    help: &'a str,
+) -> Result<Command<'a>, AllocError>
+    ensures { IfOk result (λ more. app_of more ≡ with_rule (app_of command.entry)
+        (one_name name.entry.now)) }
+{
+    command.arg(Arg::new(alloc, name).required(true).help(help))
+}
+
+/// The command with names of files more, of which one at least has to be given.
+fn with_names<'a>(
+    alloc: Global,
+    command: Command<'a>,
+    name: &'a str,
+    help: &'a str,
+) -> Result<Command<'a>, AllocError>
+    ensures { IfOk result (λ more. app_of more ≡ with_rule (app_of command.entry)
+        (all_names name.entry.now)) }
+{
+    command.arg(
+        Arg::new(alloc, name)
+            .required(true)
+            .num_args(1..)
+            .help(help),
+    )
+}
+
+/// The command with a subcommand more.
+fn with_command<'a>(command: Command<'a>, below: Command<'a>) -> Result<Command<'a>, AllocError>
+    requires { (shape_of below).is_plain ≡ true }
+    ensures { IfOk result (λ more. app_of more ≡ with_subcommand (app_of command.entry)
+        (shape_of below.entry)) }
+{
+    command.subcommand(below)
+}

@@ -1,0 +1,146 @@
+//! The faults that the program itself finds in words, as `clap` prints its own.
+
+ghost use Rattle.std.specs.Prelude.{◌≡◌, IfOk, codes, nat_lt, option_map};
+ghost use Rattle.std.specs.Str.{bytes_eq};
+ghost use Rattle.clap.specs.Words.{kind_of};
+ghost use Rattle.clap.specs.declared.error.kind.ErrorKind.TheVariants.{InvalidValue};
+ghost use Rattle.clap.specs.declared.error.kind.ErrorKind.TheVariants.{MissingSubcommand};
+ghost use Rattle.command_line.specs.Faults.{IsTold, IsUsage};
+ghost use Rattle.command_line.specs.Orders.{misuse_of, names_of, standard_inputs};
+ghost use Rattle.command_line.specs.Orders.{writes_to_standard_input};
+
+use crate::error::OrderError;
+use crate::escaped::Escaped;
+use crate::orders::{Order, STANDARD_INPUT};
+use crate::reading::order;
+use crate::{commands, help};
+use clap::error::ErrorKind;
+use clap::{Command, Error};
+use std::alloc::{AllocError, Global};
+use std::convert::AsStr;
+
+/// The fault of these words, as it is printed: it names them with their control characters escaped. `fault` is
+/// what `order` answered.
+pub fn fault_of<S: AsStr>(alloc: Global, words: &[S], fault: Error) -> OrderError
+    ensures { IsTold result }
+{
+    match escaped_words(alloc, words) {
+        Err(error) => OrderError::from(error),
+        Ok(escaped) => match order(alloc, escaped.as_slice()) {
+            Err(error) => error,
+            Ok(_) => OrderError::from(fault),
+        },
+    }
+}
+
+/// The fault of words that are no text.
+pub fn no_text(alloc: Global) -> OrderError
+    ensures { IsUsage InvalidValue result }
+{
+    match program_error(alloc, ErrorKind::InvalidValue, help::NO_TEXT) {
+        Ok(error) => OrderError::from(error),
+        Err(error) => OrderError::from(error),
+    }
+}
+
+/// The fault of words that ask for no order.
+pub(crate) fn no_order(alloc: Global) -> OrderError
+    ensures { IsUsage MissingSubcommand result }
+{
+    match program_error(alloc, ErrorKind::MissingSubcommand, help::NO_ORDER) {
+        Ok(error) => OrderError::from(error),
+        Err(error) => OrderError::from(error),
+    }
+}
+
+fn program_error(alloc: Global, kind: ErrorKind, text: &str) -> Result<Error, AllocError>
+    ensures { IfOk result (λ error. kind_of error ≡ kind) }
+{
+    commands::bootswap(alloc)?.error(kind, text)
+}
+
+/// The fault of an order that would write to standard input, or read it twice.
+pub(crate) fn misuse(alloc: Global, order: &Order<'_>) -> Result<Option<Error>, AllocError>
+    ensures { IfOk result (λ found. option_map kind_of found ≡ misuse_of order.now) }
+{
+    let (kind, text) = if writes_to_standard_input(order) {
+        (ErrorKind::InvalidValue, help::WRITTEN)
+    } else if reads_standard_input_twice(order) {
+        (ErrorKind::ArgumentConflict, help::TWICE)
+    } else {
+        return Ok(None);
+    };
+    let fault = command_of(alloc, order)?.error(kind, text)?;
+    Ok(Some(fault))
+}
+
+/// The subcommand of an order, with its name as its usage has it.
+fn command_of<'a>(alloc: Global, order: &Order<'_>) -> Result<Command<'a>, AllocError> {
+    match order {
+        Order::Choose { .. } => commands::choose(alloc)?.bin_name("bootswap choose"),
+        Order::Check { .. } => commands::check(alloc)?.bin_name("bootswap check"),
+        Order::Image { .. } => commands::image(alloc)?.bin_name("bootswap image"),
+        Order::Manifest { .. } => commands::manifest(alloc)?.bin_name("bootswap manifest"),
+        Order::Provision { .. } => commands::provision(alloc)?.bin_name("bootswap provision"),
+        Order::Show { .. } => commands::show(alloc)?.bin_name("bootswap show"),
+        Order::Run { .. } => commands::run(alloc)?.bin_name("bootswap run"),
+    }
+}
+
+fn writes_to_standard_input(order: &Order<'_>) -> bool
+    ensures { result ≡ writes_to_standard_input order.now }
+{
+    match order {
+        Order::Provision { flash, .. } | Order::Run { flash, .. } => is_standard_input(flash),
+        Order::Choose { .. }
+        | Order::Check { .. }
+        | Order::Image { .. }
+        | Order::Manifest { .. }
+        | Order::Show { .. } => false,
+    }
+}
+
+fn reads_standard_input_twice(order: &Order<'_>) -> bool
+    ensures { result ≡ nat_lt 1 (standard_inputs (names_of order.now)) }
+{
+    match order {
+        Order::Choose { .. } | Order::Image { .. } => false,
+        Order::Check { table, report } => is_standard_input(table) && is_standard_input(report),
+        Order::Manifest { device, file } => is_standard_input(device) && is_standard_input(file),
+        Order::Show { device, flash } => is_standard_input(device) && is_standard_input(flash),
+        Order::Run {
+            device,
+            flash,
+            script,
+        } => standard_inputs(&[*device, *flash, *script]) > 1,
+        Order::Provision {
+            device,
+            flash,
+            images,
+        } => {
+            let others = standard_inputs(&[*device, *flash]);
+            others.saturating_add(standard_inputs(images.as_slice())) > 1
+        }
+    }
+}
+
+fn standard_inputs(names: &[&str]) -> usize
+    ensures { result ≡ standard_inputs names.now }
+{
+    names.iter().filter(|name| is_standard_input(name)).count()
+}
+
+fn is_standard_input(name: &str) -> bool
+    ensures { result ≡ bytes_eq name.now (codes "-") }
+{
+    name == STANDARD_INPUT
+}
+
+fn escaped_words<S: AsStr>(alloc: Global, words: &[S]) -> Result<Vec<String>, AllocError> {
+    let mut escaped = Vec::new(alloc);
+    for word in words {
+        let word = format!(in alloc; "{}", Escaped(word.as_str()))?;
+        escaped.push(word)?;
+    }
+    Ok(escaped)
+}

@@ -1,0 +1,394 @@
+//! What the program says of itself. No line is longer than 80 columns.
+
+/// What help says of a command.
+#[derive(Clone, Copy, Debug)]
+pub struct Help {
+    /// What it does, in a line.
+    pub about: &'static str,
+    /// What it does, and what its files look like.
+    pub long_about: &'static str,
+    /// The end of short help: the exit statuses in a line, and an example.
+    pub after: &'static str,
+    /// The end of long help: the exit statuses, and examples.
+    pub long_after: &'static str,
+}
+
+pub const PROGRAM: Help = Help {
+    about: "Runs a device's bootloader on a file, and decides which images run together",
+    long_about: "A bootloader core in the manner of MCUboot, on files: it provisions, shows and
+runs a device whose flash is a file, decides which of the requested images may
+run together, checks such decisions, and describes images and manifests.
+
+A device has several images, each with a primary and a secondary slot. New ones
+come into the secondary slots, as a manifest says. A boot takes the greatest set
+of them that can run together, and swaps it with what runs; what isn't confirmed
+then is swapped back. Power may fail at any write: a script of `run` says where,
+and the next boot goes on from there.
+
+A request can be taken where it is an intact image, not older than what runs,
+with a security counter not below the floor. All that runs then has to have the
+images that it needs, with at least the versions that it needs. Of all sets of
+requests that can be taken together the greatest is chosen: it contains every
+other. `choose` decides so by a table, which says of each image of a device what
+runs and what is requested in its place.
+
+With no command the program does `choose` on standard input. A file that is
+named `-` is standard input.",
+    after: "Exit status: 0 done, 1 refused, 2 the words are wrong, 3 cut, 4 flash file.
+`bootswap --help` tells more, `bootswap help run` what a script looks like.",
+    long_after: "Exit status:
+  0  done; `check` says yes
+  1  refused: `check` says no; the answer, or the last reply of `run`, is a
+     refusal; standard error has a line `error: ..`, such as
+     `error: table line 3`; or what had to be printed could not be written
+  2  the words of the command are wrong
+  3  power failed in the last event of `run`
+  4  the flash file could not be made or written: `error: flash file`
+
+Examples:
+  bootswap provision device.json flash.bin a.img b.img
+  bootswap show device.json flash.bin
+  bootswap run device.json flash.bin script.txt
+  bootswap choose table.txt
+  bootswap choose table.txt > report.txt
+  bootswap check table.txt report.txt
+  bootswap image firmware.img
+  bootswap manifest device.json manifest.json
+
+`bootswap help COMMAND` tells what the command reads and prints.",
+};
+
+pub const CHOOSE: Help = Help {
+    about: "Reads a table and prints the report of the choice over it",
+    long_about: "Reads a table and prints the report of the choice over it.
+
+A table has 1 to 8 images, in these lines:
+  image IMAGE VERSION COUNTER FLOOR
+      begins an image: its number, from 0 in order, the running version, its
+      security counter, and the floor, the lowest counter that is accepted
+  needs IMAGE VERSION
+      the running or requested image above needs that image, with at least that
+      version; at most 16 for what runs, and 16 for what is requested
+  request VERSION COUNTER
+      this intact image is requested in place of the running one
+  damaged
+      what is requested is no intact image
+
+An image has at most one line `request` or `damaged`. One space parts the words
+of a line. A VERSION is `major.minor.revision+build`, and last parts that are 0
+may be left out.
+
+A table of two images, of which each request needs the other:
+  image 0 1.0.0+0 0 0
+  request 2.0.0+0 0
+  needs 1 2.0.0+0
+  image 1 1.0.0+0 0 0
+  request 2.0.0+0 0
+  needs 0 2.0.0+0
+
+The report has a line for each image, `take IMAGE VERSION` or
+`run IMAGE VERSION`, and then a line for each request that is refused,
+`refuse IMAGE REASON`. The report of the table above:
+  take 0 2.0.0+0
+  take 1 2.0.0+0",
+    after: "Exit status: 0 done, 1 refused, 2 the words are wrong.
+Example: bootswap choose table.txt
+`bootswap choose --help` tells what a table looks like.",
+    long_after: "Exit status:
+  0  the report is printed
+  1  standard error has a line `error: ..`: `table line 3` for the first line
+     that no table goes on from, `running set not valid` where the running
+     images don't fit each other, `cannot read NAME`, or `memory`; or the report
+     could not be written
+  2  the words of the command are wrong
+
+Examples:
+  bootswap choose table.txt
+  bootswap choose - < table.txt",
+};
+
+pub const CHECK: Help = Help {
+    about: "Says whether a report is right for a table",
+    long_about: "Reads a table and a report, and says whether the report is right for the table:
+`yes` or `no`.
+
+It is right where it has the table's images, takes a valid set, and refuses each
+other request once, with a reason that holds given the refusals before it. What
+it takes is then the greatest valid set. The reasons:
+  damaged              what is requested is no intact image
+  older                its version is below the running one
+  counter              its security counter is below the floor
+  no-such-image IMAGE  it needs an image that the table does not have
+  needs IMAGE VERSION  it needs an image with at least a version that no request
+                       still possible reaches
+
+A report for a table of three images:
+  run 0 1.0.0+0
+  take 1 2.0.0+0
+  run 2 1.0.0+0
+  refuse 0 older
+  refuse 2 needs 0 1.0.0+1
+
+`bootswap help choose` tells what a table looks like.",
+    after: "Exit status: 0 yes, 1 no or refused, 2 the words are wrong.
+Example: bootswap check table.txt report.txt
+`bootswap check --help` tells what a report looks like.",
+    long_after: "Exit status:
+  0  the answer is `yes`
+  1  the answer is `no`; or standard error has a line `error: ..`, such as
+     `table line 3`, or `report line 2` for the first line that no report goes
+     on from; or the answer could not be written
+  2  the words of the command are wrong
+
+Examples:
+  bootswap check table.txt report.txt
+  bootswap choose table.txt | bootswap check table.txt -",
+};
+
+pub const IMAGE: Help = Help {
+    about: "Checks an image and prints what it says of itself",
+    long_about: "Reads an image of MCUboot's format, checks it, and prints what it says of
+itself: its version, length, security counter, digest and the images that it
+needs. The digest is checked; signatures aren't. What is printed of an image
+that needs another one:
+  version 1.0.0+0
+  length 104
+  counter 5
+  digest d972280151bc22f533247969edbfb7596c1b97815061e90b65f3d2641146fc05
+  needs 1 2.0.0+0
+
+Of a file that is no intact image it prints the first check that fails, by its
+number and its name: `refused CODE NAME`, such as `refused 10 BadDigest`.",
+    after: "Exit status: 0 intact, 1 refused, 2 the words are wrong.
+Example: bootswap image firmware.img
+`bootswap image --help` tells more.",
+    long_after: "Exit status:
+  0  the file is an intact image, and what it says of itself is printed
+  1  it isn't; or standard error has a line `error: ..`; or the answer could not
+     be written
+  2  the words of the command are wrong
+
+Example:
+  bootswap image firmware.img",
+};
+
+pub const MANIFEST: Help = Help {
+    about: "Checks a manifest for a device and prints what it says",
+    long_about: "Reads a device file and a manifest, checks whether the manifest is for that
+device, and prints what it says: its sequence number, and for each component
+the image, the length of the file, the kind of the request and the digest of the
+file; and behind them `precursor` and the digest of the image that has to run,
+where the manifest asks for one. Such as, with all 64 digits:
+  sequence 1
+  component 0 3 test ba7816bf8f01cfea414140de5dae2223..
+
+A device file is a JSON object: the length of a sector, the sectors of each
+image's slots, and for whom manifests have to be. It may have `trial-boots`, the
+boots of a trial, 1 to 7; without it there is one:
+  {\"sector\":512,\"sectors\":[2,2],
+   \"vendor-id\":\"886313e1-3b8a-5372-9b90-0c9aee199e5d\",
+   \"class-id\":\"11111111-2222-5333-8444-555555555555\"}
+
+A manifest is a JSON object too. A component may have a `precursor-digest`, and
+its `kind` is `test` or `permanent`:
+  {\"manifest-version\":1,\"sequence-number\":1,
+   \"vendor-id\":\"886313e1-3b8a-5372-9b90-0c9aee199e5d\",
+   \"class-id\":\"11111111-2222-5333-8444-555555555555\",
+   \"components\":[{\"component-id\":0,\"kind\":\"test\",\"size\":3,
+    \"payload-digest\":
+    \"ba7816bf8f01cfea414140de5dae2223b00361a396177a9cb410ff61f20015ad\"}]}
+
+Of a file that is no manifest for the device it prints the lowest refusal that
+applies, by its number and its name: `refused CODE NAME`, such as
+`refused 4 WrongVendor`. Where the device's sizes make no map of its flash it
+prints `refused map CODE NAME`, such as `refused map 1 BadSector`.",
+    after: "Exit status: 0 for that device, 1 refused, 2 the words are wrong.
+Example: bootswap manifest device.json manifest.json
+`bootswap manifest --help` tells what both files look like.",
+    long_after: "Exit status:
+  0  the file is a manifest for the device, and what it says is printed
+  1  it isn't, or the device's sizes are refused; or standard error has a line
+     `error: ..`, such as `error: device file` where DEVICE is none; or the
+     answer could not be written
+  2  the words of the command are wrong
+
+Examples:
+  bootswap manifest device.json manifest.json
+  bootswap manifest device.json - < manifest.json",
+};
+
+pub const PROVISION: Help = Help {
+    about: "Makes the flash file of a device, with one image for each slot pair",
+    long_about: "Makes the flash of a device in a file and provisions it: FLASH gets the length
+of the device's flash, all 0xFF, with each IMAGE at the start of its primary
+slot, the first for image 0, and then what a device starts from: empty trailers,
+and a log with the security counters of the images as floors. It prints `done`.
+A file FLASH that is there is made anew.
+
+An IMAGE is an intact image of MCUboot's format that isn't longer than its slot,
+as `bootswap image` describes it. There is one for each image of the device, and
+each has the images that it needs, with at least the versions that it needs.
+
+A device file is a JSON object: the length of a sector, the sectors of each
+image's slots, and for whom manifests have to be. It may have `trial-boots`, the
+boots of a trial, 1 to 7; without it there is one:
+  {\"sector\":512,\"sectors\":[2,2],
+   \"vendor-id\":\"886313e1-3b8a-5372-9b90-0c9aee199e5d\",
+   \"class-id\":\"11111111-2222-5333-8444-555555555555\"}
+
+Where the device can't run the images it prints `refused boot CODE NAME`, such
+as `refused boot 6 InvalidSet`, for an image that isn't intact with its number:
+`refused boot 5 RunningDamaged 1`. FLASH then holds the images, and no device
+starts from it. Where the device's sizes make no map of its flash it prints
+`refused map CODE NAME`, such as `refused map 1 BadSector`.",
+    after: "Exit status: 0 done, 1 refused, 2 the words are wrong, 4 flash file.
+Example: bootswap provision device.json flash.bin a.img b.img
+`bootswap provision --help` tells what the files look like.",
+    long_after: "Exit status:
+  0  FLASH is made and provisioned, and `done` is printed
+  1  the images or the device's sizes are refused; or standard error has a line
+     `error: ..`: `device file` where DEVICE is none, `image count` where the
+     device has another number of images, `image 1 too big` where that file is
+     longer than its slot, `cannot read NAME`, or `memory`; or the answer could
+     not be written
+  2  the words of the command are wrong
+  4  standard error has the line `error: flash file`: FLASH could not be made or
+     written
+
+Examples:
+  bootswap provision device.json flash.bin a.img b.img
+  bootswap provision device.json flash.bin a.img - < b.img",
+};
+
+pub const SHOW: Help = Help {
+    about: "Prints what stands on the flash of a device",
+    long_about: "Reads a device file and a flash file, and prints what stands on the flash:
+  state trial      what the device is in the middle of: `steady`, `swap`,
+                   `settle`, `trial`, `back` or `back-settle`
+  set 0 1          the images that are swapped or on trial; `-` is none
+  left 1           the boots that are left of the trial, where there are any
+  sequence 1       the sequence number below which no manifest is accepted
+  floor 0 0        for each image the lowest security counter that is accepted
+  floor 1 0
+  swap 0 revert    for each image what its trailers ask of a boot, in MCUboot's
+  swap 1 revert    words: `none`, `test`, `perm` or `revert`
+
+Nothing is changed. `bootswap help provision` tells what a device file looks
+like, and makes a flash file.
+
+Of a flash that was never provisioned it prints `refused boot 4 NotProvisioned`.
+Where the device's sizes make no map of its flash it prints
+`refused map CODE NAME`, such as `refused map 1 BadSector`.",
+    after: "Exit status: 0 done, 1 refused, 2 the words are wrong.
+Example: bootswap show device.json flash.bin
+`bootswap show --help` tells what is printed.",
+    long_after: "Exit status:
+  0  what stands on the flash is printed
+  1  nothing stands there, or the device's sizes are refused; or standard error
+     has a line `error: ..`: `device file` where DEVICE is none, `flash size`
+     where FLASH isn't as long as the device's flash, `cannot read NAME`, or
+     `memory`; or the answer could not be written
+  2  the words of the command are wrong
+
+Examples:
+  bootswap show device.json flash.bin
+  bootswap show device.json - < flash.bin",
+};
+
+pub const RUN: Help = Help {
+    about: "Runs a device on a flash file by a script, and prints its replies",
+    long_about: "Runs a device on a flash file by a script, and prints a reply to each event.
+Each write goes to FLASH at once, so that the next run goes on from there.
+`bootswap help provision` tells what a device file looks like, and makes a flash
+file. In a script first come the writes that are cut, if any:
+  cut WRITE TORN
+      power fails in this write of the run, counted from 1, later ones in later
+      lines; TORN is what it leaves: `keep`, what was there; `done`, what was
+      written; `hex:00ff`, these bytes, again and again
+Then events:
+  accept FILE                  this manifest comes to the device
+  piece IMAGE FILE             this file comes, as the next bytes for the image
+  piece IMAGE FILE FROM COUNT  that part of it: COUNT bytes after the first FROM
+  finish IMAGE                 the image is whole: it is checked and requested
+  withdraw IMAGE               its request is taken back
+  confirm IMAGE                the image on trial is to stay
+  boot                         the device boots
+  reset                        the device stops, and boots before all else
+One space parts the words of a line, and FILE is a name without spaces. All
+files are read and judged before the device runs. A script:
+  boot
+  accept manifest.json
+  piece 0 a.img
+  finish 0
+  boot
+
+A reply begins with the number of its event:
+  1 done                  it is done
+  2 plain                 the device booted and took no request; the report of
+                          the choice follows, as `bootswap help choose` has it
+  3 trial                 it took the requests of the report, which follows, and
+                          goes back to the old images unless they are confirmed
+  4 permanent             it took them for good; the report follows
+  5 reverted 0 1          it booted, and the old images of these run again
+  6 trial-again 0 1 left 1
+                          it booted, these stay on trial, for a boot more
+  7 cut                   power failed in the event; what comes before the next
+                          `boot` is refused
+  8 refused GROUP CODE NAME
+                          it isn't done; GROUP is `boot`, `manifest` or
+                          `upload`; behind `RunningDamaged` stands the image,
+                          behind `NotAnImage` the number of the check that fails
+
+Where the device's sizes make no map of its flash it prints
+`refused map CODE NAME`, such as `refused map 1 BadSector`.",
+    after: "Exit status: 0 done, 1 refused, 2 the words are wrong, 3 cut, 4 flash file.
+Example: bootswap run device.json flash.bin script.txt
+`bootswap run --help` tells what a script looks like.",
+    long_after: "Exit status:
+  0  the script was run, and its last reply is none of the two below
+  1  the last reply is a refusal, or the device's sizes are refused; or standard
+     error has a line `error: ..`: `device file` where DEVICE is none,
+     `flash size` where FLASH isn't as long as the device's flash,
+     `script line 3` for the first line that is wrong, `cannot read NAME`, or
+     `memory`; or the replies could not be written
+  2  the words of the command are wrong
+  3  the last reply is `cut`
+  4  standard error has the line `error: flash file`: a write of FLASH failed,
+     which to the device is a cut
+
+Examples:
+  bootswap run device.json flash.bin script.txt
+  echo boot | bootswap run device.json flash.bin -",
+};
+
+pub const TABLE_FILE: &str = "The file that the table is read from; `-` is standard input";
+
+pub const REPORT_FILE: &str = "The file that the report is read from; `-` is standard input";
+
+pub const IMAGE_FILE: &str = "The file that the image is read from; `-` is standard input";
+
+pub const DEVICE_FILE: &str = "The device file; `-` is standard input";
+
+pub const MANIFEST_FILE: &str = "The file that the manifest is read from; `-` is standard input";
+
+pub const NEW_FLASH_FILE: &str = "The flash file that is made";
+
+pub const IMAGE_FILES: &str = "The files of the images, in order; `-` is standard input";
+
+pub const SHOWN_FLASH_FILE: &str = "The flash file; `-` is standard input";
+
+pub const FLASH_FILE: &str = "The flash file, which is written to";
+
+pub const SCRIPT_FILE: &str = "The file that the script is read from; `-` is standard input";
+
+/// The fault of words that are no text.
+pub const NO_TEXT: &str = "invalid UTF-8 was detected in one or more arguments";
+
+/// The fault of an order that names standard input twice.
+pub const TWICE: &str = "standard input, `-`, can be read for one file only";
+
+/// The fault of an order that writes to standard input.
+pub const WRITTEN: &str = "the flash file is written to, so it can't be standard input, `-`";
+
+/// The fault of words that ask for no order.
+pub const NO_ORDER: &str = "a subcommand is required but one was not provided";

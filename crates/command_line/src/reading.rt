@@ -1,0 +1,181 @@
+//! From words to an order.
+
+ghost use Rattle.std.specs.Prelude.{◌≡◌, IfErr, IfOk, None, codes, map, option_map};
+ghost use Rattle.clap.specs.Words.{HasKind, all_of, fault_of, first_of, found_of, kind_of};
+ghost use Rattle.clap.specs.Words.{rows_of, subcommand_of, subcommand_rows_of};
+ghost use Rattle.command_line.specs.Commands.{bootswap};
+ghost use Rattle.command_line.specs.Faults.{IsRefusal};
+ghost use Rattle.command_line.specs.Orders.{Asks, Finds, IsOrder, IsOrderOf, misuse_of};
+
+use crate::commands::{CHECK, CHOOSE, IMAGE, MANIFEST, PROVISION, RUN, SHOW, bootswap, named};
+use crate::error::OrderError;
+use crate::faults::{misuse, no_order};
+use crate::orders::Order;
+use clap::{ArgMatches, Error};
+use std::alloc::{AllocError, Global};
+use std::convert::AsStr;
+
+/// What `words` ask for, of which the first is the program's own name.
+///
+/// Else they ask for help or the version, or are at fault: by `clap`, or because the order names standard input for
+/// two files, or for a flash file that is written to.
+pub fn order<'a, S: AsStr>(alloc: Global, words: &'a [S]) -> Result<Order<'a>, OrderError>
+    ensures order { IfOk result (IsOrder (map S.text words.entry.now)) }
+    ensures sound { IfOk result (λ order. misuse_of order ≡ None) }
+    ensures refused { IfErr result (IsRefusal (map S.text words.entry.now)) }
+{
+    let matches = matches_of(alloc, words)?;
+    let Some(order) = order_in(alloc, &matches)? else {
+        return Err(no_order(alloc));
+    };
+    match misuse(alloc, &order)? {
+        Some(fault) => Err(OrderError::from(fault)),
+        None => Ok(order),
+    }
+}
+
+/// What `clap` finds in the words.
+fn matches_of<'a, S: AsStr>(alloc: Global, words: &'a [S]) -> Result<ArgMatches<'a>, Error>
+    ensures found { IfOk result (λ matches. subcommand_rows_of matches
+        ≡ subcommand_of bootswap (map S.text words.entry.now)) }
+    ensures refused { IfErr result (HasKind (fault_of bootswap (map S.text words.entry.now))) }
+{
+    bootswap(alloc)?.try_get_matches_from(words)
+}
+
+/// The order that a parse found. All its names are there, since `clap` asks for them.
+fn order_in<'a>(alloc: Global, matches: &ArgMatches<'a>) -> Result<Option<Order<'a>>, AllocError>
+    ensures { IfOk result (Finds (IsOrderOf (subcommand_rows_of matches.now))) }
+{
+    match named_in(matches) {
+        Some((command, names)) => order_of(alloc, command, names),
+        None => Ok(None),
+    }
+}
+
+/// The subcommand that was named, with its matches.
+fn named_in<'m, 'a>(matches: &'m ArgMatches<'a>) -> Option<(&'a str, &'m ArgMatches<'a>)>
+    ensures { option_map (λ named. (named.0.now, rows_of (found_of named.1.now))) result
+        ≡ subcommand_rows_of matches.now }
+{
+    matches.subcommand()
+}
+
+/// The order that a subcommand asks for, with the names that it found.
+fn order_of<'a>(
+    alloc: Global,
+    command: &str,
+    names: &ArgMatches<'a>,
+) -> Result<Option<Order<'a>>, AllocError>
+    ensures { IfOk result (Finds (Asks command.now (rows_of (found_of names.now)))) }
+{
+    if command == CHOOSE {
+        return Ok(choose_in(names));
+    }
+    if command == CHECK {
+        return Ok(check_in(names));
+    }
+    if command == IMAGE {
+        return Ok(image_in(names));
+    }
+    if command == MANIFEST {
+        return Ok(manifest_in(names));
+    }
+    if command == PROVISION {
+        return provision_in(alloc, names);
+    }
+    if command == SHOW {
+        return Ok(show_in(names));
+    }
+    if command == RUN {
+        return Ok(run_in(names));
+    }
+    Ok(None)
+}
+
+fn choose_in<'a>(names: &ArgMatches<'a>) -> Option<Order<'a>>
+    ensures { Finds (Asks (codes "choose") (rows_of (found_of names.now))) result }
+{
+    let table = name_in(names, named::TABLE)?;
+    Some(Order::Choose { table })
+}
+
+fn check_in<'a>(names: &ArgMatches<'a>) -> Option<Order<'a>>
+    ensures { Finds (Asks (codes "check") (rows_of (found_of names.now))) result }
+{
+    let table = name_in(names, named::TABLE)?;
+    let report = name_in(names, named::REPORT)?;
+    Some(Order::Check { table, report })
+}
+
+fn image_in<'a>(names: &ArgMatches<'a>) -> Option<Order<'a>>
+    ensures { Finds (Asks (codes "image") (rows_of (found_of names.now))) result }
+{
+    let file = name_in(names, named::FILE)?;
+    Some(Order::Image { file })
+}
+
+fn manifest_in<'a>(names: &ArgMatches<'a>) -> Option<Order<'a>>
+    ensures { Finds (Asks (codes "manifest") (rows_of (found_of names.now))) result }
+{
+    let device = name_in(names, named::DEVICE)?;
+    let file = name_in(names, named::FILE)?;
+    Some(Order::Manifest { device, file })
+}
+
+fn provision_in<'a>(alloc: Global, names: &ArgMatches<'a>) -> Result<Option<Order<'a>>, AllocError>
+    ensures { IfOk result (Finds (Asks (codes "provision") (rows_of (found_of names.now)))) }
+{
+    let Some(device) = name_in(names, named::DEVICE) else {
+        return Ok(None);
+    };
+    let Some(flash) = name_in(names, named::FLASH) else {
+        return Ok(None);
+    };
+    let Some(images) = names_in(names, named::IMAGE) else {
+        return Ok(None);
+    };
+    let images = images.to_vec(alloc)?;
+    Ok(Some(Order::Provision {
+        device,
+        flash,
+        images,
+    }))
+}
+
+fn show_in<'a>(names: &ArgMatches<'a>) -> Option<Order<'a>>
+    ensures { Finds (Asks (codes "show") (rows_of (found_of names.now))) result }
+{
+    let device = name_in(names, named::DEVICE)?;
+    let flash = name_in(names, named::FLASH)?;
+    Some(Order::Show { device, flash })
+}
+
+fn run_in<'a>(names: &ArgMatches<'a>) -> Option<Order<'a>>
+    ensures { Finds (Asks (codes "run") (rows_of (found_of names.now))) result }
+{
+    let device = name_in(names, named::DEVICE)?;
+    let flash = name_in(names, named::FLASH)?;
+    let script = name_in(names, named::SCRIPT)?;
+    Some(Order::Run {
+        device,
+        flash,
+        script,
+    })
+}
+
+/// The name that the words give for this argument.
+fn name_in<'a>(names: &ArgMatches<'a>, argument: &str) -> Option<&'a str>
+    ensures { option_map (λ name. name.now) result
+        ≡ first_of argument.now (rows_of (found_of names.now)) }
+{
+    names.get_str(argument)
+}
+
+/// All the names that they give for it.
+fn names_in<'m, 'a>(names: &'m ArgMatches<'a>, argument: &str) -> Option<&'m [&'a str]>
+    ensures { option_map (λ found. map (λ name. name.now) found.now) result
+        ≡ all_of argument.now (rows_of (found_of names.now)) }
+{
+    names.get_strs(argument)
+}
