@@ -2,35 +2,55 @@
 use Rattle.std.proofs.Common.{◌≡◌, ℕ, List, Option, None, Some, ◌∙◌, subst}
 use Rattle.std.proofs.KnownBytes.{Appends-kept}
 use Rattle.std.specs.Io.KnownBytes.{Keeps}
-use Rattle.boot_cli.specs.declared.answer.Answer.{Answer}
+use Rattle.command_line.specs.declared.orders.Order.{Order}
+use Rattle.command_line.specs.declared.orders.Order.TheVariants as order
 use Rattle.boot_cli.specs.declared.answer.Answer.TheVariants.{Done}
 use Rattle.boot_cli.specs.declared.commands.image.DescribeEnd.{DescribeEnd}
 use Rattle.boot_cli.specs.declared.commands.manifest_file.ManifestEnd.{ManifestEnd}
-use Rattle.boot_cli.specs.declared.words.Task.{Task}
-use Rattle.boot_cli.specs.declared.words.Task.TheVariants as task
+use Rattle.boot_cli.specs.declared.commands.provision.Made.{Made}
+use Rattle.boot_cli.specs.declared.commands.provision.Made.TheVariants as made
 use Rattle.boot_cli.specs.declared.source.Source.{Source}
+use Rattle.boot_cli.specs.declared.source.Source.TheVariants as source
 use Rattle.boot_cli.specs.declared.source.Source.TheVariants.{StandardInput, File}
-use Rattle.boot_cli.specs.AnswerEnd.{AnswersTask, FileBytes, description_end, manifest_end}
+use Rattle.boot_cli.specs.AnswerEnd.{AnswersCheck, AnswersChoice, AnswersDescription, AnswersManifest, AnswersOrder}
 use Rattle.boot_cli.specs.DescribeEnd.{Tells}
 use Rattle.boot_cli.specs.ManifestEnd.{TellsManifest}
+use Rattle.boot_cli.specs.ProvisionEnd.{AnswersMade, AnswersProvision}
+use Rattle.boot_cli.specs.RunEnd.{AnswersRun}
+use Rattle.boot_cli.specs.ShowEnd.{AnswersShow}
 use Rattle.manifest.specs.declared.identity.Identity.{Identity}
-use Rattle.boot_cli.specs.Input.{Gives, GiveBoth, IsKnownAs, KeepsFiles, KeepsOthers}
+use Rattle.boot_cli.specs.Input.{FileBytes, Gives, GiveBoth, IsKnownAs, KeepsFiles, KeepsOthers, names_of}
 
 -- a flush after the answer changes nothing
-pub AnswersTask-kept : (asked : Task) (input : Option (List ℕ)) (file : FileBytes)
+pub AnswersChoice-kept : (table : Source) (input : Option (List ℕ)) (file : FileBytes)
     (old mid new : Option (List ℕ))
-    → AnswersTask Done asked input file old mid → Keeps mid new
-    → AnswersTask Done asked input file old new
-AnswersTask-kept (task.Choose table) input file old mid new answered kept =
+    → AnswersChoice Done table input file old mid → Keeps mid new
+    → AnswersChoice Done table input file old new
+AnswersChoice-kept table input file old mid new answered kept =
     let written = answered.2 in
     (answered.0, answered.1, (written.0, written.1, written.2, Appends-kept old mid new _ written.3 kept))
-AnswersTask-kept (task.Check table report) input file old mid new answered kept =
+
+pub AnswersCheck-kept : (table report : Source) (input : Option (List ℕ)) (file : FileBytes)
+    (old mid new : Option (List ℕ))
+    → AnswersCheck Done table report input file old mid → Keeps mid new
+    → AnswersCheck Done table report input file old new
+AnswersCheck-kept table report input file old mid new answered kept =
     let judged = answered.3 in
     (answered.0, answered.1, answered.2, (judged.0, Appends-kept old mid new _ judged.1 kept))
-AnswersTask-kept (task.Image image) input file old mid new answered kept =
+
+pub AnswersDescription-kept : (image : Source) (input : Option (List ℕ)) (file : FileBytes)
+    (old mid new : Option (List ℕ))
+    → AnswersDescription Done image input file old mid → Keeps mid new
+    → AnswersDescription Done image input file old new
+AnswersDescription-kept image input file old mid new answered kept =
     let told = answered.2 in
     (answered.0, answered.1, (told.0, told.1, Appends-kept old mid new _ told.2 kept))
-AnswersTask-kept (task.Manifest device named) input file old mid new answered kept =
+
+pub AnswersManifest-kept : (device named : Source) (input : Option (List ℕ)) (file : FileBytes)
+    (old mid new : Option (List ℕ))
+    → AnswersManifest Done device named input file old mid → Keeps mid new
+    → AnswersManifest Done device named input file old new
+AnswersManifest-kept device named input file old mid new answered kept =
     let told = answered.5 in (
       answered.0,
       answered.1,
@@ -39,6 +59,106 @@ AnswersTask-kept (task.Manifest device named) input file old mid new answered ke
       answered.4,
       (told.0, told.1, Appends-kept old mid new _ told.2 kept),
     )
+
+pub AnswersShow-kept : (device flash : Source) (input : Option (List ℕ)) (file : FileBytes)
+    (old mid new : Option (List ℕ))
+    → AnswersShow Done device flash input file old mid → Keeps mid new
+    → AnswersShow Done device flash input file old new
+AnswersShow-kept device flash input file old mid new answered kept =
+    let shown = answered.6 in (
+      answered.0,
+      answered.1,
+      answered.2,
+      answered.3,
+      answered.4,
+      answered.5,
+      (shown.0, Appends-kept old mid new _ shown.1 kept),
+    )
+
+pub AnswersMade-kept : (made : Made) (old mid new : Option (List ℕ))
+    → AnswersMade Done made old mid → Keeps mid new → AnswersMade Done made old new
+AnswersMade-kept made.Done old mid new answered kept =
+    (answered.0, Appends-kept old mid new _ answered.1 kept)
+AnswersMade-kept (made.Refused fault) old mid new answered kept =
+    (answered.0, Appends-kept old mid new _ answered.1 kept)
+AnswersMade-kept made.FileFailed old mid new answered kept = absurd answered
+
+pub AnswersProvision-kept : (device : Source) (names : List (List ℕ)) (input : Option (List ℕ))
+    (file : FileBytes) (old mid new : Option (List ℕ))
+    → AnswersProvision Done device names input file old mid → Keeps mid new
+    → AnswersProvision Done device names input file old new
+AnswersProvision-kept device names input file old mid new answered kept = record {
+  device_bytes = answered.device_bytes;
+  of_device = answered.of_device;
+  sources = answered.sources;
+  contents = answered.contents;
+  outcome = answered.outcome;
+  named = answered.named;
+  given = answered.given;
+  is_device = answered.is_device;
+  fit = answered.fit;
+  made = answered.made;
+  answered = AnswersMade-kept answered.outcome old mid new answered.answered kept;
+}
+
+pub AnswersRun-kept : (device flash script : Source) (input : Option (List ℕ)) (file : FileBytes)
+    (old mid new : Option (List ℕ))
+    → AnswersRun Done device flash script input file old mid → Keeps mid new
+    → AnswersRun Done device flash script input file old new
+AnswersRun-kept device flash script input file old mid new answered kept = record {
+  device_bytes = answered.device_bytes;
+  of_device = answered.of_device;
+  bytes = answered.bytes;
+  text = answered.text;
+  given = answered.given;
+  is_device = answered.is_device;
+  whole = answered.whole;
+  plays = record {
+    events = answered.plays.events;
+    replies = answered.plays.replies;
+    played = answered.plays.played;
+    answered = answered.plays.answered;
+    written = Appends-kept old mid new _ answered.plays.written kept;
+  };
+}
+
+pub AnswersOrder-kept : (asked : Order) (input : Option (List ℕ)) (file : FileBytes)
+    (old mid new : Option (List ℕ))
+    → AnswersOrder Done asked input file old mid → Keeps mid new
+    → AnswersOrder Done asked input file old new
+AnswersOrder-kept (order.Choose table) input file old mid new answered kept =
+    (answered.0, answered.1, AnswersChoice-kept answered.0 input file old mid new answered.2 kept)
+AnswersOrder-kept (order.Check table report) input file old mid new answered kept = (
+  answered.0,
+  answered.1,
+  answered.2,
+  AnswersCheck-kept answered.0 answered.1 input file old mid new answered.3 kept,
+)
+AnswersOrder-kept (order.Image image) input file old mid new answered kept =
+    (answered.0, answered.1, AnswersDescription-kept answered.0 input file old mid new answered.2 kept)
+AnswersOrder-kept (order.Manifest device named) input file old mid new answered kept = (
+  answered.0,
+  answered.1,
+  answered.2,
+  AnswersManifest-kept answered.0 answered.1 input file old mid new answered.3 kept,
+)
+AnswersOrder-kept (order.Provision device flash images) input file old mid new answered kept = (
+  answered.0,
+  answered.1,
+  AnswersProvision-kept answered.0 (names_of images.items) input file old mid new answered.2 kept,
+)
+AnswersOrder-kept (order.Show device flash) input file old mid new answered kept = (
+  answered.0,
+  answered.1,
+  answered.2,
+  AnswersShow-kept answered.0 answered.1 input file old mid new answered.3 kept,
+)
+AnswersOrder-kept (order.Run device flash script) input file old mid new answered kept = (
+  answered.0,
+  answered.1,
+  answered.2,
+  AnswersRun-kept answered.0 (source.File flash) answered.1 input file old mid new answered.3 kept,
+)
 
 -- known bytes that were kept are those that were known before
 pub IsKnownAs-kept : (old new : Option (List ℕ)) (bytes : List ℕ)
@@ -65,18 +185,16 @@ GiveBoth-read StandardInput second input mid_input file mid_file bytes more give
 GiveBoth-read (File name) second input mid_input file mid_file bytes more given kept then =
     (given, Gives-kept second input mid_input file mid_file more kept.0 kept.1 then)
 
--- the end of a description is that of the answer
-pub Tells-answer : (answer : Answer) (end : DescribeEnd) (shown bytes : List ℕ)
-    (old new : Option (List ℕ)) → end ≡ description_end answer → shown ≡ bytes
-    → Tells end shown old new → Tells (description_end answer) bytes old new
-Tells-answer answer end shown bytes old new ends same told =
+-- the end of a description is the one that is answered
+pub Tells-answer : (wanted end : DescribeEnd) (shown bytes : List ℕ) (old new : Option (List ℕ))
+    → end ≡ wanted → shown ≡ bytes → Tells end shown old new → Tells wanted bytes old new
+Tells-answer wanted end shown bytes old new ends same told =
     subst (λ e. Tells e bytes old new) ends (subst (λ b. Tells end b old new) same told)
 
 -- the same of a manifest
-pub TellsManifest-answer : (answer : Answer) (end : ManifestEnd) (identity : Identity)
-    (shown bytes : List ℕ) (old new : Option (List ℕ)) → end ≡ manifest_end answer → shown ≡ bytes
-    → TellsManifest end identity shown old new
-    → TellsManifest (manifest_end answer) identity bytes old new
-TellsManifest-answer answer end identity shown bytes old new ends same told =
+pub TellsManifest-answer : (wanted end : ManifestEnd) (identity : Identity)
+    (shown bytes : List ℕ) (old new : Option (List ℕ)) → end ≡ wanted → shown ≡ bytes
+    → TellsManifest end identity shown old new → TellsManifest wanted identity bytes old new
+TellsManifest-answer wanted end identity shown bytes old new ends same told =
     subst (λ e. TellsManifest e identity bytes old new) ends
     (subst (λ b. TellsManifest end identity b old new) same told)

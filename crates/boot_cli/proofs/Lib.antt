@@ -1,2 +1,8 @@
 mod AnswerLaws
 mod DeviceLaws
+mod EndLaws
+mod FileLaws
+mod ImageLaws
+mod InputLaws
+mod ShowLaws
+mod TextLaws

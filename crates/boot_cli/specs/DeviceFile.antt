@@ -67,6 +67,11 @@ pub record IsDeviceOf (fields : DeviceFields) (device : DeviceFile) : Type 0 whe
   pub images : device.identity.images ≡ device.map.images
   pub trial_boots : device.trial_boots ≡ fields.trial_boots
 
+-- What is true of each device of a file.
+pub record IsOfFile (device : DeviceFile) : Type 0 where
+  pub images : device.identity.images ≡ device.map.images
+  pub boots : IsFewBoots device.trial_boots
+
 -- Bytes are the device file of a device.
 abbrev pub IsDeviceFile : List ℕ → DeviceFile → Type 0
 IsDeviceFile bytes device =

@@ -4,7 +4,14 @@ pub mod CheckEnd
 pub mod ChooseEnd
 pub mod DescribeEnd
 pub mod DeviceFile
+pub mod DeviceInput
 pub mod ImageText
 pub mod Input
 pub mod ManifestEnd
 pub mod ManifestText
+pub mod ProvisionEnd
+pub mod ReplyText
+pub mod RunEnd
+pub mod ShowEnd
+pub mod StateText
+pub mod Status

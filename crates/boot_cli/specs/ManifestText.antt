@@ -7,9 +7,7 @@ use Rattle.manifest.specs.declared.manifest.Component.{Component}
 use Rattle.manifest.specs.declared.manifest.Manifest.{Manifest}
 use Rattle.manifest.specs.Codes as manifest
 use Rattle.manifest.specs.Component.{kind_text}
-use Rattle.sector_map.specs.declared.error.MapError.{MapError}
-use Rattle.sector_map.specs.Codes as map
-use Rattle.boot_cli.specs.AnswerText.{line_text, refused_text, refused_group_text}
+use Rattle.boot_cli.specs.AnswerText.{line_text, refused_text}
 
 -- What follows a component: the digest of the image that has to run, where one is asked for.
 abbrev pub precursor_text : Option (List ℕ) → List ℕ
@@ -33,8 +31,3 @@ manifest_text manifest =
 -- Why bytes are no manifest for the device: the number and the name.
 abbrev pub refusal_text : ManifestError → List ℕ
 refusal_text fault = refused_text (manifest.code_of fault) (manifest.name_of fault)
-
--- Why the sizes of a device file make no map: the number and the name.
-abbrev pub map_refusal_text : MapError → List ℕ
-map_refusal_text fault =
-    refused_group_text (codes "map") (map.code_of fault) (map.name_of fault)

@@ -4,3 +4,6 @@ pub mod check;
 pub mod choose;
 pub mod image;
 pub mod manifest_file;
+pub mod playing;
+pub mod provision;
+pub mod show;

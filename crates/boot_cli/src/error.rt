@@ -18,12 +18,27 @@ pub enum Refusal<'a> {
     /// The text is no device file.
     #[error("device file")]
     DeviceFile,
+    /// The flash file isn't as long as the map of the device.
+    #[error("flash size")]
+    FlashSize,
+    /// There are not as many image files as the map of the device has images.
+    #[error("image count")]
+    ImageCount,
+    /// The file for this image is longer than the slot of it.
+    #[error("image {0} too big")]
+    ImageTooBig(u8),
+    /// The line of a script, counted from 1, says nothing that can be done.
+    #[error("script line {0}")]
+    ScriptLine(usize),
     /// A file or standard input could not be read to its end.
     #[error("cannot read {0}")]
     CannotRead(Source<'a>),
     /// Memory ran out.
     #[error("memory")]
     NoMemory,
+    /// The flash file could not be made, or not be written.
+    #[error("flash file")]
+    FlashFile,
     /// The answer could not be written to its end. It is never printed: after a write that failed nothing is.
     #[error("cannot write")]
     CannotWrite,

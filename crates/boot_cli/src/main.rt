@@ -1,19 +1,21 @@
 //! `bootswap`: which of the images that a device is asked to boot may run together, decided from a table; what images
-//! say of themselves; and what manifests say to a device.
+//! say of themselves; what manifests say to a device; and a device itself, on a file, that boots, takes uploads and
+//! survives power cuts.
 #![tactic(auto)]
 
 mod answer;
 mod cli;
 mod commands;
 mod device;
+mod device_input;
 mod error;
-mod escaped;
 mod host;
+mod loading;
+mod replies;
 mod source;
 mod streams;
 #[cfg(test)]
 mod tests;
-mod words;
 
 use host::SystemHost;
 use std::process::ExitCode;

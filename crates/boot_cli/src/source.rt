@@ -1,17 +1,14 @@
 //! Where a command's input comes from, as its words name it.
 ghost use Rattle.std.specs.Prelude.{IfOk};
-ghost use Rattle.boot_cli.specs.Input.{Gives, KeepsOthers};
+ghost use Rattle.boot_cli.specs.Input.{Gives, IsNamed, KeepsOthers};
 
 use crate::error::{ReadError, Refusal};
-use crate::escaped::Escaped;
 use crate::host::{Host, StandardInput};
 use crate::streams::read_all;
+use command_line::{Escaped, STANDARD_INPUT};
 use std::alloc::Allocator;
 use std::fmt;
 use std::io::ErrorKind;
-
-/// The word that names standard input.
-const STANDARD_INPUT: &str = "-";
 
 /// What a command reads.
 #[derive(Clone, Copy, Debug)]
@@ -24,7 +21,9 @@ pub enum Source<'a> {
 
 impl<'a> Source<'a> {
     /// What this word names: `-` is standard input, and any other word the file of that name.
-    pub fn named(word: &'a str) -> Self {
+    pub fn named(word: &'a str) -> Self
+        ensures { IsNamed word.now result }
+    {
         if word == STANDARD_INPUT {
             Source::StandardInput
         } else {
@@ -37,12 +36,12 @@ impl<'a> Source<'a> {
         matches!(self, Source::StandardInput)
     }
 
-    /// All its bytes, from `host`, in memory of `heap`.
-    pub fn read<'h, A: Allocator, H: Host>(
+    /// All its bytes, from `host`, in memory of `alloc`.
+    pub fn read<A: Allocator, H: Host>(
         self,
-        heap: &'h A,
+        alloc: A,
         host: &mut H,
-    ) -> Result<Vec<u8, &'h A>, Refusal<'a>>
+    ) -> Result<Vec<u8, A>, Refusal<'a>>
         ensures bytes { IfOk result (λ bytes.
             Gives self.entry (H.input host.old) (H.file host.old) bytes.items) }
         ensures others { KeepsOthers self.entry (H.input host.old) (H.file host.old)
@@ -50,13 +49,13 @@ impl<'a> Source<'a> {
     {
         match self {
             Source::StandardInput => {
-                read_all(heap, &mut StandardInput(host)).map_err(|error| match error {
+                read_all(alloc, &mut StandardInput(host)).map_err(|error| match error {
                     ReadError::NoMemory => Refusal::NoMemory,
                     ReadError::Failed => Refusal::CannotRead(self),
                 })
             }
             Source::File(name) => {
-                host.read_file(heap, name)
+                host.read_file(alloc, name)
                     .map_err(|error| match error.kind() {
                         ErrorKind::OutOfMemory => Refusal::NoMemory,
                         _ => Refusal::CannotRead(self),

@@ -1,19 +1,17 @@
 //! `bootswap manifest`: what a manifest says to a device, or why it is none for it.
 ghost use Rattle.std.specs.Prelude.{◌≡◌, ◌≢◌, ◌∷◌, ◌++◌, [], IfOk, string_bytes};
-ghost use Rattle.std.specs.Io.KnownBytes.{Appends};
 ghost use Rattle.boot_cli.specs.AnswerEnd.{AnswersManifest};
 ghost use Rattle.boot_cli.specs.ManifestEnd.{TellsManifest};
-ghost use Rattle.boot_cli.specs.ManifestText.{component_text, manifest_text, map_refusal_text, precursor_text, refusal_text};
+ghost use Rattle.boot_cli.specs.ManifestText.{component_text, manifest_text, precursor_text, refusal_text};
 ghost use Rattle.manifest.specs.Component.{kind_text};
 
-use crate::answer::{Answer, refused_group_text, refused_text};
-use crate::device::{DeviceFault, DeviceFile};
+use crate::answer::{Answer, refused_text};
+use crate::device_input::read_device;
 use crate::error::Refusal;
 use crate::host::Host;
 use crate::source::Source;
 use crate::streams::write_all;
 use manifest::{Component, Identity, Manifest, ManifestError};
-use sector_map::MapError;
 use std::alloc::{AllocError, Allocator, Global};
 use std::io::Write;
 
@@ -44,15 +42,8 @@ pub fn perform<'a, A: Allocator, H: Host, O: Write>(
     ensures { IfOk result (λ answer. AnswersManifest answer device.entry file.entry
         (H.input host.old) (H.file host.old) (O.contents out.old) (O.contents out.new)) }
 {
-    let device_bytes = device.read(heap, host)?;
-    let of_device = match DeviceFile::read(alloc, &device_bytes) {
-        Ok(of_device) => of_device,
-        Err(DeviceFault::Malformed) => return Err(Refusal::DeviceFile),
-        Err(DeviceFault::NoMemory) => return Err(Refusal::NoMemory),
-        Err(DeviceFault::Map(fault)) => {
-            tell_map(heap, fault, out)?;
-            return Ok(Answer::Refused);
-        }
+    let Some(of_device) = read_device(alloc, heap, device, host, out)? else {
+        return Ok(Answer::Refused);
     };
     let bytes = file.read(heap, host)?;
     match tell_over(alloc, heap, &bytes, &of_device.identity, out) {
@@ -60,24 +51,6 @@ pub fn perform<'a, A: Allocator, H: Host, O: Write>(
         ManifestEnd::Refused => Ok(Answer::Refused),
         ManifestEnd::NoMemory => Err(Refusal::NoMemory),
         ManifestEnd::WriteFailed => Err(Refusal::CannotWrite),
-    }
-}
-
-/// Writes to `out` why the sizes of a device file make no map.
-fn tell_map<'a, A: Allocator, O: Write>(
-    heap: &A,
-    fault: MapError,
-    out: &mut O,
-) -> Result<(), Refusal<'a>>
-    ensures { IfOk result (λ _. Appends (O.contents out.old) (O.contents out.new)
-        (map_refusal_text fault)) }
-{
-    let Ok(text) = map_refusal_text(heap, fault) else {
-        return Err(Refusal::NoMemory);
-    };
-    match write_all(out, text.as_bytes()) {
-        Ok(()) => Ok(()),
-        Err(_) => Err(Refusal::CannotWrite),
     }
 }
 
@@ -171,11 +144,4 @@ fn refusal_text<A: Allocator>(heap: &A, fault: ManifestError) -> Result<String<&
         ManifestError::NoMemory => Err(AllocError),
         _ => refused_text(heap, fault.code(), fault.name()),
     }
-}
-
-/// The first check of the sizes of a device file that fails, by its number and its name.
-fn map_refusal_text<A: Allocator>(heap: &A, fault: MapError) -> Result<String<&A>, AllocError>
-    ensures { IfOk result (λ text. string_bytes text ≡ map_refusal_text fault) }
-{
-    refused_group_text(heap, "map", fault.code(), fault.name())
 }

@@ -1,7 +1,7 @@
 //! Memory that runs out, and reads, writes and flushes that fail, for every command.
 use super::host::{AMPLE, Case, Files, Limits, MemoryHost, ONE_IMAGE, ONE_IMAGE_RUNS, run_within};
-use super::image_bytes::ONE;
 use super::manifests::{DEVICE, SAMPLE, SAMPLE_TOLD, SMALL};
+use super::samples::RUNNING;
 use linked_list_allocator::LocalHeap;
 use std::io::ErrorKind;
 use std::process::Abort;
@@ -150,9 +150,8 @@ fn expect_beginning(
 
 /// Asserts that each of these runs exits with status 1 where a write or a flush fails, at every place, and writes
 /// nothing more.
-fn expect_each_beginning(rt: &(impl Abort + AllocGlobal), cases: &[Case<'_>]) -> Result<(), Fail> {
-    let image = hex::decode(rt.alloc(), ONE)?;
-    let files = files_with(image.as_slice());
+fn expect_each_beginning(rt: &(impl Abort + AllocGlobal), cases: &[Case<'_>]) {
+    let files = files();
     for case in cases {
         for room in 0..case.out.len() + case.err.len() {
             let full = Limits { room, ..AMPLE };
@@ -169,30 +168,28 @@ fn expect_each_beginning(rt: &(impl Abort + AllocGlobal), cases: &[Case<'_>]) ->
         };
         expect_beginning(rt, files.as_slice(), case, fails_to_flush);
     }
-    Ok(())
 }
 
 /// The files that the commands name.
-fn files_with(image: &[u8]) -> [(&str, &[u8]); 5] {
+fn files() -> [(&'static str, &'static [u8]); 5] {
     [
         ("table.txt", ONE_IMAGE.as_bytes()),
         ("other.txt", b"run 0 1.0.0+1\n".as_slice()),
-        ("firmware.img", image),
+        ("firmware.img", RUNNING.as_slice()),
         ("device.json", DEVICE.as_bytes()),
         ("manifest.json", SAMPLE.as_bytes()),
     ]
 }
 
 #[test]
-fn after_a_failed_write_or_flush_nothing_more_is_written(rt: HostRuntime) -> Result<(), Fail> {
-    expect_each_beginning(&rt, COMMANDS.as_slice())?;
-    expect_each_beginning(&rt, REFUSALS.as_slice())
+fn after_a_failed_write_or_flush_nothing_more_is_written(rt: HostRuntime) {
+    expect_each_beginning(&rt, COMMANDS.as_slice());
+    expect_each_beginning(&rt, REFUSALS.as_slice());
 }
 
 #[test]
 fn a_heap_of_each_size_gives_the_whole_answer_or_none(rt: HostRuntime) -> Result<(), Fail> {
-    let image = hex::decode(rt.alloc(), ONE)?;
-    let files = files_with(image.as_slice());
+    let files = files();
     for case in COMMANDS {
         let mut refused = 0u32;
         let mut is_answered = false;
@@ -215,9 +212,8 @@ fn a_heap_of_each_size_gives_the_whole_answer_or_none(rt: HostRuntime) -> Result
 }
 
 #[test]
-fn a_read_that_fails_in_mid_stream_gives_no_answer(rt: HostRuntime) -> Result<(), Fail> {
-    let image = hex::decode(rt.alloc(), ONE)?;
-    let files = files_with(image.as_slice());
+fn a_read_that_fails_in_mid_stream_gives_no_answer(rt: HostRuntime) {
+    let files = files();
     for case in COMMANDS {
         for given in 0..case.input.len() {
             for (failure, err) in [
@@ -231,5 +227,4 @@ fn a_read_that_fails_in_mid_stream_gives_no_answer(rt: HostRuntime) -> Result<()
             }
         }
     }
-    Ok(())
 }

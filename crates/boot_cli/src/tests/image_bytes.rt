@@ -1,23 +1,6 @@
-//! Images that another program made, as hexadecimal digits.
+//! Images that another program made and that only `image` reads, as hexadecimal digits.
 
-/// Version 1.0.0+0, a body of four bytes, no protected area.
-pub const ONE: &str =
-    "3db8f39600000000200000000400000000000000010000000000000000000000414243440769280010002000\
-     a3e71cf40711fbfbade5131cd38ef12419ade325218beabf515b5fa1df6d5c8c";
-
-/// Version 2.0.0+0, which needs image 1 at 2.0.0+0.
-pub const NEEDING: &str =
-    "3db8f39600000000200014000400000000000000020000000000000000000000414243440869140040000c00\
-     01000000020000000000000007692800100020001851089276b7cee21d7f160194dc9637932d856e317bd2c3\
-     a56dadb12de4801c";
-
-/// Version 1.0.0+0 with security counter 5, which needs image 1 at 2.0.0+0.
-pub const COUNTED: &str =
-    "3db8f3960000000020001c0004000000000000000100000000000000000000004142434408691c0050000400\
-     0500000040000c000100000002000000000000000769280010002000d972280151bc22f533247969edbfb759\
-     6c1b97815061e90b65f3d2641146fc05";
-
-/// The first image with a key hash and a signature after its digest.
+/// Version 1.0.0+0, a body of four bytes, no protected area, and a key hash and a signature after the digest.
 pub const SIGNED: &str =
     "3db8f39600000000200000000400000000000000010000000000000000000000414243440769960010002000\
      a3e71cf40711fbfbade5131cd38ef12419ade325218beabf515b5fa1df6d5c8c010020000001020304050607\
@@ -25,7 +8,7 @@ pub const SIGNED: &str =
      101112131415161718191a1b1c1d1e1f202122232425262728292a2b2c2d2e2f303132333435363738393a3b\
      3c3d3e3f404142434445";
 
-/// The first image with a security counter in the unprotected area, where none is read.
+/// The same with a security counter in the unprotected area, where none is read, in the place of the two.
 pub const COUNTED_OUTSIDE: &str =
     "3db8f39600000000200000000400000000000000010000000000000000000000414243440769300010002000\
      a3e71cf40711fbfbade5131cd38ef12419ade325218beabf515b5fa1df6d5c8c5000040007000000";

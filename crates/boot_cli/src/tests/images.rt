@@ -1,9 +1,9 @@
 //! `image`: what intact images say of themselves, and the first check that fails of the others.
 use super::host::{MemoryHost, run};
 use super::image_bytes::{
-    COUNTED, COUNTED_OUTSIDE, COUNTED_TWICE, NEEDING, ONE, SEVENTEEN, SIGNED, SIXTEEN,
-    WITH_VENDOR_ENTRIES,
+    COUNTED_OUTSIDE, COUNTED_TWICE, SEVENTEEN, SIGNED, SIXTEEN, WITH_VENDOR_ENTRIES,
 };
+use super::samples::{FIRST, NEEDY, RUNNING};
 use std::process::Abort;
 use std::test::Fail;
 
@@ -25,36 +25,31 @@ fn expect_image(rt: &(impl Abort + AllocGlobal), bytes: &[u8], status: u8, out: 
 
 #[test]
 fn an_image_with_neither_counter_nor_dependency(rt: HostRuntime) -> Result<(), Fail> {
-    let bytes = hex::decode(rt.alloc(), ONE)?;
     let out = format!(in rt.alloc();
         "version 1.0.0+0\nlength 76\ncounter 0\ndigest {ONE_DIGEST}\n"
     )?;
-    expect_image(&rt, bytes.as_slice(), 0, &out);
+    expect_image(&rt, RUNNING.as_slice(), 0, &out);
     Ok(())
 }
 
 #[test]
-fn an_image_with_a_dependency(rt: HostRuntime) -> Result<(), Fail> {
-    let bytes = hex::decode(rt.alloc(), NEEDING)?;
+fn an_image_with_a_dependency(rt: HostRuntime) {
     let out = "version 2.0.0+0\n\
         length 96\n\
         counter 0\n\
         digest 1851089276b7cee21d7f160194dc9637932d856e317bd2c3a56dadb12de4801c\n\
         needs 1 2.0.0+0\n";
-    expect_image(&rt, bytes.as_slice(), 0, out);
-    Ok(())
+    expect_image(&rt, FIRST.as_slice(), 0, out);
 }
 
 #[test]
-fn an_image_with_counter_and_dependency(rt: HostRuntime) -> Result<(), Fail> {
-    let bytes = hex::decode(rt.alloc(), COUNTED)?;
+fn an_image_with_counter_and_dependency(rt: HostRuntime) {
     let out = "version 1.0.0+0\n\
         length 104\n\
         counter 5\n\
         digest d972280151bc22f533247969edbfb7596c1b97815061e90b65f3d2641146fc05\n\
         needs 1 2.0.0+0\n";
-    expect_image(&rt, bytes.as_slice(), 0, out);
-    Ok(())
+    expect_image(&rt, NEEDY.as_slice(), 0, out);
 }
 
 #[test]
@@ -113,7 +108,7 @@ fn two_counters_are_refused(rt: HostRuntime) -> Result<(), Fail> {
 
 #[test]
 fn a_missing_byte_and_one_too_many_are_refused(rt: HostRuntime) -> Result<(), Fail> {
-    let mut bytes = hex::decode(rt.alloc(), ONE)?;
+    let mut bytes = Vec::from_slice(rt.alloc(), RUNNING.as_slice())?;
     bytes.push(0)?;
     expect_image(&rt, bytes.as_slice(), 1, "refused 13 TrailingBytes\n");
     bytes.truncate(75);
@@ -128,12 +123,12 @@ fn a_missing_byte_and_one_too_many_are_refused(rt: HostRuntime) -> Result<(), Fa
 /// Asserts that an image, with these bytes written over its own at a place, is refused so.
 fn expect_changed(
     rt: &(impl Abort + AllocGlobal),
-    image: &str,
+    image: &[u8],
     place: usize,
     change: &[u8],
     out: &str,
 ) -> Result<(), Fail> {
-    let mut bytes = hex::decode(rt.alloc(), image)?;
+    let mut bytes = Vec::from_slice(rt.alloc(), image)?;
     for (byte, new) in bytes.iter_mut().skip(place).zip(change) {
         *byte = *new;
     }
@@ -144,15 +139,60 @@ fn expect_changed(
 #[test]
 fn a_changed_image_is_refused_by_the_first_check_that_fails(rt: HostRuntime) -> Result<(), Fail> {
     for (image, place, change, out) in [
-        (ONE, 0, b"\x00".as_slice(), "refused 2 BadMagic\n"),
-        (ONE, 8, b"\x1f".as_slice(), "refused 3 BadHeaderSize\n"),
-        (ONE, 16, b"\x20".as_slice(), "refused 4 UnsupportedFlags\n"),
-        (ONE, 12, b"\xff\xff".as_slice(), "refused 5 Truncated\n"),
-        (ONE, 36, b"\x08".as_slice(), "refused 6 BadTlvMagic\n"),
-        (ONE, 38, b"\x03".as_slice(), "refused 7 BadTlvSize\n"),
-        (ONE, 40, b"\x11".as_slice(), "refused 8 NoDigest\n"),
-        (ONE, 75, b"\x8d".as_slice(), "refused 10 BadDigest\n"),
-        (NEEDING, 38, b"\x18".as_slice(), "refused 7 BadTlvSize\n"),
+        (
+            RUNNING.as_slice(),
+            0,
+            b"\x00".as_slice(),
+            "refused 2 BadMagic\n",
+        ),
+        (
+            RUNNING.as_slice(),
+            8,
+            b"\x1f".as_slice(),
+            "refused 3 BadHeaderSize\n",
+        ),
+        (
+            RUNNING.as_slice(),
+            16,
+            b"\x20".as_slice(),
+            "refused 4 UnsupportedFlags\n",
+        ),
+        (
+            RUNNING.as_slice(),
+            12,
+            b"\xff\xff".as_slice(),
+            "refused 5 Truncated\n",
+        ),
+        (
+            RUNNING.as_slice(),
+            36,
+            b"\x08".as_slice(),
+            "refused 6 BadTlvMagic\n",
+        ),
+        (
+            RUNNING.as_slice(),
+            38,
+            b"\x03".as_slice(),
+            "refused 7 BadTlvSize\n",
+        ),
+        (
+            RUNNING.as_slice(),
+            40,
+            b"\x11".as_slice(),
+            "refused 8 NoDigest\n",
+        ),
+        (
+            RUNNING.as_slice(),
+            75,
+            b"\x8d".as_slice(),
+            "refused 10 BadDigest\n",
+        ),
+        (
+            FIRST.as_slice(),
+            38,
+            b"\x18".as_slice(),
+            "refused 7 BadTlvSize\n",
+        ),
     ] {
         expect_changed(&rt, image, place, change, out)?;
     }

@@ -44,10 +44,15 @@ impl Random {
         requires { 0 < bound }
         ensures { result < bound }
     {
+        (self.number() % u32::from(bound)) as u8
+    }
+
+    /// Any number.
+    pub fn number(&mut self) -> u32 {
         self.state ^= self.state.wrapping_shl(13);
         self.state ^= self.state.wrapping_shr(17);
         self.state ^= self.state.wrapping_shl(5);
-        (self.state % u32::from(bound)) as u8
+        self.state
     }
 
     /// A table of 1 to 8 images. Its running images need not fit each other.

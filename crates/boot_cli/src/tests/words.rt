@@ -112,12 +112,12 @@ struct Help {
 }
 
 /// Every help. The short ones name the exit statuses and an example, the long ones what is read and printed.
-const HELPS: [Help; 12] = [
+const HELPS: [Help; 18] = [
     Help {
         words: &["bootswap", "-h"],
         parts: &[
             "Usage: bootswap [COMMAND]\n",
-            "  choose    Reads a table",
+            "  choose     Reads a table",
             "Exit status: 0 done, 1 refused, 2",
         ],
     },
@@ -208,6 +208,63 @@ const HELPS: [Help; 12] = [
             "refused map 1 BadSector",
             "  2  the words",
             "  bootswap manifest device.json manifest.json\n",
+        ],
+    },
+    Help {
+        words: &["bootswap", "provision", "-h"],
+        parts: &[
+            "Usage: bootswap provision <DEVICE> <FLASH> <IMAGE>...\n",
+            "Exit status: 0 ",
+            "Example: bootswap provision ",
+        ],
+    },
+    Help {
+        words: &["bootswap", "help", "provision"],
+        parts: &[
+            "  {\"sector\":512,\"sectors\":[2,2],\n",
+            "refused boot 5 RunningDamaged 1",
+            "  2  the words",
+            "  4  ",
+            "error: flash file",
+            "  bootswap provision device.json flash.bin a.img b.img\n",
+        ],
+    },
+    Help {
+        words: &["bootswap", "show", "-h"],
+        parts: &[
+            "Usage: bootswap show <DEVICE> <FLASH>\n",
+            "Exit status: 0 ",
+            "Example: bootswap show ",
+        ],
+    },
+    Help {
+        words: &["bootswap", "help", "show"],
+        parts: &[
+            "  state trial ",
+            "  swap 0 revert ",
+            "refused boot 4 NotProvisioned",
+            "  2  the words",
+            "  bootswap show device.json flash.bin\n",
+        ],
+    },
+    Help {
+        words: &["bootswap", "run", "-h"],
+        parts: &[
+            "Usage: bootswap run <DEVICE> <FLASH> <SCRIPT>\n",
+            "Exit status: 0 ",
+            "Example: bootswap run ",
+        ],
+    },
+    Help {
+        words: &["bootswap", "help", "run"],
+        parts: &[
+            "  cut WRITE TORN\n",
+            "  piece IMAGE FILE FROM COUNT ",
+            "  6 trial-again 0 1 left 1\n",
+            "  2  the words",
+            "  3  the last reply",
+            "error: flash file",
+            "  bootswap run device.json flash.bin script.txt\n",
         ],
     },
 ];

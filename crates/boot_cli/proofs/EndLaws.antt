@@ -1,0 +1,91 @@
+-- What was answered, by what was read in turn and written.
+use Rattle.std.proofs.Common.{◌≡◌, ◌<◌, ℕ, List, [], ◌∷◌, Option, ap, arith, inl, rules, subst}
+use Rattle.std.specs.Borrow.{Bor}
+use Rattle.boot_cli.specs.declared.answer.Answer.{Answer}
+use Rattle.boot_cli.specs.declared.answer.Answer.TheVariants.{Done, Refused, Cut}
+use Rattle.boot_cli.specs.declared.commands.provision.Made.{Made}
+use Rattle.boot_cli.specs.declared.commands.provision.Made.TheVariants as made
+use Rattle.boot_cli.specs.declared.device.DeviceFile.{DeviceFile}
+use Rattle.boot_cli.specs.declared.source.Source.{Source}
+use Rattle.boot_cli.specs.declared.source.Source.TheVariants as source
+use Rattle.boot_cli.specs.DeviceInput.{GivesDevice, IsFlashOf}
+use Rattle.boot_cli.specs.Input.{FileBytes, GiveEach, Gives, KeepsFiles, KeepsOthers}
+use Rattle.boot_cli.specs.ProvisionEnd.{AnswersMade, AnswersProvision, EndsMade, MakesDevice, ReadsImages}
+use Rattle.boot_cli.specs.RunEnd.{AnswersRun, Plays, RunsDevice}
+use Rattle.boot_cli.specs.Status.{status_of_answer}
+use Rattle.boot_cli.proofs.InputLaws.{GiveEach-one, GiveEach-read}
+
+-- what comes of making a flash isn't that the power failed
+not_cut : (made : Made) (old new : Option (List ℕ)) → AnswersMade Cut made old new → ⊥
+not_cut made.Done old new answered =
+    let same : 3 ≡ 0 = ap status_of_answer answered.0 in omega (arith, same)
+not_cut (made.Refused fault) old new answered =
+    let same : 3 ≡ 1 = ap status_of_answer answered.0 in omega (arith, same)
+not_cut made.FileFailed old new answered = answered
+
+AnswersProvision-made : (answer : Answer) (device : Source) (names : List (List ℕ))
+    (input : Option (List ℕ)) (file : FileBytes) (old new : Option (List ℕ))
+    → MakesDevice answer device names input file old new
+    → AnswersProvision answer device names input file old new
+AnswersProvision-made Done device names input file old new makes = makes
+AnswersProvision-made Refused device names input file old new makes = inl makes
+AnswersProvision-made Cut device names input file old new makes =
+    absurd (not_cut makes.outcome old new makes.answered)
+
+-- a device file was read, and then its images
+pub AnswersProvision-read : (answer : Answer) (device : Source) (names : List (List ℕ))
+    (input mid_input : Option (List ℕ)) (file mid_file : FileBytes) (old mid new : Option (List ℕ))
+    (of_device : DeviceFile) (bytes : List ℕ) (made : Made)
+    → GivesDevice device input file of_device → KeepsOthers device input file mid_input mid_file
+    → ReadsImages of_device.map names mid_input mid_file bytes → EndsMade made of_device.map bytes
+    → mid ≡ old → AnswersMade answer made mid new
+    → AnswersProvision answer device names input file old new
+AnswersProvision-read answer device names input mid_input file mid_file old mid new of_device bytes made
+    given kept read ends same answered =
+    AnswersProvision-made answer device names input file old new (record {
+      device_bytes = given.0;
+      of_device = of_device;
+      sources = read.0;
+      contents = read.1;
+      outcome = made;
+      named = read.2;
+      given = GiveEach-read device read.0 input mid_input file mid_file given.0 read.1 given.1 kept read.3;
+      is_device = given.2;
+      fit = read.4;
+      made = subst (λ all. EndsMade made of_device.map all) read.5 ends;
+      answered = subst (λ o. AnswersMade answer made o new) same answered;
+    })
+
+AnswersRun-runs : (answer : Answer) (device flash script : Source) (input : Option (List ℕ))
+    (file : FileBytes) (old new : Option (List ℕ))
+    → RunsDevice answer (device ∷ flash ∷ script ∷ []) input file old new
+    → AnswersRun answer device flash script input file old new
+AnswersRun-runs Done device flash script input file old new runs = runs
+AnswersRun-runs Refused device flash script input file old new runs = inl runs
+AnswersRun-runs Cut device flash script input file old new runs = runs
+
+-- a device file was read, then its flash, and then a script
+pub AnswersRun-read : (answer : Answer) (device : Source) (flash : Bor (List ℕ)) (script : Source)
+    (input second_input third_input : Option (List ℕ)) (file second_file third_file : FileBytes)
+    (old mid new : Option (List ℕ)) (bytes text : List ℕ) (of_device : DeviceFile)
+    → GivesDevice device input file of_device → KeepsOthers device input file second_input second_file
+    → Gives (source.File flash) second_input second_file bytes
+    → KeepsOthers (source.File flash) second_input second_file third_input third_file
+    → Gives script third_input third_file text → IsFlashOf of_device.map bytes
+    → mid ≡ old → Plays answer of_device bytes mid new
+    → AnswersRun answer device (source.File flash) script input file old new
+AnswersRun-read answer device flash script input second_input third_input file second_file third_file old mid new
+    bytes text of_device given kept flash_given flash_kept script_given whole same plays =
+    AnswersRun-runs answer device (source.File flash) script input file old new (record {
+      device_bytes = given.0;
+      of_device = of_device;
+      bytes = bytes;
+      text = text;
+      given = GiveEach-read device (source.File flash ∷ script ∷ []) input second_input file second_file given.0
+          (bytes ∷ text ∷ []) given.1 kept
+          (GiveEach-read (source.File flash) (script ∷ []) second_input third_input second_file third_file bytes
+          (text ∷ []) flash_given flash_kept (GiveEach-one script third_input third_file text script_given));
+      is_device = given.2;
+      whole = whole;
+      plays = subst (λ o. Plays answer of_device bytes o new) same plays;
+    })

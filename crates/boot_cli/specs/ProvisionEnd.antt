@@ -1,0 +1,89 @@
+-- What making a flash a device's comes to.
+use Rattle.std.specs.Prelude.{◌≡◌, ◌⊎◌, ℕ, ◌+◌, ◌*◌, ◌≤◌, List, [], ◌∷◌, ◌++◌, length, replicate, slice_get, Option, Some, codes}
+use Rattle.std.specs.Io.KnownBytes.{Appends}
+use Rattle.std.specs.List.{AllZip}
+use Rattle.flash_model.specs.Chip.{Chip}
+use Rattle.flash_model.specs.Torn.{replaced}
+use Rattle.sector_map.specs.declared.layout.SectorMap.{SectorMap}
+use Rattle.sector_map.specs.declared.layout.Side.TheVariants.{Primary}
+use Rattle.sector_map.specs.Map.{length_of, sectors_of, start_of}
+use Rattle.sector_map.specs.Part.{Slot}
+use Rattle.machine.specs.declared.error.Fault.{Fault}
+use Rattle.boot_core.specs.Provisioned.{IsProvisioned, RefusesMaking}
+use Rattle.boot_cli.specs.declared.answer.Answer.{Answer}
+use Rattle.boot_cli.specs.declared.answer.Answer.TheVariants.{Done, Refused, Cut}
+use Rattle.boot_cli.specs.declared.commands.provision.Made.{Made}
+use Rattle.boot_cli.specs.declared.commands.provision.Made.TheVariants as made
+use Rattle.boot_cli.specs.declared.device.DeviceFile.{DeviceFile}
+use Rattle.boot_cli.specs.declared.source.Source.{Source}
+use Rattle.boot_cli.specs.DeviceFile.{IsDeviceFile}
+use Rattle.boot_cli.specs.DeviceInput.{RefusesMap, flash_of}
+use Rattle.boot_cli.specs.Input.{FileBytes, GiveEach, IsNamed}
+use Rattle.boot_cli.specs.ReplyText.{refused_fault_text}
+
+-- Bytes of a flash with these files over the fronts of primary slots, from that of this image on.
+abbrev pub with_files : SectorMap → ℕ → List (List ℕ) → List ℕ → List ℕ
+with_files map image [] bytes = bytes
+with_files map image (file ∷ files) bytes =
+    with_files map (image + 1) files (replaced (start_of map (Slot image Primary)) file bytes)
+
+-- The bytes of a new flash: each file stands at the front of its primary slot, and all else is erased.
+abbrev pub new_flash : SectorMap → List (List ℕ) → List ℕ
+new_flash map files = with_files map 0 files (replicate (sectors_of map * map.sector_size) 0xff)
+
+-- There is a file for each image, and each fits its slot.
+pub record FitSlots (map : SectorMap) (files : List (List ℕ)) : Type 0 where
+  pub count : length files ≡ map.images
+  pub each : (i : ℕ) (file : List ℕ) → slice_get files i ≡ Some file
+      → length file ≤ length_of map (Slot i Primary)
+
+-- What came of making the flash of these bytes a device's: it is one, or why it isn't. Of a flash whose file
+-- failed nothing is said.
+abbrev pub EndsMade : Made → SectorMap → List ℕ → Type 0
+EndsMade made.Done map bytes = (new : Chip) × IsProvisioned map (flash_of map bytes) new
+EndsMade (made.Refused fault) map bytes =
+    (new : Chip) × RefusesMaking map (flash_of map bytes) new fault
+EndsMade made.FileFailed map bytes = Unit {0}
+
+-- That a flash is a device's.
+abbrev pub done_text : List ℕ
+done_text = codes "done" ++ 10 ∷ []
+
+-- What is answered where it ended so, and what a writer took.
+abbrev pub AnswersMade : Answer → Made → Option (List ℕ) → Option (List ℕ) → Type 0
+AnswersMade answer made.Done old new = (answer ≡ Done) × Appends old new done_text
+AnswersMade answer (made.Refused fault) old new =
+    (answer ≡ Refused) × Appends old new (refused_fault_text fault)
+AnswersMade answer made.FileFailed old new = ⊥
+
+-- What was read of image files: they fit their slots, and these are the bytes of their flash.
+abbrev pub ReadsImages : SectorMap → List (List ℕ) → Option (List ℕ) → FileBytes → List ℕ → Type 0
+ReadsImages map names input files bytes =
+    (sources : List Source) × (contents : List (List ℕ)) × AllZip IsNamed names sources
+    × GiveEach sources input files contents × FitSlots map contents
+    × (bytes ≡ new_flash map contents)
+
+-- `provision` read the bytes of a device file and of the images that these words name, made their flash a
+-- device's, or found why it can't be, and wrote which ..
+pub record MakesDevice (answer : Answer) (device : Source) (names : List (List ℕ))
+    (input : Option (List ℕ)) (files : FileBytes) (old new : Option (List ℕ)) : Type 0 where
+  pub device_bytes : List ℕ
+  pub of_device : DeviceFile
+  pub sources : List Source
+  pub contents : List (List ℕ)
+  pub outcome : Made
+  pub named : AllZip IsNamed names sources
+  pub given : GiveEach (device ∷ sources) input files (device_bytes ∷ contents)
+  pub is_device : IsDeviceFile device_bytes of_device
+  pub fit : FitSlots of_device.map contents
+  pub made : EndsMade outcome of_device.map (new_flash of_device.map contents)
+  pub answered : AnswersMade answer outcome old new
+
+-- .. or wrote why the sizes of the device file make no map, and then the images don't count.
+abbrev pub AnswersProvision : Answer → Source → List (List ℕ) → Option (List ℕ) → FileBytes
+    → Option (List ℕ) → Option (List ℕ) → Type 0
+AnswersProvision Done device names input files old new =
+    MakesDevice Done device names input files old new
+AnswersProvision Refused device names input files old new =
+    MakesDevice Refused device names input files old new ⊎ RefusesMap device input files old new
+AnswersProvision Cut device names input files old new = ⊥

@@ -1,0 +1,86 @@
+-- What a run of a device comes to.
+use Rattle.std.specs.Prelude.{◌≡◌, ◌⊎◌, ℕ, ◌-◌, false, List, [], ◌∷◌, length, Option, None, Some, slice_get}
+use Rattle.std.specs.Io.KnownBytes.{Appends}
+use Rattle.sector_map.specs.declared.layout.SectorMap.{SectorMap}
+use Rattle.upload.specs.Sessions.{AllClosed}
+use Rattle.machine.specs.Holding.{DeviceView}
+use Rattle.machine.specs.Intake.{Setup}
+use Rattle.machine.specs.Passing.{RunsTo}
+use Rattle.machine.specs.declared.event.Event.{Event}
+use Rattle.machine.specs.declared.reply.Reply.{Reply}
+use Rattle.machine.specs.declared.reply.Reply.TheVariants as reply
+use Rattle.boot_core.specs.Device.{made}
+use Rattle.boot_cli.specs.declared.answer.Answer.{Answer}
+use Rattle.boot_cli.specs.declared.answer.Answer.TheVariants.{Done, Refused, Cut}
+use Rattle.boot_cli.specs.declared.device.DeviceFile.{DeviceFile}
+use Rattle.boot_cli.specs.declared.source.Source.{Source}
+use Rattle.boot_cli.specs.DeviceFile.{IsDeviceFile}
+use Rattle.boot_cli.specs.DeviceInput.{IsFlashOf, RefusesMap, flash_of}
+use Rattle.boot_cli.specs.Input.{FileBytes, GiveEach}
+use Rattle.boot_cli.specs.ReplyText.{replies_text}
+
+-- What a device is made with, by its file.
+abbrev pub setup_of : DeviceFile → Setup
+setup_of device = made device.map device.identity device.trial_boots
+
+-- A device that was just made, with these bytes on its flash: it isn't up, and no upload is open.
+pub record IsMadeOf (map : SectorMap) (bytes : List ℕ) (here : DeviceView) : Type 0 where
+  pub flash : here.flash ≡ flash_of map bytes
+  pub down : here.up ≡ false
+  pub closed : AllClosed here.sessions
+
+-- These are replies to the events, one to each, of a device of this file with these bytes on its flash: from
+-- every state that it holds they are a run of the machine of whole images, to a state that it holds then.
+pub record IsPlayed (device : DeviceFile) (bytes : List ℕ) (events : List Event)
+    (replies : List Reply) : Type 0 where
+  pub old : DeviceView
+  pub new : DeviceView
+  pub made : IsMadeOf device.map bytes old
+  pub runs : RunsTo (setup_of device) old new events replies
+  pub each : length replies ≡ length events
+
+-- What a run comes to: what the last reply says.
+abbrev pub answer_after : Option Reply → Answer
+answer_after None = Done
+answer_after (Some reply.Done) = Done
+answer_after (Some (reply.Booted table report permanent)) = Done
+answer_after (Some (reply.Reverted set)) = Done
+answer_after (Some (reply.TrialAgain set left)) = Done
+answer_after (Some (reply.Refused fault)) = Refused
+answer_after (Some reply.Cut) = Cut
+
+abbrev pub answer_of : List Reply → Answer
+answer_of replies = answer_after (slice_get replies (length replies - 1))
+
+-- What is answered of a device of this file with these bytes on its flash, and what a writer took: the replies
+-- to some events.
+pub record Plays (answer : Answer) (device : DeviceFile) (bytes : List ℕ)
+    (old new : Option (List ℕ)) : Type 0 where
+  pub events : List Event
+  pub replies : List Reply
+  pub played : IsPlayed device bytes events replies
+  pub answered : answer ≡ answer_of replies
+  pub written : Appends old new (replies_text 1 replies)
+
+-- `run` read the bytes of a device file, of its flash and of a script, and wrote the replies of the device ..
+pub record RunsDevice (answer : Answer) (sources : List Source) (input : Option (List ℕ))
+    (files : FileBytes) (old new : Option (List ℕ)) : Type 0 where
+  pub device_bytes : List ℕ
+  pub of_device : DeviceFile
+  pub bytes : List ℕ
+  pub text : List ℕ
+  pub given : GiveEach sources input files (device_bytes ∷ bytes ∷ text ∷ [])
+  pub is_device : IsDeviceFile device_bytes of_device
+  pub whole : IsFlashOf of_device.map bytes
+  pub plays : Plays answer of_device bytes old new
+
+-- .. or why the sizes of the device file make no map, and then nothing else counts.
+abbrev pub AnswersRun : Answer → Source → Source → Source → Option (List ℕ) → FileBytes
+    → Option (List ℕ) → Option (List ℕ) → Type 0
+AnswersRun Done device flash script input files old new =
+    RunsDevice Done (device ∷ flash ∷ script ∷ []) input files old new
+AnswersRun Refused device flash script input files old new =
+    RunsDevice Refused (device ∷ flash ∷ script ∷ []) input files old new
+    ⊎ RefusesMap device input files old new
+AnswersRun Cut device flash script input files old new =
+    RunsDevice Cut (device ∷ flash ∷ script ∷ []) input files old new

@@ -1,0 +1,214 @@
+//! Scripts, with the files that their lines name.
+
+use crate::error::Refusal;
+use crate::host::Host;
+use crate::source::Source;
+use common::lines::first_line;
+use flash_model::Torn;
+use machine::Event;
+use script::{Instruction, Line, PartText, Reading, TornText, line_of};
+use std::alloc::{AllocError, Allocator, Global};
+
+/// A write of the flash that a script has cut.
+#[derive(Debug, Drop)]
+pub struct Cut {
+    /// The number of the write, from 1.
+    pub write: u32,
+    /// What the cut leaves.
+    pub torn: Torn,
+}
+
+/// An event of a script, with the bytes that come in it.
+#[derive(Debug, Drop)]
+pub enum Step<A: Allocator> {
+    /// A manifest comes.
+    Accept(Vec<u8, A>),
+    /// A piece of the upload of an image comes.
+    Piece(u8, Vec<u8, A>),
+    /// The upload of an image is to be finished.
+    Finish(u8),
+    /// The request for an image is to be taken back.
+    Withdraw(u8),
+    /// An image is confirmed.
+    Confirm(u8),
+    /// The device boots.
+    Boot,
+    /// The device is reset.
+    Reset,
+}
+
+impl<A: Allocator> Step<A> {
+    /// The event.
+    fn event(&self) -> Event<'_> {
+        match self {
+            Step::Accept(bytes) => Event::Accept(bytes),
+            Step::Piece(image, bytes) => Event::Piece(*image, bytes),
+            Step::Finish(image) => Event::Finish(*image),
+            Step::Withdraw(image) => Event::Withdraw(*image),
+            Step::Confirm(image) => Event::Confirm(*image),
+            Step::Boot => Event::Boot,
+            Step::Reset => Event::Reset,
+        }
+    }
+}
+
+/// What a script says.
+#[derive(Debug, Drop)]
+pub struct Script<A: Allocator> {
+    /// The writes that are cut, by rising numbers.
+    pub cuts: Vec<Cut>,
+    /// The events, in order.
+    pub steps: Vec<Step<A>, A>,
+}
+
+/// The events of these steps, in order, in memory of `alloc`.
+pub fn events_of<'s, A: Allocator, B: Allocator>(
+    alloc: A,
+    steps: &'s [Step<B>],
+) -> Result<Vec<Event<'s>, A>, AllocError> {
+    let mut events = Vec::with_capacity(alloc, steps.len())?;
+    for step in steps {
+        events.push(step.event())?;
+    }
+    Ok(events)
+}
+
+/// What the files of a script are read from.
+#[derive(Drop)]
+struct Reader<'h, 'r, A, H> {
+    /// Which memory their bytes stand in.
+    heap: &'h A,
+    /// Where they are, and standard input.
+    host: &'r mut H,
+    /// Whether standard input was read before.
+    is_input_read: bool,
+}
+
+/// Reads a script from its text, and each file that its lines name from `host`, in memory of `heap`. What cuts leave
+/// stands in memory of `alloc`. Standard input may have been read before: then no line may name it.
+///
+/// The lines are read in order, and the file of a line before the next one.
+///
+/// # Errors
+/// Of the first line at which something is wrong: `ScriptLine` where the line is none of a script, stands where it may
+/// not, names standard input again, or a part that its file doesn't have; `CannotRead` where its file can't be read.
+/// `NoMemory` where memory ran out.
+pub fn load<'a, 'h, A: Allocator, H: Host>(
+    alloc: Global,
+    heap: &'h A,
+    text: &'a [u8],
+    is_input_read: bool,
+    host: &mut H,
+) -> Result<Script<&'h A>, Refusal<'a>> {
+    let mut script = Script {
+        cuts: Vec::new(alloc),
+        steps: Vec::new(heap),
+    };
+    let mut reader = Reader {
+        heap,
+        host,
+        is_input_read,
+    };
+    let mut reading = Reading::new();
+    let mut number = 0;
+    let mut rest = text;
+    while !rest.is_empty() {
+        let (line, after) = first_line(rest);
+        number += 1;
+        rest = after;
+        let Some(line) = line_of(line) else {
+            return Err(Refusal::ScriptLine(number));
+        };
+        if !reading.takes(&line) {
+            return Err(Refusal::ScriptLine(number));
+        }
+        take_line(alloc, &mut script, &mut reader, number, line)?;
+    }
+    Ok(script)
+}
+
+/// Adds what the line of this number says.
+fn take_line<'a, 'h, A: Allocator, H: Host>(
+    alloc: Global,
+    script: &mut Script<&'h A>,
+    reader: &mut Reader<'h, '_, A, H>,
+    number: usize,
+    line: Line<'a>,
+) -> Result<(), Refusal<'a>> {
+    let is_added = match line {
+        Line::Cut { write, torn } => match cut_of(alloc, write, torn) {
+            Ok(cut) => script.cuts.push(cut).is_ok(),
+            Err(_) => false,
+        },
+        Line::Event(instruction) => {
+            let step = step_of(reader, number, instruction)?;
+            script.steps.push(step).is_ok()
+        }
+    };
+    if is_added {
+        Ok(())
+    } else {
+        Err(Refusal::NoMemory)
+    }
+}
+
+/// The cut that a line says.
+fn cut_of(alloc: Global, write: u32, torn: TornText<'_>) -> Result<Cut, AllocError> {
+    let torn = torn.torn(alloc)?;
+    Ok(Cut { write, torn })
+}
+
+/// The event that the line of this number says, with the bytes of its file.
+fn step_of<'a, 'h, A: Allocator, H: Host>(
+    reader: &mut Reader<'h, '_, A, H>,
+    number: usize,
+    instruction: Instruction<'a>,
+) -> Result<Step<&'h A>, Refusal<'a>> {
+    Ok(match instruction {
+        Instruction::Accept(file) => Step::Accept(bytes_of(reader, number, file)?),
+        Instruction::Piece { image, file, part } => {
+            let bytes = bytes_of(reader, number, file)?;
+            Step::Piece(image, part_of(reader.heap, number, bytes, part)?)
+        }
+        Instruction::Finish(image) => Step::Finish(image),
+        Instruction::Withdraw(image) => Step::Withdraw(image),
+        Instruction::Confirm(image) => Step::Confirm(image),
+        Instruction::Boot => Step::Boot,
+        Instruction::Reset => Step::Reset,
+    })
+}
+
+/// The bytes of the file that the line of this number names.
+fn bytes_of<'a, 'h, A: Allocator, H: Host>(
+    reader: &mut Reader<'h, '_, A, H>,
+    number: usize,
+    name: &'a str,
+) -> Result<Vec<u8, &'h A>, Refusal<'a>> {
+    let source = Source::named(name);
+    if source.is_standard_input() {
+        if reader.is_input_read {
+            return Err(Refusal::ScriptLine(number));
+        }
+        reader.is_input_read = true;
+    }
+    source.read(reader.heap, reader.host)
+}
+
+/// The part of a file that the line of this number names, or all of it.
+fn part_of<'a, 'h, A: Allocator>(
+    heap: &'h A,
+    number: usize,
+    bytes: Vec<u8, &'h A>,
+    part: Option<PartText<'_>>,
+) -> Result<Vec<u8, &'h A>, Refusal<'a>> {
+    let Some(part) = part else {
+        return Ok(bytes);
+    };
+    let Some(part) = part.of(&bytes) else {
+        return Err(Refusal::ScriptLine(number));
+    };
+    match Vec::from_slice(heap, part) {
+        Ok(part) => Ok(part),
+        Err(_) => Err(Refusal::NoMemory),
+    }
+}
