@@ -1,0 +1,56 @@
+#!/usr/bin/env python3
+"""Makes the intact images of this folder by their format: examples/make_images.py FOLDER
+
+An image is a header of 32 bytes, a body, a protected area where the image has a security counter or needs others, and
+an unprotected area with the SHA-256 of what stands before it. docs/FORMATS.md has the whole format.
+"""
+
+import hashlib
+import struct
+import sys
+
+BODY = b"ABCD"
+
+
+def version(major, minor, revision=0, build=0):
+    return struct.pack("<BBHI", major, minor, revision, build)
+
+
+def area(magic, entries):
+    """An area of entries, each a type and a value."""
+    filled = b"".join(struct.pack("<HH", kind, len(value)) + value for kind, value in entries)
+    return struct.pack("<HH", magic, 4 + len(filled)) + filled
+
+
+def image(own, counter=None, needs=()):
+    """An image of this version, with this security counter, that needs each image at a version."""
+    entries = [] if counter is None else [(0x50, struct.pack("<I", counter))]
+    entries += [(0x40, bytes([other, 0, 0, 0]) + least) for other, least in needs]
+    protected = area(0x6908, entries) if entries else b""
+    lengths = struct.pack("<HHI", 32, len(protected), len(BODY))
+    digested = struct.pack("<II", 0x96F3B83D, 0) + lengths + bytes(4) + own + bytes(4) + BODY + protected
+    return digested + area(0x6907, [(0x10, hashlib.sha256(digested).digest())])
+
+
+IMAGES = {
+    "one": image(version(1, 0)),
+    "needing": image(version(2, 0), needs=[(1, version(2, 0))]),
+    "partner": image(version(2, 0), needs=[(0, version(2, 0))]),
+    "needing3": image(version(3, 0), needs=[(1, version(3, 0))]),
+    "partner3": image(version(3, 0), needs=[(0, version(3, 0))]),
+    "counted": image(version(1, 0), counter=5, needs=[(1, version(2, 0))]),
+    "patched": image(version(1, 1), counter=5),
+    "stale": image(version(1, 2), counter=4),
+}
+
+
+def main(words):
+    if len(words) != 1:
+        sys.exit(__doc__)
+    for name, contents in IMAGES.items():
+        with open(f"{words[0]}/{name}.img", "wb") as it:
+            it.write(contents)
+
+
+if __name__ == "__main__":
+    main(sys.argv[1:])
