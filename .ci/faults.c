@@ -1,8 +1,11 @@
-/* Loaded before a program, makes one of its calls go wrong: of the reads and writes (FAULT=fail, or FAULT=short, after
-   which the call moves one byte at most) or of the allocations (FAULT=memory) the one whose number is FAULT_AT. When the
-   program ends, the number of those calls is written to the file FAULT_COUNT. `./gate --faults` compiles and uses it. */
+/* Loaded before a program, makes one of its calls go wrong, the one whose number is FAULT_AT: of those that open, read,
+   write or size a file (FAULT=fail), of those that read or write (FAULT=short, after which the call moves one byte at
+   most), or of the allocations (FAULT=memory). When the program ends, the number of those calls is written to the file
+   FAULT_COUNT. `./gate --faults` compiles and uses it. */
 #define _GNU_SOURCE
 #include <errno.h>
+#include <fcntl.h>
+#include <stdarg.h>
 #include <stdio.h>
 #include <stdlib.h>
 #include <string.h>
@@ -26,22 +29,49 @@ static int is_now(void) {
     return at && atol(at) == calls;
 }
 
-static ssize_t moved(long call, int file, const void *bytes, size_t length) {
-    if ((is_asked("fail") || is_asked("short")) && is_now()) {
-        if (is_asked("fail")) {
-            errno = EIO;
-            return -1;
-        }
-        length = length ? 1 : 0;
+/* Whether this call is the one that fails. */
+static int has_failed(void) {
+    if (is_asked("fail") && is_now()) {
+        errno = EIO;
+        return 1;
     }
-    return syscall(call, file, bytes, length);
+    return 0;
 }
 
-ssize_t read(int file, void *bytes, size_t length) { return moved(SYS_read, file, bytes, length); }
+int open(const char *name, int flags, ...) {
+    va_list rest;
+    va_start(rest, flags);
+    int mode = flags & O_CREAT ? va_arg(rest, int) : 0;
+    va_end(rest);
+    return has_failed() ? -1 : (int)syscall(SYS_openat, AT_FDCWD, name, flags, mode);
+}
 
-ssize_t write(int file, const void *bytes, size_t length) { return moved(SYS_write, file, bytes, length); }
+int ftruncate(int file, off_t length) { return has_failed() ? -1 : (int)syscall(SYS_ftruncate, file, length); }
 
-ssize_t __write(int file, const void *bytes, size_t length) { return moved(SYS_write, file, bytes, length); }
+/* Makes a call that moves bytes; `at` is a place of the file, for the calls that take one. */
+static ssize_t moved(long call, int file, const void *bytes, size_t length, off_t at) {
+    if (has_failed()) {
+        return -1;
+    }
+    if (is_asked("short") && is_now()) {
+        length = length ? 1 : 0;
+    }
+    return syscall(call, file, bytes, length, at);
+}
+
+ssize_t read(int file, void *bytes, size_t length) { return moved(SYS_read, file, bytes, length, 0); }
+
+ssize_t write(int file, const void *bytes, size_t length) { return moved(SYS_write, file, bytes, length, 0); }
+
+ssize_t __write(int file, const void *bytes, size_t length) { return moved(SYS_write, file, bytes, length, 0); }
+
+ssize_t pwrite(int file, const void *bytes, size_t length, off_t at) {
+    return moved(SYS_pwrite64, file, bytes, length, at);
+}
+
+ssize_t pwrite64(int file, const void *bytes, size_t length, off_t at) {
+    return moved(SYS_pwrite64, file, bytes, length, at);
+}
 
 static int has_no_memory(void) {
     if (is_asked("memory") && is_now()) {

@@ -1,0 +1,115 @@
+"""Runs the built program for the checks of `./gate`, and counts those that it passes."""
+
+import os
+import resource
+import subprocess
+import threading
+import time
+
+ROOT = os.path.dirname(os.path.dirname(os.path.realpath(__file__)))
+EXAMPLES = f"{ROOT}/examples"
+
+# The device file that the examples of manifests and of scripts are for, and the image that its flash begins with.
+PAIR = f"{EXAMPLES}/devices/pair.json"
+ONE = f"{EXAMPLES}/images/one.img"
+
+# How many seconds a run of the program may take.
+LIMIT = 20
+
+
+class Checks:
+    """Runs a program in a folder of its own, and counts the checks that it passes."""
+
+    def __init__(self, program, suffix, folder):
+        self.program, self.suffix, self.folder = program, suffix, folder
+        self.passed = self.failed = 0
+
+    def tell(self, name, faults):
+        """Prints the line of a check, and under it what is wrong."""
+        self.passed, self.failed = self.passed + (not faults), self.failed + bool(faults)
+        print(f"{'FAILED' if faults else 'ok'} {name}{self.suffix}", *faults, sep="\n     ", flush=True)
+
+    def file(self, name, contents):
+        """Writes a file where the program runs, and returns its name."""
+        with open(f"{self.folder}/{name}", "wb") as it:
+            it.write(contents)
+        return name
+
+    def run(self, words, given=b"", pieces=0, closed=None, most=None, **streams):
+        """Returns the status, standard output and standard error of a run.
+
+        Standard input is `given`, at once or in so many pieces. `streams` are other ends of the three streams, and
+        `closed` is the number of one that the program finds closed. A file takes no byte from its place `most` on:
+        a write there fails.
+        """
+        streams = {"stdin": subprocess.PIPE, "stdout": subprocess.PIPE, "stderr": subprocess.PIPE, **streams}
+        if closed is not None:
+            streams["preexec_fn"] = lambda: os.close(closed)
+        if most is not None:
+            # The signal of such a write stays ignored, as it is here.
+            limit = lambda: resource.setrlimit(resource.RLIMIT_FSIZE, (most, most))
+            streams.update(preexec_fn=limit, restore_signals=False)
+        ran = subprocess.Popen([self.program, *words], cwd=self.folder, **streams)
+        if pieces:
+            threading.Thread(target=feed, args=(ran.stdin, given, pieces)).start()
+            ran.stdin = None
+        try:
+            wrote, told = ran.communicate(None if pieces else given, timeout=LIMIT)
+        except subprocess.TimeoutExpired:
+            ran.kill()
+            ran.communicate()
+            return f"not ended after {LIMIT} seconds", b"", b""
+        return ran.returncode, wrote or b"", told or b""
+
+    def expect(self, name, words, status, out=b"", err=b"", **how):
+        """A check: the run has this status, and prints exactly this."""
+        got = self.run(words, **how)
+        told = zip(("status", "standard output", "standard error"), got, (status, out, err))
+        self.tell(name, [f"{what}: {short(one)}, and not {short(other)}" for what, one, other in told if one != other])
+
+
+def short(value):
+    text = repr(value)
+    return text if len(text) < 400 else f"{text[:190]} .. {text[-190:]}"
+
+
+def shown(words):
+    return " ".join(map(os.path.basename, words)) or "with no word"
+
+
+def feed(stream, given, pieces):
+    """Writes to a program's standard input in so many pieces, with a pause after each."""
+    size = -(-len(given) // pieces)
+    try:
+        with stream:
+            for at in range(0, len(given), size):
+                stream.write(given[at : at + size])
+                stream.flush()
+                time.sleep(0.02)
+    except BrokenPipeError:
+        # The program reads no further, and what it answers is checked.
+        pass
+
+
+def read(path):
+    with open(path, "rb") as it:
+        return it.read()
+
+
+def names_in(folder):
+    return sorted(os.path.splitext(it)[0] for it in os.listdir(f"{EXAMPLES}/{folder}"))
+
+
+def table(name):
+    return f"{EXAMPLES}/tables/{name}.txt"
+
+
+def report(name):
+    return f"{EXAMPLES}/reports/{name}.txt"
+
+
+def flash_of(checks, device=PAIR):
+    """Provisions the file `flash` with the same image in all slots, and returns its bytes: none where that fails."""
+    flash = f"{checks.folder}/{checks.file('flash', b'')}"
+    checks.run(["provision", device, "flash", ONE, ONE])
+    return read(flash)

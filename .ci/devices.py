@@ -1,0 +1,280 @@
+"""What the built program does with devices: flash files, scripts, and the documents that run them."""
+
+import hashlib
+import os
+import re
+import subprocess
+import sys
+import tempfile
+
+from builders import ABC, VENDOR, component, device, image, little, manifest
+from checking import EXAMPLES, LIMIT, ONE, PAIR, ROOT, flash_of, names_in, read, short
+
+
+def status_after(said):
+    """The status that a run ends with which says this: that of its last reply."""
+    kinds = [line.split()[1] for line in said.decode().splitlines() if line[0].isdigit()]
+    return {"refused": 1, "cut": 3}.get(kinds[-1], 0) if kinds else 0
+
+
+def check_scripts(checks):
+    """Each script says what it has to, and leaves a flash that says what it has to."""
+    for name in names_in("scripts"):
+        own = f"{EXAMPLES}/devices/{name}.json"
+        device = own if os.path.exists(own) else PAIR
+        wanted, state = read(f"{EXAMPLES}/outputs/{name}.txt"), read(f"{EXAMPLES}/states/{name}.txt")
+        script, status = f"{EXAMPLES}/scripts/{name}.txt", status_after(wanted)
+        for how, words, given in [("", script, b""), (": as -", "-", read(script))]:
+            flash_of(checks, device=device)
+            checks.expect(f"script {name}{how}", ["run", device, "flash", words], status, wanted, given=given)
+            checks.expect(f"script {name}{how}: the flash, afterwards", ["show", device, "flash"], 0, state)
+
+
+def quick_start():
+    """The first command of the README, and what it says that it prints: the next block that has no language."""
+    text = read(f"{ROOT}/README.md").decode()
+    return re.search(r"^```sh\n(.*?)^\./gate$.*?^```\n.*?^```\n(.*?)^```$", text, re.M | re.S).groups()
+
+
+def formats_script():
+    """A command that runs the script in docs/FORMATS.md, and what is said there that it prints."""
+    text = read(f"{ROOT}/docs/FORMATS.md").decode()
+    script, said = re.search(r"^```\n(cut .*?)^```$.*?^```\n(1 .*?)^```$", text, re.M | re.S).groups()
+    files = "examples/devices/pair.json out/script.flash"
+    made = f"./bootswap provision {files} examples/images/one.img examples/images/one.img"
+    return f"{made} && ./bootswap run {files} - <<'END'\n{script}END\n", f"done\n{said}"
+
+
+def commands_of(document):
+    """The commands of a document and what it says that each prints: `$ ` and a command, and the lines under it."""
+    for block in re.findall(r"^```console\n(.*?)^```$", read(f"{ROOT}/{document}").decode(), re.M | re.S):
+        for part in re.split(r"^\$ ", block, flags=re.M)[1:]:
+            yield part.split("\n", 1)
+
+
+def check_documents(checks):
+    """The commands of the documents, one after the other, print what stands under them."""
+    os.mkdir(f"{checks.folder}/out")
+    os.symlink(checks.program, f"{checks.folder}/bootswap")
+    commands = [("README.md, quick start", *quick_start()), ("docs/FORMATS.md, the script", *formats_script())]
+    for number, (command, wanted) in enumerate(commands_of("docs/TUTORIAL.md"), 1):
+        commands.append((f"docs/TUTORIAL.md, command {number}", command, wanted))
+    for name, command, wanted in commands:
+        ran = subprocess.run(["bash", "-c", command], cwd=checks.folder, capture_output=True, timeout=LIMIT)
+        got = ran.stdout.decode()
+        checks.tell(name, [] if got == wanted else [command, f"{short(got)}, and not {short(wanted)}"])
+    with tempfile.TemporaryDirectory() as made:
+        subprocess.run([sys.executable, f"{EXAMPLES}/make_images.py", made], check=True)
+        other = [it for it in os.listdir(made) if read(f"{made}/{it}") != read(f"{EXAMPLES}/images/{it}")]
+        checks.tell("examples/make_images.py makes the images of the examples", other)
+
+
+def placed(size, parts):
+    """So many bytes 0xFF, with these at their places."""
+    whole = bytearray(size * b"\xff")
+    for at, part in parts.items():
+        whole[at : at + len(part)] = part
+    return bytes(whole)
+
+
+def tell_same(checks, name, bytes):
+    """A check: the flash file holds these bytes."""
+    checks.tell(name, [] if read(f"{checks.folder}/flash") == bytes else ["they differ"])
+
+
+FLAG = b"\1" + 7 * b"\xff"
+
+
+def check_provisioning(checks):
+    """What a new flash file holds, byte by byte, and what is refused before one is made."""
+    one, needing = read(ONE), f"{EXAMPLES}/images/needing.img"
+    patched = f"{EXAMPLES}/images/patched.img"
+    log = lambda floor: little(1, 8) + little(floor, 4) + bytes(44) + FLAG
+    wanted = placed(8192, {0: one, 1536: one, 6656: log(0), 8184: FLAG})
+    checks.file("flash", 9000 * b"x")
+    checks.expect("provision", ["provision", PAIR, "flash", ONE, ONE], 0, b"done\n")
+    same = lambda name, bytes: tell_same(checks, f"provision: {name}", bytes)
+    same("the file is that of a new device, whatever it held", wanted)
+    checks.expect("provision: the device as -", ["provision", "-", "flash", ONE, ONE], 0, b"done\n", given=read(PAIR))
+    words = ["provision", PAIR, "flash", "-", ONE]
+    checks.expect("provision: an image as -", words, 0, b"done\n", given=read(patched))
+    wanted = placed(8192, {0: read(patched), 1536: one, 6656: log(5), 8184: FLAG})
+    same("a floor is the counter of what runs", wanted)
+    full = checks.file("full", image([], body=952 * b"x"))
+    more = checks.file("more", image([], body=953 * b"x"))
+    checks.expect("provision: an image as long as its slot", ["provision", PAIR, "flash", ONE, full], 0, b"done\n")
+    bad, small = checks.file("bad", b"{}"), checks.file("small", device(sector=64))
+    refused = [
+        ("one image for two", [PAIR, "new", ONE], 1, b"", b"error: image count\n"),
+        ("three images for two", [PAIR, "new", "absent", ONE, ONE], 1, b"", b"error: image count\n"),
+        ("an image longer than its slot", [PAIR, "new", ONE, more], 1, b"", b"error: image 1 too big\n"),
+        ("the first fault of the images", [PAIR, "new", more, "absent"], 1, b"", b"error: image 0 too big\n"),
+        ("an image that isn't there", [PAIR, "new", "absent", more], 1, b"", b"error: cannot read absent\n"),
+        ("no device file", [bad, "new", "absent"], 1, b"", b"error: device file\n"),
+        ("a refused map", [small, "new", "absent"], 1, b"refused map 1 BadSector\n", b""),
+        ("a file that can't be made", [PAIR, "gone/new", ONE, ONE], 4, b"", b"error: flash file\n"),
+        ("a folder", [PAIR, ".", ONE, ONE], 4, b"", b"error: flash file\n"),
+    ]
+    for name, words, status, out, err in refused:
+        checks.expect(f"provision: {name}", ["provision", *words], status, out, err)
+        is_made = os.path.exists(f"{checks.folder}/new")
+        checks.tell(f"provision: {name}: nothing is made", ["there is a file"] if is_made else [])
+    changed = checks.file("changed", one[:-1] + bytes([one[-1] ^ 1]))
+    damaged, unfit = b"refused boot 5 RunningDamaged 1\n", b"refused boot 6 InvalidSet\n"
+    checks.expect("provision: a damaged image", ["provision", PAIR, "flash", ONE, changed], 1, damaged)
+    wanted = placed(8192, {0: one, 1536: read(f"{checks.folder}/{changed}")})
+    same("a damaged image: there is no log", wanted)
+    checks.expect("provision: images that don't fit", ["provision", PAIR, "flash", needing, ONE], 1, unfit)
+
+
+def check_shows(checks):
+    """What `show` answers of files that are no flash, and that it changes nothing."""
+    whole = flash_of(checks)
+    empty = b"refused boot 4 NotProvisioned\n"
+    for name, bytes in [("nothing", b""), ("a byte too few", whole[:-1]), ("a byte too many", whole + b"\xff")]:
+        flash = checks.file("other", bytes)
+        checks.expect(f"show: a file of {name}", ["show", PAIR, flash], 1, err=b"error: flash size\n")
+        checks.expect(f"run: a file of {name}", ["run", PAIR, flash, "absent"], 1, err=b"error: flash size\n")
+    new = checks.file("other", 8192 * b"\xff")
+    checks.expect("show: an erased flash", ["show", PAIR, new], 1, empty)
+    checks.expect("run: an erased flash", ["run", PAIR, new, "-"], 1, b"1 " + empty, given=b"boot\n")
+    at_rest = read(f"{EXAMPLES}/states/reverted.txt").replace(b"sequence 1", b"sequence 0")
+    checks.expect("show: the flash as -", ["show", PAIR, "-"], 0, at_rest, given=whole)
+    checks.expect("show: the device as -", ["show", "-", "flash"], 0, at_rest, given=read(PAIR))
+    tell_same(checks, "show: the flash is as it was", whole)
+
+
+NEEDING = "examples/images/needing.img"
+
+# Scripts with a line that is bad, and its number.
+BAD_SCRIPTS = [
+    ("an empty line", b"boot\n\nboot\n", 2),
+    ("a word that isn't known", b"boots\n", 1),
+    ("a word in capitals", b"Boot\n", 1),
+    ("a word too many", b"reset now\n", 1),
+    ("two spaces", b"finish  0\n", 1),
+    ("a space at the end", b"boot \n", 1),
+    ("a carriage return", b"boot\r\n", 1),
+    ("a byte that isn't text", b"boot\xff\n", 1),
+    ("a name that isn't text", b"boot\naccept \xff\n", 2),
+    ("no name", b"accept\n", 1),
+    ("two names", b"accept a b\n", 1),
+    ("image 256", b"finish 256\n", 1),
+    ("a leading zero", b"withdraw 01\n", 1),
+    ("a sign", b"confirm +1\n", 1),
+    ("a part without a count", f"piece 0 {NEEDING} 0\n".encode(), 1),
+    ("a part that is too long", f"piece 0 {NEEDING} 90 7\n".encode(), 1),
+    ("a part behind the end", f"piece 0 {NEEDING} 97 0\n".encode(), 1),
+    ("a part from 2^64 on", f"piece 0 {NEEDING} 18446744073709551616 0\n".encode(), 1),
+    ("a part whose end wraps", f"piece 0 {NEEDING} 1 18446744073709551615\n".encode(), 1),
+    ("write 0", b"cut 0 keep\n", 1),
+    ("write 4294967296", b"cut 4294967296 keep\n", 1),
+    ("a cut that says nothing", b"cut 1\n", 1),
+    ("another way to be cut", b"cut 1 torn\n", 1),
+    ("no digits", b"cut 1 hex:\n", 1),
+    ("one digit", b"cut 1 hex:f\n", 1),
+    ("no digit", b"cut 1 hex:0g\n", 1),
+    ("a write twice", b"cut 2 keep\ncut 2 done\n", 2),
+    ("writes that fall", b"cut 2 keep\ncut 3 keep\ncut 1 keep\n", 3),
+    ("a cut behind an event", b"boot\ncut 1 keep\n", 2),
+    ("a bad line, and a file that isn't there", b"boots\naccept absent\n", 1),
+    ("standard input twice", b"accept -\naccept -\n", 2),
+]
+
+# Scripts that are none of these, and what they print.
+GOOD_SCRIPTS = [
+    ("nothing", b"", b""),
+    ("cuts alone", b"cut 1 keep\ncut 4294967295 hex:fF00\n", b""),
+    ("no line feed at the end", b"reset", b"1 done\n"),
+    (
+        "a part of no bytes, at the end",
+        f"reset\npiece 0 {NEEDING} 96 0\nreset".encode(),
+        b"1 done\n2 refused boot 1 NotBooted\n3 done\n",
+    ),
+    (
+        "an image that isn't there",
+        b"boot\nfinish 255\nreset\n",
+        b"1 plain\nrun 0 1.0.0+0\nrun 1 1.0.0+0\n2 refused upload 3 NoSession\n3 done\n",
+    ),
+]
+
+
+def check_script_lines(checks):
+    """Bad lines are told before anything is run, with the first one's number."""
+    whole = flash_of(checks)
+    for name, script, line in BAD_SCRIPTS:
+        words = ["run", PAIR, "flash", checks.file("script", script)]
+        checks.expect(f"bad script: {name}", words, 1, err=f"error: script line {line}\n".encode())
+    for name, script, out in GOOD_SCRIPTS:
+        checks.expect(f"script: {name}", ["run", PAIR, "flash", checks.file("script", script)], 0, out)
+    absent = b"error: cannot read absent\n"
+    gone = [("a file", b"boot\naccept absent\n"), ("one, before a bad line,", b"piece 0 absent x y\nboots\n")]
+    for name, script in gone:
+        words = ["run", PAIR, "flash", checks.file("script", script)]
+        checks.expect(f"script: {name} that isn't there", words, 1, err=absent)
+    script = b"boot\naccept examples/manifests/trial.json\npiece 0 -\nfinish 0\n"
+    words = ["run", PAIR, "flash", checks.file("script", script)]
+    twice = ["run", PAIR, "flash", "-"]
+    name, told = "bad script: standard input, which is the script", b"error: script line 3\n"
+    checks.expect(name, twice, 1, err=told, given=script)
+    tell_same(checks, "scripts that write nothing: the flash is as it was", whole)
+    out = b"1 plain\nrun 0 1.0.0+0\nrun 1 1.0.0+0\n2 done\n3 done\n4 done\n"
+    given = read(f"{EXAMPLES}/images/needing.img")
+    checks.expect("script: an image from standard input", words, 0, out, given=given)
+
+
+def check_replies(checks):
+    """Each refusal of a device, behind the events that bring it about."""
+    files = {name: f"examples/images/{name}.img" for name in ("needing", "partner")}
+    digest = hashlib.sha256(read(f"{EXAMPLES}/images/needing.img")).hexdigest()
+    made = {
+        "abc": b"abc",
+        "abd": b"abd",
+        "three": manifest(),
+        "new": manifest(sequence_number=2),
+        "big": manifest(components=[component(size=1025)]),
+        "after": manifest(components=[component(precursor_digest=ABC)]),
+        "vendor": manifest(vendor_id=VENDOR[:-1] + "e"),
+        "json": b"{",
+        "two": manifest(sequence_number=2, components=[component(payload_digest=digest, size=96)]),
+    }
+    files.update({name: checks.file(name, contents) for name, contents in made.items()})
+    trial = "accept examples/manifests/trial.json, piece 0 needing, piece 1 partner, finish 0, finish 1, boot"
+    for events, wanted in [
+        ("accept three", "refused boot 1 NotBooted"),
+        ("boot, reset, finish 0", "refused boot 1 NotBooted"),
+        (f"boot, {trial}, accept three", "refused boot 2 OnTrial"),
+        (f"boot, {trial}, withdraw 0", "refused boot 2 OnTrial"),
+        ("boot, confirm 0", "refused boot 3 NotOnTrial"),
+        (f"boot, {trial}, confirm 2", "refused boot 3 NotOnTrial"),
+        ("boot, accept json", "refused manifest 1 NotJson"),
+        ("boot, accept vendor", "refused manifest 4 WrongVendor"),
+        ("boot, accept new, accept three", "refused upload 1 OldSequence"),
+        ("boot, accept new, reset, boot, accept new", "done"),
+        ("boot, accept big", "refused upload 2 TooBig"),
+        ("boot, piece 0 abc", "refused upload 3 NoSession"),
+        ("boot, accept three, reset, boot, finish 0", "refused upload 3 NoSession"),
+        ("boot, accept three, piece 0 abc, piece 0 abc", "refused upload 4 TooMuch"),
+        ("boot, accept three, piece 0 abc 0 2, finish 0", "refused upload 5 SizeWrong"),
+        ("boot, accept three, piece 0 abd, finish 0", "refused upload 6 DigestWrong"),
+        ("boot, accept three, piece 0 abc, finish 0", "refused upload 7 NotAnImage 1"),
+        ("boot, accept three, piece 0 abc, finish 0, finish 0", "refused upload 3 NoSession"),
+        ("boot, accept after", "refused upload 8 WrongPrecursor"),
+        ("boot, withdraw 0", "refused upload 9 NothingRequested"),
+        ("boot, accept two, piece 0 needing, finish 0, withdraw 0", "done"),
+    ]:
+        flash_of(checks)
+        words = [[files.get(word, word) for word in event.split(" ")] for event in events.split(", ")]
+        script = checks.file("script", "\n".join(map(" ".join, words)).encode())
+        status, out, err = checks.run(["run", PAIR, "flash", script])
+        last = f"\n{out.decode()}".rsplit(f"\n{len(words)} ", 1)[-1]
+        is_right = (last, err, status) == (f"{wanted}\n", b"", 1 if wanted.startswith("refused") else 0)
+        faults = [] if is_right else [f"{status} {short(out)} {short(err)}"]
+        checks.tell(f"reply: {events}", faults)
+    damaged = placed(8192, {0: flash_of(checks), 32: b"Z"})
+    checks.file("flash", damaged)
+    told = b"1 refused boot 5 RunningDamaged 0\n"
+    checks.expect("reply: what runs is damaged", ["run", PAIR, "flash", "-"], 1, told, given=b"boot\n")
+
+
+CHECKS = (check_scripts, check_documents, check_provisioning, check_shows, check_script_lines, check_replies)

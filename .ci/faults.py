@@ -1,0 +1,124 @@
+"""What the built program does where a call of the system or a request for memory fails, or moves one byte."""
+
+import os
+import subprocess
+
+from checking import EXAMPLES, ONE, PAIR, ROOT, flash_of, read, report, short, shown, table
+from worked import BACK, NEEDS, NO_TRIAL, NOT_UP, PLAIN, SUM_OF_WRITES, TRIED, WORKED
+from worked import cut_at, event_of, numbered
+
+SCRIPT = f"{EXAMPLES}/scripts/{WORKED}.txt"
+
+
+def each_fault(checks, fault, run):
+    """Makes a run for each of its calls of this kind, which goes wrong in it: its number, and what comes of it."""
+    library, count = f"{checks.folder}/faults.so", f"{checks.folder}/count"
+    if not os.path.exists(library):
+        subprocess.run(["cc", "-O1", "-fPIC", "-shared", "-o", library, f"{ROOT}/.ci/faults.c"], check=True)
+    calls = None
+    at = 0
+    while calls is None or at <= calls:
+        env = {**os.environ, "LD_PRELOAD": library, "FAULT": fault, "FAULT_AT": str(at), "FAULT_COUNT": count}
+        got = run(env)
+        # Call 0 is none, and that run tells how many there are.
+        calls = int(read(count)) if calls is None else calls
+        yield at, got
+        at += 1
+
+
+def is_end_after(fault, got, usual):
+    """Whether a run may end so after a fault, where without it it ends as usual."""
+    status, out, err = got
+    if fault == "memory":
+        return got == (1, b"", b"error: memory\n")
+    if fault != "fail":
+        return False
+    if got == (4, b"", b"error: flash file\n"):
+        return usual == (0, b"done\n", b"")
+    is_told = err.startswith(b"error: cannot read ") and not out
+    return status == 1 and usual[1].startswith(out) and (is_told or usual[2].startswith(err))
+
+
+def check_faults(checks):
+    """Has each opening, read, write and allocation of a run fail in turn, or each read and write move one byte."""
+    pair, full = read(table("pair")), [table("full"), report("full")]
+    flash_of(checks)
+    runs = [[], ["choose", full[0]], ["check", *full], ["check", "-", report("pair")], ["choose", "absent"]]
+    runs += [["image", f"{EXAMPLES}/images/counted.img"], ["manifest", PAIR, f"{EXAMPLES}/manifests/both.json"]]
+    runs += [["provision", PAIR, "made", ONE, ONE], ["show", PAIR, "flash"], ["show", PAIR, "gone"]]
+    runs += [["frob"], ["--help"]]
+    for words in runs:
+        usual = checks.run(words, given=pair)
+        for fault in ("fail", "short", "memory"):
+            faults = []
+            for at, got in each_fault(checks, fault, lambda env: checks.run(words, given=pair, env=env)):
+                if got != usual and not is_end_after(fault, got, usual):
+                    faults.append(f"at call {at}: {short(got)}")
+            checks.tell(f"{fault}: {shown(words)}, {at} calls", faults[:5])
+
+
+def boots_behind(checks):
+    """Whether a device boots from the flash file as it was left, with what runs there or what was decided."""
+    got = checks.run(["run", PAIR, "flash", "-"], given=b"boot\n")
+    return got in [(0, numbered([reply]), b"") for reply in (PLAIN, NEEDS, TRIED, BACK)]
+
+
+def of_no_memory():
+    """What the worked run may say where its `accept` got no memory: nothing is requested in it then."""
+    idle = [*4 * ["refused upload 3 NoSession"], PLAIN, NO_TRIAL, PLAIN, PLAIN]
+    for refusal in ("manifest 8 NoMemory", "upload 11 NoMemory", "boot 8 NoMemory"):
+        yield numbered([PLAIN, f"refused {refusal}", *idle])
+
+
+def of_no_file():
+    """What the worked run may say where the flash file takes no more writes from some write of it on."""
+    for number in range(1, SUM_OF_WRITES + 1):
+        for torn in ("keep", "done"):
+            replies, _, _ = cut_at(number, torn)
+            event = event_of(number)
+            # A boot that has something to write is cut too, and so is each boot behind it.
+            for at in range(event + 1, 10):
+                if replies[at].split("|")[0] in ("trial", "reverted 0 1"):
+                    replies[at:] = ["cut" if later in (6, 8, 9) else NOT_UP for later in range(at, 10)]
+                    break
+            yield numbered(replies)
+
+
+def is_run_after(fault, got, kept, usual, before, after):
+    """Whether the worked run may end so, with these bytes in the flash file.
+
+    `before` is what the file held, and `after` what it holds after the usual run.
+    """
+    status, out, err = got
+    if (got, kept) == (usual, after):
+        return True
+    if fault == "memory":
+        is_refused = (status, err) == (0, b"") and out in of_no_memory() and kept == before
+        return is_refused or got == (1, b"", b"error: memory\n") and kept in (before, after)
+    if fault != "fail":
+        return False
+    if status == 4:
+        return err == b"error: flash file\n" and out in set(of_no_file())
+    is_unread = err.startswith(b"error: cannot read ") and not out and kept == before
+    return status == 1 and (is_unread or not err and usual[1].startswith(out) and kept == after)
+
+
+def check_run_faults(checks):
+    """The same of the worked run of a device, with the bytes of its flash file afterwards, and a boot from it."""
+    before = flash_of(checks)
+
+    def run(env=os.environ):
+        checks.file("flash", before)
+        got = checks.run(["run", PAIR, "flash", SCRIPT], env=env)
+        return got, read(f"{checks.folder}/flash")
+
+    usual, after = run()
+    for fault in ("fail", "short", "memory"):
+        faults = []
+        for at, (got, kept) in each_fault(checks, fault, run):
+            if not is_run_after(fault, got, kept, usual, before, after) or not boots_behind(checks):
+                faults.append(f"at call {at}: {short(got)}")
+        checks.tell(f"{fault}: run of a device, {at} calls", faults[:5])
+
+
+CHECKS = (check_faults, check_run_faults)

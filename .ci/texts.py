@@ -1,0 +1,300 @@
+"""What the built program does with tables, reports, images and manifests, and with words and files that are wrong."""
+
+import json
+import os
+
+from builders import ABC, COUNTER, DEPENDENCY, VENDOR, component, device, image, little, manifest
+from checking import EXAMPLES, ONE, PAIR, flash_of, names_in, read, report, short, shown, table
+
+
+def check_examples(checks):
+    """Each table gives its report, each image its description, and each manifest what it says to the device."""
+    for name in names_in("tables"):
+        given, wanted = read(table(name)), read(report(name))
+        checks.expect(f"table {name}: from a file", ["choose", table(name)], 0, wanted)
+        checks.expect(f"table {name}: from standard input, with no word", [], 0, wanted, given=given)
+        checks.expect(f"table {name}: from standard input, as -", ["choose", "-"], 0, wanted, given=given)
+        checks.expect(f"table {name}: from standard input, in pieces", [], 0, wanted, given=given, pieces=5)
+        checks.expect(f"table {name}: with no line feed at its end", [], 0, wanted, given=given[:-1])
+        checks.expect(f"table {name}: its report is right", ["check", table(name), report(name)], 0, b"yes\n")
+        checks.expect(f"table {name}: so with the table as -", ["check", "-", report(name)], 0, b"yes\n", given=given)
+        checks.expect(f"table {name}: so with the report as -", ["check", table(name), "-"], 0, b"yes\n", given=wanted)
+        part = checks.file("part", b"".join(wanted.splitlines(True)[:-1]))
+        checks.expect(f"table {name}: its report without the last line isn't", ["check", table(name), part], 1, b"no\n")
+    for name in names_in("images"):
+        wanted = read(f"{EXAMPLES}/descriptions/{name}.txt")
+        status = 1 if wanted.startswith(b"refused ") else 0
+        file = f"{EXAMPLES}/images/{name}.img"
+        checks.expect(f"image {name}", ["image", file], status, wanted)
+        checks.expect(f"image {name}: as -", ["image", "-"], status, wanted, given=read(file))
+    for name in names_in("manifests"):
+        wanted = read(f"{EXAMPLES}/listings/{name}.txt")
+        status = 1 if wanted.startswith(b"refused ") else 0
+        file = f"{EXAMPLES}/manifests/{name}.json"
+        checks.expect(f"manifest {name}", ["manifest", PAIR, file], status, wanted)
+        checks.expect(f"manifest {name}: as -", ["manifest", PAIR, "-"], status, wanted, given=read(file))
+        checks.expect(f"manifest {name}: the device as -", ["manifest", "-", file], status, wanted, given=read(PAIR))
+
+
+# Texts that are refused, and what is told of them on standard error.
+BAD_TABLES = [
+    ("nothing", b"", "table line 1"),
+    ("it begins with image 1", b"image 1 1.0.0+0 0 0\n", "table line 1"),
+    ("a second request", b"image 0 1.0.0+0 0 0\nrequest 2.0.0+0 0\ndamaged\n", "table line 3"),
+    ("a leading zero", b"image 0 1.0.0+0 0 0\nneeds 00 1.0.0+0\n", "table line 2"),
+    ("an empty line", b"image 0 1.0.0+0 0 0\n\n", "table line 2"),
+    ("a byte that isn't ASCII", b"image 0 1.0.0+0 0 0\nneeds 0 \xff\n", "table line 2"),
+    ("a ninth image", b"".join(b"image %d 1 0 0\n" % it for it in range(9)), "table line 9"),
+    ("a seventeenth dependency", b"image 0 1 0 0\n" + 17 * b"needs 0 1\n", "table line 18"),
+    ("a line of a megabyte", b"image 0 1 0 0\nneeds " + 2**20 * b"1" + b"\n", "table line 2"),
+    ("the running images don't fit", b"image 0 1.0.0+0 0 0\nneeds 0 1.0.0+1\n", "running set not valid"),
+]
+
+# Reports that the program didn't make: what is odd of each, the table's name, the lines, and whether it is right.
+THREE = "run 0 1.0.0+0, take 1 2.0.0+0, run 2 1.0.0+0"
+REPORTS = [
+    ("the refusals in another order", "three", f"{THREE}, refuse 2 needs 0 1.0.0+1, refuse 0 older", True),
+    ("a reason that doesn't hold", "three", f"{THREE}, refuse 0 counter, refuse 2 needs 0 1.0.0+1", False),
+    ("a refusal is missing", "three", f"{THREE}, refuse 0 older", False),
+    (
+        "circular reasons",
+        "pair",
+        "run 0 1.0.0+0, run 1 1.0.0+0, refuse 0 needs 1 2.0.0+0, refuse 1 needs 0 2.0.0+0",
+        False,
+    ),
+    ("requests neither taken nor refused", "pair", "run 0 1.0.0+0, run 1 1.0.0+0", False),
+    ("half of a pair", "pair", "take 0 2.0.0+0, run 1 1.0.0+0, refuse 1 needs 0 2.0.0+0", False),
+    ("another version than the requested one", "pair", "take 0 2.0.0+0, take 1 2.0.0+1", False),
+    ("an image that the table doesn't have", "pair", "take 0 2.0.0+0, take 1 2.0.0+0, refuse 9 damaged", False),
+]
+
+
+def check_tables(checks):
+    """Bad tables, and reports of other makers."""
+    for name, text, told in BAD_TABLES:
+        err = f"error: {told}\n".encode()
+        checks.expect(f"bad table: {name}", [], 1, err=err, given=text)
+        checks.expect(f"bad table: {name}, in a file", ["choose", checks.file("table", text)], 1, err=err)
+    for name, of, lines, is_right in REPORTS:
+        file = checks.file("report", lines.replace(", ", "\n").encode())
+        status, out = (0, b"yes\n") if is_right else (1, b"no\n")
+        checks.expect(f"report: {name}", ["check", table(of), file], status, out)
+    bad = checks.file("bad", b"image 0 1.0.0+0 0 0\nimage 0 1.0.0+0 0 0\n")
+    checks.expect("report: the table is bad, and told first", ["check", bad, bad], 1, err=b"error: table line 2\n")
+    bad = checks.file("bad", b"take 0 2.0.0+0\ntake 1 2.0.0+0\nrefuse 0\n")
+    checks.expect("report: it is bad", ["check", table("pair"), bad], 1, err=b"error: report line 3\n")
+
+
+def described(whole, counter, dependencies):
+    """What is printed of an image that `image` made."""
+    front = f"version 1.2.3+4\nlength {len(whole)}\ncounter {counter}\ndigest {whole[-32:].hex()}"
+    return front + dependencies * "\nneeds 1 2.3.4+5"
+
+
+def cases_of_images():
+    """Images and what is printed of each: each refusal, and intact ones."""
+    whole, bare = image(), image([], body=b"")
+    changed = lambda at, by: whole[:at] + by + whole[at + len(by) :]
+    bad_dependency = (0x40, DEPENDENCY[1][:3] + b"\1" + DEPENDENCY[1][4:])
+    big = image([COUNTER, *16 * [DEPENDENCY]], body=bytes(range(256)) * 3 * 2**12 + b"end", flags=0x111)
+    yield "nothing", b"", "refused 1 Short"
+    yield "31 bytes", whole[:31], "refused 1 Short"
+    yield "another magic number", image(magic=0x96F3B83C), "refused 2 BadMagic"
+    yield "a header of 31 bytes", image(header_size=31), "refused 3 BadHeaderSize"
+    yield "a flag that isn't known", image(flags=0x2), "refused 4 UnsupportedFlags"
+    yield "a byte too few", whole[:-1], "refused 5 Truncated"
+    yield "another area in the protected one's place", changed(36, little(0x6907, 2)), "refused 6 BadTlvMagic"
+    yield "a protected area of another length", changed(38, little(29, 2)), "refused 7 BadTlvSize"
+    yield "a digest of another type", image(digest_kind=0x11), "refused 8 NoDigest"
+    yield "two digests", image(digests=2), "refused 9 TwoDigests"
+    yield "a changed body", changed(32, b"Z"), "refused 10 BadDigest"
+    yield "a dependency whose fourth byte isn't 0", image([bad_dependency]), "refused 11 BadDependency"
+    yield "17 dependencies", image(17 * [DEPENDENCY]), "refused 12 TooManyDependencies"
+    yield "a byte too many", whole + b"\0", "refused 13 TrailingBytes"
+    yield "a counter of 3 bytes", image([(0x50, b"\0\0\0")]), "refused 14 BadCounter"
+    yield "two counters and a byte too many", image([COUNTER, COUNTER]) + b"\0", "refused 14 BadCounter"
+    yield "three megabytes, the last byte of the body changed", big.replace(b"end", b"enD"), "refused 10 BadDigest"
+    yield "three megabytes and 16 dependencies, intact", big, described(big, 7, 16)
+    yield "no body and no protected area, intact", bare, described(bare, 0, 0)
+
+
+def check_images(checks):
+    for name, whole, wanted in cases_of_images():
+        status = 1 if wanted.startswith("refused ") else 0
+        checks.expect(f"image of {name}", ["image", checks.file("image", whole)], status, f"{wanted}\n".encode())
+
+
+def with_duplicate(name, value, text):
+    """A JSON object with one more member before its others."""
+    return b'{"%s": %s, ' % (name.encode(), json.dumps(value).encode()) + text[1:]
+
+
+# What is odd of a device file, its text, and what the program says: an error line, what it prints, or that it is one.
+DEVICES = [
+    ("nothing", b"", "error: device file"),
+    ("a list", b"[]", "error: device file"),
+    ("no object's end", device()[:-1], "error: device file"),
+    ("200 nested lists", 200 * b"[" + 200 * b"]", "error: device file"),
+    ("a byte that isn't text", device(vendor_id="x").replace(b"x", b"\xff"), "error: device file"),
+    ("a key too few", device("sector"), "error: device file"),
+    ("a key too many", device(images=2), "error: device file"),
+    ("a fraction", device(sector=512.0), "error: device file"),
+    ("a number past its field", device(sectors=[2, 2**32]), "error: device file"),
+    ("no UUID", device(vendor_id=VENDOR[:-1]), "error: device file"),
+    ("no boots of a trial", device(trial_boots=0), "error: device file"),
+    ("eight boots of a trial", device(trial_boots=8), "error: device file"),
+    ("sectors of 500 bytes", device(sector=500), "refused map 1 BadSector"),
+    ("no images", device(sectors=[]), "refused map 2 BadCount"),
+    ("nine images", device(sectors=9 * [1]), "refused map 2 BadCount"),
+    ("an image without sectors", device(sectors=[2, 0]), "refused map 2 BadCount"),
+    ("slots of twenty sectors of 512 bytes", device(sectors=[20]), "refused map 3 TrailerFull"),
+    ("4294967296 bytes", device(sector=131072, sectors=[5459, 5459, 5459, 1]), "refused map 4 TooLarge"),
+    ("4294443008 bytes, intact", device(sector=131072, sectors=[5459, 5459, 5459]), None),
+    ("slots of nineteen sectors of 512 bytes, intact", device(sectors=[19]), None),
+    ("seven boots of a trial, intact", device(trial_boots=7), None),
+    ("a key twice, the last one good, intact", with_duplicate("sector", 0, device()), None),
+]
+
+# The same of manifests for the usual device.
+MANIFESTS = [
+    ("nothing", b"", "refused 1 NotJson"),
+    ("no object's end", manifest()[:-1], "refused 1 NotJson"),
+    ("200 nested lists", 200 * b"[" + 200 * b"]", "refused 1 NotJson"),
+    ("a byte that isn't text", manifest(vendor_id="x").replace(b'"x"', b'"\xff"'), "refused 1 NotJson"),
+    ("a list", b"[]", "refused 2 BadKey"),
+    ("a key too many", manifest(more=0), "refused 2 BadKey"),
+    ("a key too few", manifest("sequence_number"), "refused 2 BadKey"),
+    ("a component with a key too many", manifest(components=[component(more=0)]), "refused 2 BadKey"),
+    ("version 2", manifest(manifest_version=2), "refused 3 BadValue"),
+    ("image 256", manifest(components=[component(component_id=256)]), "refused 3 BadValue"),
+    ("a fraction", manifest(components=[component(size=3.0)]), "refused 3 BadValue"),
+    ("a number past its field", manifest(sequence_number=2**32), "refused 3 BadValue"),
+    ("63 digits", manifest(components=[component(payload_digest=ABC[:-1])]), "refused 3 BadValue"),
+    ("another kind", manifest(components=[component(kind="tests")]), "refused 3 BadValue"),
+    ("no components", manifest(components=[]), "refused 3 BadValue"),
+    ("nine components", manifest(components=9 * [component()]), "refused 3 BadValue"),
+    ("another vendor", manifest(vendor_id=VENDOR[:-1] + "e"), "refused 4 WrongVendor"),
+    ("another class", manifest(class_id=VENDOR), "refused 5 WrongClass"),
+    ("image 2", manifest(components=[component(component_id=2)]), "refused 6 NoComponent"),
+    ("an image twice", manifest(components=2 * [component()]), "refused 7 RepeatedComponent"),
+    ("the sample", manifest(), f"sequence 1\ncomponent 0 3 test {ABC}"),
+    (
+        "a precursor, and digits in upper case",
+        manifest(components=[component(payload_digest=ABC.upper(), precursor_digest=ABC.upper())]),
+        f"sequence 1\ncomponent 0 3 test {ABC} precursor {ABC}",
+    ),
+]
+
+
+def check_manifests(checks):
+    """Device files and manifests of all kinds, and which of them is told of first."""
+    told = f"sequence 1\ncomponent 0 3 test {ABC}\n".encode()
+    sample = checks.file("sample", manifest())
+    for name, text, wanted in DEVICES:
+        words = ["manifest", checks.file("device", text), sample]
+        if wanted is None:
+            checks.expect(f"device file: {name}", words, 0, told)
+        elif wanted.startswith("error: "):
+            checks.expect(f"device file: {name}", words, 1, err=f"{wanted}\n".encode())
+        else:
+            checks.expect(f"device file: {name}", words, 1, f"{wanted}\n".encode())
+    usual = checks.file("device", device())
+    for name, text, wanted in MANIFESTS:
+        status = 1 if wanted.startswith("refused ") else 0
+        words = ["manifest", usual, checks.file("manifest", text)]
+        checks.expect(f"manifest of {name}", words, status, f"{wanted}\n".encode())
+    bad, small = checks.file("bad", b"{}"), checks.file("small", device(sector=64))
+    checks.expect("a bad device is told first", ["manifest", bad, "absent"], 1, err=b"error: device file\n")
+    checks.expect("a refused map is told first", ["manifest", small, "absent"], 1, b"refused map 1 BadSector\n")
+
+
+COMMANDS = ("choose", "check", "image", "manifest", "provision", "show", "run")
+
+
+def check_words(checks):
+    """Help, the version, and words that are wrong."""
+    checks.expect("the version", ["--version"], 0, b"bootswap 0.1.0\n")
+    for words in [["--help"], ["-h"], ["help"], *([it, "--help"] for it in COMMANDS)]:
+        status, out, err = checks.run(words)
+        is_help = (status, err) == (0, b"") and b"Usage: bootswap" in out and b"xit status" in out
+        checks.tell(f"help: {' '.join(words)}", [] if is_help else [f"{status} {short(out)} {short(err)}"])
+    wrong = [["frob"], ["--frob"], ["choose"], ["choose", "a", "b"], ["check", "a"], ["check", "-", "-"], ["image"]]
+    wrong += [["manifest"], ["manifest", "a"], ["manifest", "-", "-"]]
+    wrong += [["provision"], ["provision", "a"], ["provision", "a", "b"], ["provision", "a", "-", "b"]]
+    wrong += [["provision", "-", "a", "-"], ["provision", "a", "b", "-", "-"], ["show", "a"], ["show", "a", "b", "c"]]
+    wrong += [["show", "-", "-"], ["run", "a", "b"], ["run", "a", "b", "c", "d"], ["run", "a", "-", "b"]]
+    wrong += [["run", "-", "a", "-"]]
+    for words in [*wrong, ["choose", b"\xff"], ["a\nb\x1bc"]]:
+        status, out, err = checks.run(words)
+        is_plain = b"a\nb" not in err and b"\x1b" not in err
+        is_told = (status, out) == (2, b"") and err.startswith(b"error: ") and is_plain
+        checks.tell(f"wrong words: {words}", [] if is_told else [f"{status} {short(out)} {short(err)}"])
+
+
+# Names of files that aren't there, and how they are told: control characters as text, so that it is one line.
+ESCAPED = [
+    ("a\nb", "a\\nb"),
+    ("a\r\tb", "a\\r\\tb"),
+    ("\x1b[31m", "\\u{1b}[31m"),
+    ("\x7f", "\\u{7f}"),
+    ("a\\nb", "a\\nb"),
+    ("\u00e9", "\u00e9"),
+]
+
+
+def check_reads(checks):
+    """Where a read fails its name is told, and nothing is printed."""
+    told = lambda name: f"error: cannot read {name}\n".encode()
+    os.mkdir(f"{checks.folder}/folder")
+    whole = flash_of(checks)
+    for name in ["absent", "folder", "absent/table", "a b", ""]:
+        for command, words in [
+            ("choose", [name]),
+            ("image", [name]),
+            ("check, a table", [name, report("pair")]),
+            ("check, a report", [table("pair"), name]),
+            ("manifest, a device", [name, "gone"]),
+            ("manifest, a manifest", [PAIR, name]),
+            ("provision, a device", [name, "new", "gone"]),
+            ("provision, an image", [PAIR, "new", ONE, name]),
+            ("show, a device", [name, "gone"]),
+            ("show, a flash", [PAIR, name]),
+            ("run, a device", [name, "gone", "gone"]),
+            ("run, a flash", [PAIR, name, "gone"]),
+            ("run, a script", [PAIR, "flash", name]),
+        ]:
+            words = [command.split(",")[0], *words]
+            checks.expect(f"cannot read {name!r}: {command}", words, 1, err=told(name))
+    from_input = [[], ["choose", "-"], ["image", "-"], ["check", "-", report("pair")], ["check", table("pair"), "-"]]
+    from_input += [["provision", PAIR, "new", "-", ONE], ["show", PAIR, "-"], ["run", PAIR, "flash", "-"]]
+    for words in from_input:
+        folder = os.open(checks.folder, os.O_RDONLY)
+        name = f"cannot read a folder as standard input: {shown(words)}"
+        checks.expect(name, words, 1, err=told("-"), given=None, stdin=folder)
+        os.close(folder)
+    for name, escaped in ESCAPED:
+        checks.expect(f"cannot read {name!r}: told in one line", ["choose", name], 1, err=told(escaped))
+    file = checks.file("-", b"")
+    checks.expect("a file named -", ["image", f"./{file}"], 1, b"refused 1 Short\n")
+    is_same = read(f"{checks.folder}/flash") == whole and not os.path.exists(f"{checks.folder}/new")
+    checks.tell("what can't be read changes no flash, and makes none", [] if is_same else ["it does"])
+
+
+def check_writes(checks):
+    """An output that takes nothing ends the program with status 1."""
+    pair, one = table("pair"), ONE
+    abc = f"{EXAMPLES}/manifests/abc.json"
+    flash_of(checks)
+    boot = checks.file("boot", b"boot\n")
+    prints = [["choose", pair], ["check", pair, report("pair")], ["image", one], ["manifest", PAIR, abc]]
+    prints += [["provision", PAIR, "flash", one, one], ["show", PAIR, "flash"], ["run", PAIR, "flash", boot]]
+    prints += [["--help"], ["--version"]]
+    with open("/dev/full", "wb") as full:
+        for words in prints:
+            checks.expect(f"standard output is full: {words[0]}", words, 1, stdout=full)
+            checks.expect(f"standard output is closed: {words[0]}", words, 1, closed=1)
+        for words in [["choose", "absent"], ["frob"]]:
+            checks.expect(f"standard error is full: {words[0]}", words, 1, stderr=full)
+
+
+CHECKS = (check_examples, check_tables, check_images, check_manifests, check_words, check_reads, check_writes)
