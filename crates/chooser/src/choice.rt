@@ -33,7 +33,8 @@ pub fn choose(table: &Table) -> Report
 
 /// The same choice, which adds to a count of its steps: one pass over all requests at most, a drop
 /// for each refusal with a reason above 4 (`Needs`), and after each drop a look at the remaining
-/// requests that depend on what was dropped.
+/// requests that depend on what was dropped. Each count has to be below 2^31, so that it has room:
+/// a count that began with `Steps::default()` is, over the first seventy million choices.
 pub fn choose_counted(table: &Table, steps: &mut Steps) -> Report
     requires running { IsValid table.now running_set }
     requires room { HasRoom steps.old }

@@ -1,6 +1,6 @@
 //! Marks: which of the remaining requests need what can't come.
 
-ghost use Rattle.std.specs.Prelude.{◌≡◌, ◌+◌, ◌^◌, ◌<◌, ◌≤◌, ℕ, false, length};
+ghost use Rattle.std.specs.Prelude.{◌≡◌, ◌+◌, ◌^◌, ◌<◌, ◌≤◌, ℕ, length};
 ghost use Rattle.std.specs.Int.{bit_at};
 ghost use Rattle.certificate.specs.Reasons.{times_refused};
 ghost use Rattle.certificate.specs.Rightness.{has_request, once_if};
