@@ -1,0 +1,11 @@
+use Rattle.boot_cli.proofs.program.run_order.Goals as goal
+use Rattle.boot_cli.proofs.AnswerLaws.{AnswersOrder-kept}
+
+-- The status is 0 only after `Done`, and what stands then was written before the flush.
+pub returns : goal.returns
+returns g c = λ zero.
+    let done = c.finish.ensures.status zero in
+    let answered = rw done at c.perform.ensures in
+    AnswersOrder-kept c.args.order (g.H.Host.input c.args.host.now) (g.H.Host.file c.args.host.now)
+    (g.O.Write.contents c.args.out.now) (g.O.Write.contents c.perform.new.out) (g.O.Write.contents c.finish.new.out)
+    answered c.finish.ensures.kept

@@ -1,0 +1,144 @@
+//! The whole program: what the words ask for is done, and comes to an exit status.
+ghost use Rattle.std.specs.Prelude.{◌≡◌, IfOk};
+ghost use Rattle.boot_cli.specs.AnswerEnd.{AnswersOrder};
+
+use crate::answer::{Answer, finish, refuse, status_after};
+use crate::commands::{check, choose, image, manifest_file, playing, provision, show};
+use crate::error::Refusal;
+use crate::host::Host;
+use crate::source::Source;
+use command_line::{Order, OrderError, STANDARD_INPUT, fault_of, no_text, order};
+use std::alloc::{Allocator, Global};
+use std::convert::AsStr;
+use std::io;
+use std::io::{ErrorKind, Write};
+
+/// The words ask for help or the version, which are printed.
+const HELPED: u8 = 0;
+
+/// The words are none that the program knows.
+const USAGE: u8 = 2;
+
+/// Does what `words` ask for, and returns the exit status: 0 done, 1 refused, 2 usage, 3 the power failed last, 4 the
+/// flash file failed.
+///
+/// The first word is the program's own name, and without another one the choice is made over standard input. The words
+/// and JSON texts are parsed in memory of `alloc`, where flashes and what runs on them stand too, and all else stands in
+/// memory of `heap`. Input comes from `host`, which keeps the file of a flash. Answers go to `out`, error lines and the
+/// words on a wrong usage to `err`, and both are flushed. After a write that failed nothing more is written, and the
+/// status is 1.
+pub fn cli<S: AsStr, A: Allocator, H: Host, O: Write, E: Write>(
+    alloc: Global,
+    heap: &A,
+    words: &[S],
+    host: &mut H,
+    out: &mut O,
+    err: &mut E,
+) -> u8 {
+    match order_in(alloc, words) {
+        Ok(order) => run_order(alloc, heap, order, host, out, err),
+        Err(OrderError::NoMemory) => refuse(Refusal::NoMemory, err),
+        Err(OrderError::Usage(answer)) => {
+            if answer.use_stderr() {
+                tell_fault(&fault_of(alloc, words, answer), err)
+            } else {
+                status_after(write_text(&answer, out), HELPED)
+            }
+        }
+    }
+}
+
+/// What the words ask for: with none after the program's own name the choice over standard input.
+fn order_in<'a, S: AsStr>(alloc: Global, words: &'a [S]) -> Result<Order<'a>, OrderError> {
+    if words.len() <= 1 {
+        return Ok(Order::Choose {
+            table: STANDARD_INPUT,
+        });
+    }
+    order(alloc, words)
+}
+
+/// Runs the command of an order to its exit status: 0 only where the whole answer is written, and is a yes.
+pub fn run_order<A: Allocator, H: Host, O: Write, E: Write>(
+    alloc: Global,
+    heap: &A,
+    order: Order<'_>,
+    host: &mut H,
+    out: &mut O,
+    err: &mut E,
+) -> u8
+    ensures { result ≡ 0 → AnswersOrder Answer.Done order.entry (H.input host.old) (H.file host.old)
+        (O.contents out.old) (O.contents out.new) }
+{
+    // A script's text, in which a refusal may name a file.
+    let mut text = Vec::new(heap);
+    finish(perform(alloc, heap, order, &mut text, host, out), out, err)
+}
+
+/// Runs the command of an order.
+fn perform<'a, 'h, A: Allocator, H: Host, O: Write>(
+    alloc: Global,
+    heap: &'h A,
+    order: Order<'a>,
+    text: &'a mut Vec<u8, &'h A>,
+    host: &mut H,
+    out: &mut O,
+) -> Result<Answer, Refusal<'a>>
+    ensures { IfOk result (λ answer. AnswersOrder answer order.entry
+        (H.input host.old) (H.file host.old) (O.contents out.old) (O.contents out.new)) }
+{
+    match order {
+        Order::Choose { table } => choose::perform(heap, Source::named(table), host, out),
+        Order::Check { table, report } => {
+            let (table, report) = (Source::named(table), Source::named(report));
+            check::perform(heap, table, report, host, out)
+        }
+        Order::Image { file } => image::perform(heap, Source::named(file), host, out),
+        Order::Manifest { device, file } => {
+            let (device, file) = (Source::named(device), Source::named(file));
+            manifest_file::perform(alloc, heap, device, file, host, out)
+        }
+        Order::Provision {
+            device,
+            flash,
+            images,
+        } => {
+            let device = Source::named(device);
+            provision::perform(alloc, heap, device, flash, &images, host, out)
+        }
+        Order::Show { device, flash } => {
+            let (device, flash) = (Source::named(device), Source::named(flash));
+            show::perform(alloc, heap, device, flash, host, out)
+        }
+        Order::Run {
+            device,
+            flash,
+            script,
+        } => {
+            let (device, script) = (Source::named(device), Source::named(script));
+            playing::perform(alloc, heap, device, flash, script, text, host, out)
+        }
+    }
+}
+
+/// Tells that the words could not be had, and returns the exit status: 1 for want of memory, and 2 where they
+/// are no text. The text to print stands in memory of `alloc`.
+pub fn refuse_words<E: Write>(alloc: Global, error: &io::Error, err: &mut E) -> u8 {
+    match error.kind() {
+        ErrorKind::OutOfMemory => refuse(Refusal::NoMemory, err),
+        _ => tell_fault(&no_text(alloc), err),
+    }
+}
+
+/// Writes the fault in the words.
+fn tell_fault<E: Write>(error: &OrderError, err: &mut E) -> u8 {
+    match error {
+        OrderError::NoMemory => refuse(Refusal::NoMemory, err),
+        OrderError::Usage(answer) => status_after(write_text(answer, err), USAGE),
+    }
+}
+
+fn write_text<W: Write>(answer: &clap::Error, to: &mut W) -> io::Result<()> {
+    write!(to, "{answer}")?;
+    to.flush()
+}

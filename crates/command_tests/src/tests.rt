@@ -1,0 +1,14 @@
+//! The commands that have no flash, and what the program says of itself.
+mod bad_lines;
+mod check;
+mod choose;
+mod damaged_images;
+mod examples;
+mod faults;
+mod image_bytes;
+mod images;
+mod made_images;
+mod manifests;
+mod sizes;
+mod system;
+mod words;

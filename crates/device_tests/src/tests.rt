@@ -1,0 +1,7 @@
+//! The commands that have a flash, where each write of it succeeds and no power is cut.
+mod arguments;
+mod provisioning;
+mod random_flashes;
+mod runs;
+mod scripts;
+mod trials;

@@ -1,0 +1,154 @@
+//! Files and standard input in memory.
+ghost use Rattle.std.specs.Prelude.{Some};
+
+use boot_cli::Host;
+use std::alloc::{Allocator, Global};
+use std::io;
+use std::io::{ErrorKind, Read};
+
+/// The names and bytes of files.
+pub type Files<'f> = &'f [(&'f str, &'f [u8])];
+
+/// The name of the file that can be made and written.
+pub const FLASH_FILE: &str = "flash.bin";
+
+/// What a write that fails leaves of its range.
+#[derive(Clone, Copy, Debug, PartialEq, Eq)]
+pub enum Left {
+    /// What was there.
+    Old,
+    /// The first half of what was to be written, and behind it what was there.
+    Half,
+}
+
+/// A file that can be made and written.
+#[derive(Debug, Drop)]
+pub struct WritableFile {
+    /// What it holds.
+    pub bytes: Vec<u8>,
+    /// Whether there is such a file.
+    pub is_there: bool,
+    /// Whether it can be made.
+    pub can_be_made: bool,
+    /// How many writes were tried.
+    pub writes: u64,
+    /// The write that fails, counted from 1, and what it leaves.
+    pub failing: Option<(u64, Left)>,
+}
+
+impl WritableFile {
+    /// A file that isn't there.
+    pub fn absent(alloc: Global) -> Self {
+        WritableFile {
+            bytes: Vec::new(alloc),
+            is_there: false,
+            can_be_made: true,
+            writes: 0,
+            failing: None,
+        }
+    }
+
+    /// Makes the file of so many bytes 0, in the place of one that is there.
+    fn create(&mut self, length: u64) -> io::Result<()> {
+        if !self.can_be_made {
+            return Err(io::Error::from(ErrorKind::PermissionDenied));
+        }
+        self.bytes.clear();
+        self.bytes.resize(length as usize, 0)?;
+        self.is_there = true;
+        Ok(())
+    }
+
+    /// Writes bytes over those at a place. A write that passes the end fails.
+    fn write_at(&mut self, at: u64, bytes: &[u8]) -> io::Result<()> {
+        self.writes = self.writes.saturating_add(1);
+        let at = at as usize;
+        if !self.is_there || at > self.bytes.len() || bytes.len() > self.bytes.len() - at {
+            return Err(io::Error::from(ErrorKind::UnexpectedEof));
+        }
+        let failing = match self.failing {
+            Some((write, left)) if write == self.writes => Some(left),
+            _ => None,
+        };
+        let count = match failing {
+            None => bytes.len(),
+            Some(Left::Old) => 0,
+            Some(Left::Half) => bytes.len() / 2,
+        };
+        self.bytes[at..at + count].copy_from_slice(&bytes[..count]);
+        match failing {
+            None => Ok(()),
+            Some(_) => Err(io::Error::from(ErrorKind::StorageFull)),
+        }
+    }
+}
+
+/// A host with its files and its standard input in memory. Every other read is interrupted.
+#[derive(Drop)]
+pub struct MemoryHost<'f, 'i> {
+    /// The files that can be read.
+    pub files: Files<'f>,
+    /// The one that can be written too; where there is none, none can be made.
+    pub flash: Option<WritableFile>,
+    /// What standard input has left to give.
+    pub input: &'i [u8],
+    /// The error that comes when standard input has nothing left, in place of its end.
+    pub failure: Option<ErrorKind>,
+    /// Whether the read before was interrupted.
+    pub was_interrupted: bool,
+}
+
+impl<'f, 'i> MemoryHost<'f, 'i> {
+    /// These files, and a standard input of these bytes.
+    pub fn new(files: Files<'f>, input: &'i [u8]) -> Self {
+        MemoryHost {
+            files,
+            flash: None,
+            input,
+            failure: None,
+            was_interrupted: false,
+        }
+    }
+}
+
+impl Host for MemoryHost<'_, '_> {
+    ghost input = { λ host. Some host.input.now };
+
+    fn read_file<A: Allocator>(&mut self, alloc: A, name: &str) -> io::Result<Vec<u8, A>> {
+        if name == FLASH_FILE
+            && let Some(flash) = &self.flash
+            && flash.is_there
+        {
+            return Ok(Vec::from_slice(alloc, flash.bytes.as_slice())?);
+        }
+        match self.files.iter().find(|file| file.0 == name) {
+            Some(file) => Ok(Vec::from_slice(alloc, file.1)?),
+            None => Err(io::Error::from(ErrorKind::NotFound)),
+        }
+    }
+
+    fn read_standard_input(&mut self, buffer: &mut [u8]) -> io::Result<usize> {
+        self.was_interrupted = !self.was_interrupted;
+        if self.was_interrupted {
+            return Err(io::Error::from(ErrorKind::Interrupted));
+        }
+        match self.failure {
+            Some(failure) if self.input.is_empty() => Err(io::Error::from(failure)),
+            _ => self.input.read(buffer),
+        }
+    }
+
+    fn create_file(&mut self, name: &str, length: u64) -> io::Result<()> {
+        match &mut self.flash {
+            Some(flash) if name == FLASH_FILE => flash.create(length),
+            _ => Err(io::Error::from(ErrorKind::PermissionDenied)),
+        }
+    }
+
+    fn write_file_at(&mut self, name: &str, at: u64, bytes: &[u8]) -> io::Result<()> {
+        match &mut self.flash {
+            Some(flash) if name == FLASH_FILE => flash.write_at(at, bytes),
+            _ => Err(io::Error::from(ErrorKind::NotFound)),
+        }
+    }
+}
