@@ -1,5 +1,5 @@
 -- What was answered, by what was read in turn and written.
-use Rattle.std.proofs.Common.{◌≡◌, ◌<◌, ℕ, List, [], ◌∷◌, Option, ap, arith, inl, rules, subst}
+use Rattle.std.proofs.Common.{◌≡◌, ℕ, List, [], ◌∷◌, Option, ap, arith, inl, subst}
 use Rattle.std.specs.Borrow.{Bor}
 use Rattle.boot_cli.specs.declared.answer.Answer.{Answer}
 use Rattle.boot_cli.specs.declared.answer.Answer.TheVariants.{Done, Refused, Cut}
@@ -9,11 +9,13 @@ use Rattle.boot_cli.specs.declared.device.DeviceFile.{DeviceFile}
 use Rattle.boot_cli.specs.declared.source.Source.{Source}
 use Rattle.boot_cli.specs.declared.source.Source.TheVariants as source
 use Rattle.boot_cli.specs.DeviceInput.{GivesDevice, IsFlashOf}
-use Rattle.boot_cli.specs.Input.{FileBytes, GiveEach, Gives, KeepsFiles, KeepsOthers}
+use Rattle.boot_cli.specs.Input.{FileBytes, Gives, KeepsOthers}
 use Rattle.boot_cli.specs.ProvisionEnd.{AnswersMade, AnswersProvision, EndsMade, MakesDevice, ReadsImages}
 use Rattle.boot_cli.specs.RunEnd.{AnswersRun, Plays, RunsDevice}
+use Rattle.boot_cli.specs.Script.{Came, IsScript, Known, StaysKnown, known_after}
 use Rattle.boot_cli.specs.Status.{status_of_answer}
 use Rattle.boot_cli.proofs.InputLaws.{GiveEach-one, GiveEach-read}
+use Rattle.boot_cli.proofs.ScriptLaws.{StaysKnown-itself, StaysKnown-read}
 
 -- what comes of making a flash isn't that the power failed
 not_cut : (made : Made) (old new : Option (List ℕ)) → AnswersMade Cut made old new → ⊥
@@ -64,28 +66,39 @@ AnswersRun-runs Done device flash script input file old new runs = runs
 AnswersRun-runs Refused device flash script input file old new runs = inl runs
 AnswersRun-runs Cut device flash script input file old new runs = runs
 
--- a device file was read, then its flash, and then a script
+-- a device file was read, then its flash, and then a script with the files that it names
 pub AnswersRun-read : (answer : Answer) (device : Source) (flash : Bor (List ℕ)) (script : Source)
-    (input second_input third_input : Option (List ℕ)) (file second_file third_file : FileBytes)
-    (old mid new : Option (List ℕ)) (bytes text : List ℕ) (of_device : DeviceFile)
+    (input second_input third_input fourth_input : Option (List ℕ))
+    (file second_file third_file fourth_file : FileBytes)
+    (old mid new : Option (List ℕ)) (bytes text : List ℕ) (came : List Came) (of_device : DeviceFile)
     → GivesDevice device input file of_device → KeepsOthers device input file second_input second_file
     → Gives (source.File flash) second_input second_file bytes
     → KeepsOthers (source.File flash) second_input second_file third_input third_file
-    → Gives script third_input third_file text → IsFlashOf of_device.map bytes
-    → mid ≡ old → Plays answer of_device bytes mid new
+    → Gives script third_input third_file text
+    → KeepsOthers script third_input third_file fourth_input fourth_file
+    → ((known : Known) → StaysKnown known fourth_input fourth_file → IsScript text known came)
+    → IsFlashOf of_device.map bytes → mid ≡ old → Plays answer of_device bytes came mid new
     → AnswersRun answer device (source.File flash) script input file old new
-AnswersRun-read answer device flash script input second_input third_input file second_file third_file old mid new
-    bytes text of_device given kept flash_given flash_kept script_given whole same plays =
+AnswersRun-read answer device flash script input second_input third_input fourth_input file second_file third_file
+    fourth_file old mid new bytes text came of_device given kept flash_given flash_kept script_given script_kept says
+    whole same plays =
+    let first : Known = record { input = input; files = file } in
+    let second = known_after device first in
+    let stays = StaysKnown-read device first input second_input file second_file (StaysKnown-itself input file) kept in
+    let still = StaysKnown-read (source.File flash) second second_input third_input second_file third_file stays flash_kept in
     AnswersRun-runs answer device (source.File flash) script input file old new (record {
       device_bytes = given.0;
       of_device = of_device;
       bytes = bytes;
       text = text;
+      came = came;
       given = GiveEach-read device (source.File flash ∷ script ∷ []) input second_input file second_file given.0
           (bytes ∷ text ∷ []) given.1 kept
           (GiveEach-read (source.File flash) (script ∷ []) second_input third_input second_file third_file bytes
           (text ∷ []) flash_given flash_kept (GiveEach-one script third_input third_file text script_given));
       is_device = given.2;
       whole = whole;
-      plays = subst (λ o. Plays answer of_device bytes o new) same plays;
+      script = says (known_after script second)
+          (StaysKnown-read script second third_input fourth_input third_file fourth_file still script_kept);
+      plays = subst (λ o. Plays answer of_device bytes came o new) same plays;
     })

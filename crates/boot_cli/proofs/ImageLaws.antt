@@ -1,5 +1,5 @@
 -- Image files, read one after the other onto the bytes of a new flash.
-use Rattle.std.proofs.Common.{◌≡◌, ◌⊎◌, ℕ, zero, suc, ◌+◌, ◌*◌, ◌<◌, ◌≤◌, List, [], ◌∷◌, ◌++◌, Option, None, Some, length, get_or, take, inl, inr, refl, ap, sym, ◌∙◌, subst, ⊎_elim, add-one, append_assoc, length-append, replicate, unwrap_or, arith, IfSome}
+use Rattle.std.proofs.Common.{◌≡◌, ◌⊎◌, ℕ, zero, suc, ◌+◌, ◌*◌, ◌<◌, ◌≤◌, List, [], ◌∷◌, ◌++◌, Option, Some, length, get_or, take, inl, inr, refl, ap, sym, ◌∙◌, subst, ⊎_elim, append_assoc, length-append, replicate, unwrap_or, arith, IfSome}
 use Rattle.std.specs.List.{AllZip, slice_get}
 use Rattle.std.specs.Borrow.{Bor}
 use Rattle.std.proofs.lemmas.List.{get_or_default}
@@ -16,7 +16,7 @@ use Rattle.sector_map.proofs.Places.{before_within}
 use Rattle.boot_cli.specs.declared.source.Source.{Source}
 use Rattle.boot_cli.specs.DeviceInput.{IsFlashOf}
 use Rattle.boot_cli.specs.Input.{FileBytes, GiveEach, Gives, IsNamed, KeepsOthers, names_of}
-use Rattle.boot_cli.specs.ProvisionEnd.{FitSlots, ReadsImages, new_flash, with_files}
+use Rattle.boot_cli.specs.ProvisionEnd.{new_flash, with_files}
 use Rattle.boot_cli.proofs.InputLaws.{GiveEach-read}
 
 -- a slot lies in the flash

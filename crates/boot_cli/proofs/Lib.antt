@@ -4,5 +4,6 @@ mod EndLaws
 mod FileLaws
 mod ImageLaws
 mod InputLaws
+mod ScriptLaws
 mod ShowLaws
 mod TextLaws

@@ -7,11 +7,13 @@ pub mod DeviceFile
 pub mod DeviceInput
 pub mod ImageText
 pub mod Input
+pub mod Loading
 pub mod ManifestEnd
 pub mod ManifestText
 pub mod ProvisionEnd
 pub mod ReplyText
 pub mod RunEnd
+pub mod Script
 pub mod ShowEnd
 pub mod StateText
 pub mod Status

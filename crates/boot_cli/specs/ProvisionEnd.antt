@@ -8,7 +8,6 @@ use Rattle.sector_map.specs.declared.layout.SectorMap.{SectorMap}
 use Rattle.sector_map.specs.declared.layout.Side.TheVariants.{Primary}
 use Rattle.sector_map.specs.Map.{length_of, sectors_of, start_of}
 use Rattle.sector_map.specs.Part.{Slot}
-use Rattle.machine.specs.declared.error.Fault.{Fault}
 use Rattle.boot_core.specs.Provisioned.{IsProvisioned, RefusesMaking}
 use Rattle.boot_cli.specs.declared.answer.Answer.{Answer}
 use Rattle.boot_cli.specs.declared.answer.Answer.TheVariants.{Done, Refused, Cut}

@@ -1,5 +1,5 @@
 -- What a run of a device comes to.
-use Rattle.std.specs.Prelude.{◌≡◌, ◌⊎◌, ℕ, ◌-◌, false, List, [], ◌∷◌, length, Option, None, Some, slice_get}
+use Rattle.std.specs.Prelude.{◌≡◌, ◌⊎◌, ℕ, ◌-◌, false, List, [], ◌∷◌, length, Option, None, Some, map, slice_get}
 use Rattle.std.specs.Io.KnownBytes.{Appends}
 use Rattle.sector_map.specs.declared.layout.SectorMap.{SectorMap}
 use Rattle.upload.specs.Sessions.{AllClosed}
@@ -18,6 +18,7 @@ use Rattle.boot_cli.specs.DeviceFile.{IsDeviceFile}
 use Rattle.boot_cli.specs.DeviceInput.{IsFlashOf, RefusesMap, flash_of}
 use Rattle.boot_cli.specs.Input.{FileBytes, GiveEach}
 use Rattle.boot_cli.specs.ReplyText.{replies_text}
+use Rattle.boot_cli.specs.Script.{Came, IsScript, Known, came_by, known_after}
 
 -- What a device is made with, by its file.
 abbrev pub setup_of : DeviceFile → Setup
@@ -52,27 +53,36 @@ answer_after (Some reply.Cut) = Cut
 abbrev pub answer_of : List Reply → Answer
 answer_of replies = answer_after (slice_get replies (length replies - 1))
 
--- What is answered of a device of this file with these bytes on its flash, and what a writer took: the replies
--- to some events.
-pub record Plays (answer : Answer) (device : DeviceFile) (bytes : List ℕ)
+-- What is answered of a device of this file with these bytes on its flash, to which this comes, and what a writer
+-- took: the replies.
+pub record Plays (answer : Answer) (device : DeviceFile) (bytes : List ℕ) (came : List Came)
     (old new : Option (List ℕ)) : Type 0 where
   pub events : List Event
   pub replies : List Reply
+  pub come : map came_by events ≡ came
   pub played : IsPlayed device bytes events replies
   pub answered : answer ≡ answer_of replies
   pub written : Appends old new (replies_text 1 replies)
 
--- `run` read the bytes of a device file, of its flash and of a script, and wrote the replies of the device ..
+-- What is known of a host after these sources were read.
+abbrev pub known_after_each : List Source → Known → Known
+known_after_each [] known = known
+known_after_each (source ∷ rest) known = known_after_each rest (known_after source known)
+
+-- `run` read the bytes of a device file, of its flash and of a script with the files that it names, and wrote the
+-- replies of the device to what comes by the script ..
 pub record RunsDevice (answer : Answer) (sources : List Source) (input : Option (List ℕ))
     (files : FileBytes) (old new : Option (List ℕ)) : Type 0 where
   pub device_bytes : List ℕ
   pub of_device : DeviceFile
   pub bytes : List ℕ
   pub text : List ℕ
+  pub came : List Came
   pub given : GiveEach sources input files (device_bytes ∷ bytes ∷ text ∷ [])
   pub is_device : IsDeviceFile device_bytes of_device
   pub whole : IsFlashOf of_device.map bytes
-  pub plays : Plays answer of_device bytes old new
+  pub script : IsScript text (known_after_each sources (record { input = input; files = files })) came
+  pub plays : Plays answer of_device bytes came old new
 
 -- .. or why the sizes of the device file make no map, and then nothing else counts.
 abbrev pub AnswersRun : Answer → Source → Source → Source → Option (List ℕ) → FileBytes

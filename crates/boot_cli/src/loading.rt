@@ -1,4 +1,9 @@
 //! Scripts, with the files that their lines name.
+ghost use Rattle.std.specs.Prelude.{◌≡◌, ◌∷◌, ◌++◌, [], IfOk, map};
+ghost use Rattle.std.specs.Option.{option_map};
+ghost use Rattle.script.specs.Said.{part_words, said, said_event};
+ghost use Rattle.boot_cli.specs.Loading.{Adds, Passes, came_in, came_of};
+ghost use Rattle.boot_cli.specs.Script.{Comes, IsPieceOf, IsRead, IsScript, Known, StaysKnown, came_by};
 
 use crate::error::Refusal;
 use crate::host::Host;
@@ -39,7 +44,9 @@ pub enum Step<A: Allocator> {
 
 impl<A: Allocator> Step<A> {
     /// The event.
-    fn event(&self) -> Event<'_> {
+    fn event(&self) -> Event<'_>
+        ensures { came_by result ≡ came_of self.now }
+    {
         match self {
             Step::Accept(bytes) => Event::Accept(bytes),
             Step::Piece(image, bytes) => Event::Piece(*image, bytes),
@@ -65,7 +72,9 @@ pub struct Script<A: Allocator> {
 pub fn events_of<'s, A: Allocator, B: Allocator>(
     alloc: A,
     steps: &'s [Step<B>],
-) -> Result<Vec<Event<'s>, A>, AllocError> {
+) -> Result<Vec<Event<'s>, A>, AllocError>
+    ensures { IfOk result (λ events. map came_by events.items ≡ came_in steps.now) }
+{
     let mut events = Vec::with_capacity(alloc, steps.len())?;
     for step in steps {
         events.push(step.event())?;
@@ -99,7 +108,11 @@ pub fn load<'a, 'h, A: Allocator, H: Host>(
     text: &'a [u8],
     is_input_read: bool,
     host: &mut H,
-) -> Result<Script<&'h A>, Refusal<'a>> {
+) -> Result<Script<&'h A>, Refusal<'a>>
+    ensures { IfOk result (λ script. (known : Known)
+        → StaysKnown known (H.input host.old) (H.file host.old)
+        → IsScript text.now known (came_in script.steps.items)) }
+{
     let mut script = Script {
         cuts: Vec::new(alloc),
         steps: Vec::new(heap),
@@ -134,28 +147,48 @@ fn take_line<'a, 'h, A: Allocator, H: Host>(
     reader: &mut Reader<'h, '_, A, H>,
     number: usize,
     line: Line<'a>,
-) -> Result<(), Refusal<'a>> {
-    let is_added = match line {
-        Line::Cut { write, torn } => match cut_of(alloc, write, torn) {
-            Ok(cut) => script.cuts.push(cut).is_ok(),
-            Err(_) => false,
-        },
+) -> Result<(), Refusal<'a>>
+    ensures { IfOk result (λ _. Passes
+        (Adds (said line.entry) (came_in script.old.steps.items) (came_in script.new.steps.items))
+        (H.input reader.old.host.now) (H.file reader.old.host.now)
+        (H.input reader.new.host.now) (H.file reader.new.host.now)) }
+{
+    match line {
+        Line::Cut { write, torn } => take_cut(alloc, &mut script.cuts, write, torn),
         Line::Event(instruction) => {
             let step = step_of(reader, number, instruction)?;
-            script.steps.push(step).is_ok()
+            take_step(&mut script.steps, step)
         }
-    };
-    if is_added {
-        Ok(())
-    } else {
-        Err(Refusal::NoMemory)
     }
 }
 
-/// The cut that a line says.
-fn cut_of(alloc: Global, write: u32, torn: TornText<'_>) -> Result<Cut, AllocError> {
-    let torn = torn.torn(alloc)?;
-    Ok(Cut { write, torn })
+/// Adds the cut that a line says.
+fn take_cut<'a>(
+    alloc: Global,
+    cuts: &mut Vec<Cut>,
+    write: u32,
+    torn: TornText<'_>,
+) -> Result<(), Refusal<'a>> {
+    let Ok(torn) = torn.torn(alloc) else {
+        return Err(Refusal::NoMemory);
+    };
+    match cuts.push(Cut { write, torn }) {
+        Ok(()) => Ok(()),
+        Err(_) => Err(Refusal::NoMemory),
+    }
+}
+
+/// Adds a step to those before.
+fn take_step<'a, A: Allocator>(
+    steps: &mut Vec<Step<A>, A>,
+    step: Step<A>,
+) -> Result<(), Refusal<'a>>
+    ensures { IfOk result (λ _. steps.new.items ≡ steps.old.items ++ step ∷ []) }
+{
+    match steps.push(step) {
+        Ok(()) => Ok(()),
+        Err(_) => Err(Refusal::NoMemory),
+    }
 }
 
 /// The event that the line of this number says, with the bytes of its file.
@@ -163,19 +196,28 @@ fn step_of<'a, 'h, A: Allocator, H: Host>(
     reader: &mut Reader<'h, '_, A, H>,
     number: usize,
     instruction: Instruction<'a>,
-) -> Result<Step<&'h A>, Refusal<'a>> {
-    Ok(match instruction {
-        Instruction::Accept(file) => Step::Accept(bytes_of(reader, number, file)?),
+) -> Result<Step<&'h A>, Refusal<'a>>
+    ensures { IfOk result (λ step. Passes
+        (λ known after. Comes (said_event instruction.entry) known (came_of step) after)
+        (H.input reader.old.host.now) (H.file reader.old.host.now)
+        (H.input reader.new.host.now) (H.file reader.new.host.now)) }
+{
+    match instruction {
+        Instruction::Accept(file) => {
+            let bytes = bytes_of(reader, number, file)?;
+            Ok(Step::Accept(bytes))
+        }
         Instruction::Piece { image, file, part } => {
             let bytes = bytes_of(reader, number, file)?;
-            Step::Piece(image, part_of(reader.heap, number, bytes, part)?)
+            let piece = part_of(reader.heap, number, bytes, part)?;
+            Ok(Step::Piece(image, piece))
         }
-        Instruction::Finish(image) => Step::Finish(image),
-        Instruction::Withdraw(image) => Step::Withdraw(image),
-        Instruction::Confirm(image) => Step::Confirm(image),
-        Instruction::Boot => Step::Boot,
-        Instruction::Reset => Step::Reset,
-    })
+        Instruction::Finish(image) => Ok(Step::Finish(image)),
+        Instruction::Withdraw(image) => Ok(Step::Withdraw(image)),
+        Instruction::Confirm(image) => Ok(Step::Confirm(image)),
+        Instruction::Boot => Ok(Step::Boot),
+        Instruction::Reset => Ok(Step::Reset),
+    }
 }
 
 /// The bytes of the file that the line of this number names.
@@ -183,14 +225,17 @@ fn bytes_of<'a, 'h, A: Allocator, H: Host>(
     reader: &mut Reader<'h, '_, A, H>,
     number: usize,
     name: &'a str,
-) -> Result<Vec<u8, &'h A>, Refusal<'a>> {
+) -> Result<Vec<u8, &'h A>, Refusal<'a>>
+    ensures { IfOk result (λ bytes. Passes
+        (λ known after. IsRead name.now known bytes.items after)
+        (H.input reader.old.host.now) (H.file reader.old.host.now)
+        (H.input reader.new.host.now) (H.file reader.new.host.now)) }
+{
     let source = Source::named(name);
-    if source.is_standard_input() {
-        if reader.is_input_read {
-            return Err(Refusal::ScriptLine(number));
-        }
-        reader.is_input_read = true;
+    if source.is_standard_input() && reader.is_input_read {
+        return Err(Refusal::ScriptLine(number));
     }
+    reader.is_input_read |= source.is_standard_input();
     source.read(reader.heap, reader.host)
 }
 
@@ -200,7 +245,9 @@ fn part_of<'a, 'h, A: Allocator>(
     number: usize,
     bytes: Vec<u8, &'h A>,
     part: Option<PartText<'_>>,
-) -> Result<Vec<u8, &'h A>, Refusal<'a>> {
+) -> Result<Vec<u8, &'h A>, Refusal<'a>>
+    ensures { IfOk result (λ piece. IsPieceOf (option_map part_words part.entry) bytes.entry.items piece.items) }
+{
     let Some(part) = part else {
         return Ok(bytes);
     };

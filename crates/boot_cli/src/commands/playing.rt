@@ -7,6 +7,7 @@ ghost use Rattle.sector_map.specs.Map.{IsLaidOut};
 ghost use Rattle.upload.specs.Sessions.{AllClosed};
 ghost use Rattle.boot_cli.specs.DeviceFile.{IsOfFile};
 ghost use Rattle.boot_cli.specs.DeviceInput.{IsFlashOf};
+ghost use Rattle.boot_cli.specs.Loading.{came_in};
 ghost use Rattle.boot_cli.specs.ReplyText.{replies_text};
 ghost use Rattle.boot_cli.specs.RunEnd.{AnswersRun, IsPlayed, Plays, answer_of, setup_of};
 ghost use Rattle.boot_cli.specs.declared.source.Source.TheVariants as source;
@@ -83,7 +84,8 @@ fn play_script<'a, 'h, A: Allocator, F: FlashFile + Drop, O: Write>(
     requires whole { IsFlashOf device.now.map bytes.items }
     requires held { ForSome (F.contents file) (λ all. all ≡ bytes.items) }
     ensures { IfOk result (λ answer.
-        Plays answer device.now bytes.items (O.contents out.old) (O.contents out.new)) }
+        Plays answer device.now bytes.items (came_in script.entry.steps.items)
+        (O.contents out.old) (O.contents out.new)) }
 {
     let Script { cuts, steps } = script;
     let Ok(events) = events_of(heap, &steps) else {

@@ -1,8 +1,7 @@
-use Rattle.std.proofs.Common.{◌≡◌, subst}
+use Rattle.std.proofs.Common.{subst}
 use Rattle.file_flash.specs.FileFlash.{chip_of, over_file}
 use Rattle.flash_model.specs.Memory.{memory_of}
 use Rattle.boot_core.specs.Provisioned.{RefusesMaking}
-use Rattle.boot_cli.specs.DeviceInput.{flash_of}
 use Rattle.boot_cli.proofs.FileLaws.{chip-over}
 use Rattle.boot_cli.proofs.commands.provision.make_device.Goals as goal
 

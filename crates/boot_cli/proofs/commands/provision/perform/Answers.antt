@@ -1,4 +1,3 @@
-use Rattle.std.proofs.Common.{inr}
 use Rattle.std.proofs.lemmas.Result.{IfOk-weaker}
 use Rattle.boot_cli.proofs.EndLaws.{AnswersProvision-read}
 use Rattle.boot_cli.proofs.commands.provision.perform.Goals as goal

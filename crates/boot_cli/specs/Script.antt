@@ -1,0 +1,91 @@
+-- What the script of a run says, and what comes to the device by it and by the files that it names.
+use Rattle.std.specs.Prelude.{◌≡◌, ℕ, List, [], ◌∷◌, Option, None, Some}
+use Rattle.std.specs.Io.KnownBytes.{Keeps}
+use Rattle.std.specs.List.{AllZip}
+use Rattle.common.specs.Lines.{lines_of}
+use Rattle.machine.specs.declared.event.Event.{Event}
+use Rattle.machine.specs.declared.event.Event.TheVariants as event
+use Rattle.script.specs.InOrder.{AreInOrder}
+use Rattle.script.specs.LineText.{IsLineText}
+use Rattle.script.specs.Part.{IsPart}
+use Rattle.script.specs.Said.{PartWords, Said, SaidEvent}
+use Rattle.script.specs.Said as said
+use Rattle.boot_cli.specs.declared.source.Source.{Source}
+use Rattle.boot_cli.specs.declared.source.Source.TheVariants.{StandardInput, File}
+use Rattle.boot_cli.specs.Input.{FileBytes, Gives, IsNamed, KeepsFiles}
+
+-- What comes to a device, with its bytes.
+pub data Came : Type 0 where
+  Accept : List ℕ → Came
+  Piece : ℕ → List ℕ → Came
+  Finish : ℕ → Came
+  Withdraw : ℕ → Came
+  Confirm : ℕ → Came
+  Boot : Came
+  Reset : Came
+
+abbrev pub came_by : Event → Came
+came_by (event.Accept bytes) = Accept bytes.now
+came_by (event.Piece image bytes) = Piece image bytes.now
+came_by (event.Finish image) = Finish image
+came_by (event.Withdraw image) = Withdraw image
+came_by (event.Confirm image) = Confirm image
+came_by event.Boot = Boot
+came_by event.Reset = Reset
+
+-- What is known of a host: what is left of its standard input, and what its files hold.
+pub record Known : Type 0 where
+  pub input : Option (List ℕ)
+  pub files : FileBytes
+
+-- What is known stays so.
+pub record StaysKnown (known : Known) (input : Option (List ℕ)) (files : FileBytes) : Type 0 where
+  pub input_kept : Keeps known.input input
+  pub files_kept : KeepsFiles known.files files
+
+-- What is known after a source was read: all that was, where it is a file. What a file holds once standard
+-- input was read is not said.
+abbrev pub known_after : Source → Known → Known
+known_after StandardInput known = record { input = None; files = λ name. None }
+known_after (File name) known = known
+
+-- The file of a name that stands in a script is read, or standard input.
+pub record IsRead (name : List ℕ) (known : Known) (bytes : List ℕ) (after : Known) : Type 0 where
+  pub source : Source
+  pub named : IsNamed name source
+  pub given : Gives source known.input known.files bytes
+  pub then : after ≡ known_after source known
+
+-- The bytes of a file, or the part of them that two words name.
+abbrev pub IsPieceOf : Option PartWords → List ℕ → List ℕ → Type 0
+IsPieceOf None bytes piece = piece ≡ bytes
+IsPieceOf (Some words) bytes piece = IsPart words bytes piece
+
+-- What comes to the device by a line, and what is known of the host then.
+abbrev pub Comes : SaidEvent → Known → Came → Known → Type 0
+Comes (said.Accept file) known came after =
+    (bytes : List ℕ) × IsRead file known bytes after × (came ≡ Accept bytes)
+Comes (said.Piece image file part) known came after =
+    (bytes : List ℕ) × (piece : List ℕ) × IsRead file known bytes after
+    × IsPieceOf part bytes piece × (came ≡ Piece image piece)
+Comes (said.Finish image) known came after = (came ≡ Finish image) × (after ≡ known)
+Comes (said.Withdraw image) known came after = (came ≡ Withdraw image) × (after ≡ known)
+Comes (said.Confirm image) known came after = (came ≡ Confirm image) × (after ≡ known)
+Comes said.Boot known came after = (came ≡ Boot) × (after ≡ known)
+Comes said.Reset known came after = (came ≡ Reset) × (after ≡ known)
+
+-- What comes by lines, one after the other.
+abbrev pub AllCome : List Said → Known → List Came → Type 0
+AllCome [] known came = came ≡ []
+AllCome (said.Cut write torn ∷ lines) known came = AllCome lines known came
+AllCome (said.Event event ∷ lines) known came =
+    (first : Came) × (after : Known) × (more : List Came) × Comes event known first after
+    × AllCome lines after more × (came ≡ first ∷ more)
+
+-- A text is a script by which this comes to the device: each of its lines says something, cuts stand before
+-- events and their numbers rise.
+pub record IsScript (text : List ℕ) (known : Known) (came : List Came) : Type 0 where
+  pub lines : List Said
+  pub say : AllZip IsLineText (lines_of text) lines
+  pub order : AreInOrder 0 lines
+  pub come : AllCome lines known came
