@@ -18,8 +18,6 @@ mod reading;
 mod resuming;
 mod reverting;
 mod running;
-#[cfg(test)]
-mod tests;
 mod trying;
 mod upgrading;
 

@@ -17,6 +17,3 @@ mod steps;
 
 pub use choice::{choose, choose_counted};
 pub use steps::{MOST_LOOKS, Steps};
-
-#[cfg(test)]
-mod tests;

@@ -13,8 +13,6 @@ mod faults;
 mod help;
 mod orders;
 mod reading;
-#[cfg(test)]
-mod tests;
 
 pub use error::OrderError;
 pub use escaped::Escaped;

@@ -1,7 +1,5 @@
 //! The commands that have a flash, where each write of it succeeds and no power is cut.
-mod arguments;
 mod provisioning;
 mod random_flashes;
 mod runs;
-mod scripts;
 mod trials;

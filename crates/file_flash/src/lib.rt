@@ -11,6 +11,3 @@ mod flash;
 
 pub use file::FlashFile;
 pub use flash::FileFlash;
-
-#[cfg(test)]
-mod tests;

@@ -28,6 +28,3 @@ pub use memory::MemFlash;
 pub use reading::is_erased;
 pub use torn::{Armed, Torn};
 pub use unit::{FLAG, UNIT, is_unit_erased, set_unit};
-
-#[cfg(test)]
-mod tests;

@@ -14,8 +14,6 @@ mod ids;
 pub mod json;
 mod manifest;
 mod reading;
-#[cfg(test)]
-mod tests;
 
 pub use error::ManifestError;
 pub use identity::Identity;

@@ -19,6 +19,3 @@ pub use laws::{a_log_that_is_left_keeps_its_state, one_sector_is_active};
 pub use log::{append, read_state, start};
 pub use record::records_are_read_back;
 pub use state::{Kind, State};
-
-#[cfg(test)]
-mod tests;

@@ -19,6 +19,3 @@ mod withdrawing;
 
 pub use error::UploadError;
 pub use sessions::{Upload, Uploads};
-
-#[cfg(test)]
-mod tests;

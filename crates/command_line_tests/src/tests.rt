@@ -1,0 +1,483 @@
+//! Which words give which order, and what is printed of words that give none.
+use clap::Error;
+use command_line::{OrderError, fault_of, no_text, order};
+use std::alloc::Global;
+use std::process::Abort;
+use std::test::Fail;
+
+/// Words, of which the first is the program's own name.
+type Words = &'static [&'static str];
+
+#[test]
+fn each_command_is_read_with_its_names(rt: HostRuntime) -> Result<(), Fail> {
+    let cases: [(Words, &str); 9] = [
+        (
+            &["bootswap", "choose", "t.txt"],
+            r#"Choose { table: "t.txt" }"#,
+        ),
+        (
+            &["bootswap", "check", "t.txt", "-"],
+            r#"Check { table: "t.txt", report: "-" }"#,
+        ),
+        (
+            &["bootswap", "image", "a.img"],
+            r#"Image { file: "a.img" }"#,
+        ),
+        (
+            &["bootswap", "manifest", "d.json", "m.json"],
+            r#"Manifest { device: "d.json", file: "m.json" }"#,
+        ),
+        (
+            &["bootswap", "provision", "d.json", "f.bin", "a.img"],
+            r#"Provision { device: "d.json", flash: "f.bin", images: ["a.img"] }"#,
+        ),
+        (
+            &[
+                "bootswap",
+                "provision",
+                "-",
+                "f.bin",
+                "a.img",
+                "b.img",
+                "a.img",
+            ],
+            r#"Provision { device: "-", flash: "f.bin", images: ["a.img", "b.img", "a.img"] }"#,
+        ),
+        (
+            &["bootswap", "show", "d.json", "-"],
+            r#"Show { device: "d.json", flash: "-" }"#,
+        ),
+        (
+            &["bootswap", "run", "d.json", "f.bin", "s.txt"],
+            r#"Run { device: "d.json", flash: "f.bin", script: "s.txt" }"#,
+        ),
+        (
+            &["any name", "choose", "--", "--help"],
+            r#"Choose { table: "--help" }"#,
+        ),
+    ];
+    for (words, asked) in cases {
+        let read = order(rt.alloc(), words)?;
+        let text = format!(in rt.alloc(); "{read:?}")?;
+        assert!(rt; text.as_str() == asked, "{words:?} {text}");
+    }
+    Ok(())
+}
+
+#[test]
+fn wrong_words_are_told_with_the_usage(rt: HostRuntime) -> Result<(), Fail> {
+    let cases: [(Words, &str, &str); 13] = [
+        (
+            &["bootswap"],
+            "'bootswap' requires a subcommand but one was not provided\n  [subcommands: choose, check, image, manifest, provision, show, run, help]",
+            "[COMMAND]",
+        ),
+        (
+            &["bootswap", "frob"],
+            "unrecognized subcommand 'frob'",
+            "[COMMAND]",
+        ),
+        (
+            &["bootswap", "--frob"],
+            "unexpected argument '--frob' found",
+            "[COMMAND]",
+        ),
+        (
+            &["bootswap", "choose"],
+            "the following required arguments were not provided:\n  <TABLE>",
+            "choose <TABLE>",
+        ),
+        (
+            &["bootswap", "choose", "a", "b"],
+            "unexpected argument 'b' found",
+            "choose <TABLE>",
+        ),
+        (
+            &["bootswap", "check", "a"],
+            "the following required arguments were not provided:\n  <REPORT>",
+            "check <TABLE> <REPORT>",
+        ),
+        (
+            &["bootswap", "image"],
+            "the following required arguments were not provided:\n  <FILE>",
+            "image <FILE>",
+        ),
+        (
+            &["bootswap", "manifest", "a"],
+            "the following required arguments were not provided:\n  <FILE>",
+            "manifest <DEVICE> <FILE>",
+        ),
+        (
+            &["bootswap", "provision", "a", "b"],
+            "the following required arguments were not provided:\n  <IMAGE>...",
+            "provision <DEVICE> <FLASH> <IMAGE>...",
+        ),
+        (
+            &["bootswap", "show", "a"],
+            "the following required arguments were not provided:\n  <FLASH>",
+            "show <DEVICE> <FLASH>",
+        ),
+        (
+            &["bootswap", "show", "a", "b", "c"],
+            "unexpected argument 'c' found",
+            "show <DEVICE> <FLASH>",
+        ),
+        (
+            &["bootswap", "run", "a"],
+            "the following required arguments were not provided:\n  <FLASH>\n  <SCRIPT>",
+            "run <DEVICE> <FLASH> <SCRIPT>",
+        ),
+        (
+            &["bootswap", "run", "a", "b", "c", "d"],
+            "unexpected argument 'd' found",
+            "run <DEVICE> <FLASH> <SCRIPT>",
+        ),
+    ];
+    for (words, fault, usage) in cases {
+        expect_fault(&rt, rt.alloc(), words, fault, usage)?;
+    }
+    Ok(())
+}
+
+#[test]
+fn standard_input_is_read_for_one_file_only(rt: HostRuntime) -> Result<(), Fail> {
+    let cases: [(Words, &str); 7] = [
+        (&["bootswap", "check", "-", "-"], "check <TABLE> <REPORT>"),
+        (
+            &["bootswap", "manifest", "-", "-"],
+            "manifest <DEVICE> <FILE>",
+        ),
+        (
+            &["bootswap", "provision", "-", "f", "a", "-"],
+            "provision <DEVICE> <FLASH> <IMAGE>...",
+        ),
+        (
+            &["bootswap", "provision", "d", "f", "-", "-"],
+            "provision <DEVICE> <FLASH> <IMAGE>...",
+        ),
+        (
+            &["bootswap", "provision", "d", "f", "-", "b", "-"],
+            "provision <DEVICE> <FLASH> <IMAGE>...",
+        ),
+        (&["bootswap", "show", "-", "-"], "show <DEVICE> <FLASH>"),
+        (
+            &["bootswap", "run", "-", "f", "-"],
+            "run <DEVICE> <FLASH> <SCRIPT>",
+        ),
+    ];
+    for (words, usage) in cases {
+        let fault = "standard input, `-`, can be read for one file only";
+        expect_fault(&rt, rt.alloc(), words, fault, usage)?;
+    }
+    Ok(())
+}
+
+#[test]
+fn a_flash_that_is_written_to_is_no_standard_input(rt: HostRuntime) -> Result<(), Fail> {
+    let cases: [(Words, &str); 4] = [
+        (
+            &["bootswap", "provision", "d", "-", "a"],
+            "provision <DEVICE> <FLASH> <IMAGE>...",
+        ),
+        (
+            &["bootswap", "provision", "-", "-", "-"],
+            "provision <DEVICE> <FLASH> <IMAGE>...",
+        ),
+        (
+            &["bootswap", "run", "d", "-", "s"],
+            "run <DEVICE> <FLASH> <SCRIPT>",
+        ),
+        (
+            &["bootswap", "run", "-", "-", "s"],
+            "run <DEVICE> <FLASH> <SCRIPT>",
+        ),
+    ];
+    for (words, usage) in cases {
+        let fault = "the flash file is written to, so it can't be standard input, `-`";
+        expect_fault(&rt, rt.alloc(), words, fault, usage)?;
+    }
+    Ok(())
+}
+
+#[test]
+fn control_characters_of_wrong_words_are_escaped(rt: HostRuntime) -> Result<(), Fail> {
+    let words = ["bootswap", "fr\nob\u{1b}"];
+    let fault = answer_to(rt.alloc(), &words).ok_or("an order")?;
+    let told = fault_of(rt.alloc(), &words, fault);
+    let text = format!(in rt.alloc(); "{told}")?;
+    assert!(rt;
+        text.as_str()
+            == "error: unrecognized subcommand 'fr\\nob\\u{1b}'\n\nUsage: bootswap [COMMAND]\n\nFor more information, try '--help'.\n",
+        "{text}"
+    );
+    Ok(())
+}
+
+#[test]
+fn what_is_no_word_is_told(rt: HostRuntime) -> Result<(), Fail> {
+    let memory = format!(in rt.alloc(); "{}", OrderError::NoMemory)?;
+    assert!(rt; memory.as_str() == "memory", "{memory}");
+    let text = format!(in rt.alloc(); "{}", no_text(rt.alloc()))?;
+    assert!(rt;
+        text.as_str()
+            == "error: invalid UTF-8 was detected in one or more arguments\n\nUsage: bootswap [COMMAND]\n\nFor more information, try '--help'.\n",
+        "{text}"
+    );
+    Ok(())
+}
+
+/// What a help has to say.
+#[derive(Clone, Copy)]
+struct Help {
+    /// The words that ask for it.
+    words: Words,
+    /// What it has to contain.
+    parts: &'static [&'static str],
+}
+
+/// Every help. The short ones name the exit statuses and an example, the long ones what is read and printed.
+const HELPS: [Help; 18] = [
+    Help {
+        words: &["bootswap", "-h"],
+        parts: &[
+            "Usage: bootswap [COMMAND]\n",
+            "  choose     Reads a table",
+            "  check      Says whether",
+            "  image      Checks an image",
+            "  manifest   Checks a manifest",
+            "  provision  Makes the flash file",
+            "  show       Prints what stands",
+            "  run        Runs a device",
+            "Exit status: 0 done, 1 refused, 2",
+        ],
+    },
+    Help {
+        words: &["bootswap", "--help"],
+        parts: &[
+            "A bootloader core",
+            "Usage: bootswap [COMMAND]\n",
+            "  2  the words",
+            "  4  the flash file",
+            "  bootswap choose table.txt\n",
+            "  bootswap run device.json flash.bin script.txt\n",
+        ],
+    },
+    Help {
+        words: &["bootswap", "help"],
+        parts: &["  2  the words"],
+    },
+    Help {
+        words: &["bootswap", "choose", "-h"],
+        parts: &[
+            "Usage: bootswap choose <TABLE>\n",
+            "Exit status: 0 ",
+            "Example: bootswap choose ",
+        ],
+    },
+    Help {
+        words: &["bootswap", "choose", "--help"],
+        parts: &[
+            "  image IMAGE VERSION COUNTER FLOOR\n",
+            "  image 0 1.0.0+0 0 0\n  request 2.0.0+0 0\n  needs 1 2.0.0+0\n",
+            "  take 0 2.0.0+0\n",
+            "  2  the words",
+            "  bootswap choose table.txt\n",
+        ],
+    },
+    Help {
+        words: &["bootswap", "help", "choose"],
+        parts: &[
+            "  image IMAGE VERSION COUNTER FLOOR\n",
+            "  needs 0 2.0.0+0\n",
+            "  2  the words",
+        ],
+    },
+    Help {
+        words: &["bootswap", "check", "-h"],
+        parts: &[
+            "Usage: bootswap check <TABLE> <REPORT>\n",
+            "Exit status: 0 ",
+            "Example: bootswap check ",
+        ],
+    },
+    Help {
+        words: &["bootswap", "help", "check"],
+        parts: &[
+            "  refuse 0 older\n",
+            "  2  the words",
+            "  bootswap check table.txt report.txt\n",
+        ],
+    },
+    Help {
+        words: &["bootswap", "image", "-h"],
+        parts: &[
+            "Usage: bootswap image <FILE>\n",
+            "Exit status: 0 ",
+            "Example: bootswap image ",
+        ],
+    },
+    Help {
+        words: &["bootswap", "help", "image"],
+        parts: &[
+            "refused 10 BadDigest",
+            "  2  the words",
+            "  bootswap image firmware.img\n",
+        ],
+    },
+    Help {
+        words: &["bootswap", "manifest", "-h"],
+        parts: &[
+            "Usage: bootswap manifest <DEVICE> <FILE>\n",
+            "Exit status: 0 ",
+            "Example: bootswap manifest ",
+        ],
+    },
+    Help {
+        words: &["bootswap", "help", "manifest"],
+        parts: &[
+            "  {\"sector\":512,\"sectors\":[2,2],\n",
+            "  {\"manifest-version\":1,\"sequence-number\":1,\n",
+            "refused 4 WrongVendor",
+            "refused map 1 BadSector",
+            "  2  the words",
+            "  bootswap manifest device.json manifest.json\n",
+        ],
+    },
+    Help {
+        words: &["bootswap", "provision", "-h"],
+        parts: &[
+            "Usage: bootswap provision <DEVICE> <FLASH> <IMAGE>...\n",
+            "Exit status: 0 ",
+            "Example: bootswap provision ",
+        ],
+    },
+    Help {
+        words: &["bootswap", "help", "provision"],
+        parts: &[
+            "  {\"sector\":512,\"sectors\":[2,2],\n",
+            "refused boot 5 RunningDamaged 1",
+            "refused boot 6 InvalidSet",
+            "refused map 1 BadSector",
+            "image count",
+            "image 1 too big",
+            "  2  the words",
+            "  4  ",
+            "error: flash file",
+            "  bootswap provision device.json flash.bin a.img b.img\n",
+        ],
+    },
+    Help {
+        words: &["bootswap", "show", "-h"],
+        parts: &[
+            "Usage: bootswap show <DEVICE> <FLASH>\n",
+            "Exit status: 0 ",
+            "Example: bootswap show ",
+        ],
+    },
+    Help {
+        words: &["bootswap", "help", "show"],
+        parts: &[
+            "  state trial ",
+            "`back-settle`",
+            "  set 0 1 ",
+            "  left 1 ",
+            "  sequence 1 ",
+            "  floor 0 0 ",
+            "  swap 0 revert ",
+            "refused boot 4 NotProvisioned",
+            "  2  the words",
+            "  bootswap show device.json flash.bin\n",
+        ],
+    },
+    Help {
+        words: &["bootswap", "run", "-h"],
+        parts: &[
+            "Usage: bootswap run <DEVICE> <FLASH> <SCRIPT>\n",
+            "Exit status: 0 ",
+            "Example: bootswap run ",
+        ],
+    },
+    Help {
+        words: &["bootswap", "help", "run"],
+        parts: &[
+            "  cut WRITE TORN\n",
+            "`hex:00ff`",
+            "  accept FILE ",
+            "  piece IMAGE FILE ",
+            "  piece IMAGE FILE FROM COUNT ",
+            "  finish IMAGE ",
+            "  withdraw IMAGE ",
+            "  confirm IMAGE ",
+            "  boot ",
+            "  reset ",
+            " done ",
+            " plain ",
+            " trial ",
+            " permanent ",
+            " reverted 0 1 ",
+            "  6 trial-again 0 1 left 1\n",
+            " cut ",
+            " refused GROUP CODE NAME\n",
+            "  2  the words",
+            "  3  the last reply",
+            "  4  ",
+            "error: flash file",
+            "  bootswap run device.json flash.bin script.txt\n",
+        ],
+    },
+];
+
+#[test]
+fn every_help_teaches_its_command(rt: HostRuntime) -> Result<(), Fail> {
+    for help in HELPS {
+        let answer = answer_to(rt.alloc(), help.words).ok_or("an order")?;
+        let text = format!(in rt.alloc(); "{answer}")?;
+        assert!(rt; !answer.use_stderr() && answer.exit_code() == 0, "{text}");
+        assert!(rt;
+            help.parts.iter().all(|part| text.contains(*part)),
+            "{text}"
+        );
+        assert!(rt; text.lines().all(|line| line.len() <= 80), "{text}");
+    }
+    Ok(())
+}
+
+#[test]
+fn the_version_is_told(rt: HostRuntime) -> Result<(), Fail> {
+    for word in ["--version", "-V"] {
+        let answer = answer_to(rt.alloc(), &["bootswap", word]).ok_or("an order")?;
+        let text = format!(in rt.alloc(); "{answer}")?;
+        assert!(rt; !answer.use_stderr() && answer.exit_code() == 0, "{text}");
+        assert!(rt; text.as_str() == "bootswap 0.1.0\n", "{text}");
+    }
+    Ok(())
+}
+
+/// Asserts that words are a fault with this text, for standard error and status 2.
+fn expect_fault(
+    rt: &impl Abort,
+    alloc: Global,
+    words: Words,
+    fault: &str,
+    usage: &str,
+) -> Result<(), Fail> {
+    let answer = answer_to(alloc, words).ok_or("an order")?;
+    let text = format!(in alloc; "{answer}")?;
+    let expected = format!(in alloc;
+        "error: {fault}\n\nUsage: bootswap {usage}\n\nFor more information, try '--help'.\n"
+    )?;
+    assert!(rt;
+        answer.use_stderr() && answer.exit_code() == 2,
+        "{words:?} {text}"
+    );
+    assert!(rt; text.as_str() == expected.as_str(), "{words:?} {text}");
+    Ok(())
+}
+
+/// What `clap` answers to words that give no order.
+fn answer_to(alloc: Global, words: &[&str]) -> Option<Error> {
+    match order(alloc, words) {
+        Err(OrderError::Usage(answer)) => Some(answer),
+        Ok(_) | Err(OrderError::NoMemory) => None,
+    }
+}

@@ -1,0 +1,5 @@
+//! Manifests and identifiers, as one sees it who calls `manifest`.
+#![tactic(auto)]
+
+#[cfg(test)]
+mod tests;
