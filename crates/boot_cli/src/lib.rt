@@ -2,8 +2,8 @@
 //! table; what images say of themselves; what manifests say to a device; and a device itself, on a file, that boots,
 //! takes uploads and survives power cuts.
 //!
-//! The program `bootswap` gives them its words, the system's files and its standard input and outputs; a test gives them
-//! others.
+//! The program `bootswap` gives them its words, the system's files and its standard input and outputs; a test gives
+//! them others.
 #![tactic(auto)]
 
 mod answer;

@@ -23,10 +23,10 @@ const USAGE: u8 = 2;
 /// flash file failed.
 ///
 /// The first word is the program's own name, and without another one the choice is made over standard input. The words
-/// and JSON texts are parsed in memory of `alloc`, where flashes and what runs on them stand too, and all else stands in
-/// memory of `heap`. Input comes from `host`, which keeps the file of a flash. Answers go to `out`, error lines and the
-/// words on a wrong usage to `err`, and both are flushed. After a write that failed nothing more is written, and the
-/// status is 1.
+/// and JSON texts are parsed in memory of `alloc`, where flashes and what runs on them stand too, and all else stands
+/// in memory of `heap`. Input comes from `host`, which keeps the file of a flash. Answers go to `out`, error lines and
+/// the words on a wrong usage to `err`, and both are flushed. After a write that failed nothing more is written, and
+/// the status is 1.
 pub fn cli<S: AsStr, A: Allocator, H: Host, O: Write, E: Write>(
     alloc: Global,
     heap: &A,

@@ -8,8 +8,6 @@ mod combination;
 mod images;
 mod reasons;
 mod requests;
-#[cfg(test)]
-mod tests;
 
 use crate::report::Report;
 use crate::table::Table;

@@ -13,6 +13,3 @@ pub struct BadTable(pub usize);
 #[derive(Clone, Copy, Debug, PartialEq, Eq, Error)]
 #[error("no report goes on from line {0}")]
 pub struct BadReport(pub usize);
-
-#[cfg(test)]
-mod tests;

@@ -177,6 +177,3 @@ fn write_refusals<W: fmt::Write>(f: &mut fmt::Formatter<W>, refusals: &[Refusal]
     }
     Ok(())
 }
-
-#[cfg(test)]
-mod tests;

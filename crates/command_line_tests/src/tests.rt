@@ -8,55 +8,57 @@ use std::test::Fail;
 /// Words, of which the first is the program's own name.
 type Words = &'static [&'static str];
 
+/// Words of each command, and the order that they give.
+const ORDERS: [(Words, &str); 9] = [
+    (
+        &["bootswap", "choose", "t.txt"],
+        r#"Choose { table: "t.txt" }"#,
+    ),
+    (
+        &["bootswap", "check", "t.txt", "-"],
+        r#"Check { table: "t.txt", report: "-" }"#,
+    ),
+    (
+        &["bootswap", "image", "a.img"],
+        r#"Image { file: "a.img" }"#,
+    ),
+    (
+        &["bootswap", "manifest", "d.json", "m.json"],
+        r#"Manifest { device: "d.json", file: "m.json" }"#,
+    ),
+    (
+        &["bootswap", "provision", "d.json", "f.bin", "a.img"],
+        r#"Provision { device: "d.json", flash: "f.bin", images: ["a.img"] }"#,
+    ),
+    (
+        &[
+            "bootswap",
+            "provision",
+            "-",
+            "f.bin",
+            "a.img",
+            "b.img",
+            "a.img",
+        ],
+        r#"Provision { device: "-", flash: "f.bin", images: ["a.img", "b.img", "a.img"] }"#,
+    ),
+    (
+        &["bootswap", "show", "d.json", "-"],
+        r#"Show { device: "d.json", flash: "-" }"#,
+    ),
+    (
+        &["bootswap", "run", "d.json", "f.bin", "s.txt"],
+        r#"Run { device: "d.json", flash: "f.bin", script: "s.txt" }"#,
+    ),
+    (
+        &["any name", "choose", "--", "--help"],
+        r#"Choose { table: "--help" }"#,
+    ),
+];
+
 #[test]
 fn each_command_is_read_with_its_names(rt: HostRuntime) -> Result<(), Fail> {
-    let cases: [(Words, &str); 9] = [
-        (
-            &["bootswap", "choose", "t.txt"],
-            r#"Choose { table: "t.txt" }"#,
-        ),
-        (
-            &["bootswap", "check", "t.txt", "-"],
-            r#"Check { table: "t.txt", report: "-" }"#,
-        ),
-        (
-            &["bootswap", "image", "a.img"],
-            r#"Image { file: "a.img" }"#,
-        ),
-        (
-            &["bootswap", "manifest", "d.json", "m.json"],
-            r#"Manifest { device: "d.json", file: "m.json" }"#,
-        ),
-        (
-            &["bootswap", "provision", "d.json", "f.bin", "a.img"],
-            r#"Provision { device: "d.json", flash: "f.bin", images: ["a.img"] }"#,
-        ),
-        (
-            &[
-                "bootswap",
-                "provision",
-                "-",
-                "f.bin",
-                "a.img",
-                "b.img",
-                "a.img",
-            ],
-            r#"Provision { device: "-", flash: "f.bin", images: ["a.img", "b.img", "a.img"] }"#,
-        ),
-        (
-            &["bootswap", "show", "d.json", "-"],
-            r#"Show { device: "d.json", flash: "-" }"#,
-        ),
-        (
-            &["bootswap", "run", "d.json", "f.bin", "s.txt"],
-            r#"Run { device: "d.json", flash: "f.bin", script: "s.txt" }"#,
-        ),
-        (
-            &["any name", "choose", "--", "--help"],
-            r#"Choose { table: "--help" }"#,
-        ),
-    ];
-    for (words, asked) in cases {
+    for (words, asked) in ORDERS {
         let read = order(rt.alloc(), words)?;
         let text = format!(in rt.alloc(); "{read:?}")?;
         assert!(rt; text.as_str() == asked, "{words:?} {text}");
@@ -64,76 +66,78 @@ fn each_command_is_read_with_its_names(rt: HostRuntime) -> Result<(), Fail> {
     Ok(())
 }
 
+/// Words that give no order, what is told of them, and how the command is used.
+const WRONG_WORDS: [(Words, &str, &str); 13] = [
+    (
+        &["bootswap"],
+        "'bootswap' requires a subcommand but one was not provided\n  [subcommands: choose, check, image, manifest, provision, show, run, help]",
+        "[COMMAND]",
+    ),
+    (
+        &["bootswap", "frob"],
+        "unrecognized subcommand 'frob'",
+        "[COMMAND]",
+    ),
+    (
+        &["bootswap", "--frob"],
+        "unexpected argument '--frob' found",
+        "[COMMAND]",
+    ),
+    (
+        &["bootswap", "choose"],
+        "the following required arguments were not provided:\n  <TABLE>",
+        "choose <TABLE>",
+    ),
+    (
+        &["bootswap", "choose", "a", "b"],
+        "unexpected argument 'b' found",
+        "choose <TABLE>",
+    ),
+    (
+        &["bootswap", "check", "a"],
+        "the following required arguments were not provided:\n  <REPORT>",
+        "check <TABLE> <REPORT>",
+    ),
+    (
+        &["bootswap", "image"],
+        "the following required arguments were not provided:\n  <FILE>",
+        "image <FILE>",
+    ),
+    (
+        &["bootswap", "manifest", "a"],
+        "the following required arguments were not provided:\n  <FILE>",
+        "manifest <DEVICE> <FILE>",
+    ),
+    (
+        &["bootswap", "provision", "a", "b"],
+        "the following required arguments were not provided:\n  <IMAGE>...",
+        "provision <DEVICE> <FLASH> <IMAGE>...",
+    ),
+    (
+        &["bootswap", "show", "a"],
+        "the following required arguments were not provided:\n  <FLASH>",
+        "show <DEVICE> <FLASH>",
+    ),
+    (
+        &["bootswap", "show", "a", "b", "c"],
+        "unexpected argument 'c' found",
+        "show <DEVICE> <FLASH>",
+    ),
+    (
+        &["bootswap", "run", "a"],
+        "the following required arguments were not provided:\n  <FLASH>\n  <SCRIPT>",
+        "run <DEVICE> <FLASH> <SCRIPT>",
+    ),
+    (
+        &["bootswap", "run", "a", "b", "c", "d"],
+        "unexpected argument 'd' found",
+        "run <DEVICE> <FLASH> <SCRIPT>",
+    ),
+];
+
 #[test]
 fn wrong_words_are_told_with_the_usage(rt: HostRuntime) -> Result<(), Fail> {
-    let cases: [(Words, &str, &str); 13] = [
-        (
-            &["bootswap"],
-            "'bootswap' requires a subcommand but one was not provided\n  [subcommands: choose, check, image, manifest, provision, show, run, help]",
-            "[COMMAND]",
-        ),
-        (
-            &["bootswap", "frob"],
-            "unrecognized subcommand 'frob'",
-            "[COMMAND]",
-        ),
-        (
-            &["bootswap", "--frob"],
-            "unexpected argument '--frob' found",
-            "[COMMAND]",
-        ),
-        (
-            &["bootswap", "choose"],
-            "the following required arguments were not provided:\n  <TABLE>",
-            "choose <TABLE>",
-        ),
-        (
-            &["bootswap", "choose", "a", "b"],
-            "unexpected argument 'b' found",
-            "choose <TABLE>",
-        ),
-        (
-            &["bootswap", "check", "a"],
-            "the following required arguments were not provided:\n  <REPORT>",
-            "check <TABLE> <REPORT>",
-        ),
-        (
-            &["bootswap", "image"],
-            "the following required arguments were not provided:\n  <FILE>",
-            "image <FILE>",
-        ),
-        (
-            &["bootswap", "manifest", "a"],
-            "the following required arguments were not provided:\n  <FILE>",
-            "manifest <DEVICE> <FILE>",
-        ),
-        (
-            &["bootswap", "provision", "a", "b"],
-            "the following required arguments were not provided:\n  <IMAGE>...",
-            "provision <DEVICE> <FLASH> <IMAGE>...",
-        ),
-        (
-            &["bootswap", "show", "a"],
-            "the following required arguments were not provided:\n  <FLASH>",
-            "show <DEVICE> <FLASH>",
-        ),
-        (
-            &["bootswap", "show", "a", "b", "c"],
-            "unexpected argument 'c' found",
-            "show <DEVICE> <FLASH>",
-        ),
-        (
-            &["bootswap", "run", "a"],
-            "the following required arguments were not provided:\n  <FLASH>\n  <SCRIPT>",
-            "run <DEVICE> <FLASH> <SCRIPT>",
-        ),
-        (
-            &["bootswap", "run", "a", "b", "c", "d"],
-            "unexpected argument 'd' found",
-            "run <DEVICE> <FLASH> <SCRIPT>",
-        ),
-    ];
-    for (words, fault, usage) in cases {
+    for (words, fault, usage) in WRONG_WORDS {
         expect_fault(&rt, rt.alloc(), words, fault, usage)?;
     }
     Ok(())

@@ -170,7 +170,7 @@ fn around(all: u8, at: usize, range: &[u8; 16]) -> [u8; 48]
 }
 
 #[test]
-fn each_write_reaches_its_place_in_the_file(rt: HostRuntime) -> Result<(), Fail> {
+fn a_program_reaches_its_place_in_the_file(rt: HostRuntime) -> Result<(), Fail> {
     let program = [(Step::Program(8), DONE)];
     let bytes = around(0xff, 8, &SIXTEEN);
     assert_eq!(rt;
@@ -183,6 +183,11 @@ fn each_write_reaches_its_place_in_the_file(rt: HostRuntime) -> Result<(), Fail>
             has_failed: false
         }
     );
+    Ok(())
+}
+
+#[test]
+fn an_erase_reaches_its_place_in_the_file(rt: HostRuntime) -> Result<(), Fail> {
     let erase = [(Step::Erase(2), DONE)];
     let bytes = around(0x07, 32, &[0xff; 16]);
     assert_eq!(rt;
@@ -195,7 +200,12 @@ fn each_write_reaches_its_place_in_the_file(rt: HostRuntime) -> Result<(), Fail>
             has_failed: false
         }
     );
-    let both = [
+    Ok(())
+}
+
+#[test]
+fn writes_reach_the_file_one_after_the_other(rt: HostRuntime) -> Result<(), Fail> {
+    let steps = [
         (Step::Erase(0), DONE),
         (Step::Program(0), DONE),
         (Step::Erase(1), DONE),
@@ -203,7 +213,7 @@ fn each_write_reaches_its_place_in_the_file(rt: HostRuntime) -> Result<(), Fail>
     let mut bytes = around(0x07, 0, &SIXTEEN);
     bytes[16..32].fill(0xff);
     assert_eq!(rt;
-        played(&rt, rt.alloc(), 0x07, UNCUT, 0, &both)?,
+        played(&rt, rt.alloc(), 0x07, UNCUT, 0, &steps)?,
         Seen {
             memory: bytes,
             file: bytes,
@@ -216,7 +226,9 @@ fn each_write_reaches_its_place_in_the_file(rt: HostRuntime) -> Result<(), Fail>
 }
 
 #[test]
-fn a_cut_leaves_the_same_bytes_in_memory_and_in_the_file(rt: HostRuntime) -> Result<(), Fail> {
+fn a_program_that_is_cut_leaves_the_same_bytes_in_memory_and_in_the_file(
+    rt: HostRuntime,
+) -> Result<(), Fail> {
     let pattern = vec![in rt.alloc(); 0x5a, 0xa5, 0x00]?;
     let steps = [
         (Step::Program(8), CUT),
@@ -239,6 +251,13 @@ fn a_cut_leaves_the_same_bytes_in_memory_and_in_the_file(rt: HostRuntime) -> Res
             }
         );
     }
+    Ok(())
+}
+
+#[test]
+fn an_erase_that_is_cut_leaves_the_same_bytes_in_memory_and_in_the_file(
+    rt: HostRuntime,
+) -> Result<(), Fail> {
     let pattern = vec![in rt.alloc(); 0x5a, 0xa5, 0x00]?;
     let steps = [
         (Step::Erase(1), CUT),
@@ -287,8 +306,8 @@ fn a_flash_goes_on_after_a_cut_and_a_restart(rt: HostRuntime) -> Result<(), Fail
 }
 
 #[test]
-fn the_first_write_of_the_file_that_fails_cuts_all_later_ones(rt: HostRuntime) -> Result<(), Fail> {
-    let first = [
+fn where_the_first_write_of_the_file_fails_all_are_cut(rt: HostRuntime) -> Result<(), Fail> {
+    let steps = [
         (Step::Erase(0), CUT),
         (Step::Erase(0), OFF),
         (Step::Restart, DONE),
@@ -298,7 +317,7 @@ fn the_first_write_of_the_file_that_fails_cuts_all_later_ones(rt: HostRuntime) -
         (Step::Erase(1), CUT),
     ];
     assert_eq!(rt;
-        played(&rt, rt.alloc(), 0x07, UNCUT, 1, &first)?,
+        played(&rt, rt.alloc(), 0x07, UNCUT, 1, &steps)?,
         Seen {
             memory: around(0x07, 0, &[0xff; 16]),
             file: [0x07; 48],
@@ -307,7 +326,14 @@ fn the_first_write_of_the_file_that_fails_cuts_all_later_ones(rt: HostRuntime) -
             has_failed: true,
         }
     );
-    let second = [
+    Ok(())
+}
+
+#[test]
+fn where_the_second_write_of_the_file_fails_the_later_ones_are_cut(
+    rt: HostRuntime,
+) -> Result<(), Fail> {
+    let steps = [
         (Step::Erase(0), DONE),
         (Step::Program(0), CUT),
         (Step::Erase(1), OFF),
@@ -315,7 +341,7 @@ fn the_first_write_of_the_file_that_fails_cuts_all_later_ones(rt: HostRuntime) -
         (Step::Erase(1), CUT),
     ];
     assert_eq!(rt;
-        played(&rt, rt.alloc(), 0x07, UNCUT, 2, &second)?,
+        played(&rt, rt.alloc(), 0x07, UNCUT, 2, &steps)?,
         Seen {
             memory: around(0x07, 0, &SIXTEEN),
             file: around(0x07, 0, &[0xff; 16]),
@@ -324,7 +350,14 @@ fn the_first_write_of_the_file_that_fails_cuts_all_later_ones(rt: HostRuntime) -
             has_failed: true,
         }
     );
-    let third = [
+    Ok(())
+}
+
+#[test]
+fn where_the_third_write_of_the_file_fails_the_later_ones_are_cut(
+    rt: HostRuntime,
+) -> Result<(), Fail> {
+    let steps = [
         (Step::Erase(0), DONE),
         (Step::Program(0), DONE),
         (Step::Erase(2), CUT),
@@ -335,7 +368,7 @@ fn the_first_write_of_the_file_that_fails_cuts_all_later_ones(rt: HostRuntime) -
     let mut memory = file;
     memory[32..].fill(0xff);
     assert_eq!(rt;
-        played(&rt, rt.alloc(), 0x07, UNCUT, 3, &third)?,
+        played(&rt, rt.alloc(), 0x07, UNCUT, 3, &steps)?,
         Seen {
             memory,
             file,

@@ -42,8 +42,8 @@ text_at key value = option_and_then as_str (get key value)
 abbrev pub array_at : List ℕ → Data → Option (List Data)
 array_at key value = option_map values_of (option_and_then as_array (get key value))
 
--- The UUID that the text at a key spells, in any of its forms and in either case (RFC 9562,
--- section 4).
+-- The UUID that the text at a key spells, in any of its forms and in either case
+-- (RFC 9562, section 4).
 abbrev pub uuid_at : List ℕ → Data → Option (List ℕ)
 uuid_at key value = option_and_then parsed (text_at key value)
 

@@ -129,7 +129,22 @@ impl Target {
         self.command_within(alloc, &alloc, words, script, input, AMPLE)
     }
 
-    /// The same with outputs of these limits, and with files and texts in memory of `heap`.
+    /// The same with the words of a line, each behind a space but the first, without the program's own name.
+    pub fn line(
+        &mut self,
+        alloc: Global,
+        line: &str,
+        script: &[u8],
+        input: &[u8],
+    ) -> Result<Outcome, Fail> {
+        let mut words = vec![in alloc; "bootswap"]?;
+        for word in line.split(' ') {
+            words.push(word)?;
+        }
+        Ok(self.command(alloc, words.as_slice(), script, input))
+    }
+
+    /// The same as `command` with outputs of these limits, and with files and texts in memory of `heap`.
     pub fn command_within<A: Allocator>(
         &mut self,
         alloc: Global,

@@ -2,7 +2,7 @@
 //! two sectors. Its log is in sectors 13 to 15, at 6656, 7168 and 7680, with seven places each; their closing units
 //! stand at 7160, 7672 and 8184.
 
-ghost use Rattle.std.specs.Prelude.{◌≡◌, ◌+◌, ◌<◌, ◌≤◌, IfOk, length};
+ghost use Rattle.std.specs.Prelude.{◌≡◌, ◌+◌, ◌<◌, ◌≤◌};
 
 use flash_model::{FLAG, Flash, FlashError, MemFlash, Torn};
 use sector_map::SectorMap;
@@ -35,6 +35,26 @@ fn steady(sequence: u32) -> State {
     }
 }
 
+/// Reads the state of a log.
+fn state_in<F: Flash>(rt: &impl Abort, flash: &mut F, map: &SectorMap) -> Result<State, LogError> {
+    assert!(rt; map.fits(flash));
+    read_state(flash, map)
+}
+
+/// Begins a log with a state, which is read then.
+fn begin<F: Flash>(
+    rt: &impl Abort,
+    flash: &mut F,
+    map: &SectorMap,
+    state: &State,
+) -> Result<(), Fail> {
+    assert!(rt; map.fits(flash));
+    assert!(rt; state.fits(map.images));
+    start(flash, map, state)?;
+    assert_eq!(rt; state_in(rt, flash, map)?, *state);
+    Ok(())
+}
+
 /// A log that was begun on a flash of zeros, which isn't erased anywhere.
 fn begun<L: Ledger>(
     rt: &impl Abort,
@@ -48,11 +68,7 @@ fn begun<L: Ledger>(
     requires two { L.parts ≡ 2 }
 {
     let mut flash = MemFlash::<L>::from_bytes(alloc, blank, 512, vec![in alloc; 0; 8192]?);
-    assert!(rt; map.fits(&flash));
-    assert!(rt; state.fits(map.images));
-    start(&mut flash, map, state)?;
-    assert!(rt; map.fits(&flash));
-    assert_eq!(rt; read_state(&mut flash, map)?, *state);
+    begin(rt, &mut flash, map, state)?;
     Ok(flash)
 }
 
@@ -62,22 +78,19 @@ fn append_to<F: Flash>(
     flash: &mut F,
     map: &SectorMap,
     state: &State,
-) -> Result<Result<(), FlashError>, Fail> {
+) -> Result<Result<(), FlashError>, LogError> {
     assert!(rt; map.fits(flash));
     assert!(rt; state.fits(map.images));
-    let _old = read_state(flash, map)?;
-    Ok(append(flash, map, state))
+    match read_state(flash, map) {
+        Ok(_) => Ok(append(flash, map, state)),
+        Err(error) => Err(error),
+    }
 }
 
-/// The bytes of a flash from an address on.
-fn bytes_at<L: Ledger>(
-    rt: &impl Abort,
-    flash: &MemFlash<L>,
-    at: usize,
-    wanted: &[u8],
-) -> Result<bool, Fail> {
+/// Whether a flash has these bytes from an address on.
+fn bytes_at<L: Ledger>(rt: &impl Abort, flash: &MemFlash<L>, at: usize, wanted: &[u8]) -> bool {
     assert!(rt; flash.bytes().len() == 8192 && at <= 8192 && wanted.len() <= 8192 - at);
-    Ok(&flash.bytes()[at..at + wanted.len()] == wanted)
+    &flash.bytes()[at..at + wanted.len()] == wanted
 }
 
 /// Fifty appends after a beginning.
@@ -100,15 +113,15 @@ fn fifty_appends<L: Ledger>(rt: &impl Abort, alloc: Global, blank: Blank) -> Res
         );
         if sequence == 6 {
             for place in 0..7 {
-                assert!(rt; bytes_at(rt, &flash, 6656 + 64 * place + 56, &FLAG)?);
+                assert!(rt; bytes_at(rt, &flash, 6656 + 64 * place + 56, &FLAG));
             }
-            assert!(rt; bytes_at(rt, &flash, 7160, &[0xff; 8])?);
+            assert!(rt; bytes_at(rt, &flash, 7160, &[0xff; 8]));
         }
         if sequence == 7 {
-            assert!(rt; bytes_at(rt, &flash, 7168, &[1, 0, 0, 0, 7, 0, 0, 0])?);
-            assert!(rt; bytes_at(rt, &flash, 7224, &FLAG)?);
-            assert!(rt; bytes_at(rt, &flash, 7160, &FLAG)?);
-            assert!(rt; bytes_at(rt, &flash, 7672, &[0xff; 8])?);
+            assert!(rt; bytes_at(rt, &flash, 7168, &[1, 0, 0, 0, 7, 0, 0, 0]));
+            assert!(rt; bytes_at(rt, &flash, 7224, &FLAG));
+            assert!(rt; bytes_at(rt, &flash, 7160, &FLAG));
+            assert!(rt; bytes_at(rt, &flash, 7672, &[0xff; 8]));
         }
     }
     Ok(())
@@ -117,6 +130,19 @@ fn fifty_appends<L: Ledger>(rt: &impl Abort, alloc: Global, blank: Blank) -> Res
 #[test]
 fn a_sector_is_erased_for_each_seventh_append(rt: HostRuntime) -> Result<(), Fail> {
     fifty_appends::<Brand>(&rt, rt.alloc(), Blank::new(2))
+}
+
+/// Six appends, and a seventh that is cut.
+fn append_seven<F: Flash>(rt: &impl Abort, flash: &mut F, map: &SectorMap) -> Result<(), Fail> {
+    for sequence in 1..7 {
+        append_to(rt, flash, map, &steady(sequence))??;
+    }
+    assert_eq!(rt;
+        append_to(rt, flash, map, &steady(7))?,
+        Err(FlashError::Cut)
+    );
+    flash.restart();
+    Ok(())
 }
 
 /// Six appends, and a seventh whose write of this number is cut, counted from the making of the flash.
@@ -135,19 +161,27 @@ fn seventh_cut<L: Ledger>(
     let map = two_images(rt)?;
     let mut flash = begun::<L>(rt, alloc, blank, &map, &steady(0))?;
     flash.arm(write, torn)?;
-    for sequence in 1..7 {
-        append_to(rt, &mut flash, &map, &steady(sequence))??;
-    }
-    assert_eq!(rt;
-        append_to(rt, &mut flash, &map, &steady(7))?,
-        Err(FlashError::Cut)
-    );
-    flash.restart();
+    append_seven(rt, &mut flash, &map)?;
     Ok(flash)
 }
 
-/// What the cut of one write of the seventh append changes: the range where the pattern stands, and whether what
-/// is written before stands and what is written after doesn't.
+/// What a cut write leaves.
+const PATTERN: [u8; 512] = [0x5a; 512];
+
+/// Where the pattern stands, the range of each of four writes, and whether what is written before
+/// stands and what is written after doesn't.
+fn order_in<L: Ledger>(rt: &impl Abort, flash: &MemFlash<L>) -> [bool; 4] {
+    let erased = bytes_at(rt, flash, 7168, &PATTERN);
+    let written = bytes_at(rt, flash, 7168, &PATTERN[..56])
+        && bytes_at(rt, flash, 7224, &[0xff; 8]);
+    let gated = bytes_at(rt, flash, 7168, &[1, 0, 0, 0, 7, 0, 0, 0])
+        && bytes_at(rt, flash, 7224, &PATTERN[..8])
+        && bytes_at(rt, flash, 7160, &[0xff; 8]);
+    let closed = bytes_at(rt, flash, 7224, &FLAG) && bytes_at(rt, flash, 7160, &PATTERN[..8]);
+    [erased, written, gated, closed]
+}
+
+/// What the cut of one write of the seventh append changes.
 fn writes_in_order<L: Ledger>(
     rt: &impl Abort,
     alloc: Global,
@@ -161,14 +195,7 @@ fn writes_in_order<L: Ledger>(
 {
     let torn = Torn::Bytes(vec![in alloc; 0x5a]?);
     let flash = seventh_cut::<L>(rt, alloc, blank, write, torn)?;
-    Ok([
-        bytes_at(rt, &flash, 7168, &[0x5a; 512])?,
-        bytes_at(rt, &flash, 7168, &[0x5a; 56])? && bytes_at(rt, &flash, 7224, &[0xff; 8])?,
-        bytes_at(rt, &flash, 7168, &[1, 0, 0, 0, 7, 0, 0, 0])?
-            && bytes_at(rt, &flash, 7224, &[0x5a; 8])?
-            && bytes_at(rt, &flash, 7160, &[0xff; 8])?,
-        bytes_at(rt, &flash, 7224, &FLAG)? && bytes_at(rt, &flash, 7160, &[0x5a; 8])?,
-    ])
+    Ok(order_in(rt, &flash))
 }
 
 fn order_of_writes(rt: &impl Abort, alloc: Global, write: u64) -> Result<[bool; 4], Fail>
@@ -190,26 +217,28 @@ fn the_seventh_append_erases_writes_gates_and_closes(rt: HostRuntime) -> Result<
     Ok(())
 }
 
+/// The bytes of a place with a gated record of a sequence below 256.
+fn gated_place(sequence: u8) -> [u8; 64] {
+    let mut place = [0; 64];
+    place[0] = 1;
+    place[4] = sequence;
+    place[12] = 5;
+    place[56..].copy_from_slice(&FLAG);
+    place
+}
+
 /// The bytes of a sector of seven gated records with later sequences, 200 to 206, open or closed.
-fn later_sector(alloc: Global, closed: bool) -> Result<Vec<u8>, Fail>
-    ensures { IfOk result (λ bytes. length bytes.items ≡ 512) }
-{
-    let mut bytes = vec![in alloc; 0; 512]?;
-    for place in 0..7 {
-        bytes[64 * place] = 1;
-        bytes[64 * place + 4] = 200 + place as u8;
-        bytes[64 * place + 12] = 5;
-        bytes[64 * place + 56] = 1;
-        for at in 57..64 {
-            bytes[64 * place + at] = 0xff;
-        }
-    }
-    for at in 448..512 {
-        bytes[at] = 0xff;
+fn later_sector(alloc: Global, closed: bool) -> Result<Vec<u8>, Fail> {
+    let mut sector = [0xff; 512];
+    for place in 0..7u8 {
+        let at = 64 * usize::from(place);
+        sector[at..at + 64].copy_from_slice(&gated_place(200 + place));
     }
     if closed {
-        bytes[504] = 1;
+        sector[504] = 1;
     }
+    let mut bytes = vec![in alloc; 0; 512]?;
+    bytes.copy_from_slice(&sector);
     Ok(bytes)
 }
 
@@ -261,13 +290,13 @@ fn recorded<L: Ledger>(
 {
     let map = two_images(rt)?;
     let flash = begun::<L>(rt, alloc, blank, &map, state)?;
-    assert!(rt; bytes_at(rt, &flash, 6656, wanted)?);
-    assert!(rt; bytes_at(rt, &flash, 6712, &FLAG)?);
-    assert!(rt; bytes_at(rt, &flash, 8184, &FLAG)?);
+    assert!(rt; bytes_at(rt, &flash, 6656, wanted));
+    assert!(rt; bytes_at(rt, &flash, 6712, &FLAG));
+    assert!(rt; bytes_at(rt, &flash, 8184, &FLAG));
     // All else is erased.
-    assert!(rt; bytes_at(rt, &flash, 6720, &[0xff; 1464])?);
+    assert!(rt; bytes_at(rt, &flash, 6720, &[0xff; 1464]));
     // And before the log all is as it was.
-    assert!(rt; bytes_at(rt, &flash, 6144, &[0; 512])?);
+    assert!(rt; bytes_at(rt, &flash, 6144, &[0; 512]));
     Ok(())
 }
 
@@ -318,6 +347,39 @@ fn torn(alloc: Global, which: usize) -> Result<Torn, Fail> {
     })
 }
 
+/// Appends a state again, a write of which was cut: the old state or the new one stands.
+fn append_again<F: Flash>(
+    rt: &impl Abort,
+    flash: &mut F,
+    map: &SectorMap,
+    sequence: u32,
+) -> Result<(), Fail>
+    requires { 0 < sequence }
+{
+    flash.restart();
+    let state = state_in(rt, flash, map)?;
+    assert!(rt; state == steady(sequence) || state == steady(sequence - 1));
+    append_to(rt, flash, map, &steady(sequence))??;
+    Ok(())
+}
+
+/// Appends a state, again where a write is cut, and tells whether one was.
+fn is_cut<F: Flash>(
+    rt: &impl Abort,
+    flash: &mut F,
+    map: &SectorMap,
+    sequence: u32,
+) -> Result<bool, Fail>
+    requires { 0 < sequence }
+{
+    let cut = append_to(rt, flash, map, &steady(sequence))? == Err(FlashError::Cut);
+    if cut {
+        append_again(rt, flash, map, sequence)?;
+    }
+    assert_eq!(rt; state_in(rt, flash, map)?, steady(sequence));
+    Ok(cut)
+}
+
 /// Fifty appends of which one write is cut: the old state or the new one stands, which is appended again.
 fn one_cut<L: Ledger>(
     rt: &impl Abort,
@@ -336,16 +398,9 @@ fn one_cut<L: Ledger>(
     flash.arm(write, torn)?;
     let mut cut = 0;
     for sequence in 1..=50 {
-        if append_to(rt, &mut flash, &map, &steady(sequence))? == Err(FlashError::Cut) {
+        if is_cut(rt, &mut flash, &map, sequence)? {
             cut = sequence;
-            flash.restart();
-            assert!(rt; map.fits(&flash));
-            let state = read_state(&mut flash, &map)?;
-            assert!(rt; state == steady(sequence) || state == steady(sequence - 1));
-            append_to(rt, &mut flash, &map, &steady(sequence))??;
         }
-        assert!(rt; map.fits(&flash));
-        assert_eq!(rt; read_state(&mut flash, &map)?, steady(sequence));
     }
     Ok(cut)
 }
@@ -584,35 +639,32 @@ fn a_state_fits_where_it_keeps_the_table(rt: HostRuntime) -> Result<(), Fail> {
     assert!(rt; !State { left: 7, ..trial }.fits(2));
     assert!(rt; !State { mask: 0, ..trial }.fits(2));
     assert!(rt; !State { mask: 4, ..trial }.fits(2));
-    assert!(rt;
-        !State {
-            kind: Kind::Swap,
-            ..trial
-        }
-        .fits(2)
-    );
-    assert!(rt;
-        !State {
-            mask: 1,
-            ..steady(1)
-        }
-        .fits(2)
-    );
-    assert!(rt;
-        !State {
-            permanent: true,
-            ..steady(1)
-        }
-        .fits(2)
-    );
-    assert!(rt;
-        State {
-            mask: 0xff,
-            floors: [9; 8],
-            ..trial
-        }
-        .fits(8)
-    );
+    let swap = State {
+        kind: Kind::Swap,
+        ..trial
+    };
+    assert!(rt; !swap.fits(2));
+    let full = State {
+        mask: 0xff,
+        floors: [9; 8],
+        ..trial
+    };
+    assert!(rt; full.fits(8));
+    Ok(())
+}
+
+#[test]
+fn a_steady_state_has_no_set(rt: HostRuntime) -> Result<(), Fail> {
+    let masked = State {
+        mask: 1,
+        ..steady(1)
+    };
+    assert!(rt; !masked.fits(2));
+    let permanent = State {
+        permanent: true,
+        ..steady(1)
+    };
+    assert!(rt; !permanent.fits(2));
     Ok(())
 }
 

@@ -65,29 +65,44 @@ fn bytes_of(alloc: Global, sector_size: u16, standing: &Standing) -> Result<Vec<
     Ok(bytes)
 }
 
-/// Where the slots of both images and scratch stand after so many steps of each, where so many sectors of each slot
-/// are swapped: indices from the highest; of an index the secondary sector to scratch, the primary sector to the
-/// secondary one, scratch to the primary one. A sector that holds nothing then has other bytes.
+/// Moves what a pair of sectors holds, a primary one and its secondary one, by so many of its
+/// three steps: the secondary sector to scratch, the primary sector to the secondary one, scratch
+/// to the primary one. A sector that holds nothing then has other bytes.
+fn move_pair(sources: &mut [u8; 16], primary: u8, secondary: u8, steps: u8)
+    requires low { primary < 12 }
+    requires high { secondary < 12 }
+{
+    let (p, s) = (usize::from(primary), usize::from(secondary));
+    match steps {
+        0 => {}
+        1 => {
+            sources[s] = OTHER;
+            sources[12] = secondary;
+        }
+        2 => {
+            sources[p] = OTHER;
+            sources[s] = primary;
+            sources[12] = secondary;
+        }
+        _ => {
+            sources[p] = secondary;
+            sources[s] = primary;
+        }
+    }
+}
+
+/// Where the slots of both images and scratch stand after so many steps of each, where so many
+/// sectors of each slot are swapped: indices from the highest.
 fn after_steps(counts: [u8; 2], sectors: u8, swap_size: u16) -> Standing
     requires { sectors ≤ 2 }
 {
     let mut sources = [0, 1, 2, 3, 4, 5, 6, 7, 8, 9, 10, 11, OTHER, 13, 14, 15];
     for image in 0..2 {
-        let (primary, secondary) = if image == 0 { (0, 6) } else { (3, 9) };
-        let done = counts[image] / 3;
         for q in 0..sectors {
-            let (p, s) = (primary + q, secondary + q);
-            if q + done >= sectors {
-                sources[usize::from(p)] = s;
-                sources[usize::from(s)] = p;
-            } else if q + done + 1 == sectors && counts[image] % 3 == 1 {
-                sources[usize::from(s)] = OTHER;
-                sources[12] = s;
-            } else if q + done + 1 == sectors && counts[image] % 3 == 2 {
-                sources[usize::from(p)] = OTHER;
-                sources[usize::from(s)] = p;
-                sources[12] = s;
-            }
+            let before = 3 * (sectors - 1 - q);
+            let primary = 3 * image + q;
+            let steps = counts[usize::from(image)].saturating_sub(before);
+            move_pair(&mut sources, primary, primary + 6, steps);
         }
     }
     Standing {
@@ -97,18 +112,68 @@ fn after_steps(counts: [u8; 2], sectors: u8, swap_size: u16) -> Standing
     }
 }
 
+/// Compares the bytes from an address to another.
+fn assert_part(rt: &impl Abort, bytes: &[u8], wanted: &[u8], from: usize, to: usize) {
+    assert!(rt; from <= to && to <= bytes.len() && to <= wanted.len());
+    assert!(rt; bytes[from..to] == wanted[from..to]);
+}
+
+/// All bytes but scratch and the status units: a first sector, where the part begins in that, and
+/// the sector before which it ends.
+const PARTS: [(u8, u8, u8); 4] = [(0, 0, 2), (2, 48, 5), (5, 48, 12), (13, 0, 16)];
+
 /// Compares all bytes but scratch and the status units.
-fn assert_stands(rt: &impl Abort, bytes: &[u8], wanted: &[u8], sector_size: usize)
-    requires few { sector_size < 65536 }
-    requires some { 512 ≤ sector_size }
-{
-    let size = sector_size;
+fn assert_stands(rt: &impl Abort, bytes: &[u8], wanted: &[u8], sector_size: u16) {
+    let size = usize::from(sector_size);
     assert_eq!(rt; bytes.len(), 16 * size);
     assert_eq!(rt; wanted.len(), 16 * size);
-    assert!(rt; bytes[..2 * size] == wanted[..2 * size]);
-    assert!(rt; bytes[2 * size + 48..5 * size] == wanted[2 * size + 48..5 * size]);
-    assert!(rt; bytes[5 * size + 48..12 * size] == wanted[5 * size + 48..12 * size]);
-    assert!(rt; bytes[13 * size..] == wanted[13 * size..]);
+    for (sector, offset, end) in PARTS {
+        let from = usize::from(sector) * size + usize::from(offset);
+        assert_part(rt, bytes, wanted, from, usize::from(end) * size);
+    }
+}
+
+/// A flash in memory of 16 sectors with these bytes.
+fn flash_of<L: Ledger>(
+    rt: &impl Abort,
+    alloc: Global,
+    blank: Blank,
+    sector_size: u16,
+    bytes: Vec<u8>,
+) -> MemFlash<L>
+    requires name { blank.name ≡ L.name }
+    requires parts { blank.parts ≡ L.parts }
+    requires two { L.parts ≡ 2 }
+    requires large { 512 ≤ sector_size }
+{
+    assert_eq!(rt; bytes.len(), 16 * usize::from(sector_size));
+    assert_eq!(rt; bytes.len() % usize::from(sector_size), 0);
+    MemFlash::<L>::from_bytes(alloc, blank, u32::from(sector_size), bytes)
+}
+
+/// Swaps a set of images.
+fn swap<F: Flash>(
+    rt: &impl Abort,
+    flash: &mut F,
+    map: &SectorMap,
+    mask: u8,
+    side: Side,
+) -> Result<(), FlashError> {
+    assert!(rt; map.fits(flash));
+    assert!(rt; is_within(map, mask));
+    swap_set(flash, map, mask, side)
+}
+
+/// How many status units of an image's primary trailer are set, of two images.
+fn counted<F: Flash>(
+    rt: &impl Abort,
+    flash: &mut F,
+    map: &SectorMap,
+    image: u8,
+) -> Result<u32, FlashError> {
+    assert!(rt; map.images == 2 && image < map.images);
+    assert!(rt; map.fits(flash));
+    status_count(flash, map, image, Side::Primary)
 }
 
 /// Swaps from where the flash stands, and answers how many erases and writes that took.
@@ -128,17 +193,12 @@ fn swapped<L: Ledger>(
     swap_laws(&map);
     let bytes = bytes_of(alloc, 512, from)?;
     let wanted = bytes_of(alloc, 512, wanted)?;
-    assert_eq!(rt; bytes.len(), 8192);
-    let mut flash = MemFlash::<L>::from_bytes(alloc, blank, 512, bytes);
-    assert!(rt; map.fits(&flash));
-    assert!(rt; is_within(&map, mask));
-    swap_set(&mut flash, &map, mask, Side::Primary)?;
+    let mut flash = flash_of::<L>(rt, alloc, blank, 512, bytes);
+    swap(rt, &mut flash, &map, mask, Side::Primary)?;
     assert_stands(rt, flash.bytes(), &wanted, 512);
     // The status units: each is set as a flag is.
-    assert_eq!(rt; flash.bytes().len(), 8192);
-    assert_eq!(rt; wanted.len(), 8192);
-    assert!(rt; flash.bytes()[1024..1072] == wanted[1024..1072]);
-    assert!(rt; flash.bytes()[2560..2608] == wanted[2560..2608]);
+    assert_part(rt, flash.bytes(), &wanted, 1024, 1072);
+    assert_part(rt, flash.bytes(), &wanted, 2560, 2608);
     Ok((flash.erases(), flash.writes()))
 }
 
@@ -196,13 +256,14 @@ fn a_size_of_96_bytes_moves_one_sector_of_each_slot(rt: HostRuntime) -> Result<(
 
 #[test]
 fn a_mask_of_no_image_and_images_that_are_done_write_nothing(rt: HostRuntime) -> Result<(), Fail> {
-    let begun = after_steps([2, 0], 2, 0);
-    assert_eq!(rt; swap_from(&rt, rt.alloc(), 0, &begun, &begun)?, (0, 0));
-    let done = after_steps([6, 6], 2, 0);
-    assert_eq!(rt; swap_from(&rt, rt.alloc(), 0b11, &done, &done)?, (0, 0));
-    // Of image 0 that is done, while image 1 has a sector in scratch.
-    let midst = after_steps([6, 2], 2, 0);
-    assert_eq!(rt; swap_from(&rt, rt.alloc(), 0b01, &midst, &midst)?, (0, 0));
+    // The last: image 0 is done, while image 1 has a sector in scratch.
+    for (mask, counts) in [(0, [2, 0]), (0b11, [6, 6]), (0b01, [6, 2])] {
+        let standing = after_steps(counts, 2, 0);
+        assert_eq!(rt;
+            swap_from(&rt, rt.alloc(), mask, &standing, &standing)?,
+            (0, 0)
+        );
+    }
     Ok(())
 }
 
@@ -260,80 +321,113 @@ fn torn(alloc: Global, which: u64) -> Result<Torn, Fail> {
     }
 }
 
-/// Swaps both images on a flash of which two writes are cut, which are told by their numbers, and goes on after each
-/// cut. Answers how many cuts there were.
-fn ended_after_cuts<L: Ledger>(
+/// How large a sector is, and the size that a trailer has, 0 where there is none.
+#[derive(Clone, Copy)]
+struct Sizes {
+    sector: u16,
+    swap: u16,
+}
+
+/// A flash before the first step, of which two writes are going to be cut, which are told by
+/// their numbers.
+fn armed<L: Ledger>(
     rt: &impl Abort,
     alloc: Global,
     blank: Blank,
-    sector_size: u16,
-    swap_size: u16,
+    sizes: Sizes,
     first: (u64, Torn),
     second: (u64, Torn),
-) -> Result<u64, Fail>
+) -> Result<MemFlash<L>, Fail>
     requires name { blank.name ≡ L.name }
     requires parts { blank.parts ≡ L.parts }
     requires two { L.parts ≡ 2 }
-    requires large { 512 ≤ sector_size }
+    requires large { 512 ≤ sizes.sector }
     requires early { first.0 < 200 }
     requires soon { second.0 < 200 }
 {
-    let map = SectorMap::new(u32::from(sector_size), &[2, 2])?;
-    let bytes = bytes_of(alloc, sector_size, &after_steps([0, 0], 2, swap_size))?;
-    let wanted = bytes_of(alloc, sector_size, &after_steps([6, 6], 2, swap_size))?;
-    assert_eq!(rt; bytes.len(), 16 * usize::from(sector_size));
-    assert_eq!(rt; bytes.len() % usize::from(sector_size), 0);
-    let mut flash = MemFlash::<L>::from_bytes(alloc, blank, u32::from(sector_size), bytes);
+    let bytes = bytes_of(alloc, sizes.sector, &after_steps([0, 0], 2, sizes.swap))?;
+    let mut flash = flash_of::<L>(rt, alloc, blank, sizes.sector, bytes);
     flash.arm(first.0, first.1)?;
     flash.arm(second.0, second.1)?;
+    Ok(flash)
+}
+
+/// Swaps both images, and tells whether a write was cut before the end.
+fn is_cut<F: Flash>(rt: &impl Abort, flash: &mut F, map: &SectorMap) -> bool {
+    match swap(rt, flash, map, 0b11, Side::Primary) {
+        Ok(()) => false,
+        Err(error) => {
+            assert_eq!(rt; error, FlashError::Cut);
+            true
+        }
+    }
+}
+
+/// Swaps both images, and goes on after each cut. Answers how many cuts there were.
+fn cuts_before_the_end<F: Flash>(rt: &impl Abort, flash: &mut F, map: &SectorMap) -> u64 {
     for count in 0..3 {
-        assert!(rt; map.fits(&flash));
-        assert!(rt; is_within(&map, 0b11));
-        match swap_set(&mut flash, &map, 0b11, Side::Primary) {
-            Ok(()) => {
-                assert_stands(rt, flash.bytes(), &wanted, usize::from(sector_size));
-                assert!(rt; map.images == 2);
-                assert!(rt; map.fits(&flash));
-                assert_eq!(rt; status_count(&mut flash, &map, 0, Side::Primary)?, 6);
-                assert_eq!(rt; status_count(&mut flash, &map, 1, Side::Primary)?, 6);
-                return Ok(count);
-            }
-            Err(error) => assert_eq!(rt; error, FlashError::Cut),
+        if !is_cut(rt, flash, map) {
+            return count;
         }
         flash.restart();
     }
     panic!(rt; "a third cut")
 }
 
-fn end_after_cuts(
+/// Swaps both images on a flash of which two writes are cut, and goes on after each cut. Answers
+/// how many cuts there were.
+fn ended_after_cuts<L: Ledger>(
     rt: &impl Abort,
     alloc: Global,
-    sector_size: u16,
-    swap_size: u16,
+    blank: Blank,
+    sizes: Sizes,
     first: (u64, Torn),
     second: (u64, Torn),
 ) -> Result<u64, Fail>
-    requires large { 512 ≤ sector_size }
+    requires name { blank.name ≡ L.name }
+    requires parts { blank.parts ≡ L.parts }
+    requires two { L.parts ≡ 2 }
+    requires large { 512 ≤ sizes.sector }
     requires early { first.0 < 200 }
     requires soon { second.0 < 200 }
 {
-    ended_after_cuts::<Brand>(
-        rt,
-        alloc,
-        Blank::new(2),
-        sector_size,
-        swap_size,
-        first,
-        second,
-    )
+    let map = SectorMap::new(u32::from(sizes.sector), &[2, 2])?;
+    let wanted = bytes_of(alloc, sizes.sector, &after_steps([6, 6], 2, sizes.swap))?;
+    let mut flash = armed::<L>(rt, alloc, blank, sizes, first, second)?;
+    let cuts = cuts_before_the_end(rt, &mut flash, &map);
+    assert_stands(rt, flash.bytes(), &wanted, sizes.sector);
+    for image in 0..2 {
+        assert_eq!(rt; counted(rt, &mut flash, &map, image)?, 6);
+    }
+    Ok(cuts)
 }
+
+fn end_after_cuts(
+    rt: &impl Abort,
+    alloc: Global,
+    sizes: Sizes,
+    first: (u64, Torn),
+    second: (u64, Torn),
+) -> Result<u64, Fail>
+    requires large { 512 ≤ sizes.sector }
+    requires early { first.0 < 200 }
+    requires soon { second.0 < 200 }
+{
+    ended_after_cuts::<Brand>(rt, alloc, Blank::new(2), sizes, first, second)
+}
+
+/// Sectors of 512 bytes, and a trailer without a size.
+const USUAL: Sizes = Sizes {
+    sector: 512,
+    swap: 0,
+};
 
 #[test]
 fn a_swap_ends_after_a_cut_of_any_write(rt: HostRuntime) -> Result<(), Fail> {
     for write in 1..50 {
         for which in 0..5 {
             let first = (write, torn(rt.alloc(), which)?);
-            let cuts = end_after_cuts(&rt, rt.alloc(), 512, 0, first, (100, Torn::Keep))?;
+            let cuts = end_after_cuts(&rt, rt.alloc(), USUAL, first, (100, Torn::Keep))?;
             // There are 48 writes.
             assert_eq!(rt; cuts, if write < 49 { 1 } else { 0 });
         }
@@ -348,7 +442,7 @@ fn a_swap_ends_after_a_cut_of_any_write_of_its_recovery(rt: HostRuntime) -> Resu
             for which in 0..25 {
                 let first = (write, torn(rt.alloc(), which / 5)?);
                 let second = (later, torn(rt.alloc(), which)?);
-                assert_eq!(rt; end_after_cuts(&rt, rt.alloc(), 512, 0, first, second)?, 2);
+                assert_eq!(rt; end_after_cuts(&rt, rt.alloc(), USUAL, first, second)?, 2);
             }
         }
     }
@@ -357,10 +451,14 @@ fn a_swap_ends_after_a_cut_of_any_write_of_its_recovery(rt: HostRuntime) -> Resu
 
 #[test]
 fn sectors_of_576_bytes_are_copied_to_their_last_piece(rt: HostRuntime) -> Result<(), Fail> {
+    let sizes = Sizes {
+        sector: 576,
+        swap: 600,
+    };
     // Each step takes an erase, pieces of 256, 256 and 64 bytes, and a status unit: 60 writes.
     for write in 1..62 {
         let first = (write, torn(rt.alloc(), write)?);
-        let cuts = end_after_cuts(&rt, rt.alloc(), 576, 600, first, (100, Torn::Keep))?;
+        let cuts = end_after_cuts(&rt, rt.alloc(), sizes, first, (100, Torn::Keep))?;
         assert_eq!(rt; cuts, if write < 61 { 1 } else { 0 });
     }
     Ok(())
@@ -392,11 +490,8 @@ fn swapped_on_the_other_side<L: Ledger>(
     let map = SectorMap::new(512, &[2, 2])?;
     let bytes = counted_aside(rt, alloc, 0)?;
     let wanted = counted_aside(rt, alloc, 6)?;
-    assert_eq!(rt; bytes.len(), 8192);
-    let mut flash = MemFlash::<L>::from_bytes(alloc, blank, 512, bytes);
-    assert!(rt; map.fits(&flash));
-    assert!(rt; is_within(&map, 0b10));
-    swap_set(&mut flash, &map, 0b10, Side::Secondary)?;
+    let mut flash = flash_of::<L>(rt, alloc, blank, 512, bytes);
+    swap(rt, &mut flash, &map, 0b10, Side::Secondary)?;
     assert_eq!(rt; flash.erases(), 6);
     assert_stands(rt, flash.bytes(), &wanted, 512);
     Ok(())
@@ -417,14 +512,10 @@ fn refused_when_off<L: Ledger>(rt: &impl Abort, alloc: Global, blank: Blank) -> 
     let begun = after_steps([0, 0], 2, 0);
     let bytes = bytes_of(alloc, 512, &begun)?;
     let wanted = bytes_of(alloc, 512, &begun)?;
-    assert_eq!(rt; bytes.len(), 8192);
-    let mut flash = MemFlash::<L>::from_bytes(alloc, blank, 512, bytes);
+    let mut flash = flash_of::<L>(rt, alloc, blank, 512, bytes);
     flash.arm(1, Torn::Keep)?;
     for error in [FlashError::Cut, FlashError::Off, FlashError::Off] {
-        assert!(rt; map.fits(&flash));
-        assert!(rt; is_within(&map, 0b01));
-        let end = swap_set(&mut flash, &map, 0b01, Side::Primary);
-        assert_eq!(rt; end, Err(error));
+        assert_eq!(rt; swap(rt, &mut flash, &map, 0b01, Side::Primary), Err(error));
         assert_eq!(rt; flash.writes(), 1);
         assert!(rt; flash.bytes() == wanted.as_slice());
     }
@@ -436,28 +527,35 @@ fn a_flash_that_is_off_stays_as_it_is(rt: HostRuntime) -> Result<(), Fail> {
     refused_when_off::<Brand>(&rt, rt.alloc(), Blank::new(2))
 }
 
-/// Swaps image 0 on a flash at no place of a swap: its second status unit is set, and the first is erased.
+/// The bytes of a flash at no place of a swap: the second status unit of image 0 is set, and the
+/// first is erased.
+fn out_of_order(rt: &impl Abort, alloc: Global) -> Result<Vec<u8>, Fail> {
+    let mut bytes = bytes_of(alloc, 512, &after_steps([0, 0], 2, 0))?;
+    assert_eq!(rt; bytes.len(), 8192);
+    bytes[1032] = 0x00;
+    Ok(bytes)
+}
+
+/// Asserts that the second step wasn't made, and that its unit wasn't written.
+fn assert_left_out<L: Ledger>(rt: &impl Abort, flash: &MemFlash<L>) {
+    assert_eq!(rt; flash.erases(), 5);
+    assert_eq!(rt; flash.writes(), 20);
+    assert_eq!(rt; flash.bytes().len(), 8192);
+    assert_eq!(rt; flash.bytes()[1032], 0x00);
+}
+
+/// Swaps image 0 on a flash at no place of a swap.
 fn ended_at_no_place<L: Ledger>(rt: &impl Abort, alloc: Global, blank: Blank) -> Result<(), Fail>
     requires name { blank.name ≡ L.name }
     requires parts { blank.parts ≡ L.parts }
     requires two { L.parts ≡ 2 }
 {
     let map = SectorMap::new(512, &[2, 2])?;
-    let mut bytes = bytes_of(alloc, 512, &after_steps([0, 0], 2, 0))?;
-    assert_eq!(rt; bytes.len(), 8192);
-    bytes[1032] = 0x00;
-    let mut flash = MemFlash::<L>::from_bytes(alloc, blank, 512, bytes);
-    assert!(rt; map.fits(&flash));
-    assert!(rt; is_within(&map, 0b01));
-    swap_set(&mut flash, &map, 0b01, Side::Primary)?;
-    // The second step isn't made, and its unit isn't written.
-    assert_eq!(rt; flash.erases(), 5);
-    assert_eq!(rt; flash.writes(), 20);
-    assert_eq!(rt; flash.bytes().len(), 8192);
-    assert_eq!(rt; flash.bytes()[1032], 0x00);
-    assert!(rt; map.images == 2);
-    assert!(rt; map.fits(&flash));
-    assert_eq!(rt; status_count(&mut flash, &map, 0, Side::Primary)?, 6);
+    let bytes = out_of_order(rt, alloc)?;
+    let mut flash = flash_of::<L>(rt, alloc, blank, 512, bytes);
+    swap(rt, &mut flash, &map, 0b01, Side::Primary)?;
+    assert_left_out(rt, &flash);
+    assert_eq!(rt; counted(rt, &mut flash, &map, 0)?, 6);
     Ok(())
 }
 

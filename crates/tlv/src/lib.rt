@@ -21,13 +21,9 @@ mod gathering;
 mod laws;
 mod make;
 mod medium;
-#[cfg(test)]
-mod samples;
 mod slot;
 mod slot_tlvs;
 mod span;
-#[cfg(test)]
-mod tests;
 mod tlvs;
 mod walk;
 

@@ -22,9 +22,6 @@ use crate::span::Span;
 use flash_model::{Flash, FlashError};
 use sector_map::{SectorMap, Side};
 
-#[cfg(test)]
-mod tests;
-
 /// What the image says of itself that a slot begins with, whatever follows it. Does not allocate.
 ///
 /// The map is laid out on the flash and has the image, which is told by its number from 0. Header, body and

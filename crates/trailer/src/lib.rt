@@ -31,6 +31,3 @@ pub use sizes::{read_size, write_size};
 pub use statuses::{push_status, status_count};
 pub use table::swap_type;
 pub use withdrawing::withdraw;
-
-#[cfg(test)]
-mod tests;

@@ -155,6 +155,7 @@ fn are_there(map: &SectorMap, components: &[Component]) -> bool
 }
 
 /// What is asked of uploads.
+#[derive(Clone, Copy)]
 enum Step<'a> {
     Accept(&'a Manifest),
     Piece(u8, &'a [u8]),
@@ -186,19 +187,22 @@ fn take<F: Flash>(
     }
 }
 
-/// Sends bytes for an image, which are taken.
-fn send<F: Flash>(
+const DONE: Result<(), UploadError> = Ok(());
+
+/// Does steps, each of which has to answer what stands beside it.
+fn play<F: Flash>(
     rt: &impl Abort,
     uploads: &mut Uploads,
     flash: &mut F,
     map: &SectorMap,
-    image: u8,
-    bytes: &[u8],
+    steps: &[(Step, Result<(), UploadError>)],
 ) -> Result<(), Fail>
     requires { AllOpenAt (view map.now (F.chip flash.old)) uploads.old.sessions }
     ensures { AllOpenAt (view map.now (F.chip flash.new)) uploads.new.sessions }
 {
-    take(rt, uploads, flash, map, Step::Piece(image, bytes))??;
+    for (step, expected) in steps {
+        assert_eq!(rt; take(rt, uploads, flash, map, *step)?, *expected);
+    }
     Ok(())
 }
 
@@ -226,6 +230,12 @@ fn request_of<F: Flash>(
     Ok(standing(flash, map, image)?)
 }
 
+/// Asserts that these bytes stand there on a flash.
+fn expect_bytes<L: Ledger>(rt: &impl Abort, flash: &MemFlash<L>, at: usize, bytes: &[u8]) {
+    assert!(rt; at <= flash.bytes().len());
+    assert!(rt; flash.bytes()[at..].starts_with(bytes));
+}
+
 fn pieces_in_turn<L: Ledger>(rt: &impl Abort, alloc: Global, blank: Blank) -> Result<(), Fail>
     requires name { blank.name ≡ L.name }
     requires parts { blank.parts ≡ L.parts }
@@ -237,61 +247,63 @@ fn pieces_in_turn<L: Ledger>(rt: &impl Abort, alloc: Global, blank: Blank) -> Re
     let mut second = component(1, 96, SECOND_DIGEST);
     second.permanent = true;
     let manifest = two_components(4, component(0, 96, FIRST_DIGEST), second)?;
-    take(rt, &mut uploads, &mut flash, &map, Step::Accept(&manifest))??;
-    take(
-        rt,
-        &mut uploads,
-        &mut flash,
-        &map,
-        Step::Piece(0, &FIRST[..5]),
-    )??;
-    assert_eq!(rt; flash.bytes().len(), 8192);
-    assert_eq!(rt; flash.bytes()[3072], 0xff);
-    take(
-        rt,
-        &mut uploads,
-        &mut flash,
-        &map,
-        Step::Piece(1, &SECOND[..1]),
-    )??;
-    take(
-        rt,
-        &mut uploads,
-        &mut flash,
-        &map,
-        Step::Piece(0, &FIRST[5..16]),
-    )??;
-    assert_eq!(rt; flash.bytes().len(), 8192);
-    assert_eq!(rt; &flash.bytes()[3072..3088], &FIRST[..16]);
-    take(
-        rt,
-        &mut uploads,
-        &mut flash,
-        &map,
-        Step::Piece(1, &SECOND[1..]),
-    )??;
-    take(
-        rt,
-        &mut uploads,
-        &mut flash,
-        &map,
-        Step::Piece(0, &FIRST[16..]),
-    )??;
-    assert_eq!(rt; request_of(rt, &mut flash, &map, 0)?, None);
-    take(rt, &mut uploads, &mut flash, &map, Step::Finish(1))??;
-    take(rt, &mut uploads, &mut flash, &map, Step::Finish(0))??;
-    assert_eq!(rt; flash.bytes().len(), 8192);
-    assert_eq!(rt; &flash.bytes()[3072..3168], FIRST.as_slice());
-    assert_eq!(rt; &flash.bytes()[4608..4704], SECOND.as_slice());
-    assert_eq!(rt; request_of(rt, &mut flash, &map, 0)?, Some(Kind::Test));
-    assert_eq!(rt; request_of(rt, &mut flash, &map, 1)?, Some(Kind::Permanent));
-    take(rt, &mut uploads, &mut flash, &map, Step::Withdraw(0))??;
-    assert_eq!(rt; request_of(rt, &mut flash, &map, 0)?, None);
-    assert_eq!(rt;
-        take(rt, &mut uploads, &mut flash, &map, Step::Withdraw(0))?,
-        Err(UploadError::NothingRequested)
-    );
-    assert_eq!(rt; request_of(rt, &mut flash, &map, 1)?, Some(Kind::Permanent));
+    let steps = [
+        (Step::Accept(&manifest), DONE),
+        (Step::Piece(0, &FIRST[..5]), DONE),
+    ];
+    play(rt, &mut uploads, &mut flash, &map, &steps)?;
+    expect_bytes(rt, &flash, 3072, &[0xff; 16]);
+    let steps = [
+        (Step::Piece(1, &SECOND[..1]), DONE),
+        (Step::Piece(0, &FIRST[5..16]), DONE),
+    ];
+    play(rt, &mut uploads, &mut flash, &map, &steps)?;
+    expect_bytes(rt, &flash, 3072, &FIRST[..16]);
+    let steps = [
+        (Step::Piece(1, &SECOND[1..]), DONE),
+        (Step::Piece(0, &FIRST[16..]), DONE),
+    ];
+    play(rt, &mut uploads, &mut flash, &map, &steps)?;
+    finish_both(rt, &mut uploads, &mut flash, &map)?;
+    expect_bytes(rt, &flash, 3072, &FIRST);
+    expect_bytes(rt, &flash, 4608, &SECOND);
+    withdraw_first(rt, &mut uploads, &mut flash, &map)
+}
+
+/// Finishes the uploads of two images, the second one first.
+fn finish_both<F: Flash>(
+    rt: &impl Abort,
+    uploads: &mut Uploads,
+    flash: &mut F,
+    map: &SectorMap,
+) -> Result<(), Fail>
+    requires { AllOpenAt (view map.now (F.chip flash.old)) uploads.old.sessions }
+    ensures { AllOpenAt (view map.now (F.chip flash.new)) uploads.new.sessions }
+{
+    assert_eq!(rt; request_of(rt, flash, map, 0)?, None);
+    let steps = [(Step::Finish(1), DONE), (Step::Finish(0), DONE)];
+    play(rt, uploads, flash, map, &steps)?;
+    assert_eq!(rt; request_of(rt, flash, map, 0)?, Some(Kind::Test));
+    assert_eq!(rt; request_of(rt, flash, map, 1)?, Some(Kind::Permanent));
+    Ok(())
+}
+
+/// Withdraws the request of the first of two images, and then again.
+fn withdraw_first<F: Flash>(
+    rt: &impl Abort,
+    uploads: &mut Uploads,
+    flash: &mut F,
+    map: &SectorMap,
+) -> Result<(), Fail>
+    requires { AllOpenAt (view map.now (F.chip flash.old)) uploads.old.sessions }
+{
+    let steps = [
+        (Step::Withdraw(0), DONE),
+        (Step::Withdraw(0), Err(UploadError::NothingRequested)),
+    ];
+    play(rt, uploads, flash, map, &steps)?;
+    assert_eq!(rt; request_of(rt, flash, map, 0)?, None);
+    assert_eq!(rt; request_of(rt, flash, map, 1)?, Some(Kind::Permanent));
     Ok(())
 }
 
@@ -309,34 +321,36 @@ fn refused_manifests<L: Ledger>(rt: &impl Abort, alloc: Global, blank: Blank) ->
     let mut flash = begun::<L>(rt, alloc, blank, &map)?;
     let mut uploads = Uploads::new();
     let whole = one_component(4, component(0, 1024, FIRST_DIGEST))?;
-    take(rt, &mut uploads, &mut flash, &map, Step::Accept(&whole))??;
-    send(rt, &mut uploads, &mut flash, &map, 0, &FIRST[..5])?;
     let long = one_component(5, component(0, 1025, FIRST_DIGEST))?;
-    assert_eq!(rt;
-        take(rt, &mut uploads, &mut flash, &map, Step::Accept(&long))?,
-        Err(UploadError::TooBig)
-    );
-    let long = one_component(3, component(0, 1025, FIRST_DIGEST))?;
-    assert_eq!(rt;
-        take(rt, &mut uploads, &mut flash, &map, Step::Accept(&long))?,
-        Err(UploadError::OldSequence)
-    );
+    let old = one_component(3, component(0, 1025, FIRST_DIGEST))?;
     let second = component(1, 1025, SECOND_DIGEST);
-    let long = two_components(5, component(0, 96, FIRST_DIGEST), second)?;
-    assert_eq!(rt;
-        take(rt, &mut uploads, &mut flash, &map, Step::Accept(&long))?,
-        Err(UploadError::TooBig)
-    );
+    let both = two_components(5, component(0, 96, FIRST_DIGEST), second)?;
+    let steps = [
+        (Step::Accept(&whole), DONE),
+        (Step::Piece(0, &FIRST[..5]), DONE),
+        (Step::Accept(&long), Err(UploadError::TooBig)),
+        (Step::Accept(&old), Err(UploadError::OldSequence)),
+        (Step::Accept(&both), Err(UploadError::TooBig)),
+    ];
+    play(rt, &mut uploads, &mut flash, &map, &steps)?;
     assert_eq!(rt; received(&uploads, 0), Some(5));
     let other = one_component(4, component(1, 96, SECOND_DIGEST))?;
-    take(rt, &mut uploads, &mut flash, &map, Step::Accept(&other))??;
+    play(
+        rt,
+        &mut uploads,
+        &mut flash,
+        &map,
+        &[(Step::Accept(&other), DONE)],
+    )?;
     assert_eq!(rt; received(&uploads, 0), Some(5));
     assert_eq!(rt; received(&uploads, 1), Some(0));
-    send(rt, &mut uploads, &mut flash, &map, 0, &FIRST[5..16])?;
-    take(rt, &mut uploads, &mut flash, &map, Step::Accept(&whole))??;
+    let steps = [
+        (Step::Piece(0, &FIRST[5..16]), DONE),
+        (Step::Accept(&whole), DONE),
+    ];
+    play(rt, &mut uploads, &mut flash, &map, &steps)?;
     assert_eq!(rt; received(&uploads, 0), Some(0));
-    assert_eq!(rt; flash.bytes().len(), 8192);
-    assert_eq!(rt; flash.bytes()[3072], 0xff);
+    expect_bytes(rt, &flash, 3072, &[0xff; 16]);
     assert!(rt; map.fits(&flash));
     assert_eq!(rt; read_state(&mut flash, &map)?.sequence, 4);
     Ok(())
@@ -357,27 +371,28 @@ fn precursors<L: Ledger>(rt: &impl Abort, alloc: Global, blank: Blank) -> Result
     let mut uploads = Uploads::new();
     let mut follower = component(0, 96, FIRST_DIGEST);
     follower.precursor = Some(RUNNING_DIGEST);
-    let manifest = one_component(4, follower)?;
-    take(rt, &mut uploads, &mut flash, &map, Step::Accept(&manifest))??;
+    let right = one_component(4, follower)?;
     let mut other = RUNNING_DIGEST;
     other[31] = 0x8d;
     follower.precursor = Some(other);
-    let manifest = one_component(4, follower)?;
-    assert_eq!(rt;
-        take(rt, &mut uploads, &mut flash, &map, Step::Accept(&manifest))?,
-        Err(UploadError::WrongPrecursor)
-    );
+    let wrong = one_component(4, follower)?;
+    let refused = Err(UploadError::WrongPrecursor);
+    let steps = [
+        (Step::Accept(&right), DONE),
+        (Step::Accept(&wrong), refused),
+    ];
+    play(rt, &mut uploads, &mut flash, &map, &steps)?;
     // A damaged image runs.
     assert!(rt; map.fits(&flash));
     flash.erase(0)?;
     let mut uploads = Uploads::new();
-    follower.precursor = Some(RUNNING_DIGEST);
-    let manifest = one_component(4, follower)?;
-    assert_eq!(rt;
-        take(rt, &mut uploads, &mut flash, &map, Step::Accept(&manifest))?,
-        Err(UploadError::WrongPrecursor)
-    );
-    Ok(())
+    play(
+        rt,
+        &mut uploads,
+        &mut flash,
+        &map,
+        &[(Step::Accept(&right), refused)],
+    )
 }
 
 #[test]
@@ -394,27 +409,24 @@ fn refused_uploads<L: Ledger>(rt: &impl Abort, alloc: Global, blank: Blank) -> R
     let mut flash = begun::<L>(rt, alloc, blank, &map)?;
     let mut uploads = Uploads::new();
     let manifest = one_component(4, component(0, 3, ABC_DIGEST))?;
-    take(rt, &mut uploads, &mut flash, &map, Step::Accept(&manifest))??;
-    take(rt, &mut uploads, &mut flash, &map, Step::Piece(0, b"abc"))??;
-    let answer = take(rt, &mut uploads, &mut flash, &map, Step::Finish(0))?;
-    assert_eq!(rt; answer, Err(UploadError::NotAnImage(ImageError::Short)));
-    take(rt, &mut uploads, &mut flash, &map, Step::Accept(&manifest))??;
-    take(rt, &mut uploads, &mut flash, &map, Step::Piece(0, b"abd"))??;
-    let answer = take(rt, &mut uploads, &mut flash, &map, Step::Finish(0))?;
-    assert_eq!(rt; answer, Err(UploadError::DigestWrong));
-    take(rt, &mut uploads, &mut flash, &map, Step::Accept(&manifest))??;
-    take(rt, &mut uploads, &mut flash, &map, Step::Piece(0, b"ab"))??;
-    let answer = take(rt, &mut uploads, &mut flash, &map, Step::Finish(0))?;
-    assert_eq!(rt; answer, Err(UploadError::SizeWrong));
-    take(rt, &mut uploads, &mut flash, &map, Step::Accept(&manifest))??;
-    let answer = take(rt, &mut uploads, &mut flash, &map, Step::Piece(0, b"abcd"))?;
-    assert_eq!(rt; answer, Err(UploadError::TooMuch));
-    let answer = take(rt, &mut uploads, &mut flash, &map, Step::Finish(0))?;
-    assert_eq!(rt; answer, Err(UploadError::NoSession));
-    let answer = take(rt, &mut uploads, &mut flash, &map, Step::Piece(2, b"a"))?;
-    assert_eq!(rt; answer, Err(UploadError::NoSession));
-    let answer = take(rt, &mut uploads, &mut flash, &map, Step::Withdraw(2))?;
-    assert_eq!(rt; answer, Err(UploadError::NothingRequested));
+    let not_an_image = Err(UploadError::NotAnImage(ImageError::Short));
+    let steps = [
+        (Step::Accept(&manifest), DONE),
+        (Step::Piece(0, b"abc"), DONE),
+        (Step::Finish(0), not_an_image),
+        (Step::Accept(&manifest), DONE),
+        (Step::Piece(0, b"abd"), DONE),
+        (Step::Finish(0), Err(UploadError::DigestWrong)),
+        (Step::Accept(&manifest), DONE),
+        (Step::Piece(0, b"ab"), DONE),
+        (Step::Finish(0), Err(UploadError::SizeWrong)),
+        (Step::Accept(&manifest), DONE),
+        (Step::Piece(0, b"abcd"), Err(UploadError::TooMuch)),
+        (Step::Finish(0), Err(UploadError::NoSession)),
+        (Step::Piece(2, b"a"), Err(UploadError::NoSession)),
+        (Step::Withdraw(2), Err(UploadError::NothingRequested)),
+    ];
+    play(rt, &mut uploads, &mut flash, &map, &steps)?;
     assert_eq!(rt; request_of(rt, &mut flash, &map, 0)?, None);
     Ok(())
 }

@@ -108,8 +108,8 @@ fn play_script<'a, 'h, A: Allocator, F: FlashFile + Drop, O: Write>(
     }
 }
 
-/// Runs events on a device that has these bytes on its flash, with these writes of the flash cut, and writes what changes
-/// through to the file of the flash, which holds the bytes.
+/// Runs events on a device that has these bytes on its flash, with these writes of the flash cut, and writes what
+/// changes through to the file of the flash, which holds the bytes.
 ///
 /// # Errors
 /// Where there is no memory for the cuts or the replies: nothing was done.

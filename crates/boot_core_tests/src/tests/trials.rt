@@ -135,6 +135,30 @@ fn a_reset_ends_no_trial(rt: HostRuntime) -> Result<(), Fail> {
     )
 }
 
+/// What is told of a trial of two images of three.
+const THREE_TOLD: &str = "1 plain
+run 0 1.0.0+0
+run 1 1.0.0+0
+run 2 1.0.0+0
+2 done
+3 done
+4 done
+5 done
+6 done
+7 trial
+take 0 2.0.0+0
+run 1 1.0.0+0
+take 2 2.0.0+0
+8 done
+9 done
+10 reverted 0 2
+11 refused upload 9 NothingRequested
+12 plain
+run 0 1.0.0+0
+run 1 1.0.0+0
+run 2 1.0.0+0
+";
+
 #[test]
 fn of_three_images_two_are_tried_and_go_back(rt: HostRuntime) -> Result<(), Fail> {
     let bytes = provisioned(
@@ -168,31 +192,7 @@ fn of_three_images_two_are_tried_and_go_back(rt: HostRuntime) -> Result<(), Fail
             Event::Boot,
         ],
     )?;
-    assert_eq!(rt;
-        outcome.told.as_str(),
-        "1 plain
-run 0 1.0.0+0
-run 1 1.0.0+0
-run 2 1.0.0+0
-2 done
-3 done
-4 done
-5 done
-6 done
-7 trial
-take 0 2.0.0+0
-run 1 1.0.0+0
-take 2 2.0.0+0
-8 done
-9 done
-10 reverted 0 2
-11 refused upload 9 NothingRequested
-12 plain
-run 0 1.0.0+0
-run 1 1.0.0+0
-run 2 1.0.0+0
-"
-    );
+    assert_eq!(rt; outcome.told.as_str(), THREE_TOLD);
     Ok(())
 }
 

@@ -136,64 +136,22 @@ fn expect_changed(
     Ok(())
 }
 
+/// Bytes of an image that are changed: the image, the place, the new bytes, and what is told.
+const CHANGES: [(&[u8], usize, &[u8], &str); 9] = [
+    (&RUNNING, 0, b"\x00", "refused 2 BadMagic\n"),
+    (&RUNNING, 8, b"\x1f", "refused 3 BadHeaderSize\n"),
+    (&RUNNING, 16, b"\x20", "refused 4 UnsupportedFlags\n"),
+    (&RUNNING, 12, b"\xff\xff", "refused 5 Truncated\n"),
+    (&RUNNING, 36, b"\x08", "refused 6 BadTlvMagic\n"),
+    (&RUNNING, 38, b"\x03", "refused 7 BadTlvSize\n"),
+    (&RUNNING, 40, b"\x11", "refused 8 NoDigest\n"),
+    (&RUNNING, 75, b"\x8d", "refused 10 BadDigest\n"),
+    (&FIRST, 38, b"\x18", "refused 7 BadTlvSize\n"),
+];
+
 #[test]
 fn a_changed_image_is_refused_by_the_first_check_that_fails(rt: HostRuntime) -> Result<(), Fail> {
-    for (image, place, change, out) in [
-        (
-            RUNNING.as_slice(),
-            0,
-            b"\x00".as_slice(),
-            "refused 2 BadMagic\n",
-        ),
-        (
-            RUNNING.as_slice(),
-            8,
-            b"\x1f".as_slice(),
-            "refused 3 BadHeaderSize\n",
-        ),
-        (
-            RUNNING.as_slice(),
-            16,
-            b"\x20".as_slice(),
-            "refused 4 UnsupportedFlags\n",
-        ),
-        (
-            RUNNING.as_slice(),
-            12,
-            b"\xff\xff".as_slice(),
-            "refused 5 Truncated\n",
-        ),
-        (
-            RUNNING.as_slice(),
-            36,
-            b"\x08".as_slice(),
-            "refused 6 BadTlvMagic\n",
-        ),
-        (
-            RUNNING.as_slice(),
-            38,
-            b"\x03".as_slice(),
-            "refused 7 BadTlvSize\n",
-        ),
-        (
-            RUNNING.as_slice(),
-            40,
-            b"\x11".as_slice(),
-            "refused 8 NoDigest\n",
-        ),
-        (
-            RUNNING.as_slice(),
-            75,
-            b"\x8d".as_slice(),
-            "refused 10 BadDigest\n",
-        ),
-        (
-            FIRST.as_slice(),
-            38,
-            b"\x18".as_slice(),
-            "refused 7 BadTlvSize\n",
-        ),
-    ] {
+    for (image, place, change, out) in CHANGES {
         expect_changed(&rt, image, place, change, out)?;
     }
     Ok(())

@@ -217,6 +217,43 @@ const TOLD: Case<'static> = Case {
     err: "",
 };
 
+/// A run that is refused.
+const REFUSED: Case<'static> = Case {
+    status: 1,
+    out: "",
+    ..TOLD
+};
+
+/// Runs of which more than one argument is wrong, or the last: the first that is wrong is told.
+const FAULTS: [Case<'static>; 6] = [
+    TOLD,
+    Case {
+        words: &["bootswap", "manifest", "device.json", "absent"],
+        err: "error: cannot read absent\n",
+        ..REFUSED
+    },
+    Case {
+        words: &["bootswap", "manifest", "missing", "manifest.json"],
+        err: "error: cannot read missing\n",
+        ..REFUSED
+    },
+    Case {
+        words: &["bootswap", "manifest", "missing", "absent"],
+        err: "error: cannot read missing\n",
+        ..REFUSED
+    },
+    Case {
+        words: &["bootswap", "manifest", "other.json", "absent"],
+        err: "error: device file\n",
+        ..REFUSED
+    },
+    Case {
+        words: &["bootswap", "manifest", "small.json", "absent"],
+        out: "refused map 1 BadSector\n",
+        ..REFUSED
+    },
+];
+
 #[test]
 fn the_device_is_judged_before_the_manifest_is_read(rt: HostRuntime) -> Result<(), Fail> {
     let files = [
@@ -225,44 +262,7 @@ fn the_device_is_judged_before_the_manifest_is_read(rt: HostRuntime) -> Result<(
         ("small.json", SMALL.as_bytes()),
         ("manifest.json", SAMPLE.as_bytes()),
     ];
-    let refused = Case {
-        status: 1,
-        out: "",
-        ..TOLD
-    };
-    expect_each(
-        rt.alloc(),
-        files.as_slice(),
-        &[
-            TOLD,
-            Case {
-                words: &["bootswap", "manifest", "device.json", "absent"],
-                err: "error: cannot read absent\n",
-                ..refused
-            },
-            Case {
-                words: &["bootswap", "manifest", "missing", "manifest.json"],
-                err: "error: cannot read missing\n",
-                ..refused
-            },
-            Case {
-                words: &["bootswap", "manifest", "missing", "absent"],
-                err: "error: cannot read missing\n",
-                ..refused
-            },
-            Case {
-                words: &["bootswap", "manifest", "other.json", "absent"],
-                err: "error: device file\n",
-                ..refused
-            },
-            Case {
-                words: &["bootswap", "manifest", "small.json", "absent"],
-                out: "refused map 1 BadSector\n",
-                ..refused
-            },
-        ],
-    )?;
-    Ok(())
+    expect_each(rt.alloc(), files.as_slice(), &FAULTS)
 }
 
 #[test]

@@ -359,10 +359,8 @@ run 1 1.0.0+0
 4 cut
 ";
 
-#[test]
-fn after_a_cut_of_its_finish_the_same_manifest_is_taken_again(rt: HostRuntime) -> Result<(), Fail> {
-    let mut fresh = Fresh::new(rt.alloc(), Device::TwoImages)?;
-    let script = "boot
+/// An upload, and its manifest again behind a boot.
+const ACCEPTED_AGAIN: &str = "boot
 accept first.json
 piece 0 first.img
 finish 0
@@ -370,8 +368,12 @@ boot
 accept first.json
 accept old.json
 ";
+
+#[test]
+fn after_a_cut_of_its_finish_the_same_manifest_is_taken_again(rt: HostRuntime) -> Result<(), Fail> {
+    let mut fresh = Fresh::new(rt.alloc(), Device::TwoImages)?;
     let mut cuts = 0u32;
-    let last = fresh.writes_of(rt.alloc(), script)?;
+    let last = fresh.writes_of(rt.alloc(), ACCEPTED_AGAIN)?;
     assert!(rt; last < 1000, "{last}");
     for write in 1..=last {
         for (torn, waits) in [
@@ -381,7 +383,7 @@ accept old.json
             ("hex:ff", ""),
             ("hex:00", ""),
         ] {
-            let cut = format!(in rt.alloc(); "cut {write} {torn}\n{script}")?;
+            let cut = format!(in rt.alloc(); "cut {write} {torn}\n{ACCEPTED_AGAIN}")?;
             let outcome = fresh.run(rt.alloc(), &cut)?;
             if outcome
                 .out

@@ -1,6 +1,7 @@
 //! Worked runs of scripts over a device, with no cut and no trial.
 use memory_host::samples::NEEDY;
 use memory_host::{Device, Target, expect_run, expect_shown, has, put, two_images};
+use std::alloc::Global;
 use std::test::Fail;
 
 /// The upload of two images that need each other, requested for good, and two boots.
@@ -101,9 +102,8 @@ take 1 2.0.0+0
     Ok(())
 }
 
-#[test]
-fn a_counter_raises_the_floor_and_one_below_it_is_refused(rt: HostRuntime) -> Result<(), Fail> {
-    let mut target = two_images(rt.alloc())?;
+/// Runs a script in which a counter raises the floor of image 0 to 5.
+fn raise_floor(alloc: Global, target: &mut Target) -> Result<(), Fail> {
     let script = "boot\naccept five.json\npiece 0 five.img\nfinish 0\nboot\n";
     let out = "1 plain
 run 0 1.0.0+0
@@ -115,7 +115,13 @@ run 1 1.0.0+0
 take 0 1.1.0+0
 run 1 1.0.0+0
 ";
-    expect_run(rt.alloc(), &mut target, script, 0, out)?;
+    expect_run(alloc, target, script, 0, out)
+}
+
+#[test]
+fn a_counter_raises_the_floor(rt: HostRuntime) -> Result<(), Fail> {
+    let mut target = two_images(rt.alloc())?;
+    raise_floor(rt.alloc(), &mut target)?;
     let shown = "state steady
 set -
 sequence 1
@@ -124,7 +130,13 @@ floor 1 0
 swap 0 none
 swap 1 none
 ";
-    expect_shown(rt.alloc(), &mut target, shown)?;
+    expect_shown(rt.alloc(), &mut target, shown)
+}
+
+#[test]
+fn a_counter_below_the_floor_is_refused(rt: HostRuntime) -> Result<(), Fail> {
+    let mut target = two_images(rt.alloc())?;
+    raise_floor(rt.alloc(), &mut target)?;
     let script = "boot\naccept four.json\npiece 0 four.img\nfinish 0\nboot\n";
     let out = "1 plain
 run 0 1.1.0+0
@@ -150,7 +162,7 @@ swap 1 none
 }
 
 #[test]
-fn requests_are_shown_by_their_kinds_until_they_are_withdrawn(rt: HostRuntime) -> Result<(), Fail> {
+fn requests_are_shown_by_their_kinds(rt: HostRuntime) -> Result<(), Fail> {
     let mut target = two_images(rt.alloc())?;
     let script = "boot
 accept second-for-good.json
@@ -177,7 +189,11 @@ floor 1 0
 swap 0 test
 swap 1 perm
 ";
-    expect_shown(rt.alloc(), &mut target, shown)?;
+    expect_shown(rt.alloc(), &mut target, shown)
+}
+
+#[test]
+fn a_request_is_shown_until_it_is_withdrawn(rt: HostRuntime) -> Result<(), Fail> {
     let mut target = two_images(rt.alloc())?;
     let script = "boot
 accept second-for-good.json

@@ -214,7 +214,8 @@ impl Text {
     }
 }
 
-// Each text is judged by its pieces alone. Then one of its bytes is changed, and what is asked is that the call returns.
+// Each text is judged by its pieces alone. Then one of its bytes is changed, and what is asked is that the call
+// returns.
 #[test]
 fn ten_thousand_generated_texts_are_judged_by_their_pieces(rt: HostRuntime) -> Result<(), Fail> {
     let identity = device(2)?;

@@ -221,93 +221,80 @@ take 1 2.0.0+0
     Ok(())
 }
 
+/// Runs that read standard input once: the words, the script, standard input, and what is told behind the first boot.
+const READ_ONCE: [(&str, &str, &str, &str); 4] = [
+    (
+        "run device.json flash.bin script.txt",
+        "boot\naccept -\n",
+        SAMPLE,
+        "2 done\n",
+    ),
+    (
+        "run device.json flash.bin script.txt",
+        "boot\naccept abc.json\npiece 0 - 0 3\nreset\n",
+        "abcd",
+        "2 done\n3 done\n4 done\n",
+    ),
+    (
+        "run device.json flash.bin -",
+        "",
+        "boot\naccept abc.json\n",
+        "2 done\n",
+    ),
+    (
+        "run - flash.bin script.txt",
+        "boot\naccept abc.json\n",
+        DEVICE,
+        "2 done\n",
+    ),
+];
+
 #[test]
 fn standard_input_is_read_once_by_the_words_or_by_a_line(rt: HostRuntime) -> Result<(), Fail> {
-    for (device, file, script, input, status, out, err) in [
-        (
-            TWO_IMAGES,
-            SCRIPT,
-            "boot\naccept -\n",
-            SAMPLE,
-            0,
-            "2 done\n",
-            "",
-        ),
-        (
-            TWO_IMAGES,
-            SCRIPT,
-            "boot\naccept abc.json\npiece 0 - 0 3\nreset\n",
-            "abcd",
-            0,
-            "2 done\n3 done\n4 done\n",
-            "",
-        ),
-        (
-            TWO_IMAGES,
-            SCRIPT,
-            "piece 0 - 0 5\n",
-            "abcd",
-            1,
-            "",
-            "script line 1",
-        ),
-        (
-            TWO_IMAGES,
-            SCRIPT,
-            "boot\naccept -\npiece 0 -\n",
-            SAMPLE,
-            1,
-            "",
-            "script line 3",
-        ),
-        (
-            TWO_IMAGES,
-            "-",
-            "",
-            "boot\naccept abc.json\n",
-            0,
-            "2 done\n",
-            "",
-        ),
-        (
-            TWO_IMAGES,
-            "-",
-            "",
-            "boot\naccept -\n",
-            1,
-            "",
-            "script line 2",
-        ),
-        (
-            "-",
-            SCRIPT,
-            "boot\naccept abc.json\n",
-            DEVICE,
-            0,
-            "2 done\n",
-            "",
-        ),
-        (
-            "-",
-            SCRIPT,
-            "boot\naccept -\n",
-            DEVICE,
-            1,
-            "",
-            "script line 2",
-        ),
-    ] {
+    for (line, script, input, told) in READ_ONCE {
         let mut target = two_images(rt.alloc())?;
-        let words = ["bootswap", "run", device, FLASH_FILE, file];
-        let outcome = target.command(rt.alloc(), &words, script.as_bytes(), input.as_bytes());
-        let is_right = if status == 0 {
-            let out = format!(in rt.alloc(); "{BOOTED}{out}")?;
-            outcome.is(0, &out, "")
-        } else {
-            let err = format!(in rt.alloc(); "error: {err}\n")?;
-            outcome.is(1, "", &err)
-        };
-        assert!(rt; is_right, "{words:?} {script} {input} {outcome:?}");
+        let outcome = target.line(rt.alloc(), line, script.as_bytes(), input.as_bytes())?;
+        let out = format!(in rt.alloc(); "{BOOTED}{told}")?;
+        outcome.expect(0, &out, "", script)?;
+    }
+    Ok(())
+}
+
+/// Runs that would read standard input twice or past its end: the same, and what is told on standard error.
+const READ_TWICE: [(&str, &str, &str, &str); 4] = [
+    (
+        "run device.json flash.bin script.txt",
+        "piece 0 - 0 5\n",
+        "abcd",
+        "script line 1",
+    ),
+    (
+        "run device.json flash.bin script.txt",
+        "boot\naccept -\npiece 0 -\n",
+        SAMPLE,
+        "script line 3",
+    ),
+    (
+        "run device.json flash.bin -",
+        "",
+        "boot\naccept -\n",
+        "script line 2",
+    ),
+    (
+        "run - flash.bin script.txt",
+        "boot\naccept -\n",
+        DEVICE,
+        "script line 2",
+    ),
+];
+
+#[test]
+fn a_line_that_reads_standard_input_again_is_bad(rt: HostRuntime) -> Result<(), Fail> {
+    for (line, script, input, fault) in READ_TWICE {
+        let mut target = two_images(rt.alloc())?;
+        let outcome = target.line(rt.alloc(), line, script.as_bytes(), input.as_bytes())?;
+        let err = format!(in rt.alloc(); "error: {fault}\n")?;
+        outcome.expect(1, "", &err, script)?;
     }
     Ok(())
 }
