@@ -5,19 +5,18 @@ use Rattle.std.specs.Io.KnownBytes.{Keeps}
 use Rattle.command_line.specs.declared.orders.Order.{Order}
 use Rattle.command_line.specs.declared.orders.Order.TheVariants as order
 use Rattle.boot_cli.specs.declared.answer.Answer.TheVariants.{Done}
-use Rattle.boot_cli.specs.declared.commands.image.DescribeEnd.{DescribeEnd}
-use Rattle.boot_cli.specs.declared.commands.manifest_file.ManifestEnd.{ManifestEnd}
+use Rattle.answers.specs.declared.image.DescribeEnd.{DescribeEnd}
+use Rattle.answers.specs.declared.manifest_file.ManifestEnd.{ManifestEnd}
 use Rattle.boot_cli.specs.declared.commands.provision.Made.{Made}
 use Rattle.boot_cli.specs.declared.commands.provision.Made.TheVariants as made
 use Rattle.boot_cli.specs.declared.source.Source.{Source}
 use Rattle.boot_cli.specs.declared.source.Source.TheVariants as source
 use Rattle.boot_cli.specs.declared.source.Source.TheVariants.{StandardInput, File}
-use Rattle.boot_cli.specs.AnswerEnd.{AnswersCheck, AnswersChoice, AnswersDescription, AnswersManifest, AnswersOrder}
-use Rattle.boot_cli.specs.DescribeEnd.{Tells}
-use Rattle.boot_cli.specs.ManifestEnd.{TellsManifest}
+use Rattle.boot_cli.specs.AnswerEnd.{AnswersCheck, AnswersChoice, AnswersDescription, AnswersManifest, AnswersOrder, AnswersShow}
+use Rattle.answers.specs.DescribeEnd.{Tells}
+use Rattle.answers.specs.ManifestEnd.{TellsManifest}
 use Rattle.boot_cli.specs.ProvisionEnd.{AnswersMade, AnswersProvision}
 use Rattle.boot_cli.specs.RunEnd.{AnswersRun}
-use Rattle.boot_cli.specs.ShowEnd.{AnswersShow}
 use Rattle.manifest.specs.declared.identity.Identity.{Identity}
 use Rattle.boot_cli.specs.Input.{FileBytes, Gives, GiveBoth, IsKnownAs, KeepsFiles, KeepsOthers, names_of}
 

@@ -5,10 +5,11 @@ use Rattle.boot_cli.specs.declared.answer.Answer.{Answer}
 use Rattle.boot_cli.specs.declared.answer.Answer.TheVariants.{Done, Refused, Cut}
 use Rattle.boot_cli.specs.declared.commands.provision.Made.{Made}
 use Rattle.boot_cli.specs.declared.commands.provision.Made.TheVariants as made
-use Rattle.boot_cli.specs.declared.device.DeviceFile.{DeviceFile}
+use Rattle.answers.specs.declared.device.DeviceFile.{DeviceFile}
 use Rattle.boot_cli.specs.declared.source.Source.{Source}
 use Rattle.boot_cli.specs.declared.source.Source.TheVariants as source
-use Rattle.boot_cli.specs.DeviceInput.{GivesDevice, IsFlashOf}
+use Rattle.answers.specs.FlashOf.{IsFlashOf}
+use Rattle.boot_cli.specs.DeviceInput.{GivesDevice}
 use Rattle.boot_cli.specs.Input.{FileBytes, Gives, KeepsOthers}
 use Rattle.boot_cli.specs.ProvisionEnd.{AnswersMade, AnswersProvision, EndsMade, MakesDevice, ReadsImages}
 use Rattle.boot_cli.specs.RunEnd.{AnswersRun, Plays, RunsDevice}

@@ -4,7 +4,7 @@ use Rattle.flash_model.specs.Chip.{Chip}
 use Rattle.flash_model.specs.Memory.{Memory}
 use Rattle.sector_map.specs.declared.layout.SectorMap.{SectorMap}
 use Rattle.file_flash.specs.FileFlash.{OverFile, new_over}
-use Rattle.boot_cli.specs.DeviceInput.{flash_of}
+use Rattle.answers.specs.FlashOf.{flash_of}
 
 -- a flash of which no cut and no erase was counted
 abbrev uncounted : Chip → Chip

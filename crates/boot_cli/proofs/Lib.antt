@@ -1,9 +1,7 @@
 mod AnswerLaws
-mod DeviceLaws
 mod EndLaws
 mod FileLaws
 mod ImageLaws
 mod InputLaws
 mod ScriptLaws
 mod ShowLaws
-mod TextLaws

@@ -2,8 +2,8 @@
 use Rattle.std.proofs.Common.{◌≡◌, ℕ, List, Option, subst}
 use Rattle.flash_model.specs.Chip.{Chip}
 use Rattle.sector_map.specs.declared.layout.SectorMap.{SectorMap}
-use Rattle.boot_cli.specs.declared.commands.show.ShowEnd.{ShowEnd}
-use Rattle.boot_cli.specs.ShowEnd.{Shows}
+use Rattle.answers.specs.declared.show.ShowEnd.{ShowEnd}
+use Rattle.answers.specs.ShowEnd.{Shows}
 
 -- the writer took what it took since, and the end is this one
 pub Shows-since : (end this : ShowEnd) (map : SectorMap) (chip : Chip)

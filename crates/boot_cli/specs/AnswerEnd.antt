@@ -4,26 +4,29 @@ use Rattle.command_line.specs.declared.orders.Order.{Order}
 use Rattle.command_line.specs.declared.orders.Order.TheVariants as order
 use Rattle.boot_cli.specs.declared.answer.Answer.{Answer}
 use Rattle.boot_cli.specs.declared.answer.Answer.TheVariants.{Done, Refused, Cut}
-use Rattle.boot_cli.specs.declared.commands.check.CheckEnd.{CheckEnd}
-use Rattle.boot_cli.specs.declared.commands.check.CheckEnd.TheVariants as check
-use Rattle.boot_cli.specs.declared.commands.choose.ChooseEnd.TheVariants as choose
-use Rattle.boot_cli.specs.declared.commands.image.DescribeEnd.{DescribeEnd}
-use Rattle.boot_cli.specs.declared.commands.image.DescribeEnd.TheVariants as description
-use Rattle.boot_cli.specs.declared.commands.manifest_file.ManifestEnd.{ManifestEnd}
-use Rattle.boot_cli.specs.declared.commands.manifest_file.ManifestEnd.TheVariants as manifest
-use Rattle.boot_cli.specs.declared.device.DeviceFile.{DeviceFile}
+use Rattle.answers.specs.declared.check.CheckEnd.{CheckEnd}
+use Rattle.answers.specs.declared.check.CheckEnd.TheVariants as check
+use Rattle.answers.specs.declared.choose.ChooseEnd.TheVariants as choose
+use Rattle.answers.specs.declared.image.DescribeEnd.{DescribeEnd}
+use Rattle.answers.specs.declared.image.DescribeEnd.TheVariants as description
+use Rattle.answers.specs.declared.manifest_file.ManifestEnd.{ManifestEnd}
+use Rattle.answers.specs.declared.manifest_file.ManifestEnd.TheVariants as manifest
+use Rattle.answers.specs.declared.show.ShowEnd.{ShowEnd}
+use Rattle.answers.specs.declared.show.ShowEnd.TheVariants as show
+use Rattle.answers.specs.declared.device.DeviceFile.{DeviceFile}
 use Rattle.boot_cli.specs.declared.source.Source.{Source}
 use Rattle.boot_cli.specs.declared.source.Source.TheVariants as source
-use Rattle.boot_cli.specs.CheckEnd.{Judges}
-use Rattle.boot_cli.specs.ChooseEnd.{Writes}
-use Rattle.boot_cli.specs.DescribeEnd.{Tells}
-use Rattle.boot_cli.specs.DeviceFile.{IsDeviceFile}
+use Rattle.answers.specs.CheckEnd.{Judges}
+use Rattle.answers.specs.ChooseEnd.{Writes}
+use Rattle.answers.specs.DescribeEnd.{Tells}
+use Rattle.answers.specs.DeviceFile.{IsDeviceFile}
 use Rattle.boot_cli.specs.DeviceInput.{RefusesMap}
+use Rattle.answers.specs.FlashOf.{IsFlashOf, flash_of}
 use Rattle.boot_cli.specs.Input.{FileBytes, Gives, GiveBoth, IsNamed, names_of}
-use Rattle.boot_cli.specs.ManifestEnd.{TellsManifest}
+use Rattle.answers.specs.ManifestEnd.{TellsManifest}
 use Rattle.boot_cli.specs.ProvisionEnd.{AnswersProvision}
 use Rattle.boot_cli.specs.RunEnd.{AnswersRun}
-use Rattle.boot_cli.specs.ShowEnd.{AnswersShow}
+use Rattle.answers.specs.ShowEnd.{Shows}
 
 -- `choose` read the bytes of a table, and wrote the right report.
 abbrev pub AnswersChoice : Answer → Source → Option (List ℕ) → FileBytes
@@ -80,6 +83,25 @@ AnswersManifest Refused device file input files old new =
     TellsDevice manifest.Refused device file input files old new
     ⊎ RefusesMap device input files old new
 AnswersManifest Cut device file input files old new = ⊥
+
+-- `show` read the bytes of a device file and those of its flash, and wrote what stands there ..
+abbrev pub ShowsDevice : ShowEnd → Source → Source → Option (List ℕ) → FileBytes
+    → Option (List ℕ) → Option (List ℕ) → Type 0
+ShowsDevice end device flash input files old new =
+    (device_bytes : List ℕ) × (bytes : List ℕ) × (of_device : DeviceFile)
+    × GiveBoth device flash input files device_bytes bytes × IsDeviceFile device_bytes of_device
+    × IsFlashOf of_device.map bytes
+    × Shows end of_device.map (flash_of of_device.map bytes) old new
+
+-- .. or why the sizes of the device file make no map, and then the flash doesn't count.
+abbrev pub AnswersShow : Answer → Source → Source → Option (List ℕ) → FileBytes
+    → Option (List ℕ) → Option (List ℕ) → Type 0
+AnswersShow Done device flash input files old new =
+    ShowsDevice show.Done device flash input files old new
+AnswersShow Refused device flash input files old new =
+    ShowsDevice show.Refused device flash input files old new
+    ⊎ RefusesMap device input files old new
+AnswersShow Cut device flash input files old new = ⊥
 
 -- The sources that two words name.
 abbrev pub AreNamed : List ℕ → List ℕ → Source → Source → Type 0

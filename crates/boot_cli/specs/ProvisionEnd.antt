@@ -13,12 +13,13 @@ use Rattle.boot_cli.specs.declared.answer.Answer.{Answer}
 use Rattle.boot_cli.specs.declared.answer.Answer.TheVariants.{Done, Refused, Cut}
 use Rattle.boot_cli.specs.declared.commands.provision.Made.{Made}
 use Rattle.boot_cli.specs.declared.commands.provision.Made.TheVariants as made
-use Rattle.boot_cli.specs.declared.device.DeviceFile.{DeviceFile}
+use Rattle.answers.specs.declared.device.DeviceFile.{DeviceFile}
 use Rattle.boot_cli.specs.declared.source.Source.{Source}
-use Rattle.boot_cli.specs.DeviceFile.{IsDeviceFile}
-use Rattle.boot_cli.specs.DeviceInput.{RefusesMap, flash_of}
+use Rattle.answers.specs.DeviceFile.{IsDeviceFile}
+use Rattle.answers.specs.FlashOf.{flash_of}
+use Rattle.boot_cli.specs.DeviceInput.{RefusesMap}
 use Rattle.boot_cli.specs.Input.{FileBytes, GiveEach, IsNamed}
-use Rattle.boot_cli.specs.ReplyText.{refused_fault_text}
+use Rattle.answers.specs.ReplyText.{refused_fault_text}
 
 -- Bytes of a flash with these files over the fronts of primary slots, from that of this image on.
 abbrev pub with_files : SectorMap → ℕ → List (List ℕ) → List ℕ → List ℕ

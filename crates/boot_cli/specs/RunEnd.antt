@@ -12,12 +12,13 @@ use Rattle.machine.specs.declared.reply.Reply.TheVariants as reply
 use Rattle.boot_core.specs.Device.{made}
 use Rattle.boot_cli.specs.declared.answer.Answer.{Answer}
 use Rattle.boot_cli.specs.declared.answer.Answer.TheVariants.{Done, Refused, Cut}
-use Rattle.boot_cli.specs.declared.device.DeviceFile.{DeviceFile}
+use Rattle.answers.specs.declared.device.DeviceFile.{DeviceFile}
 use Rattle.boot_cli.specs.declared.source.Source.{Source}
-use Rattle.boot_cli.specs.DeviceFile.{IsDeviceFile}
-use Rattle.boot_cli.specs.DeviceInput.{IsFlashOf, RefusesMap, flash_of}
+use Rattle.answers.specs.DeviceFile.{IsDeviceFile}
+use Rattle.answers.specs.FlashOf.{IsFlashOf, flash_of}
+use Rattle.boot_cli.specs.DeviceInput.{RefusesMap}
 use Rattle.boot_cli.specs.Input.{FileBytes, GiveEach}
-use Rattle.boot_cli.specs.ReplyText.{replies_text}
+use Rattle.answers.specs.ReplyText.{replies_text}
 use Rattle.boot_cli.specs.Script.{Came, IsScript, Known, came_by, known_after}
 
 -- What a device is made with, by its file.

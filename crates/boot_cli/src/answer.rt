@@ -1,11 +1,9 @@
 //! What comes of a command: its answer or its refusal, and the exit status.
-ghost use Rattle.std.specs.Prelude.{◌≡◌, ◌⊎◌, IfOk, Ok, is_ok, if◌then◌else◌, string_bytes};
+ghost use Rattle.std.specs.Prelude.{◌≡◌, ◌⊎◌, Ok, is_ok, if◌then◌else◌};
 ghost use Rattle.std.specs.Io.KnownBytes.{Keeps};
-ghost use Rattle.boot_cli.specs.AnswerText.{refused_group_text, refused_text};
 ghost use Rattle.boot_cli.specs.Status.{Ends, status_of_answer, status_of_refusal};
 
 use crate::error::Refusal;
-use std::alloc::{AllocError, Allocator};
 use std::io;
 use std::io::Write;
 
@@ -43,31 +41,6 @@ impl Answer {
             Answer::Cut => CUT,
         }
     }
-}
-
-/// The text `refused CODE NAME`, for standard output: the number and the name of what was wrong.
-pub fn refused_text<'a, A: Allocator>(
-    alloc: &'a A,
-    code: u8,
-    name: &str,
-) -> Result<String<&'a A>, AllocError>
-    ensures { IfOk result (λ text. string_bytes text ≡ refused_text code name.now) }
-{
-    format!(in alloc; "refused {code} {name}\n")
-}
-
-/// The text `refused GROUP CODE NAME`, for standard output: what a layer below refused, by the layer's word, the number
-/// and the name.
-pub fn refused_group_text<'a, A: Allocator>(
-    alloc: &'a A,
-    group: &str,
-    code: u8,
-    name: &str,
-) -> Result<String<&'a A>, AllocError>
-    ensures { IfOk result
-        (λ text. string_bytes text ≡ refused_group_text group.now code name.now) }
-{
-    format!(in alloc; "refused {group} {code} {name}\n")
 }
 
 /// Brings a command to its end, and returns the exit status: an answer is flushed, and a refusal is an error

@@ -43,14 +43,3 @@ pub enum Refusal<'a> {
     #[error("cannot write")]
     CannotWrite,
 }
-
-/// Why a reader was not read to its end.
-#[derive(Clone, Copy, Debug, PartialEq, Eq, Error)]
-pub enum ReadError {
-    /// There is no memory for what it gives.
-    #[error("memory")]
-    NoMemory,
-    /// A read failed for another reason.
-    #[error("read failed")]
-    Failed,
-}

@@ -2,21 +2,25 @@
 //! table; what images say of themselves; what manifests say to a device; and a device itself, on a file, that boots,
 //! takes uploads and survives power cuts.
 //!
-//! The program `bootswap` gives them its words, the system's files and its standard input and outputs; a test gives
-//! them others.
+//! Promises: status 0 comes only where what the words ask for was done, for what the files that they name hold; and what
+//! `run` writes are the replies of a device to its script. The program `bootswap` gives the commands its words, the
+//! system's files and its standard input and outputs; a test gives them others. What is written is made by `answers`,
+//! whose calls are passed on here.
 #![tactic(auto)]
 
 mod answer;
 mod commands;
-mod device;
 mod device_input;
 mod error;
 mod host;
 mod loading;
 mod program;
-mod replies;
 mod source;
-mod streams;
 
+pub use answers::{
+    CheckEnd, ChooseEnd, DescribeEnd, ManifestEnd, ShowEnd, check_over, choose_over, describe_over,
+    show_over, tell_over,
+};
+pub use command_line::{Order, OrderError, order};
 pub use host::{Host, StandardInput, SystemHost};
 pub use program::{cli, refuse_words, run_order};

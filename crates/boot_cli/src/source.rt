@@ -2,9 +2,9 @@
 ghost use Rattle.std.specs.Prelude.{IfOk};
 ghost use Rattle.boot_cli.specs.Input.{Gives, IsNamed, KeepsOthers};
 
-use crate::error::{ReadError, Refusal};
+use crate::error::Refusal;
 use crate::host::{Host, StandardInput};
-use crate::streams::read_all;
+use answers::{ReadError, read_all};
 use command_line::{Escaped, STANDARD_INPUT};
 use std::alloc::Allocator;
 use std::fmt;

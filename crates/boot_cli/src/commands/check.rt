@@ -1,32 +1,15 @@
-//! `bootswap check`: whether a report is right for a table.
+//! `bootswap check`: whether a report is right for a table, of which both are named.
 ghost use Rattle.std.specs.Prelude.{IfOk};
 ghost use Rattle.boot_cli.specs.AnswerEnd.{AnswersCheck};
-ghost use Rattle.boot_cli.specs.CheckEnd.{Judges};
 
 use crate::answer::Answer;
 use crate::error::Refusal;
 use crate::host::Host;
 use crate::source::Source;
-use crate::streams::write_all;
-use certificate::{Report, Table, check};
+use answers::{CheckEnd, check_over};
+use certificate::Table;
 use std::alloc::Allocator;
 use std::io::Write;
-
-/// How a check ended.
-#[derive(Clone, Copy, Debug, PartialEq, Eq)]
-pub enum CheckEnd {
-    /// The report is right for the table, and `yes` is written.
-    Yes,
-    /// The report isn't right for the table, and `no` is written.
-    No,
-    /// The text of the table is none. The number, from 1, is that of the first line that no table goes on from.
-    BadTable(usize),
-    /// The text of the report is none, and that of the table is one. The number, from 1, is that of the first
-    /// line that no report goes on from.
-    BadReport(usize),
-    /// The verdict could not be written: the writer has taken a beginning of it.
-    WriteFailed,
-}
 
 /// Reads both texts from `host` into memory of `heap`, and writes the verdict to `out`. The table is judged
 /// before the report is read.
@@ -51,31 +34,5 @@ pub fn perform<'a, A: Allocator, H: Host, O: Write>(
         CheckEnd::BadTable(line) => Err(Refusal::TableLine(line)),
         CheckEnd::BadReport(line) => Err(Refusal::ReportLine(line)),
         CheckEnd::WriteFailed => Err(Refusal::CannotWrite),
-    }
-}
-
-/// Writes to `out` whether the report that the second text spells is right for the table that the first one
-/// spells: `yes` or `no`, and nothing where one of them is no such text. The table is judged first.
-///
-/// It does not allocate.
-pub fn check_over<W: Write>(table: &[u8], report: &[u8], out: &mut W) -> CheckEnd
-    ensures { Judges result table.now report.now (W.contents out.old) (W.contents out.new) }
-{
-    let table = match Table::parse(table) {
-        Ok(table) => table,
-        Err(bad) => return CheckEnd::BadTable(bad.0),
-    };
-    let report = match Report::parse(report) {
-        Ok(report) => report,
-        Err(bad) => return CheckEnd::BadReport(bad.0),
-    };
-    let (word, end) = if check(&table, &report) {
-        ("yes\n", CheckEnd::Yes)
-    } else {
-        ("no\n", CheckEnd::No)
-    };
-    match write_all(out, word.as_bytes()) {
-        Ok(()) => end,
-        Err(_) => CheckEnd::WriteFailed,
     }
 }

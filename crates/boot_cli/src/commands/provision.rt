@@ -2,17 +2,16 @@
 ghost use Rattle.std.specs.Prelude.{◌≡◌, ◌+◌, ◌<◌, ◌≤◌, [], IfOk, IfSome, length, slice_get, string_bytes};
 ghost use Rattle.std.specs.Option.{ForSome};
 ghost use Rattle.flash_model.specs.Torn.{replaced};
-ghost use Rattle.boot_cli.specs.DeviceInput.{IsFlashOf};
+ghost use Rattle.answers.specs.FlashOf.{IsFlashOf};
 ghost use Rattle.boot_cli.specs.Input.{IsNamed, names_of};
 ghost use Rattle.boot_cli.specs.ProvisionEnd.{AnswersMade, AnswersProvision, EndsMade, ReadsImages, done_text, new_flash};
 
 use crate::answer::Answer;
-use crate::device_input::{flash_of, read_device};
+use crate::device_input::read_device;
 use crate::error::Refusal;
 use crate::host::{Host, HostFile};
-use crate::replies::refused_fault_text;
 use crate::source::Source;
-use crate::streams::write_all;
+use answers::{flash_of, refused_fault_text, write_all};
 use file_flash::{FileFlash, FlashFile};
 use machine::Fault;
 use sector_map::{SectorMap, Side};

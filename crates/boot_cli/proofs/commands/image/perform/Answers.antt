@@ -1,5 +1,5 @@
 use Rattle.boot_cli.proofs.AnswerLaws.{Tells-answer}
-use Rattle.boot_cli.specs.declared.commands.image.DescribeEnd.TheVariants.{Refused}
+use Rattle.answers.specs.declared.image.DescribeEnd.TheVariants.{Refused}
 use Rattle.boot_cli.proofs.commands.image.perform.Goals as goal
 
 -- The bytes are what the source gave, and the check that they fail was written.

@@ -1,6 +1,6 @@
 use Rattle.std.proofs.Common.{inl}
 use Rattle.boot_cli.proofs.AnswerLaws.{GiveBoth-read, TellsManifest-answer}
-use Rattle.boot_cli.specs.declared.commands.manifest_file.ManifestEnd.TheVariants.{Done, Refused}
+use Rattle.answers.specs.declared.manifest_file.ManifestEnd.TheVariants.{Done, Refused}
 use Rattle.boot_cli.proofs.commands.manifest_file.perform.Goals as goal
 
 -- Both are what their sources gave, the first is the device's file, and what the second says to it was written.

@@ -2,7 +2,7 @@ use Rattle.std.proofs.Common.{subst}
 use Rattle.std.proofs.lemmas.Result.{IfOk-weaker}
 use Rattle.boot_cli.specs.Loading.{came_in}
 use Rattle.boot_cli.specs.Script.{IsScript}
-use Rattle.boot_cli.proofs.DeviceLaws.{IsOfFile-read}
+use Rattle.answers.proofs.DeviceLaws.{IsOfFile-read}
 use Rattle.boot_cli.proofs.EndLaws.{AnswersRun-read}
 use Rattle.boot_cli.proofs.commands.playing.perform.Goals as goal
 

@@ -1,7 +1,7 @@
 use Rattle.std.proofs.Common.{inl}
 use Rattle.boot_cli.proofs.AnswerLaws.{GiveBoth-read}
 use Rattle.boot_cli.proofs.ShowLaws.{Shows-since}
-use Rattle.boot_cli.specs.declared.commands.show.ShowEnd.TheVariants.{Done, Refused}
+use Rattle.answers.specs.declared.show.ShowEnd.TheVariants.{Done, Refused}
 use Rattle.boot_cli.proofs.commands.show.perform.Goals as goal
 
 -- Both are what their sources gave, the first is the device's file, and what stands on the second was written.

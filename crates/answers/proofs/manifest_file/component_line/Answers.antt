@@ -1,0 +1,13 @@
+use Rattle.std.proofs.Common.{◌≡◌, ◌∷◌, ◌++◌, [], append_assoc, string_bytes}
+use Rattle.std.proofs.lemmas.Result.{IfOk-weaker}
+use Rattle.answers.specs.ManifestText.{component_text}
+use Rattle.answers.proofs.manifest_file.component_line.Goals as goal
+
+-- The parts are those that the component's text has.
+pub returns : goal.returns
+returns g c =
+    let digest = rw c.as_slice.ensures at c.in_ok-digest.ensures in
+    let precursor = c.in_ok-precursor.ensures in
+    let kind = c.kind_text-kind.ensures in
+    IfOk-weaker c.format.result _ (λ line. string_bytes line ≡ component_text c.args.component.now ++ 10 ∷ [])
+    (λ line written. simp append_assoc (simp (append_assoc, digest, precursor, kind) at written)) c.format.ensures.ok

@@ -1,0 +1,10 @@
+use Rattle.std.proofs.Common.{append_assoc}
+use Rattle.answers.proofs.TextLaws.{flat_map-range_more}
+use Rattle.answers.proofs.show.floor_lines.Goals as goal
+
+-- The line of one image more.
+pub loop-image-preserved : goal.loop-image-preserved
+loop-image-preserved g c =
+    let written = c.in_ok-push_str.ensures.bytes in
+    let line = c.in_ok-line.ensures.ok in
+    rw (flat_map-range_more, written, c.deref.ensures, line, c.loop-image.invariant, c.from.ensures) (simp append_assoc)

@@ -1,0 +1,11 @@
+use Rattle.std.proofs.Common.{◌≡◌, string_bytes}
+use Rattle.answers.specs.ShowEnd.{swap_type_in}
+use Rattle.answers.specs.StateText.{swap_lines}
+use Rattle.answers.proofs.show.swap_lines.Given as goal
+
+-- the text so far is that of the images so far, and the flash is as it was
+abbrev pub invariant-loop-image : goal.invariant-loop-image
+invariant-loop-image g l = record {
+  said : string_bytes l.text ≡ swap_lines l.image-counter (swap_type_in l.map (g.F.Flash.chip l.fn.flash));
+  same : g.F.Flash.chip l.flash ≡ g.F.Flash.chip l.fn.flash;
+}

@@ -1,0 +1,32 @@
+//! What the commands of `bootswap` write, from the bytes that they read: the report of a choice, a verdict, what an image
+//! says of itself, what a manifest says to a device, what stands on a flash, the replies of a device. And device files,
+//! read.
+//!
+//! Promises: what is written is exactly the text of what the bytes say, or why they say nothing; where a write fails
+//! a beginning of it stands. Nothing here knows a file or the words of a command: `boot_cli` reads what they name, and
+//! calls it.
+#![tactic(auto)]
+
+mod check;
+mod choose;
+mod device;
+mod error;
+mod flash;
+mod image;
+mod manifest_file;
+mod refusals;
+mod replies;
+mod show;
+mod streams;
+
+pub use check::{CheckEnd, check_over};
+pub use choose::{ChooseEnd, choose_over};
+pub use device::{DeviceFault, DeviceFile, MOST_TRIAL_BOOTS};
+pub use error::ReadError;
+pub use flash::flash_of;
+pub use image::{DescribeEnd, describe_over};
+pub use manifest_file::{ManifestEnd, tell_over};
+pub use refusals::map_refusal_text;
+pub use replies::{refused_fault_text, replies_text};
+pub use show::{ShowEnd, show_over};
+pub use streams::{read_all, write_all};

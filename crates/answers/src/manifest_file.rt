@@ -1,0 +1,116 @@
+//! `bootswap manifest`: what a manifest says to a device, or why it is none for it.
+ghost use Rattle.std.specs.Prelude.{◌≡◌, ◌≢◌, ◌∷◌, ◌++◌, [], IfOk, string_bytes};
+ghost use Rattle.answers.specs.ManifestEnd.{TellsManifest};
+ghost use Rattle.answers.specs.ManifestText.{component_text, manifest_text, precursor_text, refusal_text};
+ghost use Rattle.manifest.specs.Component.{kind_text};
+
+use crate::refusals::refused_text;
+use crate::streams::write_all;
+use manifest::{Component, Identity, Manifest, ManifestError};
+use std::alloc::{AllocError, Allocator, Global};
+use std::io::Write;
+
+/// How reading a manifest ended.
+#[derive(Clone, Copy, Debug, PartialEq, Eq)]
+pub enum ManifestEnd {
+    /// The bytes are a manifest for the device, and what it says is written.
+    Done,
+    /// The bytes are none, and the lowest refusal that applies is written.
+    Refused,
+    /// There was no memory for the manifest or the text.
+    NoMemory,
+    /// The text could not be written: the writer has taken a beginning of it.
+    WriteFailed,
+}
+
+/// Writes to `out` what the manifest says that `bytes` are to a device of this identity, or the lowest refusal that
+/// applies.
+///
+/// The JSON value stands in memory of `alloc`. The text is made in memory of `heap` before it is written: where one of
+/// them runs out, nothing is.
+pub fn tell_over<A: Allocator, W: Write>(
+    alloc: Global,
+    heap: &A,
+    bytes: &[u8],
+    identity: &Identity,
+    out: &mut W,
+) -> ManifestEnd
+    ensures { TellsManifest result identity.now bytes.now (W.contents out.old) (W.contents out.new) }
+{
+    let (text, end) = match Manifest::read(alloc, bytes, identity) {
+        Ok(manifest) => (manifest_text(heap, &manifest), ManifestEnd::Done),
+        Err(fault) => (refusal_text(heap, fault), ManifestEnd::Refused),
+    };
+    let Ok(text) = text else {
+        return ManifestEnd::NoMemory;
+    };
+    match write_all(out, text.as_bytes()) {
+        Ok(()) => end,
+        Err(_) => ManifestEnd::WriteFailed,
+    }
+}
+
+/// What a manifest says.
+fn manifest_text<'a, A: Allocator>(
+    heap: &'a A,
+    manifest: &Manifest,
+) -> Result<String<&'a A>, AllocError>
+    ensures { IfOk result (λ text. string_bytes text ≡ manifest_text manifest.now) }
+{
+    let sequence = manifest.sequence;
+    let mut text = format!(in heap; "sequence {sequence}\n")?;
+    for component in manifest.components.as_slice() {
+        let line = component_line(heap, component)?;
+        text.push_str(&line)?;
+    }
+    Ok(text)
+}
+
+/// What a component says, as a line.
+fn component_line<'a, A: Allocator>(
+    heap: &'a A,
+    component: &Component,
+) -> Result<String<&'a A>, AllocError>
+    ensures { IfOk result (λ line. string_bytes line ≡ component_text component.now ++ 10 ∷ []) }
+{
+    let Component { image, size, .. } = *component;
+    let kind = kind_text(component.permanent);
+    let digest = hex::encode(heap, component.digest.as_slice())?;
+    let precursor = precursor_text(heap, component.precursor)?;
+    format!(in heap; "component {image} {size} {kind} {digest}{precursor}\n")
+}
+
+/// The word for the kind of a request.
+fn kind_text(permanent: bool) -> &'static str
+    ensures { result.now ≡ kind_text permanent }
+{
+    if permanent { "permanent" } else { "test" }
+}
+
+/// What follows a component: the digest of the image that has to run, where one is asked for.
+fn precursor_text<A: Allocator>(
+    heap: &A,
+    precursor: Option<[u8; 32]>,
+) -> Result<String<&A>, AllocError>
+    ensures { IfOk result (λ text. string_bytes text ≡ precursor_text precursor) }
+{
+    match precursor {
+        None => Ok(String::new(heap)),
+        Some(digest) => {
+            let digest = hex::encode(heap, digest.as_slice())?;
+            format!(in heap; " precursor {digest}")
+        }
+    }
+}
+
+/// The lowest refusal that applies, by its number and its name. There is no text where memory ran out, for that says
+/// nothing of the manifest.
+fn refusal_text<A: Allocator>(heap: &A, fault: ManifestError) -> Result<String<&A>, AllocError>
+    ensures { IfOk result (λ text. (fault ≢ ManifestError.NoMemory)
+        × (string_bytes text ≡ refusal_text fault)) }
+{
+    match fault {
+        ManifestError::NoMemory => Err(AllocError),
+        _ => refused_text(heap, fault.code(), fault.name()),
+    }
+}

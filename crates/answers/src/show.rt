@@ -1,0 +1,229 @@
+//! `bootswap show`: what stands on the flash of a device.
+ghost use Rattle.std.specs.Prelude.{◌≡◌, ◌<◌, ◌≤◌, IfOk, true, length, slice_index, string_bytes};
+ghost use Rattle.flash_model.specs.Chip.{Chip};
+ghost use Rattle.sector_map.specs.Map.{IsLaidOut};
+ghost use Rattle.set_log.specs.Log.{state_of};
+ghost use Rattle.trailer.specs.Fields.{fields_at, trailer_of};
+ghost use Rattle.answers.specs.FlashOf.{IsFlashOf, flash_of};
+ghost use Rattle.answers.specs.ShowEnd.{Shows, stand_text, swap_type_in};
+ghost use Rattle.answers.specs.StateText.{floor_lines, images_text, kind_text, left_text, swap_lines, swap_type_text};
+
+use crate::flash::flash_of;
+use crate::replies::{refused_fault_text, set_text};
+use crate::streams::write_all;
+use flash_model::Flash;
+use machine::Fault;
+use sector_map::{SectorMap, Side};
+use set_log::{Kind, LogError, State, read_state};
+use std::alloc::{AllocError, Allocator, Global};
+use std::io::Write;
+use std::sync::ledger::{Blank, Ledger};
+use trailer::{SwapType, Trailer, read_trailer, swap_type};
+
+/// How showing a flash ended.
+#[derive(Clone, Copy, Debug, PartialEq, Eq)]
+pub enum ShowEnd {
+    /// The log has a state, and what stands is written.
+    Done,
+    /// The log has no state, and that is written.
+    Refused,
+    /// There was no memory for the text.
+    NoMemory,
+    /// The text could not be written: the writer has taken a beginning of it.
+    WriteFailed,
+}
+
+/// Writes to `out` what stands on the flash of these bytes.
+///
+/// The text is made in memory of `heap` before it is written: where that runs out, nothing is. The ledger's token has
+/// two parts, as `Blank::new(2)` makes it.
+pub fn show_over<L: Ledger, A: Allocator, W: Write>(
+    alloc: Global,
+    heap: &A,
+    blank: Blank,
+    map: &SectorMap,
+    bytes: Vec<u8>,
+    out: &mut W,
+) -> ShowEnd
+    requires name { blank.name ≡ L.name }
+    requires parts { blank.parts ≡ L.parts }
+    requires two { L.parts ≡ 2 }
+    requires whole { IsFlashOf map.now bytes.items }
+    ensures { Shows result map.now (flash_of map.now bytes.items)
+        (W.contents out.old) (W.contents out.new) }
+{
+    let mut flash = flash_of::<L>(alloc, blank, map, bytes);
+    show_flash(heap, &mut flash, map, out)
+}
+
+/// Writes to `out` what stands on a flash that has power.
+fn show_flash<A: Allocator, F: Flash, W: Write>(
+    heap: &A,
+    flash: &mut F,
+    map: &SectorMap,
+    out: &mut W,
+) -> ShowEnd
+    requires laid_out { IsLaidOut map.now (F.chip flash.old) }
+    requires on { (F.chip flash.old).is_on ≡ true }
+    ensures { Shows result map.now (F.chip flash.old) (W.contents out.old) (W.contents out.new) }
+{
+    let state = state_on(flash, map);
+    let Ok(text) = stand_text(heap, flash, map, state) else {
+        return ShowEnd::NoMemory;
+    };
+    match (write_all(out, text.as_bytes()), state) {
+        (Ok(()), Some(_)) => ShowEnd::Done,
+        (Ok(()), None) => ShowEnd::Refused,
+        (Err(_), _) => ShowEnd::WriteFailed,
+    }
+}
+
+/// The state that the log has, on a flash that has power.
+fn state_on<F: Flash>(flash: &mut F, map: &SectorMap) -> Option<State>
+    requires laid_out { IsLaidOut map.now (F.chip flash.old) }
+    requires on { (F.chip flash.old).is_on ≡ true }
+    ensures same { F.chip flash.new ≡ F.chip flash.old }
+    ensures state { result ≡ state_of map.now (F.chip flash.old) }
+{
+    match read_state(flash, map) {
+        Ok(state) => Some(state),
+        Err(LogError::NoLog) => None,
+        Err(LogError::Flash(_)) => unreachable!(),
+    }
+}
+
+/// What is printed of a flash that has power, and whose log has this state, or none.
+fn stand_text<'a, A: Allocator, F: Flash>(
+    heap: &'a A,
+    flash: &mut F,
+    map: &SectorMap,
+    state: Option<State>,
+) -> Result<String<&'a A>, AllocError>
+    requires laid_out { IsLaidOut map.now (F.chip flash.old) }
+    requires on { (F.chip flash.old).is_on ≡ true }
+    ensures { IfOk result
+        (λ text. string_bytes text ≡ stand_text map.now (F.chip flash.old) state) }
+{
+    let Some(state) = state else {
+        return refused_fault_text(heap, Fault::NotProvisioned);
+    };
+    let kind = kind_text(state.kind);
+    let set = images_text(heap, state.mask)?;
+    let left = left_text(heap, state.left)?;
+    let sequence = state.sequence;
+    let floors = floor_lines(heap, &state, map)?;
+    let swaps = swap_lines(heap, flash, map)?;
+    format!(in heap; "state {kind}\nset{set}\n{left}sequence {sequence}\n{floors}{swaps}")
+}
+
+/// What a device is in the midst of.
+fn kind_text(kind: Kind) -> &'static str
+    ensures { result.now ≡ kind_text kind }
+{
+    match kind {
+        Kind::Steady => "steady",
+        Kind::Swap => "swap",
+        Kind::Settle => "settle",
+        Kind::Trial => "trial",
+        Kind::Back => "back",
+        Kind::BackSettle => "back-settle",
+    }
+}
+
+/// The images of a set, each after a space, or that there are none.
+fn images_text<A: Allocator>(heap: &A, set: u8) -> Result<String<&A>, AllocError>
+    ensures { IfOk result (λ text. string_bytes text ≡ images_text set) }
+{
+    if set == 0 {
+        format!(in heap; " -")
+    } else {
+        set_text(heap, set)
+    }
+}
+
+/// How many boots more a trial lasts, as a line, where any are left.
+fn left_text<A: Allocator>(heap: &A, left: u8) -> Result<String<&A>, AllocError>
+    ensures { IfOk result (λ text. string_bytes text ≡ left_text left) }
+{
+    if left == 0 {
+        Ok(String::new(heap))
+    } else {
+        format!(in heap; "left {left}\n")
+    }
+}
+
+/// The floor of each image, as a line.
+fn floor_lines<'a, A: Allocator>(
+    heap: &'a A,
+    state: &State,
+    map: &SectorMap,
+) -> Result<String<&'a A>, AllocError>
+    ensures { IfOk result (λ text. string_bytes text ≡ floor_lines map.now.images state.now) }
+{
+    let mut text = String::new(heap);
+    for image in 0..map.images {
+        let floor = state.floors[usize::from(image)];
+        let line = format!(in heap; "floor {image} {floor}\n")?;
+        text.push_str(&line)?;
+    }
+    Ok(text)
+}
+
+/// What the trailers of each image ask of a boot, as a line, on a flash that has power.
+fn swap_lines<'a, A: Allocator, F: Flash>(
+    heap: &'a A,
+    flash: &mut F,
+    map: &SectorMap,
+) -> Result<String<&'a A>, AllocError>
+    requires laid_out { IsLaidOut map.now (F.chip flash.old) }
+    requires on { (F.chip flash.old).is_on ≡ true }
+    ensures { IfOk result (λ text. string_bytes text
+        ≡ swap_lines map.now.images (swap_type_in map.now (F.chip flash.old))) }
+{
+    let mut text = String::new(heap);
+    for image in 0..map.images {
+        let asked = swap_type_text(swap_type_on(flash, map, image));
+        let line = format!(in heap; "swap {image} {asked}\n")?;
+        text.push_str(&line)?;
+    }
+    Ok(text)
+}
+
+/// What the trailers of an image ask of a boot, on a flash that has power.
+fn swap_type_on<F: Flash>(flash: &mut F, map: &SectorMap, image: u8) -> SwapType
+    requires laid_out { IsLaidOut map.now (F.chip flash.old) }
+    requires there { image < map.now.images }
+    requires on { (F.chip flash.old).is_on ≡ true }
+    ensures same { F.chip flash.new ≡ F.chip flash.old }
+    ensures swap_type { result ≡ swap_type_in map.now (F.chip flash.old) image }
+{
+    let primary = trailer_on(flash, map, image, Side::Primary);
+    let secondary = trailer_on(flash, map, image, Side::Secondary);
+    swap_type(&primary, &secondary)
+}
+
+/// The fields of a trailer, on a flash that has power.
+fn trailer_on<F: Flash>(flash: &mut F, map: &SectorMap, image: u8, side: Side) -> Trailer
+    requires laid_out { IsLaidOut map.now (F.chip flash.old) }
+    requires there { image < map.now.images }
+    requires on { (F.chip flash.old).is_on ≡ true }
+    ensures same { F.chip flash.new ≡ F.chip flash.old }
+    ensures fields { result ≡ trailer_of (fields_at map.now (F.chip flash.old) image side) }
+{
+    match read_trailer(flash, map, image, side) {
+        Ok(trailer) => trailer,
+        Err(_) => unreachable!(),
+    }
+}
+
+/// What a pair of trailers asks of a boot.
+fn swap_type_text(swap_type: SwapType) -> &'static str
+    ensures { result.now ≡ swap_type_text swap_type }
+{
+    match swap_type {
+        SwapType::Test => "test",
+        SwapType::Perm => "perm",
+        SwapType::Revert => "revert",
+        SwapType::None => "none",
+    }
+}
