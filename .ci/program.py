@@ -1,0 +1,278 @@
+"""Proves and builds the program `bootswap`, for the command of that name.
+
+Each crate is proved by the toolchain's `rattle build`, over the statements of the crates below it, as many side by side
+as there are processors and memory for. What is built stands in out/build: a library NAME.rlib for each crate, and
+beside it NAME.stamp, which says of what sources it was made. So a build that was broken off goes on with the crates
+that it had not yet built.
+"""
+
+import fcntl
+import functools
+import hashlib
+import os
+import re
+import signal
+import subprocess
+import sys
+import time
+from concurrent.futures import FIRST_COMPLETED, ThreadPoolExecutor, wait
+
+ROOT = os.path.dirname(os.path.dirname(os.path.realpath(__file__)))
+OUT = f"{ROOT}/out"
+BUILD = f"{OUT}/build"
+LOG = f"{OUT}/bootswap.log"
+PROGRAM = f"{OUT}/bootswap"
+
+# What is told before a build: as measured on 4 processors.
+COST = "some 30 minutes of one processor, 1 GB of disk"
+
+# The most memory that the check of a crate has taken, in bytes, and what each further process of one takes.
+MEMORY, MEMORY_OF_JOB = 2_300_000_000, 800_000_000
+
+# The most processes that are of use to one check.
+MOST_JOBS = 4
+
+TARGET = "x86_64-unknown-linux-gnu"
+
+
+class NotBuilt(Exception):
+    """Why the program could not be built."""
+
+
+def tell(text):
+    print(f"bootswap: {text}", file=sys.stderr, flush=True)
+
+
+class Crate:
+    """A crate of the repository, as crates.txt has it."""
+
+    def __init__(self, name, of_kit, own):
+        self.name, self.of_kit, self.own = name, of_kit, own
+        self.folder = f"{ROOT}/crates/{name}"
+        self.is_program = os.path.isfile(f"{self.folder}/src/main.rt")
+        self.made = f"{BUILD}/{name}.o" if self.is_program else f"{BUILD}/{name}.rlib"
+        self.stamp = f"{BUILD}/{name}.stamp"
+        self.files = sorted(files_of(self.folder))
+        self.lines = sum(contents.count(b"\n") for path, contents in self.files if path.endswith(".rt"))
+
+    @functools.lru_cache(maxsize=None)
+    def below(self):
+        """Returns the crates that it stands on, each after those that it stands on itself."""
+        found = []
+        for crate in self.own:
+            found += [it for it in [*crate.below(), crate] if it not in found]
+        return found
+
+    @functools.lru_cache(maxsize=None)
+    def digest(self, toolchain):
+        """Returns a digest of all that it is made of."""
+        sum = hashlib.sha256(repr((self.name, self.of_kit, toolchain, self.files)).encode())
+        for crate in self.own:
+            sum.update(crate.digest(toolchain).encode())
+        return sum.hexdigest()
+
+    def is_built(self, toolchain):
+        """Returns whether a build before this one made it of these sources. Of a program only its own stamp tells."""
+        return not self.is_program and os.path.exists(self.made) and text_of(self.stamp) == self.digest(toolchain)
+
+    def words(self, kit, jobs):
+        """Returns the order to prove and build it."""
+        words = [f"{kit}/bin/rattle", "build", "--crate-name", self.name]
+        words += ["src/main.rt" if self.is_program else "src/lib.rt"]
+        for name in ["std", *self.of_kit]:
+            words += ["--extern", f"{name}={kit}/rlibs/{name}.rlib"]
+        for crate in self.own:
+            words += ["--extern", f"{crate.name}={crate.made}"]
+        words += ["-L", f"dependency={kit}/rlibs", "-L", f"dependency={BUILD}"]
+        words += ["--antt-project", f"{kit}/rattle/logic/antt-project.json", "--logic-built", f"{kit}/logic_built"]
+        words += ["--jobs", str(jobs), "--links", f"{self.name}=", "-o", self.made]
+        if self.is_program:
+            return [*words, "--toolchain", f"{kit}/toolchain", "--backend", "llvm"]
+        return [*words, "--statements"]
+
+
+def files_of(folder):
+    """Yields the path and the contents of each file that a check of a crate reads."""
+    for part in ("src", "specs", "proofs"):
+        for at, _, names in os.walk(f"{folder}/{part}"):
+            for name in names:
+                with open(f"{at}/{name}", "rb") as it:
+                    yield os.path.relpath(f"{at}/{name}", folder), it.read()
+
+
+def text_of(path):
+    """Returns the text of a file, or None where it can't be read."""
+    try:
+        with open(path, encoding="utf-8") as it:
+            return it.read()
+    except (OSError, UnicodeDecodeError):
+        return None
+
+
+def crates_of_program():
+    """Returns the crates that the program stands on, and its own, lowest first."""
+    lines = [line.partition("#")[0] for line in (text_of(f"{ROOT}/crates.txt") or "").splitlines()]
+    rows = {name.split()[0]: below.split() for name, colon, below in (it.partition(":") for it in lines) if colon}
+    known = {}
+
+    def crate_of(name):
+        if name not in known:
+            own = [crate_of(it) for it in rows[name] if it in rows]
+            known[name] = Crate(name, [it for it in rows[name] if it not in rows], own)
+        return known[name]
+
+    if "bootswap" not in rows:
+        raise NotBuilt(f"{ROOT}/crates.txt names no crate bootswap")
+    program = crate_of("bootswap")
+    return [*program.below(), program]
+
+
+def free_memory():
+    """Returns the bytes of memory that are free, as far as the system tells."""
+    found = re.search(r"MemAvailable: +(\d+)", text_of("/proc/meminfo") or "")
+    return 1024 * int(found[1]) if found else MEMORY
+
+
+class Build:
+    """A build that is under way: what is left, what runs, and what may start."""
+
+    def __init__(self, crates, toolchain, kit, held):
+        self.toolchain, self.kit, self.held, self.start = toolchain, kit, held, time.monotonic()
+        self.left = [it for it in crates if not it.is_built(toolchain)]
+        self.running, self.processes, self.is_stopped = {}, set(), False
+        self.processors, self.memory = len(os.sched_getaffinity(0)), 0.9 * free_memory()
+        # How many lines have to be proved, one crate after the other, from a crate on.
+        self.behind = {it: it.lines for it in crates}
+        for crate in reversed(crates):
+            for it in crate.own:
+                self.behind[it] = max(self.behind[it], it.lines + self.behind[crate])
+
+    def seconds(self):
+        return f"{time.monotonic() - self.start:.0f} s"
+
+    def run(self):
+        """Proves and builds all that is left."""
+        at_once = min(self.processors, max(int(self.memory // MEMORY), 0))
+        if not at_once:
+            raise NotBuilt(f"a check takes up to {MEMORY / 1e9:.1f} GB of memory, and less is free")
+        tell(
+            f"proving and building the program: {len(self.left)} crates, {at_once} side by side; from nothing it takes "
+            f"{COST}, and up to {at_once * MEMORY / 1e9:.1f} GB of memory"
+        )
+        with ThreadPoolExecutor(self.processors) as pool:
+            try:
+                while self.left or self.running:
+                    self.start_what_fits(pool)
+                    for ran in wait(self.running, return_when=FIRST_COMPLETED).done:
+                        crate, _ = self.running.pop(ran)
+                        self.end(crate, ran.result())
+            finally:
+                self.stop()
+        tell(f"built ({self.seconds()})")
+
+    def start_what_fits(self, pool):
+        """Starts the crates that are ready, those with the longest way behind them first."""
+        waits = [*self.left, *[crate for crate, _ in self.running.values()]]
+        ready = [it for it in self.left if not any(crate in waits for crate in it.below())]
+        ready.sort(key=lambda it: -self.behind[it])
+        for place, crate in enumerate(ready):
+            jobs = self.jobs_for(len(ready) - place)
+            if not jobs:
+                return
+            self.left.remove(crate)
+            self.running[pool.submit(self.build, crate, jobs)] = crate, jobs
+
+    def jobs_for(self, waiting):
+        """Returns how many processes the next of so many crates may have: none where processors or memory are taken."""
+        taken = [jobs for _, jobs in self.running.values()]
+        idle = self.processors - sum(taken)
+        room = self.memory - sum(MEMORY + (jobs - 1) * MEMORY_OF_JOB for jobs in taken) - MEMORY
+        if idle <= 0 or room < 0:
+            return 0
+        return max(1, min(MOST_JOBS, idle // waiting, 1 + int(room // MEMORY_OF_JOB)))
+
+    def build(self, crate, jobs):
+        """Proves and builds a crate, and returns whether that was done, and what was said."""
+        if os.path.isfile(crate.stamp):
+            os.remove(crate.stamp)
+        digest = crate.digest(self.toolchain)
+        status, said = self.call(crate.words(self.kit, jobs), crate.folder)
+        if status == -signal.SIGKILL and not self.is_stopped:
+            # Most likely for memory, of which one process needs the least.
+            status, said = self.call(crate.words(self.kit, 1), crate.folder)
+        if not status and crate.is_program:
+            status, more = self.call(link_words(self.kit, crate.made), crate.folder)
+            said += more
+        if not status:
+            with open(crate.stamp, "w", encoding="utf-8") as it:
+                it.write(digest)
+        return not status, said
+
+    def call(self, words, folder):
+        """Runs a command of the toolchain, and returns its status and what it said.
+
+        It holds the lock of the build too, so that no other build starts while it runs, should this one be killed.
+        """
+        streams = {"stdin": subprocess.DEVNULL, "stdout": subprocess.PIPE, "stderr": subprocess.STDOUT}
+        ran = subprocess.Popen(words, cwd=folder, pass_fds=[self.held.fileno()], **streams)
+        self.processes.add(ran)
+        if self.is_stopped:
+            ran.kill()
+        said = ran.communicate()[0].decode(errors="replace")
+        self.processes.discard(ran)
+        return ran.returncode, f"{' '.join(words)}\n{said}"
+
+    def end(self, crate, result):
+        """Tells that a crate is proved, and what is left, or why it isn't."""
+        is_done, said = result
+        with open(LOG, "a", encoding="utf-8") as it:
+            it.write(f"== {crate.name}\n{said}\n")
+        if not is_done:
+            raise NotBuilt(f"{crate.name} isn't proved, or can't be built; what was said is in {LOG}")
+        under_way = ", ".join(it.name for it, _ in self.running.values())
+        more = f", {under_way} under way" if under_way else ""
+        left = len(self.left) + len(self.running)
+        tell(f"{crate.name} is proved ({self.seconds()}); {left} left{more}")
+
+    def stop(self):
+        """Ends what still runs, where the build failed or was broken off."""
+        self.is_stopped = True
+        for ran in [*self.processes]:
+            ran.kill()
+
+
+def link_words(kit, made):
+    words = [f"{kit}/bin/rattle-link", "--target", TARGET, "--toolchain", f"{kit}/toolchain", "-o", PROGRAM, made]
+    return [*words, f"{kit}/c/libos_c.a", f"{kit}/c/liblibc_c.a"]
+
+
+def asked_of_rt(word):
+    """Returns the line that the toolchain's command answers."""
+    try:
+        ran = subprocess.run(["rt", word], stdin=subprocess.DEVNULL, stdout=subprocess.PIPE, check=True)
+    except (OSError, subprocess.CalledProcessError) as error:
+        raise NotBuilt(f"rt {word} failed") from error
+    return ran.stdout.decode(errors="replace").strip()
+
+
+def build(crates, toolchain):
+    """Proves and builds the program of these crates, as out/bootswap."""
+    try:
+        os.makedirs(BUILD, exist_ok=True)
+        held = open(f"{BUILD}/lock", "w", encoding="utf-8")
+    except OSError as error:
+        raise NotBuilt(f"{error.filename} can't be written ({error.strerror})") from error
+    with held:
+        lock(held)
+        open(LOG, "w", encoding="utf-8").close()
+        signal.signal(signal.SIGTERM, lambda *_: sys.exit(128 + signal.SIGTERM))
+        Build(crates, toolchain, os.path.dirname(asked_of_rt("doc")), held).run()
+
+
+def lock(held):
+    """Waits until no other build goes on in this clone. What that built isn't built again."""
+    try:
+        fcntl.flock(held, fcntl.LOCK_EX | fcntl.LOCK_NB)
+    except BlockingIOError:
+        tell("waiting for another build here")
+        fcntl.flock(held, fcntl.LOCK_EX)
