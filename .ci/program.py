@@ -176,20 +176,26 @@ class Build:
         ready = [it for it in self.left if not any(crate in waits for crate in it.below())]
         ready.sort(key=lambda it: -self.behind[it])
         for place, crate in enumerate(ready):
-            jobs = self.jobs_for(len(ready) - place)
+            jobs = self.jobs_for(crate, len(ready) - place)
             if not jobs:
                 return
             self.left.remove(crate)
             self.running[pool.submit(self.build, crate, jobs)] = crate, jobs
 
-    def jobs_for(self, waiting):
-        """Returns how many processes the next of so many crates may have: none where processors or memory are taken."""
+    def jobs_for(self, crate, waiting):
+        """Returns how many processes a crate may have, behind which so many wait that are ready with it: none where
+        processors or memory are taken.
+
+        The crate that the longest way is behind has two at least, for all the others wait for it in the end.
+        """
         taken = [jobs for _, jobs in self.running.values()]
         idle = self.processors - sum(taken)
         room = self.memory - sum(MEMORY + (jobs - 1) * MEMORY_OF_JOB for jobs in taken) - MEMORY
         if idle <= 0 or room < 0:
             return 0
-        return max(1, min(MOST_JOBS, idle // waiting, 1 + int(room // MEMORY_OF_JOB)))
+        longest = max(self.behind[it] for it in [*self.left, *[it for it, _ in self.running.values()]])
+        least = 2 if self.behind[crate] == longest and self.processors > 1 else 1
+        return min(MOST_JOBS, max(least, idle // waiting), 1 + int(room // MEMORY_OF_JOB))
 
     def build(self, crate, jobs):
         """Proves and builds a crate, and returns whether that was done, and what was said."""
