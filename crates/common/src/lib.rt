@@ -9,5 +9,3 @@
 pub mod ascii;
 pub mod limits;
 pub mod lines;
-#[cfg(test)]
-mod tests;

@@ -12,6 +12,3 @@ mod writing;
 
 pub use error::HeaderError;
 pub use header::{ACCEPTED_FLAGS, HEADER_LENGTH, Header};
-
-#[cfg(test)]
-mod tests;

@@ -18,8 +18,6 @@ mod line;
 mod line_reading;
 mod part;
 mod reading;
-#[cfg(test)]
-mod tests;
 mod words;
 
 pub use laws::a_text_says_one_line;

@@ -15,6 +15,3 @@ mod version_text;
 pub use dependency::Dependency;
 pub use error::BadVersion;
 pub use version::Version;
-
-#[cfg(test)]
-mod tests;

@@ -1,5 +1,6 @@
 //! What tables, reports and dependencies look like, and that the longest texts are read back.
 
+use super::same::same;
 use arrayvec::ArrayVec;
 use certificate::{Entry, Image, Needs, Reason, Refusal, Report, ReportedImage, Request, Table};
 use std::alloc::Global;
@@ -59,7 +60,7 @@ fn a_table_is_printed(rt: HostRuntime) -> Result<(), Fail> {
         image 1 255.254.65535+4294967295 4294967295 0\n\
         damaged\n\
         image 2 0.0.0+0 0 0\n";
-    assert_eq!(rt; text.as_str(), expected);
+    same(&rt, "the text", &text.as_str(), &expected);
     Ok(())
 }
 
@@ -96,7 +97,7 @@ fn a_report_is_printed(rt: HostRuntime) -> Result<(), Fail> {
         refuse 3 counter\n\
         refuse 4 no-such-image 255\n\
         refuse 5 needs 0 3.0.0+0\n";
-    assert_eq!(rt; text.as_str(), expected);
+    same(&rt, "the text", &text.as_str(), &expected);
     Ok(())
 }
 
@@ -171,8 +172,9 @@ fn full_table_text(alloc: Global) -> Result<String, Fail> {
 fn a_full_table_is_printed_and_read_back(rt: HostRuntime) -> Result<(), Fail> {
     let expected = full_table_text(rt.alloc())?;
     let text = full_table()?.to_string(rt.alloc())?;
-    assert_eq!(rt; text.as_str(), expected.as_str());
-    assert_eq!(rt; Table::parse(expected.as_bytes()), Ok(full_table()?));
+    same(&rt, "the text", &text.as_str(), &expected.as_str());
+    let read = Table::parse(expected.as_bytes())?;
+    same(&rt, "what is read back", &read, &full_table()?);
     Ok(())
 }
 
@@ -225,8 +227,9 @@ fn a_full_report_is_printed_and_read_back(rt: HostRuntime) -> Result<(), Fail> {
         refuse 249 older\n\
         refuse 248 damaged\n";
     let text = full_report()?.to_string(rt.alloc())?;
-    assert_eq!(rt; text.as_str(), expected);
-    assert_eq!(rt; Report::parse(expected.as_bytes()), Ok(full_report()?));
+    same(&rt, "the text", &text.as_str(), &expected);
+    let read = Report::parse(expected.as_bytes())?;
+    same(&rt, "what is read back", &read, &full_report()?);
     Ok(())
 }
 
@@ -237,6 +240,11 @@ fn a_dependency_is_printed_as_in_a_table(rt: HostRuntime) -> Result<(), Fail> {
         minimum: LARGEST,
     });
     let text = needs.to_string(rt.alloc())?;
-    assert_eq!(rt; text.as_str(), "needs 255 255.255.65535+4294967295");
+    same(
+        &rt,
+        "the text",
+        &text.as_str(),
+        &"needs 255 255.255.65535+4294967295",
+    );
     Ok(())
 }

@@ -1,5 +1,6 @@
 //! Worked choices with their reports, and the steps that they count.
 
+use super::same::same;
 use arrayvec::ArrayVec;
 use certificate::{Entry, Image, Reason, Refusal, Report, Request, Table, is_valid};
 use chooser::{Steps, choose, choose_counted};
@@ -32,7 +33,7 @@ fn the_reason_is_that_of_the_drop_and_not_of_the_mark(rt: HostRuntime) -> Result
         refuse 2 needs 0 2.0.0+0\n"
         .as_bytes())?;
     assert!(rt; is_valid(&table));
-    assert_eq!(rt; choose(&table), expected);
+    same(&rt, "the report", &choose(&table), &expected);
     Ok(())
 }
 
@@ -63,14 +64,15 @@ fn a_drop_leads_to_a_look_at_what_depends_on_it(rt: HostRuntime) -> Result<(), F
         drops: 20,
         looks: 30,
     };
-    assert_eq!(rt; choose_counted(&table, &mut steps), expected);
+    let report = choose_counted(&table, &mut steps);
+    same(&rt, "the report", &report, &expected);
     // One pass marks images 2 and 3. The drop of image 2 leads to a look at image 0.
     let counted = Steps {
         passes: 11,
         drops: 23,
         looks: 31,
     };
-    assert_eq!(rt; steps, counted);
+    same(&rt, "the steps", &steps, &counted);
     Ok(())
 }
 
@@ -125,13 +127,13 @@ fn eight_requests_that_fall_one_by_one_take_28_looks(rt: HostRuntime) -> Result<
             reason: Reason::Needs(number + 1, version(2)),
         })?;
     }
-    assert_eq!(rt; report.refusals, refusals);
+    same(&rt, "the refusals", &report.refusals, &refusals);
     // After the first drop 7 requests are looked at again, then 6, and so on.
     let counted = Steps {
         passes: 1,
         drops: 8,
         looks: 7 + 6 + 5 + 4 + 3 + 2 + 1,
     };
-    assert_eq!(rt; steps, counted);
+    same(&rt, "the steps", &steps, &counted);
     Ok(())
 }
