@@ -35,8 +35,7 @@ pub(crate) fn set_image_ok<F: Flash>(
     ensures erases { OnOk result ((F.chip flash.new).erases ≡ (F.chip flash.old).erases) }
     ensures ends { Ends result (F.chip flash.old) (F.chip flash.new) }
 {
-    write_units(flash, map, image, side, IMAGE_OK, &FLAG)?;
-    Ok(())
+    write_units(flash, map, image, side, IMAGE_OK, &FLAG)
 }
 
 /// Sets the withdrawn unit of a trailer, which is erased.
@@ -62,8 +61,7 @@ pub(crate) fn set_withdrawn<F: Flash>(
     ensures erases { OnOk result ((F.chip flash.new).erases ≡ (F.chip flash.old).erases) }
     ensures ends { Ends result (F.chip flash.old) (F.chip flash.new) }
 {
-    write_units(flash, map, image, side, WITHDRAWN, &FLAG)?;
-    Ok(())
+    write_units(flash, map, image, side, WITHDRAWN, &FLAG)
 }
 
 /// Writes the magic, whose bytes are erased.
@@ -88,6 +86,5 @@ pub(crate) fn write_magic<F: Flash>(
     ensures erases { OnOk result ((F.chip flash.new).erases ≡ (F.chip flash.old).erases) }
     ensures ends { Ends result (F.chip flash.old) (F.chip flash.new) }
 {
-    write_units(flash, map, image, side, MAGIC_PLACE, &MAGIC)?;
-    Ok(())
+    write_units(flash, map, image, side, MAGIC_PLACE, &MAGIC)
 }

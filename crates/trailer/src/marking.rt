@@ -41,8 +41,7 @@ fn mark<F: Flash>(
     if !are_units_erased(flash, map, image, side, from_end, units.len() as u32)? {
         return Ok(());
     }
-    write_units(flash, map, image, side, from_end, units)?;
-    Ok(())
+    write_units(flash, map, image, side, from_end, units)
 }
 
 /// Sets `image_ok` of a trailer, where the image is to be confirmed.
@@ -67,8 +66,7 @@ fn mark_ok<F: Flash>(
     if !confirmed {
         return Ok(());
     }
-    mark(flash, map, image, side, IMAGE_OK, &FLAG)?;
-    Ok(())
+    mark(flash, map, image, side, IMAGE_OK, &FLAG)
 }
 
 /// Sets `copy_done` and, where the image is to be confirmed, `image_ok`, and writes the magic.

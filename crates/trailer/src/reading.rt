@@ -27,8 +27,7 @@ pub(crate) fn is_image_ok_set<F: Flash>(
     ensures erases { OnOk result ((F.chip flash.new).erases ≡ (F.chip flash.old).erases) }
     ensures ends { Ends result (F.chip flash.old) (F.chip flash.new) }
 {
-    let yes = is_unit_set(flash, map, image, side, IMAGE_OK)?;
-    Ok(yes)
+    is_unit_set(flash, map, image, side, IMAGE_OK)
 }
 
 /// Reads the fields of the trailer behind a slot.

@@ -70,8 +70,7 @@ pub fn request<F: Flash>(
     ensures ends { Ends result (F.chip flash.old) (F.chip flash.new) }
 {
     mark_kind(flash, map, image, kind)?;
-    write_magic(flash, map, image, Side::Secondary)?;
-    Ok(())
+    write_magic(flash, map, image, Side::Secondary)
 }
 
 /// Confirms the image in a primary slot: sets `image_ok` of its trailer, unless it is set.

@@ -66,8 +66,7 @@ pub fn write_size<F: Flash>(
     ensures erases { OnOk result ((F.chip flash.new).erases ≡ (F.chip flash.old).erases) }
     ensures ends { Ends result (F.chip flash.old) (F.chip flash.new) }
 {
-    write_units(flash, map, image, side, SWAP_SIZE, &size_unit(size))?;
-    Ok(())
+    write_units(flash, map, image, side, SWAP_SIZE, &size_unit(size))
 }
 
 /// Reads `swap_size` of a trailer: how many bytes of each slot a swap moves. There is none where the unit is

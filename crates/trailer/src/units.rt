@@ -158,6 +158,5 @@ pub(crate) fn write_units<F: Flash>(
     ensures erases { OnOk result ((F.chip flash.new).erases ≡ (F.chip flash.old).erases) }
     ensures ends { Ends result (F.chip flash.old) (F.chip flash.new) }
 {
-    flash.program(place_of(map, image, side, from_end), units)?;
-    Ok(())
+    flash.program(place_of(map, image, side, from_end), units)
 }
