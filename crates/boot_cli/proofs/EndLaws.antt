@@ -1,20 +1,20 @@
 -- What was answered, by what was read in turn and written.
 use Rattle.std.proofs.Common.{◌≡◌, ℕ, List, [], ◌∷◌, Option, ap, arith, inl, subst}
 use Rattle.std.specs.Borrow.{Bor}
-use Rattle.boot_cli.specs.declared.answer.Answer.{Answer}
-use Rattle.boot_cli.specs.declared.answer.Answer.TheVariants.{Done, Refused, Cut}
+use Rattle.reading_commands.specs.declared.answer.Answer.{Answer}
+use Rattle.reading_commands.specs.declared.answer.Answer.TheVariants.{Done, Refused, Cut}
 use Rattle.boot_cli.specs.declared.commands.provision.Made.{Made}
 use Rattle.boot_cli.specs.declared.commands.provision.Made.TheVariants as made
 use Rattle.answers.specs.declared.device.DeviceFile.{DeviceFile}
-use Rattle.boot_cli.specs.declared.source.Source.{Source}
-use Rattle.boot_cli.specs.declared.source.Source.TheVariants as source
+use Rattle.reading_commands.specs.declared.source.Source.{Source}
+use Rattle.reading_commands.specs.declared.source.Source.TheVariants as source
 use Rattle.answers.specs.FlashOf.{IsFlashOf}
-use Rattle.boot_cli.specs.DeviceInput.{GivesDevice}
-use Rattle.boot_cli.specs.Input.{FileBytes, Gives, KeepsOthers}
+use Rattle.reading_commands.specs.DeviceInput.{GivesDevice}
+use Rattle.reading_commands.specs.Input.{FileBytes, Gives, KeepsOthers}
 use Rattle.boot_cli.specs.ProvisionEnd.{AnswersMade, AnswersProvision, EndsMade, MakesDevice, ReadsImages}
 use Rattle.boot_cli.specs.RunEnd.{AnswersRun, Plays, RunsDevice}
 use Rattle.boot_cli.specs.Script.{Came, IsScript, Known, StaysKnown, known_after}
-use Rattle.boot_cli.specs.Status.{status_of_answer}
+use Rattle.reading_commands.specs.Status.{status_of_answer}
 use Rattle.boot_cli.proofs.InputLaws.{GiveEach-one, GiveEach-read}
 use Rattle.boot_cli.proofs.ScriptLaws.{StaysKnown-itself, StaysKnown-read}
 

@@ -13,9 +13,10 @@ use Rattle.sector_map.specs.Map.{IsMap, first_of, length_of, sectors_of, slot_se
 use Rattle.sector_map.specs.Part.{Slot}
 use Rattle.sector_map.proofs.Products.{mul_le}
 use Rattle.sector_map.proofs.Places.{before_within}
-use Rattle.boot_cli.specs.declared.source.Source.{Source}
+use Rattle.reading_commands.specs.declared.source.Source.{Source}
 use Rattle.answers.specs.FlashOf.{IsFlashOf}
-use Rattle.boot_cli.specs.Input.{FileBytes, GiveEach, Gives, IsNamed, KeepsOthers, names_of}
+use Rattle.reading_commands.specs.Input.{FileBytes, Gives, IsNamed, KeepsOthers}
+use Rattle.boot_cli.specs.Inputs.{GiveEach, names_of}
 use Rattle.boot_cli.specs.ProvisionEnd.{new_flash, with_files}
 use Rattle.boot_cli.proofs.InputLaws.{GiveEach-read}
 

@@ -1,10 +1,11 @@
 -- What sources give that are read one after the other.
 use Rattle.std.proofs.Common.{ℕ, List, [], ◌∷◌, Option}
 use Rattle.std.specs.Io.KnownBytes.{Keeps}
-use Rattle.boot_cli.specs.declared.source.Source.{Source}
-use Rattle.boot_cli.specs.declared.source.Source.TheVariants.{StandardInput, File}
-use Rattle.boot_cli.specs.Input.{FileBytes, GiveEach, Gives, KeepsFiles, KeepsOthers}
-use Rattle.boot_cli.proofs.AnswerLaws.{Gives-kept}
+use Rattle.reading_commands.specs.declared.source.Source.{Source}
+use Rattle.reading_commands.specs.declared.source.Source.TheVariants.{StandardInput, File}
+use Rattle.reading_commands.specs.Input.{FileBytes, Gives, KeepsFiles, KeepsOthers}
+use Rattle.boot_cli.specs.Inputs.{GiveEach}
+use Rattle.reading_commands.proofs.AnswerLaws.{Gives-kept}
 
 -- what sources give after a read that kept it, they gave before
 pub GiveEach-kept : (sources : List Source) (input new_input : Option (List ℕ))

@@ -9,13 +9,13 @@ use Rattle.script.specs.InOrder.{AreEvents, AreInOrder, CanFollow}
 use Rattle.script.specs.LineText.{IsLineText}
 use Rattle.script.specs.Said.{Said, SaidEvent}
 use Rattle.script.specs.Said as said
-use Rattle.boot_cli.specs.declared.source.Source.{Source}
-use Rattle.boot_cli.specs.declared.source.Source.TheVariants.{StandardInput, File}
-use Rattle.boot_cli.specs.Input.{FileBytes, Gives, IsNamed, KeepsOthers}
+use Rattle.reading_commands.specs.declared.source.Source.{Source}
+use Rattle.reading_commands.specs.declared.source.Source.TheVariants.{StandardInput, File}
+use Rattle.reading_commands.specs.Input.{FileBytes, Gives, IsNamed, KeepsOthers}
 use Rattle.boot_cli.specs.declared.loading.Step.{Step}
 use Rattle.boot_cli.specs.Loading.{Adds, Passes, came_in, came_of}
 use Rattle.boot_cli.specs.Script.{AllCome, Came, Comes, IsRead, IsScript, Known, StaysKnown, known_after}
-use Rattle.boot_cli.proofs.AnswerLaws.{Gives-kept}
+use Rattle.reading_commands.proofs.AnswerLaws.{Gives-kept}
 
 -- what is known, and was kept twice
 kept_twice : (known mid new : Option (List ℕ)) → Keeps known mid → Keeps mid new → Keeps known new

@@ -1,8 +1,6 @@
-pub mod AnswerEnd
-pub mod DeviceInput
-pub mod Input
+pub mod Inputs
 pub mod Loading
+pub mod OrderEnd
 pub mod ProvisionEnd
 pub mod RunEnd
 pub mod Script
-pub mod Status

@@ -4,7 +4,7 @@ use Rattle.script.specs.Said.{Said}
 use Rattle.script.specs.Said as said
 use Rattle.boot_cli.specs.declared.loading.Step.{Step}
 use Rattle.boot_cli.specs.declared.loading.Step.TheVariants as step
-use Rattle.boot_cli.specs.Input.{FileBytes}
+use Rattle.reading_commands.specs.Input.{FileBytes}
 use Rattle.boot_cli.specs.Script.{Accept, Boot, Came, Comes, Confirm, Finish, Known, Piece, Reset, StaysKnown, Withdraw}
 
 -- What comes to the device by a step.

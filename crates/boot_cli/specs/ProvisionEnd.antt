@@ -9,16 +9,17 @@ use Rattle.sector_map.specs.declared.layout.Side.TheVariants.{Primary}
 use Rattle.sector_map.specs.Map.{length_of, sectors_of, start_of}
 use Rattle.sector_map.specs.Part.{Slot}
 use Rattle.boot_core.specs.Provisioned.{IsProvisioned, RefusesMaking}
-use Rattle.boot_cli.specs.declared.answer.Answer.{Answer}
-use Rattle.boot_cli.specs.declared.answer.Answer.TheVariants.{Done, Refused, Cut}
+use Rattle.reading_commands.specs.declared.answer.Answer.{Answer}
+use Rattle.reading_commands.specs.declared.answer.Answer.TheVariants.{Done, Refused, Cut}
 use Rattle.boot_cli.specs.declared.commands.provision.Made.{Made}
 use Rattle.boot_cli.specs.declared.commands.provision.Made.TheVariants as made
 use Rattle.answers.specs.declared.device.DeviceFile.{DeviceFile}
-use Rattle.boot_cli.specs.declared.source.Source.{Source}
+use Rattle.reading_commands.specs.declared.source.Source.{Source}
 use Rattle.answers.specs.DeviceFile.{IsDeviceFile}
 use Rattle.answers.specs.FlashOf.{flash_of}
-use Rattle.boot_cli.specs.DeviceInput.{RefusesMap}
-use Rattle.boot_cli.specs.Input.{FileBytes, GiveEach, IsNamed}
+use Rattle.reading_commands.specs.DeviceInput.{RefusesMap}
+use Rattle.reading_commands.specs.Input.{FileBytes, IsNamed}
+use Rattle.boot_cli.specs.Inputs.{GiveEach}
 use Rattle.answers.specs.ReplyText.{refused_fault_text}
 
 -- Bytes of a flash with these files over the fronts of primary slots, from that of this image on.

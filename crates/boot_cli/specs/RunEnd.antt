@@ -10,14 +10,15 @@ use Rattle.machine.specs.declared.event.Event.{Event}
 use Rattle.machine.specs.declared.reply.Reply.{Reply}
 use Rattle.machine.specs.declared.reply.Reply.TheVariants as reply
 use Rattle.boot_core.specs.Device.{made}
-use Rattle.boot_cli.specs.declared.answer.Answer.{Answer}
-use Rattle.boot_cli.specs.declared.answer.Answer.TheVariants.{Done, Refused, Cut}
+use Rattle.reading_commands.specs.declared.answer.Answer.{Answer}
+use Rattle.reading_commands.specs.declared.answer.Answer.TheVariants.{Done, Refused, Cut}
 use Rattle.answers.specs.declared.device.DeviceFile.{DeviceFile}
-use Rattle.boot_cli.specs.declared.source.Source.{Source}
+use Rattle.reading_commands.specs.declared.source.Source.{Source}
 use Rattle.answers.specs.DeviceFile.{IsDeviceFile}
 use Rattle.answers.specs.FlashOf.{IsFlashOf, flash_of}
-use Rattle.boot_cli.specs.DeviceInput.{RefusesMap}
-use Rattle.boot_cli.specs.Input.{FileBytes, GiveEach}
+use Rattle.reading_commands.specs.DeviceInput.{RefusesMap}
+use Rattle.reading_commands.specs.Input.{FileBytes}
+use Rattle.boot_cli.specs.Inputs.{GiveEach}
 use Rattle.answers.specs.ReplyText.{replies_text}
 use Rattle.boot_cli.specs.Script.{Came, IsScript, Known, came_by, known_after}
 

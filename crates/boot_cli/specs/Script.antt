@@ -10,9 +10,9 @@ use Rattle.script.specs.LineText.{IsLineText}
 use Rattle.script.specs.Part.{IsPart}
 use Rattle.script.specs.Said.{PartWords, Said, SaidEvent}
 use Rattle.script.specs.Said as said
-use Rattle.boot_cli.specs.declared.source.Source.{Source}
-use Rattle.boot_cli.specs.declared.source.Source.TheVariants.{StandardInput, File}
-use Rattle.boot_cli.specs.Input.{FileBytes, Gives, IsNamed, KeepsFiles}
+use Rattle.reading_commands.specs.declared.source.Source.{Source}
+use Rattle.reading_commands.specs.declared.source.Source.TheVariants.{StandardInput, File}
+use Rattle.reading_commands.specs.Input.{FileBytes, Gives, IsNamed, KeepsFiles}
 
 -- What comes to a device, with its bytes.
 pub data Came : Type 0 where

@@ -5,12 +5,10 @@ ghost use Rattle.script.specs.Said.{part_words, said, said_event};
 ghost use Rattle.boot_cli.specs.Loading.{Adds, Passes, came_in, came_of};
 ghost use Rattle.boot_cli.specs.Script.{Comes, IsPieceOf, IsRead, IsScript, Known, StaysKnown, came_by};
 
-use crate::error::Refusal;
-use crate::host::Host;
-use crate::source::Source;
 use common::lines::first_line;
 use flash_model::Torn;
 use machine::Event;
+use reading_commands::{Host, Refusal, Source};
 use script::{Instruction, Line, PartText, Reading, TornText, line_of};
 use std::alloc::{AllocError, Allocator, Global};
 

@@ -1,13 +1,13 @@
 //! The whole program: what the words ask for is done, and comes to an exit status.
 ghost use Rattle.std.specs.Prelude.{◌≡◌, IfOk};
-ghost use Rattle.boot_cli.specs.AnswerEnd.{AnswersOrder};
+ghost use Rattle.boot_cli.specs.OrderEnd.{AnswersOrder};
 
-use crate::answer::{Answer, finish, refuse, status_after};
-use crate::commands::{check, choose, image, manifest_file, playing, provision, show};
-use crate::error::Refusal;
-use crate::host::Host;
-use crate::source::Source;
+use crate::commands::{playing, provision};
 use command_line::{Order, OrderError, STANDARD_INPUT, fault_of, no_text, order};
+use reading_commands::{
+    Answer, Host, Refusal, Source, check, choose, finish, image, manifest_file, refuse, show,
+    status_after,
+};
 use std::alloc::{Allocator, Global};
 use std::convert::AsStr;
 use std::io;

@@ -3,17 +3,15 @@ ghost use Rattle.std.specs.Prelude.{◌≡◌, ◌+◌, ◌<◌, ◌≤◌, [], 
 ghost use Rattle.std.specs.Option.{ForSome};
 ghost use Rattle.flash_model.specs.Torn.{replaced};
 ghost use Rattle.answers.specs.FlashOf.{IsFlashOf};
-ghost use Rattle.boot_cli.specs.Input.{IsNamed, names_of};
+ghost use Rattle.reading_commands.specs.Input.{IsNamed};
+ghost use Rattle.boot_cli.specs.Inputs.{names_of};
 ghost use Rattle.boot_cli.specs.ProvisionEnd.{AnswersMade, AnswersProvision, EndsMade, ReadsImages, done_text, new_flash};
 
-use crate::answer::Answer;
-use crate::device_input::read_device;
-use crate::error::Refusal;
-use crate::host::{Host, HostFile};
-use crate::source::Source;
+use crate::host::HostFile;
 use answers::{flash_of, refused_fault_text, write_all};
 use file_flash::{FileFlash, FlashFile};
 use machine::Fault;
+use reading_commands::{Answer, Host, Refusal, Source, read_device};
 use sector_map::{SectorMap, Side};
 use std::alloc::{AllocError, Allocator, Global};
 use std::io::Write;

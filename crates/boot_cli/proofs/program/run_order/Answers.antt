@@ -1,5 +1,5 @@
 use Rattle.boot_cli.proofs.program.run_order.Goals as goal
-use Rattle.boot_cli.proofs.AnswerLaws.{AnswersOrder-kept}
+use Rattle.boot_cli.proofs.OrderLaws.{AnswersOrder-kept}
 
 -- The status is 0 only after `Done`, and what stands then was written before the flush.
 pub returns : goal.returns

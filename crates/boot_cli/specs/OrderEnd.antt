@@ -1,0 +1,40 @@
+-- What an order was answered with.
+use Rattle.std.specs.Prelude.{ℕ, List, Option}
+use Rattle.command_line.specs.declared.orders.Order.{Order}
+use Rattle.command_line.specs.declared.orders.Order.TheVariants as order
+use Rattle.reading_commands.specs.declared.answer.Answer.{Answer}
+use Rattle.reading_commands.specs.declared.source.Source.{Source}
+use Rattle.reading_commands.specs.declared.source.Source.TheVariants as source
+use Rattle.reading_commands.specs.AnswerEnd.{AnswersCheck, AnswersChoice, AnswersDescription, AnswersManifest, AnswersShow}
+use Rattle.reading_commands.specs.Input.{FileBytes, IsNamed}
+use Rattle.boot_cli.specs.Inputs.{names_of}
+use Rattle.boot_cli.specs.ProvisionEnd.{AnswersProvision}
+use Rattle.boot_cli.specs.RunEnd.{AnswersRun}
+
+-- The sources that two words name.
+abbrev pub AreNamed : List ℕ → List ℕ → Source → Source → Type 0
+AreNamed first second one other = IsNamed first one × IsNamed second other
+
+-- What stands for the answer to an order, by the command that it asks for.
+abbrev pub AnswersOrder : Answer → Order → Option (List ℕ) → FileBytes
+    → Option (List ℕ) → Option (List ℕ) → Type 0
+AnswersOrder answer (order.Choose table) input file old new =
+    (source : Source) × IsNamed table.now source × AnswersChoice answer source input file old new
+AnswersOrder answer (order.Check table report) input file old new =
+    (one other : Source) × AreNamed table.now report.now one other
+    × AnswersCheck answer one other input file old new
+AnswersOrder answer (order.Image image) input file old new =
+    (source : Source) × IsNamed image.now source
+    × AnswersDescription answer source input file old new
+AnswersOrder answer (order.Manifest device named) input file old new =
+    (one other : Source) × AreNamed device.now named.now one other
+    × AnswersManifest answer one other input file old new
+AnswersOrder answer (order.Provision device flash images) input file old new =
+    (source : Source) × IsNamed device.now source
+    × AnswersProvision answer source (names_of images.items) input file old new
+AnswersOrder answer (order.Show device flash) input file old new =
+    (one other : Source) × AreNamed device.now flash.now one other
+    × AnswersShow answer one other input file old new
+AnswersOrder answer (order.Run device flash script) input file old new =
+    (one other : Source) × AreNamed device.now script.now one other
+    × AnswersRun answer one (source.File flash) other input file old new

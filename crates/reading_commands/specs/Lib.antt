@@ -1,0 +1,4 @@
+pub mod AnswerEnd
+pub mod DeviceInput
+pub mod Input
+pub mod Status

@@ -1,0 +1,38 @@
+//! `bootswap check`: whether a report is right for a table, of which both are named.
+ghost use Rattle.std.specs.Prelude.{IfOk};
+ghost use Rattle.reading_commands.specs.AnswerEnd.{AnswersCheck};
+
+use crate::answer::Answer;
+use crate::error::Refusal;
+use crate::host::Host;
+use crate::source::Source;
+use answers::{CheckEnd, check_over};
+use certificate::Table;
+use std::alloc::Allocator;
+use std::io::Write;
+
+/// Reads both texts from `host` into memory of `heap`, and writes the verdict to `out`. The table is judged
+/// before the report is read.
+pub fn perform<'a, A: Allocator, H: Host, O: Write>(
+    heap: &A,
+    table: Source<'a>,
+    report: Source<'a>,
+    host: &mut H,
+    out: &mut O,
+) -> Result<Answer, Refusal<'a>>
+    ensures { IfOk result (λ answer. AnswersCheck answer table.entry report.entry
+        (H.input host.old) (H.file host.old) (O.contents out.old) (O.contents out.new)) }
+{
+    let table = table.read(heap, host)?;
+    if let Err(bad) = Table::parse(&table) {
+        return Err(Refusal::TableLine(bad.0));
+    }
+    let report = report.read(heap, host)?;
+    match check_over(&table, &report, out) {
+        CheckEnd::Yes => Ok(Answer::Done),
+        CheckEnd::No => Ok(Answer::Refused),
+        CheckEnd::BadTable(line) => Err(Refusal::TableLine(line)),
+        CheckEnd::BadReport(line) => Err(Refusal::ReportLine(line)),
+        CheckEnd::WriteFailed => Err(Refusal::CannotWrite),
+    }
+}

@@ -1,0 +1,38 @@
+//! `bootswap choose`: the choice over a table, which a file or standard input holds.
+ghost use Rattle.std.specs.Prelude.{IfOk};
+ghost use Rattle.reading_commands.specs.AnswerEnd.{AnswersChoice};
+
+use crate::answer::Answer;
+use crate::error::Refusal;
+use crate::host::{Host, StandardInput};
+use crate::source::Source;
+use answers::{ChooseEnd, choose_over};
+use std::alloc::Allocator;
+use std::io::Write;
+
+/// Reads a table from `host` into memory of `heap`, and writes the report of the choice over it to `out`.
+pub fn perform<'a, A: Allocator, H: Host, O: Write>(
+    heap: &A,
+    table: Source<'a>,
+    host: &mut H,
+    out: &mut O,
+) -> Result<Answer, Refusal<'a>>
+    ensures { IfOk result (λ answer. AnswersChoice answer table.entry
+        (H.input host.old) (H.file host.old) (O.contents out.old) (O.contents out.new)) }
+{
+    let end = match table {
+        Source::StandardInput => choose_over(heap, &mut StandardInput(host), out),
+        Source::File(_) => {
+            let bytes = table.read(heap, host)?;
+            choose_over(heap, &mut bytes.as_slice(), out)
+        }
+    };
+    match end {
+        ChooseEnd::Done => Ok(Answer::Done),
+        ChooseEnd::BadLine(line) => Err(Refusal::TableLine(line)),
+        ChooseEnd::NotValid => Err(Refusal::NotValid),
+        ChooseEnd::NoMemory => Err(Refusal::NoMemory),
+        ChooseEnd::ReadFailed => Err(Refusal::CannotRead(table)),
+        ChooseEnd::WriteFailed => Err(Refusal::CannotWrite),
+    }
+}

@@ -1,0 +1,79 @@
+//! What the commands of a device read: its device file, and the bytes of its flash.
+ghost use Rattle.std.specs.Prelude.{IfOk};
+ghost use Rattle.std.specs.Io.KnownBytes.{Appends};
+ghost use Rattle.answers.specs.AnswerText.{map_refusal_text};
+ghost use Rattle.answers.specs.FlashOf.{IsFlashOf};
+ghost use Rattle.reading_commands.specs.DeviceInput.{ReadsDevice};
+ghost use Rattle.reading_commands.specs.Input.{Gives, KeepsOthers};
+
+use crate::error::Refusal;
+use crate::host::Host;
+use crate::source::Source;
+use answers::{DeviceFault, DeviceFile, map_refusal_text, write_all};
+use sector_map::{MapError, SectorMap};
+use std::alloc::{Allocator, Global};
+use std::io::Write;
+
+/// The device of a device file, which is read from `host` into memory of `heap`. What the file is as a JSON value
+/// stands in memory of `alloc`. There is none where its sizes make no map: then `out` is told why.
+pub fn read_device<'a, A: Allocator, H: Host, O: Write>(
+    alloc: Global,
+    heap: &A,
+    device: Source<'a>,
+    host: &mut H,
+    out: &mut O,
+) -> Result<Option<DeviceFile>, Refusal<'a>>
+    ensures read { IfOk result (λ read. ReadsDevice read device.entry
+        (H.input host.old) (H.file host.old) (O.contents out.old) (O.contents out.new)) }
+    ensures others { KeepsOthers device.entry (H.input host.old) (H.file host.old)
+        (H.input host.new) (H.file host.new) }
+{
+    let bytes = device.read(heap, host)?;
+    match DeviceFile::read(alloc, &bytes) {
+        Ok(device) => Ok(Some(device)),
+        Err(DeviceFault::Malformed) => Err(Refusal::DeviceFile),
+        Err(DeviceFault::NoMemory) => Err(Refusal::NoMemory),
+        Err(DeviceFault::Map(fault)) => {
+            tell_map(heap, fault, out)?;
+            Ok(None)
+        }
+    }
+}
+
+/// Writes to `out` why the sizes of a device file make no map.
+fn tell_map<'a, A: Allocator, O: Write>(
+    heap: &A,
+    fault: MapError,
+    out: &mut O,
+) -> Result<(), Refusal<'a>>
+    ensures { IfOk result (λ _. Appends (O.contents out.old) (O.contents out.new)
+        (map_refusal_text fault)) }
+{
+    let Ok(text) = map_refusal_text(heap, fault) else {
+        return Err(Refusal::NoMemory);
+    };
+    match write_all(out, text.as_bytes()) {
+        Ok(()) => Ok(()),
+        Err(_) => Err(Refusal::CannotWrite),
+    }
+}
+
+/// The bytes of a device's flash, which are as many as its map says, from `host`, in memory of `alloc`.
+pub fn read_flash<'a, H: Host>(
+    alloc: Global,
+    flash: Source<'a>,
+    map: &SectorMap,
+    host: &mut H,
+) -> Result<Vec<u8>, Refusal<'a>>
+    ensures bytes { IfOk result (λ bytes.
+        Gives flash.entry (H.input host.old) (H.file host.old) bytes.items) }
+    ensures whole { IfOk result (λ bytes. IsFlashOf map.now bytes.items) }
+    ensures others { KeepsOthers flash.entry (H.input host.old) (H.file host.old)
+        (H.input host.new) (H.file host.new) }
+{
+    let bytes = flash.read(alloc, host)?;
+    if bytes.len() != map.bytes_in_all() as usize {
+        return Err(Refusal::FlashSize);
+    }
+    Ok(bytes)
+}

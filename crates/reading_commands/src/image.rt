@@ -1,0 +1,31 @@
+//! `bootswap image`: what the image of a file says of itself, or the check that it fails.
+ghost use Rattle.std.specs.Prelude.{IfOk};
+ghost use Rattle.reading_commands.specs.AnswerEnd.{AnswersDescription};
+
+use crate::answer::Answer;
+use crate::error::Refusal;
+use crate::host::Host;
+use crate::source::Source;
+use answers::{DescribeEnd, describe_over};
+use std::alloc::Allocator;
+use std::io::Write;
+
+/// Reads an image from `host` into memory of `heap`, and writes to `out` what it says of itself, or the first
+/// check that fails.
+pub fn perform<'a, A: Allocator, H: Host, O: Write>(
+    heap: &A,
+    image: Source<'a>,
+    host: &mut H,
+    out: &mut O,
+) -> Result<Answer, Refusal<'a>>
+    ensures { IfOk result (λ answer. AnswersDescription answer image.entry
+        (H.input host.old) (H.file host.old) (O.contents out.old) (O.contents out.new)) }
+{
+    let bytes = image.read(heap, host)?;
+    match describe_over(heap, &bytes, out) {
+        DescribeEnd::Done => Ok(Answer::Done),
+        DescribeEnd::Refused => Ok(Answer::Refused),
+        DescribeEnd::NoMemory => Err(Refusal::NoMemory),
+        DescribeEnd::WriteFailed => Err(Refusal::CannotWrite),
+    }
+}

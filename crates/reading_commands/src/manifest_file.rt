@@ -1,0 +1,38 @@
+//! `bootswap manifest`: what the manifest of a file says to the device of another, or why it is none for it.
+ghost use Rattle.std.specs.Prelude.{IfOk};
+ghost use Rattle.reading_commands.specs.AnswerEnd.{AnswersManifest};
+
+use crate::answer::Answer;
+use crate::device_input::read_device;
+use crate::error::Refusal;
+use crate::host::Host;
+use crate::source::Source;
+use answers::{ManifestEnd, tell_over};
+use std::alloc::{Allocator, Global};
+use std::io::Write;
+
+/// Reads a device file and a manifest from `host` into memory of `heap`, and writes to `out` what the manifest says
+/// to the device, or why it is none for it. What the files are as JSON values stands in memory of `alloc`. The device
+/// file is judged before the manifest is read: where its sizes make no map, that is written.
+pub fn perform<'a, A: Allocator, H: Host, O: Write>(
+    alloc: Global,
+    heap: &A,
+    device: Source<'a>,
+    file: Source<'a>,
+    host: &mut H,
+    out: &mut O,
+) -> Result<Answer, Refusal<'a>>
+    ensures { IfOk result (λ answer. AnswersManifest answer device.entry file.entry
+        (H.input host.old) (H.file host.old) (O.contents out.old) (O.contents out.new)) }
+{
+    let Some(of_device) = read_device(alloc, heap, device, host, out)? else {
+        return Ok(Answer::Refused);
+    };
+    let bytes = file.read(heap, host)?;
+    match tell_over(alloc, heap, &bytes, &of_device.identity, out) {
+        ManifestEnd::Done => Ok(Answer::Done),
+        ManifestEnd::Refused => Ok(Answer::Refused),
+        ManifestEnd::NoMemory => Err(Refusal::NoMemory),
+        ManifestEnd::WriteFailed => Err(Refusal::CannotWrite),
+    }
+}
