@@ -1,0 +1,4 @@
+//! The records of a device and the swaps that they lead, each over a flash in memory.
+mod logs;
+mod swaps;
+mod trailers;

@@ -1,4 +1,0 @@
-use Rattle.swap_scratch_tests.proofs.tests.progress_is_counted_on_the_side_that_is_named.Given as goal
-
-abbrev pub ghosts-swapped_on_the_other_side : goal.ghosts-swapped_on_the_other_side
-ghosts-swapped_on_the_other_side g a = record { name = a.blank.name; parts = a.blank.parts }
