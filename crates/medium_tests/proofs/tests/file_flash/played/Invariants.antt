@@ -1,4 +1,4 @@
-use Rattle.file_flash_tests.proofs.tests.played.Given as goal
+use Rattle.medium_tests.proofs.tests.file_flash.played.Given as goal
 
 abbrev pub ghosts-play-L-Ledger : goal.ghosts-play-L-Ledger
 ghosts-play-L-Ledger g a = record { name = a.blanks.0.name; parts = a.blanks.0.parts }

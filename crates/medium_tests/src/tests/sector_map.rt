@@ -2,7 +2,7 @@
 
 ghost use Rattle.std.specs.Prelude.{◌<◌};
 
-use crate::{MapError, SectorMap, Side, is_member, is_within, mask_of, parts_lie_apart};
+use sector_map::{MapError, SectorMap, Side, is_member, is_within, mask_of, parts_lie_apart};
 use std::test::Fail;
 
 /// The name of the fault, or "Ok".
