@@ -1,5 +1,4 @@
 //! The layers that all others stand on, by the bytes, sectors and addresses written out.
-
-mod file_flash;
+mod flash_files;
+mod maps;
 mod memory_flash;
-mod sector_map;

@@ -1,4 +1,4 @@
-use Rattle.medium_tests.proofs.tests.file_flash.played.Given as goal
+use Rattle.medium_tests.proofs.tests.flash_files.played.Given as goal
 
 abbrev pub ghosts-play-L-Ledger : goal.ghosts-play-L-Ledger
 ghosts-play-L-Ledger g a = record { name = a.blanks.0.name; parts = a.blanks.0.parts }
