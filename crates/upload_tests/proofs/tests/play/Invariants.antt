@@ -1,6 +1,0 @@
-use Rattle.upload.specs.View.{view}
-use Rattle.upload.specs.Sessions.{AllOpenAt}
-use Rattle.upload_tests.proofs.tests.play.Given as goal
-
-abbrev pub invariant-loop-step : goal.invariant-loop-step
-invariant-loop-step g l = AllOpenAt (view l.map (g.F.Flash.chip l.flash)) l.uploads.sessions
