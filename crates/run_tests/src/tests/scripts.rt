@@ -1,11 +1,10 @@
 //! Lines of scripts: which of them are bad, in which order they are judged, and what good ones say.
+use super::stories::Step::Run;
+use super::stories::{BOOTED, Step, expect_each_step};
 use memory_host::samples::{DEVICE, SAMPLE};
-use memory_host::{FLASH_FILE, SCRIPT, TWO_IMAGES, Target, expect_run, two_images};
+use memory_host::{FLASH_FILE, SCRIPT, TWO_IMAGES, Target, two_images};
 use std::process::Abort;
 use std::test::Fail;
-
-/// What is told of the boot of a new device of two images.
-const BOOTED: &str = "1 plain\nrun 0 1.0.0+0\nrun 1 1.0.0+0\n";
 
 /// Lines each of which is bad, where the file `abc` has three bytes.
 const BAD_LINES: &str = "frob
@@ -149,47 +148,48 @@ fn a_bad_line_after_events_that_write_leaves_the_flash_as_it_was(
     Ok(())
 }
 
-#[test]
-fn good_lines_say_what_they_say(rt: HostRuntime) -> Result<(), Fail> {
-    for (script, out) in [
-        // Nothing is done.
-        ("", ""),
-        ("cut 1 keep\n", ""),
-        ("cut 1 keep\ncut 4294967295 hex:00fFAb\n", ""),
-        // The last line feed may be missing.
-        ("reset", "1 done\n"),
-        ("reset\nreset", "1 done\n2 done\n"),
-        // Parts of files, of which one is empty and one is at the end.
-        (
-            "boot\naccept abc.json\npiece 0 abcd 0 0\npiece 0 abcd 4 0\npiece 0 abcd 0 2\npiece 0 abc 2 1\nreset\n",
-            "2 done\n3 done\n4 done\n5 done\n6 done\n7 done\n",
-        ),
-        (
-            "boot\naccept abc.json\npiece 0 abcd 0 3\npiece 0 abcd 3 1\nreset\n",
+/// Scripts, each for a new device, and what they say.
+const GOOD_LINES: [Step; 8] = [
+    // Nothing is done.
+    Run(&[""], 0, &[""]),
+    Run(&["cut 1 keep\n"], 0, &[""]),
+    Run(&["cut 1 keep\ncut 4294967295 hex:00fFAb\n"], 0, &[""]),
+    // The last line feed may be missing.
+    Run(&["reset"], 0, &["1 done\n"]),
+    Run(&["reset\nreset"], 0, &["1 done\n2 done\n"]),
+    // Parts of files, of which one is empty and one is at the end.
+    Run(
+        &[
+            "boot\naccept abc.json\npiece 0 abcd 0 0\npiece 0 abcd 4 0\npiece 0 abcd 0 2\n",
+            "piece 0 abc 2 1\nreset\n",
+        ],
+        0,
+        &[BOOTED, "2 done\n3 done\n4 done\n5 done\n6 done\n7 done\n"],
+    ),
+    Run(
+        &["boot\naccept abc.json\npiece 0 abcd 0 3\npiece 0 abcd 3 1\nreset\n"],
+        0,
+        &[
+            BOOTED,
             "2 done\n3 done\n4 refused upload 4 TooMuch\n5 done\n",
-        ),
-        // Images that the device lacks.
-        (
-            "boot\nfinish 255\nreset\n",
-            "2 refused upload 3 NoSession\n3 done\n",
-        ),
-    ] {
-        let mut target = two_images(rt.alloc())?;
-        let booted = if script.starts_with("boot") {
-            BOOTED
-        } else {
-            ""
-        };
-        let out = format!(in rt.alloc(); "{booted}{out}")?;
-        expect_run(rt.alloc(), &mut target, script, 0, &out)?;
-    }
-    Ok(())
-}
+        ],
+    ),
+    // Images that the device lacks.
+    Run(
+        &["boot\nfinish 255\nreset\n"],
+        0,
+        &[BOOTED, "2 refused upload 3 NoSession\n3 done\n"],
+    ),
+];
 
 #[test]
-fn an_upload_by_parts_is_whole(rt: HostRuntime) -> Result<(), Fail> {
-    let mut target = two_images(rt.alloc())?;
-    let script = "boot
+fn good_lines_say_what_they_say(rt: HostRuntime) -> Result<(), Fail> {
+    expect_each_step(rt.alloc(), &GOOD_LINES)
+}
+
+const WHOLE_BY_PARTS: Step = Run(
+    &[
+        "boot
 accept pair.json
 piece 1 second.img 0 1
 piece 0 first.img 0 5
@@ -200,11 +200,12 @@ piece 0 first.img 16 80
 finish 0
 finish 1
 boot
-";
-    let out = "1 plain
-run 0 1.0.0+0
-run 1 1.0.0+0
-2 done
+",
+    ],
+    0,
+    &[
+        BOOTED,
+        "2 done
 3 done
 4 done
 5 done
@@ -216,9 +217,13 @@ run 1 1.0.0+0
 11 trial
 take 0 2.0.0+0
 take 1 2.0.0+0
-";
-    expect_run(rt.alloc(), &mut target, script, 0, out)?;
-    Ok(())
+",
+    ],
+);
+
+#[test]
+fn an_upload_by_parts_is_whole(rt: HostRuntime) -> Result<(), Fail> {
+    expect_each_step(rt.alloc(), &[WHOLE_BY_PARTS])
 }
 
 /// Runs that read standard input once: the words, the script, standard input, and what is told behind the first boot.
