@@ -9,6 +9,7 @@ mod image_bytes;
 mod images;
 mod made_images;
 mod manifests;
+mod orders;
 mod sizes;
 mod system;
 mod words;

@@ -1,7 +1,6 @@
 //! Tables that break a rule, each told by its first bad line, and those at the very limits, which break none.
 use memory_host::expect_outcome;
 use std::alloc::{AllocError, Global};
-use std::process::Abort;
 use std::test::Fail;
 
 /// `head`, and then `count` times `line`.
@@ -13,136 +12,128 @@ fn repeated(alloc: Global, head: &str, line: &str, count: u32) -> Result<String,
     Ok(text)
 }
 
-/// Asserts that each of these tables is refused at its line.
-fn expect_bad_lines(rt: &(impl Abort + AllocGlobal), tables: &[(&[u8], &str)]) -> Result<(), Fail> {
+/// A table, and what is told of its first bad line.
+type Bad = (&'static [u8], &'static str);
+
+/// Fails unless each of these tables is refused at its line.
+fn expect_bad_lines(alloc: Global, tables: &[Bad]) -> Result<(), Fail> {
     for (table, err) in tables {
-        expect_outcome(rt.alloc(), table, 1, "", err)?;
+        expect_outcome(alloc, table, 1, "", err)?;
     }
     Ok(())
 }
 
+const SECOND_REQUESTS: [Bad; 3] = [
+    (
+        b"image 0 1.0.0 0 0\nrequest 1.1.0 0\nrequest 1.2.0 0\n",
+        "error: table line 3\n",
+    ),
+    (
+        b"image 0 1.0.0 0 0\nrequest 1.1.0 0\nneeds 0 1.1.0\ndamaged\n",
+        "error: table line 4\n",
+    ),
+    (
+        b"image 0 1.0.0 0 0\ndamaged\nrequest 1.1.0 0\n",
+        "error: table line 3\n",
+    ),
+];
+
 #[test]
 fn a_second_request_is_bad(rt: HostRuntime) -> Result<(), Fail> {
-    expect_bad_lines(
-        &rt,
-        &[
-            (
-                b"image 0 1.0.0 0 0\nrequest 1.1.0 0\nrequest 1.2.0 0\n".as_slice(),
-                "error: table line 3\n",
-            ),
-            (
-                b"image 0 1.0.0 0 0\nrequest 1.1.0 0\nneeds 0 1.1.0\ndamaged\n".as_slice(),
-                "error: table line 4\n",
-            ),
-            (
-                b"image 0 1.0.0 0 0\ndamaged\nrequest 1.1.0 0\n".as_slice(),
-                "error: table line 3\n",
-            ),
-        ],
-    )?;
-    Ok(())
+    expect_bad_lines(rt.alloc(), &SECOND_REQUESTS)
 }
+
+const OUT_OF_PLACE: [Bad; 2] = [
+    // A dependency of what is damaged.
+    (
+        b"image 0 1.0.0 0 0\ndamaged\nneeds 0 1.0.0\n",
+        "error: table line 3\n",
+    ),
+    // An image number out of order.
+    (
+        b"image 0 1.0.0 0 0\nrequest 1.1.0 0\nimage 2 1.0.0 0 0\n",
+        "error: table line 3\n",
+    ),
+];
 
 #[test]
 fn a_line_out_of_its_place_is_bad(rt: HostRuntime) -> Result<(), Fail> {
-    expect_bad_lines(
-        &rt,
-        &[
-            // A dependency of what is damaged.
-            (
-                b"image 0 1.0.0 0 0\ndamaged\nneeds 0 1.0.0\n".as_slice(),
-                "error: table line 3\n",
-            ),
-            // An image number out of order.
-            (
-                b"image 0 1.0.0 0 0\nrequest 1.1.0 0\nimage 2 1.0.0 0 0\n".as_slice(),
-                "error: table line 3\n",
-            ),
-        ],
-    )?;
-    Ok(())
+    expect_bad_lines(rt.alloc(), &OUT_OF_PLACE)
 }
+
+const EMPTY_LINES_AND_SPACES: [Bad; 4] = [
+    (
+        b"image 0 1.0.0 0 0\n\nimage 1 1.0.0 0 0\n",
+        "error: table line 2\n",
+    ),
+    (
+        b"image 0 1.0.0 0 0\nimage 1 1.0.0 0 0\n\n",
+        "error: table line 3\n",
+    ),
+    (
+        b"image 0 1.0.0 0 0\nrequest  1.1.0 0\n",
+        "error: table line 2\n",
+    ),
+    (
+        b"image 0 1.0.0 0 0\nrequest 1.1.0 0  \n",
+        "error: table line 2\n",
+    ),
+];
 
 #[test]
 fn empty_lines_and_further_spaces_are_bad(rt: HostRuntime) -> Result<(), Fail> {
-    expect_bad_lines(
-        &rt,
-        &[
-            (
-                b"image 0 1.0.0 0 0\n\nimage 1 1.0.0 0 0\n".as_slice(),
-                "error: table line 2\n",
-            ),
-            (
-                b"image 0 1.0.0 0 0\nimage 1 1.0.0 0 0\n\n".as_slice(),
-                "error: table line 3\n",
-            ),
-            (
-                b"image 0 1.0.0 0 0\nrequest  1.1.0 0\n".as_slice(),
-                "error: table line 2\n",
-            ),
-            (
-                b"image 0 1.0.0 0 0\nrequest 1.1.0 0  \n".as_slice(),
-                "error: table line 2\n",
-            ),
-        ],
-    )?;
-    Ok(())
+    expect_bad_lines(rt.alloc(), &EMPTY_LINES_AND_SPACES)
 }
+
+const BAD_NUMBERS: [Bad; 4] = [
+    (
+        b"image 0 1.0.0 0 0\nrequest 1.1.0 05\n",
+        "error: table line 2\n",
+    ),
+    (
+        b"image 0 1.0.0 0 0\nimage 1 1.0.0 0 0\nneeds 0 01.0.0\n",
+        "error: table line 3\n",
+    ),
+    (
+        b"image 0 1.0.0 0 0\nneeds 256 1.0.0\n",
+        "error: table line 2\n",
+    ),
+    (
+        b"image 0 1.0.0 0 0\nrequest 1.1.0 4294967296\n",
+        "error: table line 2\n",
+    ),
+];
 
 #[test]
 fn padded_and_large_numbers_are_bad(rt: HostRuntime) -> Result<(), Fail> {
-    expect_bad_lines(
-        &rt,
-        &[
-            (
-                b"image 0 1.0.0 0 0\nrequest 1.1.0 05\n".as_slice(),
-                "error: table line 2\n",
-            ),
-            (
-                b"image 0 1.0.0 0 0\nimage 1 1.0.0 0 0\nneeds 0 01.0.0\n".as_slice(),
-                "error: table line 3\n",
-            ),
-            (
-                b"image 0 1.0.0 0 0\nneeds 256 1.0.0\n".as_slice(),
-                "error: table line 2\n",
-            ),
-            (
-                b"image 0 1.0.0 0 0\nrequest 1.1.0 4294967296\n".as_slice(),
-                "error: table line 2\n",
-            ),
-        ],
-    )?;
-    Ok(())
+    expect_bad_lines(rt.alloc(), &BAD_NUMBERS)
 }
+
+const OTHER_BYTES: [Bad; 3] = [
+    (
+        b"image 0 1.0.0 0 0\nneeds 0 1.0.0\xff\n",
+        "error: table line 2\n",
+    ),
+    (
+        b"image 0 1.0.0 0 0\nrequest\t1.1.0 0\n",
+        "error: table line 2\n",
+    ),
+    (
+        b"image 0 1.0.0 0 0\nrequest 1.1.0 0\r\n",
+        "error: table line 2\n",
+    ),
+];
 
 #[test]
 fn other_bytes_are_bad(rt: HostRuntime) -> Result<(), Fail> {
-    expect_bad_lines(
-        &rt,
-        &[
-            (
-                b"image 0 1.0.0 0 0\nneeds 0 1.0.0\xff\n".as_slice(),
-                "error: table line 2\n",
-            ),
-            (
-                b"image 0 1.0.0 0 0\nrequest\t1.1.0 0\n".as_slice(),
-                "error: table line 2\n",
-            ),
-            (
-                b"image 0 1.0.0 0 0\nrequest 1.1.0 0\r\n".as_slice(),
-                "error: table line 2\n",
-            ),
-        ],
-    )?;
-    Ok(())
+    expect_bad_lines(rt.alloc(), &OTHER_BYTES)
 }
 
 #[test]
 fn a_last_line_without_its_line_feed_is_read(rt: HostRuntime) -> Result<(), Fail> {
     let table = "image 0 1.0.0+0 0 0\n\
         request 1.1.0+0 0";
-    expect_outcome(rt.alloc(), table.as_bytes(), 0, "take 0 1.1.0+0\n", "")?;
-    Ok(())
+    expect_outcome(rt.alloc(), table.as_bytes(), 0, "take 0 1.1.0+0\n", "")
 }
 
 #[test]

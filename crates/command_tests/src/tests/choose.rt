@@ -46,8 +46,7 @@ fn no_word_is_a_choice_over_standard_input(rt: HostRuntime) -> Result<(), Fail> 
                 ..REFUSED
             },
         ],
-    )?;
-    Ok(())
+    )
 }
 
 #[test]
@@ -84,6 +83,5 @@ fn choose_reads_the_file(rt: HostRuntime) -> Result<(), Fail> {
                 ..REFUSED
             },
         ],
-    )?;
-    Ok(())
+    )
 }

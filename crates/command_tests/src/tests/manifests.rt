@@ -72,27 +72,30 @@ fn a_precursor_is_told_and_digits_are_lower_case(rt: HostRuntime) {
 const AGAIN: &str =
     r#"},{"component-id":0,"kind":"permanent","payload-digest":"ba7816bf8f01cfea414140de5dae2223b00361a396177a9cb410ff61f20015ad","size":3}]}"#;
 
+/// Changes of the sample, and the lowest refusal of each.
+const REFUSED_CHANGES: [(&str, &str, &str); 13] = [
+    (r#"sion":1"#, r#"sion":2"#, "refused 3 BadValue\n"),
+    (r#"t-id":0"#, r#"t-id":256"#, "refused 3 BadValue\n"),
+    (r#"t-id":0"#, r#"t-id":2"#, "refused 6 NoComponent\n"),
+    (r#"{"man"#, r#"{"more":0,"man"#, "refused 2 BadKey\n"),
+    (r#""size":3"#, r#""size":3,"more":0"#, "refused 2 BadKey\n"),
+    (r#""size":3"#, r#""size":3.0"#, "refused 3 BadValue\n"),
+    (
+        r#""size":3"#,
+        r#""size":4294967296"#,
+        "refused 3 BadValue\n",
+    ),
+    (r#"15ad""#, r#"15a""#, "refused 3 BadValue\n"),
+    (r#""test""#, r#""tests""#, "refused 3 BadValue\n"),
+    ("9e5d", "9e5e", "refused 4 WrongVendor\n"),
+    ("555555555555", "555555555556", "refused 5 WrongClass\n"),
+    ("}]}", AGAIN, "refused 7 RepeatedComponent\n"),
+    ("}]}", "}]", "refused 1 NotJson\n"),
+];
+
 #[test]
 fn of_a_changed_sample_the_lowest_refusal_is_told(rt: HostRuntime) -> Result<(), Fail> {
-    for (from, to, out) in [
-        (r#"sion":1"#, r#"sion":2"#, "refused 3 BadValue\n"),
-        (r#"t-id":0"#, r#"t-id":256"#, "refused 3 BadValue\n"),
-        (r#"t-id":0"#, r#"t-id":2"#, "refused 6 NoComponent\n"),
-        (r#"{"man"#, r#"{"more":0,"man"#, "refused 2 BadKey\n"),
-        (r#""size":3"#, r#""size":3,"more":0"#, "refused 2 BadKey\n"),
-        (r#""size":3"#, r#""size":3.0"#, "refused 3 BadValue\n"),
-        (
-            r#""size":3"#,
-            r#""size":4294967296"#,
-            "refused 3 BadValue\n",
-        ),
-        (r#"15ad""#, r#"15a""#, "refused 3 BadValue\n"),
-        (r#""test""#, r#""tests""#, "refused 3 BadValue\n"),
-        ("9e5d", "9e5e", "refused 4 WrongVendor\n"),
-        ("555555555555", "555555555556", "refused 5 WrongClass\n"),
-        ("}]}", AGAIN, "refused 7 RepeatedComponent\n"),
-        ("}]}", "}]", "refused 1 NotJson\n"),
-    ] {
+    for (from, to, out) in &REFUSED_CHANGES {
         let text = changed(rt.alloc(), SAMPLE, from, to)?;
         expect_manifest(&rt, DEVICE.as_bytes(), text.as_bytes(), 1, out, "");
     }
@@ -138,37 +141,43 @@ fn what_is_no_json_is_told_as_such(rt: HostRuntime) -> Result<(), Fail> {
     Ok(())
 }
 
+/// Changes of the device file that leave none.
+const BAD_DEVICES: [(&str, &str); 17] = [
+    (r#"{"sec"#, r#"{"more":0,"sec"#),
+    (r#""sector":512,"#, ""),
+    (r#""sectors":[2,2],"#, ""),
+    ("512", "512.0"),
+    ("512", "4294967296"),
+    ("512", "-512"),
+    ("[2,2]", "2"),
+    ("[2,2]", "[2,2.0]"),
+    ("[2,2]", r#"[2,"2"]"#),
+    ("[2,2]", "[2,4294967296]"),
+    ("9e5d", "9e5"),
+    ("555555555555", "55555555555g"),
+    (r#"{"sec"#, r#"{"trial-boots":0,"sec"#),
+    (r#"{"sec"#, r#"{"trial-boots":8,"sec"#),
+    (r#"{"sec"#, r#"{"trial-boots":257,"sec"#),
+    (r#"{"sec"#, r#"{"trial-boots":1.0,"sec"#),
+    (r#"{"sec"#, r#"{"trial-boots":null,"sec"#),
+];
+
+/// Changes of the device file that leave one.
+const GOOD_DEVICES: [(&str, &str); 4] = [
+    (r#"{"sec"#, r#"{"trial-boots":1,"sec"#),
+    (r#"{"sec"#, r#"{"trial-boots":7,"sec"#),
+    (r#"{"sec"#, r#"{"sector":500,"sec"#),
+    ("9e5d", "9E5D"),
+];
+
 #[test]
 fn a_device_file_has_exactly_its_keys_and_their_values(rt: HostRuntime) -> Result<(), Fail> {
-    for (from, to) in [
-        (r#"{"sec"#, r#"{"more":0,"sec"#),
-        (r#""sector":512,"#, ""),
-        (r#""sectors":[2,2],"#, ""),
-        ("512", "512.0"),
-        ("512", "4294967296"),
-        ("512", "-512"),
-        ("[2,2]", "2"),
-        ("[2,2]", "[2,2.0]"),
-        ("[2,2]", r#"[2,"2"]"#),
-        ("[2,2]", "[2,4294967296]"),
-        ("9e5d", "9e5"),
-        ("555555555555", "55555555555g"),
-        (r#"{"sec"#, r#"{"trial-boots":0,"sec"#),
-        (r#"{"sec"#, r#"{"trial-boots":8,"sec"#),
-        (r#"{"sec"#, r#"{"trial-boots":257,"sec"#),
-        (r#"{"sec"#, r#"{"trial-boots":1.0,"sec"#),
-        (r#"{"sec"#, r#"{"trial-boots":null,"sec"#),
-    ] {
+    for (from, to) in &BAD_DEVICES {
         let device = changed(rt.alloc(), DEVICE, from, to)?;
         let err = "error: device file\n";
         expect_manifest(&rt, device.as_bytes(), SAMPLE.as_bytes(), 1, "", err);
     }
-    for (from, to) in [
-        (r#"{"sec"#, r#"{"trial-boots":1,"sec"#),
-        (r#"{"sec"#, r#"{"trial-boots":7,"sec"#),
-        (r#"{"sec"#, r#"{"sector":500,"sec"#),
-        ("9e5d", "9E5D"),
-    ] {
+    for (from, to) in &GOOD_DEVICES {
         let device = changed(rt.alloc(), DEVICE, from, to)?;
         expect_manifest(
             &rt,
@@ -182,28 +191,31 @@ fn a_device_file_has_exactly_its_keys_and_their_values(rt: HostRuntime) -> Resul
     Ok(())
 }
 
+/// Sizes of a device, the status, and what is told.
+const SIZES: [(&str, u8, &str); 8] = [
+    ("500,\"sectors\":[]", 1, "refused map 1 BadSector\n"),
+    ("512,\"sectors\":[]", 1, "refused map 2 BadCount\n"),
+    ("512,\"sectors\":[2,0]", 1, "refused map 2 BadCount\n"),
+    (
+        "512,\"sectors\":[1,1,1,1,1,1,1,1,1]",
+        1,
+        "refused map 2 BadCount\n",
+    ),
+    ("512,\"sectors\":[2,20]", 1, "refused map 3 TrailerFull\n"),
+    ("512,\"sectors\":[2,19]", 0, SAMPLE_TOLD),
+    (
+        "131072,\"sectors\":[5459,5459,5459,1]",
+        1,
+        "refused map 4 TooLarge\n",
+    ),
+    ("131072,\"sectors\":[5459,5459,5459]", 0, SAMPLE_TOLD),
+];
+
 #[test]
 fn sizes_that_make_no_map_are_refused_by_the_first_check(rt: HostRuntime) -> Result<(), Fail> {
-    for (sizes, status, out) in [
-        ("500,\"sectors\":[]", 1, "refused map 1 BadSector\n"),
-        ("512,\"sectors\":[]", 1, "refused map 2 BadCount\n"),
-        ("512,\"sectors\":[2,0]", 1, "refused map 2 BadCount\n"),
-        (
-            "512,\"sectors\":[1,1,1,1,1,1,1,1,1]",
-            1,
-            "refused map 2 BadCount\n",
-        ),
-        ("512,\"sectors\":[2,20]", 1, "refused map 3 TrailerFull\n"),
-        ("512,\"sectors\":[2,19]", 0, SAMPLE_TOLD),
-        (
-            "131072,\"sectors\":[5459,5459,5459,1]",
-            1,
-            "refused map 4 TooLarge\n",
-        ),
-        ("131072,\"sectors\":[5459,5459,5459]", 0, SAMPLE_TOLD),
-    ] {
+    for (sizes, status, out) in &SIZES {
         let device = changed(rt.alloc(), DEVICE, "512,\"sectors\":[2,2]", sizes)?;
-        expect_manifest(&rt, device.as_bytes(), SAMPLE.as_bytes(), status, out, "");
+        expect_manifest(&rt, device.as_bytes(), SAMPLE.as_bytes(), *status, out, "");
     }
     Ok(())
 }
@@ -296,6 +308,5 @@ fn standard_input_is_one_of_the_two_at_most(rt: HostRuntime) -> Result<(), Fail>
                 ..TOLD
             },
         ],
-    )?;
-    Ok(())
+    )
 }

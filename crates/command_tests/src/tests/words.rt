@@ -50,8 +50,7 @@ fn a_wrong_usage_is_told_by_the_parser_of_words(rt: HostRuntime) -> Result<(), F
                 ..FAULT
             },
         ],
-    )?;
-    Ok(())
+    )
 }
 
 #[test]
@@ -82,8 +81,7 @@ fn control_characters_of_a_name_are_escaped(rt: HostRuntime) -> Result<(), Fail>
                 ..FAULT
             },
         ],
-    )?;
-    Ok(())
+    )
 }
 
 #[test]
