@@ -1,4 +1,5 @@
-//! Flashes in memory and in a file, and the map of sectors, as one sees them who calls those crates.
+//! Flashes in memory and in a file, and the map of sectors, as one sees them who calls
+//! `flash_model`, `file_flash` and `sector_map`.
 #![tactic(auto)]
 
 #[cfg(test)]
