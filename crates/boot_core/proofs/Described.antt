@@ -42,6 +42,21 @@ fault_front whole fault (Some bytes) failed front =
     let there = front.image bytes refl in
     absurd (front_has_no_fault whole there.1.0 fault (bytes, there.0.0, there.0.1, there.1.1) failed)
 
+none_some : {X : Type 0} (x : X) → None ≡ Some x → ⊥
+none_some x e = cc
+
+-- what is described is held ..
+pub described_held : (whole : List ℕ) (d : Desc) → BeginsIntact whole d → IsFront whole None → ⊥
+described_held whole d begins none =
+    let found = described_front whole d begins in none.none refl found.0 d found.1 found.2
+
+-- .. and where a check fails there is nothing
+pub fault_held : (whole : List ℕ) (fault : ImageError) → IsFrontFault whole fault → IsFront whole None
+fault_held whole fault failed = record {
+  image = λ bytes e. absurd (none_some bytes e);
+  none = λ e bytes d starts intact. front_has_no_fault whole d fault (bytes, starts.0, starts.1, intact) failed;
+}
+
 -- how long a slot is
 pub slot_long : (map : SectorMap) (chip : Chip) (image : ℕ) (side : Side) → IsLaidOut map chip
     → length (slot_bytes map chip image side) ≡ slot_sectors map image * map.sector_size

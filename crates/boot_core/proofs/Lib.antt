@@ -2,6 +2,8 @@ pub mod Records
 pub mod Concluding
 pub mod Fronts
 mod Described
+mod Readable
+mod Stops
 mod Masks
 mod SwapSizes
 pub mod Again

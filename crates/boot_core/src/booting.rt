@@ -1,6 +1,6 @@
 //! A boot from each record that may stand.
 
-ghost use Rattle.std.specs.Prelude.{◌≡◌, ◌+◌, ◌<◌, ◌≤◌, ℕ, Some, IfOk};
+ghost use Rattle.std.specs.Prelude.{◌≡◌, ◌+◌, ◌<◌, ◌≤◌, ℕ, Bool, Some, IfOk};
 ghost use Rattle.boot_core.specs.Answers.{IsBootReply};
 ghost use Rattle.boot_core.specs.Wear.{IsAfresh};
 ghost use Rattle.certificate.specs.declared.table.Table.{Table};
@@ -9,6 +9,8 @@ ghost use Rattle.machine.specs.Boots.{GoesBack, GoesOn, IsChosen};
 ghost use Rattle.machine.specs.Holding.{Stands};
 ghost use Rattle.machine.specs.Passing.{CutsBoot, EndsBoot, IsOpenOrAt, reply_of};
 ghost use Rattle.machine.specs.States.{IsConfirmed};
+ghost use Rattle.boot_core.specs.Found.{IsKeptFor, IsSwapAloneFor, IsToldAgain};
+ghost use Rattle.machine.specs.declared.finding.Finding.{Finding};
 ghost use Rattle.machine.specs.Wear.{IsResumed, IsSetFound, IsSetOf, IsSettling};
 ghost use Rattle.sector_map.specs.Map.{IsLaidOut, IsWithin};
 ghost use Rattle.sector_map.specs.declared.layout.Side.TheVariants.{Primary, Secondary};
@@ -142,6 +144,10 @@ pub(crate) fn boot_from_swap<F: Flash>(
     ensures erases { IfOk result (λ reply. (s : DeviceState) → Stands map.now (F.chip flash.old) s
         → IsResumed map.now (F.chip flash.old) (F.chip flash.new) Primary state.now.mask
         × IsSetOf state.now.mask reply) }
+    ensures stops { IfOk result (λ reply. (finding : Finding) (permanent : Bool)
+        → reply ≡ reply_of finding permanent
+        → IsToldAgain (view map.now (F.chip flash.new)) state.now.mask state.now.floors finding
+        × IsSwapAloneFor map.now state.now.mask (F.chip flash.old) (F.chip flash.new) finding) }
     ensures told { IfOk result IsBootReply }
     ensures ends { Ends result (F.chip flash.old) (F.chip flash.new) }
 {
@@ -168,6 +174,10 @@ pub(crate) fn boot_from_settle<F: Flash>(
     ensures erases { IfOk result (λ reply.
         IsSettling map.now (F.chip flash.old) (F.chip flash.new) state.now.mask
         × IsSetOf state.now.mask reply) }
+    ensures stops { IfOk result (λ reply. (finding : Finding) (permanent : Bool)
+        → reply ≡ reply_of finding permanent
+        → IsToldAgain (view map.now (F.chip flash.new)) state.now.mask state.now.floors finding
+        × IsKeptFor (F.chip flash.old) (F.chip flash.new) finding) }
     ensures told { IfOk result IsBootReply }
     ensures ends { Ends result (F.chip flash.old) (F.chip flash.new) }
 {

@@ -1,16 +1,18 @@
 //! A boot, from whatever record stands.
 
-ghost use Rattle.std.specs.Prelude.{◌≡◌, ◌+◌, ◌≤◌, true, None, Some, Err, IfOk};
+ghost use Rattle.std.specs.Prelude.{◌≡◌, ◌+◌, ◌≤◌, Bool, true, None, Some, Err, IfOk};
 ghost use Rattle.boot_core.specs.Answers.{EndsCall, IsBootReply, reply_of_boot};
 ghost use Rattle.boot_core.specs.Device.{made, seen};
+ghost use Rattle.boot_core.specs.Found.{IsStopped};
 ghost use Rattle.boot_core.specs.Wear.{IsWorn};
 ghost use Rattle.flash_model.specs.Chip.{Chip, Ends};
 ghost use Rattle.machine.specs.Boots.{IsReadSound, is_answer};
 ghost use Rattle.machine.specs.Holding.{Stands};
-ghost use Rattle.machine.specs.Passing.{CutsBoot, EndsBoot, StepsTo};
+ghost use Rattle.machine.specs.Passing.{CutsBoot, EndsBoot, StepsTo, reply_of};
 ghost use Rattle.machine.specs.Steps.{cut_of};
 ghost use Rattle.machine.specs.declared.error.Fault.TheVariants.{NotProvisioned};
 ghost use Rattle.machine.specs.declared.event.Event.TheVariants as event;
+ghost use Rattle.machine.specs.declared.finding.Finding.{Finding};
 ghost use Rattle.machine.specs.declared.reply.Reply.TheVariants.{Refused};
 ghost use Rattle.manifest.specs.declared.identity.Identity.{Identity};
 ghost use Rattle.sector_map.specs.Map.{IsLaidOut};
@@ -48,6 +50,9 @@ fn boot_from<F: Flash>(
     ensures erases { IfOk result (λ reply. (s : DeviceState) → Stands map.now (F.chip flash.old) s
         → IsWorn map.now state.now.kind state.now.mask (F.chip flash.old) (F.chip flash.new)
         reply) }
+    ensures stops { IfOk result (λ reply. (finding : Finding) (permanent : Bool)
+        → reply ≡ reply_of finding permanent
+        → IsStopped map.now state.now (F.chip flash.old) (F.chip flash.new) finding) }
     ensures told { IfOk result IsBootReply }
     ensures ends { Ends result (F.chip flash.old) (F.chip flash.new) }
 {
@@ -83,6 +88,9 @@ pub(crate) fn boot<F: Flash>(flash: &mut F, map: &SectorMap, left: u8) -> Result
     ensures erases { IfOk result (λ reply. (state : LogState) (s : DeviceState)
         → state_of map.now (F.chip flash.old) ≡ Some state → Stands map.now (F.chip flash.old) s
         → IsWorn map.now state.kind state.mask (F.chip flash.old) (F.chip flash.new) reply) }
+    ensures stops { IfOk result (λ reply. (state : LogState) (finding : Finding) (permanent : Bool)
+        → state_of map.now (F.chip flash.old) ≡ Some state → reply ≡ reply_of finding permanent
+        → IsStopped map.now state (F.chip flash.old) (F.chip flash.new) finding) }
     ensures told { IfOk result IsBootReply }
     ensures ends { Ends result (F.chip flash.old) (F.chip flash.new) }
 {
@@ -160,6 +168,10 @@ pub(crate) fn boot_device<F: Flash>(
         → state_of map.now (F.chip flash.old) ≡ Some state → Stands map.now (F.chip flash.old) s
         → IsWorn map.now state.kind state.mask (F.chip flash.old) (F.chip flash.new)
         (reply_of_boot result) }
+    ensures stops { (state : LogState) (finding : Finding) (permanent : Bool)
+        → state_of map.now (F.chip flash.old) ≡ Some state
+        → reply_of_boot result ≡ reply_of finding permanent
+        → IsStopped map.now state (F.chip flash.old) (F.chip flash.new) finding }
     ensures ends { EndsCall (reply_of_boot result)
         (seen (F.chip flash.old) uploads.old.sessions is_up.old)
         (seen (F.chip flash.new) uploads.new.sessions is_up.new) }

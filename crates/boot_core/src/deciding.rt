@@ -14,7 +14,7 @@ ghost use Rattle.upload.specs.View.{view};
 ghost use Rattle.machine.specs.Boots.{AsksForGood, IsDecision};
 ghost use Rattle.machine.specs.Reading.{AreRaisedBy, CanRead, HasImages, IsAsking, IsFinding, IsFoundAgain};
 ghost use Rattle.machine.specs.Wear.{IsSetFound};
-ghost use Rattle.boot_core.specs.Found.{HasTable};
+ghost use Rattle.boot_core.specs.Found.{HasTable, IsToldAgain};
 
 use crate::reading::read_table;
 use arrayvec::ArrayVec;
@@ -70,8 +70,9 @@ pub(crate) fn find<F: Flash>(
     }
 }
 
-/// The decision of a record, found again where the slots of its set are swapped, with these floors. `Invalid` where
-/// the table that is read has another greatest set, which is so of no decision.
+/// The decision of a record, found again where the slots of its set are swapped, with these floors. `Damaged` tells
+/// the lowest image of which what ran, or what is of the set, isn't intact; `Invalid` that the table which is read isn't
+/// valid, or has another greatest set. Neither is so of a decision.
 ///
 /// # Errors
 /// `Off` where the flash was off. Nothing changes in any case.
@@ -90,6 +91,8 @@ pub(crate) fn find_again<F: Flash>(
     ensures set { IfOk result (IsSetFound mask) }
     ensures whole { IfOk result (HasImages map.now.images) }
     ensures rows { IfOk result (HasTable map.now.images) }
+    ensures told { IfOk result
+        (IsToldAgain (view map.now (F.chip flash.old)) mask floors.now) }
     ensures ends { Ends result (F.chip flash.old) (F.chip flash.new) }
 {
     match read_table(flash, map, mask, floors)? {

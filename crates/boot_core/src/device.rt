@@ -1,7 +1,10 @@
 //! The device that programs and bootloaders hold.
 
-ghost use Rattle.std.specs.Prelude.{◌≡◌, ◌+◌, ◌≤◌, true, false, None, Some, Err, IfOk};
+ghost use Rattle.std.specs.Prelude.{◌≡◌, ◌+◌, ◌≤◌, Bool, true, false, None, Some, Err, IfOk};
 ghost use Rattle.boot_core.specs.Answers.{EndsCall, reply_of_boot, reply_of_result};
+ghost use Rattle.boot_core.specs.Found.{IsStopped};
+ghost use Rattle.machine.specs.Passing.{reply_of};
+ghost use Rattle.machine.specs.declared.finding.Finding.{Finding};
 ghost use Rattle.boot_core.specs.Device.{made};
 ghost use Rattle.boot_core.specs.Wear.{IsWorn};
 ghost use Rattle.machine.specs.Boots.{IsReadSound, is_answer};
@@ -119,7 +122,8 @@ impl<F: Flash> Device<F> {
     /// # Errors
     /// The device isn't up. `NotProvisioned` where the log has no state: nothing changed. `RunningDamaged` and
     /// `InvalidSet` where the images that run are damaged or don't meet their dependencies, which comes of no state
-    /// that a device was provisioned to. `Flash` with `Cut` where power failed: the state is the one before the boot,
+    /// that a device was provisioned to; in the midst of an upgrade `RunningDamaged` names the lowest image of which
+    /// what ran, or what is of the set, is damaged, and nothing is written once the swap is done. `Flash` with `Cut` where power failed: the state is the one before the boot,
     /// that state as it is read, or the one after it; with `Off` where the flash was off.
     pub fn boot(&mut self) -> Result<Reply, Fault>
         ensures setup { self.new.setup ≡ self.old.setup }
@@ -142,6 +146,11 @@ impl<F: Flash> Device<F> {
             → Stands self.old.setup.map self.old.here.flash s
             → IsWorn self.old.setup.map state.kind state.mask self.old.here.flash
             self.new.here.flash (reply_of_boot result) }
+        // On any flash: what a refusal tells of an upgrade that was begun, and that nothing more was written.
+        ensures stops { (state : LogState) (finding : Finding) (permanent : Bool)
+            → state_of self.old.setup.map self.old.here.flash ≡ Some state
+            → reply_of_boot result ≡ reply_of finding permanent
+            → IsStopped self.old.setup.map state self.old.here.flash self.new.here.flash finding }
         ensures closed { AllClosed self.new.here.sessions }
         ensures ends { EndsCall (reply_of_boot result) self.old.here self.new.here }
     {

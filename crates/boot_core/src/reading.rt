@@ -1,6 +1,6 @@
 //! Reading the table of what runs and what is requested.
 
-ghost use Rattle.std.specs.Prelude.{◌≡◌, ℕ, ◌<◌, List, Option, IfOk};
+ghost use Rattle.std.specs.Prelude.{◌≡◌, ℕ, ◌<◌, List, Option, IfOk, true, false};
 ghost use Rattle.flash_model.specs.Chip.{Chip, Ends};
 ghost use Rattle.sector_map.specs.Map.{IsLaidOut};
 ghost use Rattle.sector_map.specs.declared.layout.Side.TheVariants.{Secondary};
@@ -12,6 +12,7 @@ ghost use Rattle.upload.specs.View.{view};
 ghost use Rattle.machine.specs.Boots.{IsRequestOf};
 ghost use Rattle.machine.specs.States.{entry_of};
 ghost use Rattle.machine.specs.Reading.{CanRead, CanReadAt, HasRows, IsReadOf, IsReading, IsRowRead, IsSwappedAt};
+ghost use Rattle.boot_core.specs.Found.{IsEntryAt, IsReadingAt, IsRowAt};
 
 use arrayvec::ArrayVec;
 use certificate::{Entry, Image, Request, Table};
@@ -46,6 +47,7 @@ pub(crate) fn read_slot<F: Flash>(
     ensures ok { IfOk result (λ entry. (held : Option (List ℕ))
         → IsFront (slot_bytes map.now (F.chip flash.old) image side) held
         → IsReadOf held entry) }
+    ensures front { IfOk result (IsEntryAt (slot_bytes map.now (F.chip flash.old) image side)) }
     ensures ends { Ends result (F.chip flash.old) (F.chip flash.new) }
 {
     match describe_slot(flash, map, image, side) {
@@ -89,6 +91,7 @@ fn read_row_at_rest<F: Flash>(
     ensures ok { IfOk result (λ row. (s : DeviceState)
         → IsImageAt (view map.now (F.chip flash.old)) s image
         → IsRowRead (s.running image) (s.request image) floor row) }
+    ensures front { IfOk result (IsRowAt (view map.now (F.chip flash.old)) false image) }
     ensures ends { Ends result (F.chip flash.old) (F.chip flash.new) }
 {
     match read_slot(flash, map, image, Side::Primary)? {
@@ -105,7 +108,7 @@ fn read_row_at_rest<F: Flash>(
 }
 
 /// The row of an image whose slots are swapped: what its secondary slot begins with ran, and what its primary slot
-/// begins with was requested. There is none where what ran isn't intact.
+/// begins with was requested. There is none where either isn't intact.
 fn read_swapped_row<F: Flash>(
     flash: &mut F,
     map: &SectorMap,
@@ -118,16 +121,13 @@ fn read_swapped_row<F: Flash>(
     ensures ok { IfOk result (λ row. (s : DeviceState)
         → IsSwappedAt (view map.now (F.chip flash.old)) s image
         → IsRowRead (s.running image) (s.request image) floor row) }
+    ensures front { IfOk result (IsRowAt (view map.now (F.chip flash.old)) true image) }
     ensures ends { Ends result (F.chip flash.old) (F.chip flash.new) }
 {
     match read_slot(flash, map, image, Side::Secondary)? {
         None => Ok(None),
         Some(running) => match read_slot(flash, map, image, Side::Primary)? {
-            None => Ok(Some(Image {
-                running,
-                request: Request::Damaged,
-                floor,
-            })),
+            None => Ok(None),
             Some(entry) => Ok(Some(Image {
                 running,
                 request: Request::Entry(entry),
@@ -151,6 +151,7 @@ fn read_row<F: Flash>(
     ensures ok { IfOk result (λ row. (s : DeviceState)
         → CanReadAt (view map.now (F.chip flash.old)) s is_swapped image
         → IsRowRead (s.running image) (s.request image) floor row) }
+    ensures front { IfOk result (IsRowAt (view map.now (F.chip flash.old)) is_swapped image) }
     ensures ends { Ends result (F.chip flash.old) (F.chip flash.new) }
 {
     if is_swapped {
@@ -177,6 +178,7 @@ pub(crate) fn read_table<F: Flash>(
         → CanRead (view map.now (F.chip flash.old)) s mask floors.now
         → IsReading s reading) }
     ensures whole { IfOk result (HasRows map.now.images) }
+    ensures front { IfOk result (IsReadingAt (view map.now (F.chip flash.old)) mask) }
     ensures ends { Ends result (F.chip flash.old) (F.chip flash.new) }
 {
     let mut images = ArrayVec::new();

@@ -1,8 +1,9 @@
-use Rattle.std.proofs.Common.{◌+◌, subst, sym}
+use Rattle.std.proofs.Common.{◌+◌, ◌∙◌, subst, sym}
 use Rattle.machine.specs.Holding.{Stands}
 use Rattle.machine.specs.Passing.{EndsBoot}
 use Rattle.machine.proofs.Standing.{settle_cut, settle_ends}
 use Rattle.upload.specs.Device.{DeviceState}
+use Rattle.boot_core.proofs.Stops.{settle_stops}
 use Rattle.boot_core.proofs.booting.boot_from_settle.Goals as goal
 
 pub returns-in_err-finding-clause-stands : goal.returns-in_err-finding-clause-stands
@@ -20,3 +21,8 @@ returns-clause-ok g c = subst
     (sym c.answer.ensures.is)
     (settle_ends c.args.map.now _ _ _ c.args.left c.requires.read c.requires.kind _
     c.in_ok-finding.ensures.ok)
+
+pub returns-clause-stops : goal.returns-clause-stops
+returns-clause-stops g c = λ finding permanent is. settle_stops c.args.map.now _ _ c.args.state.now.mask
+    c.args.state.now.floors _ finding c.args.state.now.permanent permanent (sym c.answer.ensures.is ∙ is)
+    c.in_ok-finding.ensures.told c.in_ok-finding.ensures.kept

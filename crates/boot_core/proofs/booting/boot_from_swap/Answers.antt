@@ -1,8 +1,9 @@
-use Rattle.std.proofs.Common.{◌+◌, subst, sym}
+use Rattle.std.proofs.Common.{◌+◌, ◌∙◌, subst, sym}
 use Rattle.machine.specs.Holding.{Stands}
 use Rattle.machine.specs.Passing.{EndsBoot}
 use Rattle.machine.proofs.Standing.{stands_swap, swap_cut, swap_ends}
 use Rattle.upload.specs.Device.{DeviceState}
+use Rattle.boot_core.proofs.Stops.{swap_stops}
 use Rattle.boot_core.proofs.booting.boot_from_swap.Goals as goal
 
 pub returns-in_err-finding-clause-stands : goal.returns-in_err-finding-clause-stands
@@ -27,3 +28,8 @@ returns-clause-erases g c = λ s stands.
       c.in_ok-finding.ensures.erases s swapping.0 _ swapping.1,
       c.answer.ensures.set _ c.in_ok-finding.ensures.set,
     )
+
+pub returns-clause-stops : goal.returns-clause-stops
+returns-clause-stops g c = λ finding permanent is. swap_stops c.args.map.now _ _ c.args.state.now.mask
+    c.args.state.now.floors _ finding c.args.state.now.permanent permanent (sym c.answer.ensures.is ∙ is)
+    c.in_ok-finding.ensures.told c.in_ok-finding.ensures.alone

@@ -3,6 +3,7 @@ use Rattle.std.proofs.lemmas.Result.{IfOk-weaker}
 use Rattle.machine.specs.Holding.{Stands}
 use Rattle.machine.proofs.Stepping.{sound_answers}
 use Rattle.boot_core.proofs.Wears.{worn_read}
+use Rattle.boot_core.proofs.Stops.{no_log_stopped, read_stopped}
 use Rattle.boot_core.proofs.boots.boot.Goals as goal
 
 pub returns-in-Ok-clause-answers : goal.returns-in-Ok-clause-answers
@@ -17,3 +18,12 @@ returns-in-Ok-clause-erases g c = IfOk-weaker c.boot_from.result _ _ (λ reply w
     (g.F.Flash.chip c.boot_from.new.flash) _ state reply c.read_state.ensures.same c.in-Ok.ensures.answers.0
     stood worn s stands)
     c.boot_from.ensures.erases
+
+pub returns-in-Ok-clause-stops : goal.returns-in-Ok-clause-stops
+returns-in-Ok-clause-stops g c = IfOk-weaker c.boot_from.result _ _ (λ reply stops. λ state finding permanent stood is.
+    read_stopped c.args.map.now _ _ _ _ state finding c.read_state.ensures.same c.in-Ok.ensures.answers.0 stood
+    (stops finding permanent is)) c.boot_from.ensures.stops
+
+pub returns-in-Err-NoLog-clause-stops : goal.returns-in-Err-NoLog-clause-stops
+returns-in-Err-NoLog-clause-stops g c = λ state finding permanent stood is.
+    no_log_stopped c.args.map.now state _ _ finding permanent is

@@ -6,6 +6,7 @@ use Rattle.machine.proofs.Stepping.{steps_boot}
 use Rattle.boot_core.specs.Device.{made, seen}
 use Rattle.boot_core.proofs.Stopping.{boot_stopped}
 use Rattle.boot_core.specs.Wear.{IsWorn}
+use Rattle.boot_core.proofs.Stops.{flash_stopped}
 use Rattle.boot_core.proofs.boots.boot_device.Goals as goal
 
 pub returns-in-Ok-clause-steps : goal.returns-in-Ok-clause-steps
@@ -31,3 +32,11 @@ returns-in-Ok-clause-erases g c = λ on uncut state s stood stands. subst
     (λ reply. IsWorn c.args.map.now state.kind state.mask (g.F.Flash.chip c.args.flash.now)
     (g.F.Flash.chip c.boot.new.flash) reply)
     (sym c.conclude.ensures.is) (c.in-Ok.ensures.erases state s stood stands)
+
+pub returns-in-Ok-clause-stops : goal.returns-in-Ok-clause-stops
+returns-in-Ok-clause-stops g c = λ state finding permanent stood is.
+    c.in-Ok.ensures.stops state finding permanent stood (sym c.conclude.ensures.is ∙ is)
+
+pub returns-in-Err-clause-stops : goal.returns-in-Err-clause-stops
+returns-in-Err-clause-stops g c = λ state finding permanent stood is.
+    flash_stopped c.args.map.now state _ _ c.in-Err.error finding permanent is

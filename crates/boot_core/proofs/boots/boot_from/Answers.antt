@@ -1,8 +1,9 @@
-use Rattle.std.proofs.Common.{◌+◌}
+use Rattle.std.proofs.Common.{◌+◌, ap}
 use Rattle.std.proofs.lemmas.Result.{IfOk-weaker}
 use Rattle.machine.proofs.Standing.{stands_steady}
 use Rattle.set_log.specs.declared.state.Kind.TheVariants as log
 use Rattle.boot_core.proofs.Wears.{worn_as}
+use Rattle.boot_core.proofs.Stops.{is_upgrade, other_stopped, settle_stopped, swap_stopped}
 use Rattle.boot_core.proofs.boots.boot_from.Goals as goal
 
 pub returns-in-Steady-clause-stands : goal.returns-in-Steady-clause-stands
@@ -64,3 +65,33 @@ returns-in-BackSettle-clause-erases g c = IfOk-weaker c.boot_from_back_settle.re
     worn_as c.args.map.now (g.F.Flash.chip c.args.flash.now) (g.F.Flash.chip c.boot_from_back_settle.new.flash)
     c.args.state.now log.BackSettle reply c.in-BackSettle.is worn)
     c.boot_from_back_settle.ensures.erases
+
+pub returns-in-Steady-clause-stops : goal.returns-in-Steady-clause-stops
+returns-in-Steady-clause-stops g c = IfOk-weaker c.boot_from_steady.result _ _ (λ reply told. λ finding permanent is.
+    other_stopped c.args.map.now c.args.state.now _ _ finding (ap is_upgrade c.in-Steady.is))
+    c.boot_from_steady.ensures.told
+
+pub returns-in-Trial-clause-stops : goal.returns-in-Trial-clause-stops
+returns-in-Trial-clause-stops g c = IfOk-weaker c.boot_from_trial.result _ _ (λ reply told. λ finding permanent is.
+    other_stopped c.args.map.now c.args.state.now _ _ finding (ap is_upgrade c.in-Trial.is))
+    c.boot_from_trial.ensures.told
+
+pub returns-in-Back-clause-stops : goal.returns-in-Back-clause-stops
+returns-in-Back-clause-stops g c = IfOk-weaker c.boot_from_back.result _ _ (λ reply told. λ finding permanent is.
+    other_stopped c.args.map.now c.args.state.now _ _ finding (ap is_upgrade c.in-Back.is))
+    c.boot_from_back.ensures.told
+
+pub returns-in-BackSettle-clause-stops : goal.returns-in-BackSettle-clause-stops
+returns-in-BackSettle-clause-stops g c = IfOk-weaker c.boot_from_back_settle.result _ _ (λ reply told. λ finding permanent is.
+    other_stopped c.args.map.now c.args.state.now _ _ finding (ap is_upgrade c.in-BackSettle.is))
+    c.boot_from_back_settle.ensures.told
+
+pub returns-in-Swap-clause-stops : goal.returns-in-Swap-clause-stops
+returns-in-Swap-clause-stops g c = IfOk-weaker c.boot_from_swap.result _ _ (λ reply stops. λ finding permanent is.
+    swap_stopped c.args.map.now c.args.state.now _ _ finding c.in-Swap.is (stops finding permanent is))
+    c.boot_from_swap.ensures.stops
+
+pub returns-in-Settle-clause-stops : goal.returns-in-Settle-clause-stops
+returns-in-Settle-clause-stops g c = IfOk-weaker c.boot_from_settle.result _ _ (λ reply stops. λ finding permanent is.
+    settle_stopped c.args.map.now c.args.state.now _ _ finding c.in-Settle.is (stops finding permanent is))
+    c.boot_from_settle.ensures.stops

@@ -1,6 +1,10 @@
-use Rattle.std.proofs.Common.{rules, ◌≡◌, arith, sym}
+use Rattle.std.proofs.Common.{rules, ◌≡◌, arith, subst, sym}
 use Rattle.certificate.specs.Combination.{IsValid, running_set}
+use Rattle.upload.specs.View.{view}
+use Rattle.machine.proofs.Unique.{one_greatest}
 use Rattle.machine.proofs.FoundAgain.{chosen_again, damaged_never, found_again, read_is, valid_again}
+use Rattle.boot_core.specs.Found.{IsReadingAt}
+use Rattle.boot_core.proofs.Readable.{read_here, table_here}
 use Rattle.boot_core.proofs.Masks.{set_found}
 use Rattle.boot_core.proofs.deciding.find_again.Goals as goal
 
@@ -34,3 +38,31 @@ returns-else-taken_mask-mask-clause-ok g c = λ s table permanent can decision.
 pub returns-else-taken_mask-mask-clause-set : goal.returns-else-taken_mask-mask-clause-set
 returns-else-taken_mask-mask-clause-set g c = set_found c.args.mask c.taken_mask.result _
     c.if-taken_mask-mask.false c.taken_mask.ensures.each
+
+pub returns-then-not-is_valid-clause-told : goal.returns-then-not-is_valid-clause-told
+returns-then-not-is_valid-clause-told g c = (
+  read_here c.args.map.now _ c.args.mask _ _ c.in_ok-image.ensures.front c.in-Read.is,
+  λ s can. (
+    c.in-Read.table,
+    table_here c.args.map.now _ s c.args.mask _ _ _ can c.in_ok-image.ensures.ok c.in-Read.is,
+    λ valid greatest. let no : IsValid c.in-Read.table running_set → ⊥ = search rules in no valid,
+  ),
+)
+
+pub returns-then-taken_mask-mask-clause-told : goal.returns-then-taken_mask-mask-clause-told
+returns-then-taken_mask-mask-clause-told g c = (
+  read_here c.args.map.now _ c.args.mask _ _ c.in_ok-image.ensures.front c.in-Read.is,
+  λ s can. (
+    c.in-Read.table,
+    table_here c.args.map.now _ s c.args.mask _ _ _ can c.in_ok-image.ensures.ok c.in-Read.is,
+    λ valid greatest.
+        let same : c.args.mask ≡ c.taken_mask.result = c.taken_mask.ensures.only c.args.mask (omega arith)
+        (one_greatest c.in-Read.table _ _ greatest c.choose-report.ensures.greatest) in
+        c.if-taken_mask-mask.true (sym same),
+  ),
+)
+
+pub returns-in-DamagedAt-clause-told : goal.returns-in-DamagedAt-clause-told
+returns-in-DamagedAt-clause-told g c = subst
+    (λ reading. IsReadingAt (view c.args.map.now (g.F.Flash.chip c.args.flash.now)) c.args.mask reading)
+    c.in-DamagedAt.is c.in_ok-image.ensures.front

@@ -2,7 +2,7 @@ use Rattle.std.proofs.Common.{sym, subst}
 use Rattle.tlv.specs.Slot.{slot_bytes}
 use Rattle.machine.specs.Boots.{IsEntryOf}
 use Rattle.machine.proofs.Rows.{read_some}
-use Rattle.boot_core.proofs.Described.{described_front, fault_front}
+use Rattle.boot_core.proofs.Described.{described_front, described_held, fault_front, fault_held}
 use Rattle.boot_core.proofs.reading.read_slot.Goals as goal
 
 pub returns-in-Ok-clause-ok : goal.returns-in-Ok-clause-ok
@@ -17,3 +17,14 @@ returns-in-Err-Image-clause-ok g c = λ held front.
     let slot = slot_bytes c.args.map.now (g.F.Flash.chip c.args.flash.now) c.args.image c.args.side in
     let fault = rw c.in-Err-Image.field-0-is at c.in-Err-Image.ensures.fault in
     fault_front slot c.in-Err-Image.field-0-0 held fault.1 front
+
+pub returns-in-Ok-clause-front : goal.returns-in-Ok-clause-front
+returns-in-Ok-clause-front g c = described_held
+    (slot_bytes c.args.map.now (g.F.Flash.chip c.args.flash.now) c.args.image c.args.side)
+    c.in-Ok.description c.in-Ok.ensures.described
+
+pub returns-in-Err-Image-clause-front : goal.returns-in-Err-Image-clause-front
+returns-in-Err-Image-clause-front g c =
+    let fault = rw c.in-Err-Image.field-0-is at c.in-Err-Image.ensures.fault in
+    fault_held (slot_bytes c.args.map.now (g.F.Flash.chip c.args.flash.now) c.args.image c.args.side)
+    c.in-Err-Image.field-0-0 fault.1

@@ -3,6 +3,7 @@ use Rattle.sector_map.specs.Map.{IsLaidOut}
 use Rattle.upload.specs.Device.{DeviceState}
 use Rattle.upload.specs.View.{view}
 use Rattle.machine.specs.Reading.{AreRowsOf, CanRead}
+use Rattle.boot_core.specs.Found.{AreReadable}
 use Rattle.boot_core.proofs.reading.read_table.Given as goal
 
 abbrev pub invariant-loop-image : goal.invariant-loop-image
@@ -13,4 +14,5 @@ invariant-loop-image g l = record {
   count : length l.images.items ≡ l.image;
   rows : (s : DeviceState) → CanRead (view l.map (g.F.Flash.chip l.initial.flash)) s l.mask l.floors
       → AreRowsOf s l.floors l.image l.images.items;
+  front : AreReadable (view l.map (g.F.Flash.chip l.initial.flash)) l.mask l.image;
 }

@@ -1,37 +1,49 @@
-use Rattle.std.proofs.Common.{◌≤◌, ◌∙◌, ap, subst, sym}
+use Rattle.std.proofs.Common.{◌∙◌, ◌≡◌, ap, subst, sym}
+use Rattle.std.proofs.lemmas.Result.{IfOk-weaker}
+use Rattle.flash_model.specs.Chip.{Chip}
 use Rattle.set_log.specs.Log.{state_of}
-use Rattle.machine.proofs.Resuming.{never_found, settle_reports, settle_stands}
-use Rattle.boot_core.specs.Found.{HasTable}
+use Rattle.set_log.specs.declared.state.Kind.TheVariants as log
+use Rattle.upload.specs.View.{view}
+use Rattle.machine.specs.Holding.{IsSwapped}
+use Rattle.machine.specs.Reading.{CanRead}
+use Rattle.machine.specs.Wear.{IsSetFound}
+use Rattle.boot_core.specs.Found.{IsKeptFor, IsToldAgain}
 use Rattle.boot_core.proofs.resuming.finish_settle.Goals as goal
 
-pub conclude-requires-clause-read : goal.conclude-requires-clause-read
-conclude-requires-clause-read g c =
+pub settle_found-requires-clause-read : goal.settle_found-requires-clause-read
+settle_found-requires-clause-read g c =
     ap (λ chip. state_of c.args.map.now chip) c.find_again.ensures.same ∙ c.requires.read
 
-pub conclude-requires-clause-rest : goal.conclude-requires-clause-rest
-conclude-requires-clause-rest g c = λ i le.
-    let rows = subst (λ found. HasTable c.args.map.now.images found) c.in-Decided.is c.in_ok-table.ensures.rows in
-    c.raised_floors-floors.ensures.rest i (subst (λ n. n ≤ i) (sym rows) le)
+pub settle_found-requires-clause-found : goal.settle_found-requires-clause-found
+settle_found-requires-clause-found g c = λ s table permanent can decision.
+    c.in_ok-finding.ensures.ok s table permanent
+    (subst (λ chip. CanRead (view c.args.map.now chip) s c.args.state.now.mask c.args.state.now.floors)
+    c.find_again.ensures.same can) decision
 
-pub returns-in_err-conclude-in-Decided-clause-stands : goal.returns-in_err-conclude-in-Decided-clause-stands
-returns-in_err-conclude-in-Decided-clause-stands g c = settle_stands c.args.map.now _ _ _ _ c.args.left _ _ _ _
-    c.requires.read c.find_again.ensures.same c.in_ok-table.ensures.ok c.in-Decided.is
-    c.raised_floors-floors.ensures c.conclude.ensures.stands
+pub returns-clause-stands : goal.returns-clause-stands
+returns-clause-stands g c = λ s table was. c.settle_found.ensures.stands s table
+    (subst (λ chip. IsSwapped (view c.args.map.now chip) s table log.Settle c.args.state.now.mask
+    c.args.state.now.permanent) (sym c.find_again.ensures.same) was)
 
-pub returns-in_ok-conclude-in-Decided-clause-stands : goal.returns-in_ok-conclude-in-Decided-clause-stands
-returns-in_ok-conclude-in-Decided-clause-stands g c = settle_stands c.args.map.now _ _ _ _ c.args.left _ _ _ _
-    c.requires.read c.find_again.ensures.same c.in_ok-table.ensures.ok c.in-Decided.is
-    c.raised_floors-floors.ensures c.conclude.ensures.stands
+pub returns-clause-ok : goal.returns-clause-ok
+returns-clause-ok g c = IfOk-weaker c.settle_found.result _ _
+    (λ finding holds. λ s table was. holds s table
+    (subst (λ chip. IsSwapped (view c.args.map.now chip) s table log.Settle c.args.state.now.mask
+    c.args.state.now.permanent) (sym c.find_again.ensures.same) was)) c.settle_found.ensures.ok
 
-pub returns-in_ok-conclude-in-Decided-clause-ok : goal.returns-in_ok-conclude-in-Decided-clause-ok
-returns-in_ok-conclude-in-Decided-clause-ok g c = settle_reports c.args.map.now _ _ _ _ c.args.left _ _ _ _
-    c.requires.read c.find_again.ensures.same c.in_ok-table.ensures.ok c.in-Decided.is
-    c.raised_floors-floors.ensures c.in_ok-conclude-in-Decided.ensures.ok
+pub returns-clause-set : goal.returns-clause-set
+returns-clause-set g c = IfOk-weaker c.settle_found.result _ _
+    (λ answer is. subst (λ found. IsSetFound c.args.state.now.mask found) (sym is) c.in_ok-finding.ensures.set)
+    c.settle_found.ensures.same
 
-pub returns-in-Damaged-clause-ok : goal.returns-in-Damaged-clause-ok
-returns-in-Damaged-clause-ok g c = λ s table was.
-    absurd (never_found c.args.map.now _ _ _ _ c.requires.read c.in_ok-table.ensures.ok c.in-Damaged.is s table was)
+pub returns-clause-told : goal.returns-clause-told
+returns-clause-told g c = IfOk-weaker c.settle_found.result _ _
+    (λ answer is. subst (λ found. IsToldAgain (view c.args.map.now (g.F.Flash.chip c.args.flash.now))
+    c.args.state.now.mask c.args.state.now.floors found) (sym is) c.in_ok-finding.ensures.told)
+    c.settle_found.ensures.same
 
-pub returns-in-Invalid-clause-ok : goal.returns-in-Invalid-clause-ok
-returns-in-Invalid-clause-ok g c = λ s table was.
-    absurd (never_found c.args.map.now _ _ _ _ c.requires.read c.in_ok-table.ensures.ok c.in-Invalid.is s table was)
+pub returns-clause-kept : goal.returns-clause-kept
+returns-clause-kept g c = IfOk-weaker c.settle_found.result _ _
+    (λ answer kept. subst (λ chip. IsKeptFor chip (g.F.Flash.chip c.settle_found.new.flash) answer)
+    c.find_again.ensures.same kept)
+    c.settle_found.ensures.kept

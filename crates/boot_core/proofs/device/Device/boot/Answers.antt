@@ -1,4 +1,4 @@
-use Rattle.std.proofs.Common.{◌≡◌, true, Some, subst}
+use Rattle.std.proofs.Common.{◌≡◌, Bool, true, Some, subst}
 use Rattle.machine.specs.Boots.{IsReadSound, is_answer}
 use Rattle.machine.specs.Holding.{Stands}
 use Rattle.machine.specs.Passing.{StepsTo}
@@ -10,6 +10,9 @@ use Rattle.upload.specs.Device.{DeviceState}
 use Rattle.machine.specs.declared.event.Event.TheVariants as event
 use Rattle.boot_core.specs.Answers.{reply_of_boot}
 use Rattle.boot_core.specs.Device.{Whole, seen}
+use Rattle.boot_core.specs.Found.{IsStopped}
+use Rattle.machine.specs.Passing.{reply_of}
+use Rattle.machine.specs.declared.finding.Finding.{Finding}
 use Rattle.boot_core.proofs.device.Device.boot.Goals as goal
 
 pub returns-clause-steps : goal.returns-clause-steps
@@ -33,3 +36,11 @@ returns-clause-erases g c = subst
     → IsWorn whole.setup.map state.kind state.mask whole.here.flash
     (g.F.Flash.chip c.boot_device.new.flash) (reply_of_boot c.boot_device.result))
     c.self.view_is c.boot_device.ensures.erases
+
+pub returns-clause-stops : goal.returns-clause-stops
+returns-clause-stops g c = subst
+    (λ (whole : Whole). (state : State) (finding : Finding) (permanent : Bool)
+    → state_of whole.setup.map whole.here.flash ≡ Some state
+    → reply_of_boot c.boot_device.result ≡ reply_of finding permanent
+    → IsStopped whole.setup.map state whole.here.flash (g.F.Flash.chip c.boot_device.new.flash) finding)
+    c.self.view_is c.boot_device.ensures.stops

@@ -1,0 +1,131 @@
+-- What a reply tells is told of the finding that it comes of.
+use Rattle.std.proofs.Common.{rules, ◌≡◌, ◌∙◌, ℕ, Bool, true, false, List, Some, ap, sym, subst}
+use Rattle.flash_model.specs.Chip.{Chip}
+use Rattle.flash_model.specs.declared.error.FlashError.{FlashError}
+use Rattle.flash_model.specs.declared.error.FlashError.TheVariants as flash
+use Rattle.sector_map.specs.declared.layout.SectorMap.{SectorMap}
+use Rattle.certificate.specs.declared.table.Table.{Table}
+use Rattle.certificate.specs.declared.report.Report.{Report}
+use Rattle.set_log.specs.Log.{state_of}
+use Rattle.set_log.specs.declared.state.State.{State}
+use Rattle.set_log.specs.declared.state.Kind.{Kind}
+use Rattle.set_log.specs.declared.state.Kind.TheVariants as log
+use Rattle.upload.specs.View.{view}
+use Rattle.machine.specs.Passing.{reply_of}
+use Rattle.machine.specs.declared.finding.Finding.{Finding}
+use Rattle.machine.specs.declared.finding.Finding.TheVariants.{Decided, Damaged, Invalid}
+use Rattle.machine.specs.declared.error.Fault.TheVariants as no
+use Rattle.machine.specs.declared.reply.Reply.TheVariants.{Refused}
+use Rattle.boot_core.specs.Answers.{fault_reply}
+use Rattle.boot_core.specs.Found.{IsKeptFor, IsStopped, IsSwapAloneFor, IsToldAgain}
+
+-- a reply comes of one finding, but for what was decided
+pub one_finding : (P : Finding → Type 0) → ((table : Table) (report : Report) → P (Decided table report))
+    → (found told : Finding) (p q : Bool) → reply_of found p ≡ reply_of told q → P found → P told
+one_finding P decided found (Decided table report) p q e holds = decided table report
+one_finding P decided (Decided table report) (Damaged i) p q e holds = cc
+one_finding P decided (Damaged j) (Damaged i) p q e holds = let same : j ≡ i = cc in subst (λ n. P (Damaged n)) same holds
+one_finding P decided Invalid (Damaged i) p q e holds = cc
+one_finding P decided (Decided table report) Invalid p q e holds = cc
+one_finding P decided (Damaged j) Invalid p q e holds = cc
+one_finding P decided Invalid Invalid p q e holds = holds
+
+-- what is told stands on where nothing was written
+told_at : (map : SectorMap) (old new : Chip) (mask : ℕ) (floors : List ℕ) (found : Finding)
+    → IsToldAgain (view map old) mask floors found → IsKeptFor old new found
+    → IsToldAgain (view map new) mask floors found
+told_at map old new mask floors (Decided table report) tells kept = tells
+told_at map old new mask floors (Damaged i) tells kept =
+    subst (λ chip. IsToldAgain (view map chip) mask floors (Damaged i)) (sym kept) tells
+told_at map old new mask floors Invalid tells kept =
+    subst (λ chip. IsToldAgain (view map chip) mask floors Invalid) (sym kept) tells
+
+-- an upgrade that was swapped ..
+pub settle_stops : (map : SectorMap) (old new : Chip) (mask : ℕ) (floors : List ℕ) (found told : Finding)
+    (p q : Bool) → reply_of found p ≡ reply_of told q → IsToldAgain (view map old) mask floors found
+    → IsKeptFor old new found → IsToldAgain (view map new) mask floors told × IsKeptFor old new told
+settle_stops map old new mask floors found told p q e tells kept = one_finding
+    (λ f. IsToldAgain (view map new) mask floors f × IsKeptFor old new f) (λ table report. search rules) found told p q e
+    (told_at map old new mask floors found tells kept, kept)
+
+-- .. and one that was not
+pub swap_stops : (map : SectorMap) (old new : Chip) (mask : ℕ) (floors : List ℕ) (found told : Finding)
+    (p q : Bool) → reply_of found p ≡ reply_of told q → IsToldAgain (view map new) mask floors found
+    → IsSwapAloneFor map mask old new found
+    → IsToldAgain (view map new) mask floors told × IsSwapAloneFor map mask old new told
+swap_stops map old new mask floors found told p q e tells alone = one_finding
+    (λ f. IsToldAgain (view map new) mask floors f × IsSwapAloneFor map mask old new f)
+    (λ table report. search rules) found told p q e (tells, alone)
+
+-- a boot that the flash stops tells of no finding
+flash_stops : (error : FlashError) (told : Finding) (q : Bool) → fault_reply (no.Flash error) ≡ reply_of told q → ⊥
+flash_stops flash.Cut (Decided table report) q e = cc
+flash_stops flash.Cut (Damaged i) q e = cc
+flash_stops flash.Cut Invalid q e = cc
+flash_stops flash.Off (Decided table report) q e = cc
+flash_stops flash.Off (Damaged i) q e = cc
+flash_stops flash.Off Invalid q e = cc
+
+no_log_stops : (told : Finding) (q : Bool) → Refused no.NotProvisioned ≡ reply_of told q → ⊥
+no_log_stops (Decided table report) q e = cc
+no_log_stops (Damaged i) q e = cc
+no_log_stops Invalid q e = cc
+
+-- a boot without a record tells of no finding either
+pub no_log_stopped : (map : SectorMap) (state : State) (old new : Chip) (told : Finding) (q : Bool)
+    → Refused no.NotProvisioned ≡ reply_of told q → IsStopped map state old new told
+no_log_stopped map state old new told q e = absurd (no_log_stops told q e)
+
+pub flash_stopped : (map : SectorMap) (state : State) (old new : Chip) (error : FlashError) (told : Finding) (q : Bool)
+    → fault_reply (no.Flash error) ≡ reply_of told q → IsStopped map state old new told
+flash_stopped map state old new error told q e = absurd (flash_stops error told q e)
+
+-- whether a record is in the midst of an upgrade
+abbrev pub is_upgrade : Kind → Bool
+is_upgrade log.Steady = false
+is_upgrade log.Swap = true
+is_upgrade log.Settle = true
+is_upgrade log.Trial = false
+is_upgrade log.Back = false
+is_upgrade log.BackSettle = false
+
+true_false : true ≡ false → ⊥
+true_false e = cc
+
+swap_settle : log.Swap ≡ log.Settle → ⊥
+swap_settle e = cc
+
+-- from a record of another kind nothing is asked
+pub other_stopped : (map : SectorMap) (state : State) (old new : Chip) (told : Finding)
+    → is_upgrade state.kind ≡ false → IsStopped map state old new told
+other_stopped map state old new told other = record {
+  swap = λ e. absurd (true_false (sym (ap is_upgrade e) ∙ other));
+  settle = λ e. absurd (true_false (sym (ap is_upgrade e) ∙ other));
+}
+
+pub swap_stopped : (map : SectorMap) (state : State) (old new : Chip) (told : Finding) → state.kind ≡ log.Swap
+    → IsToldAgain (view map new) state.mask state.floors told × IsSwapAloneFor map state.mask old new told
+    → IsStopped map state old new told
+swap_stopped map state old new told is stops = record {
+  swap = λ e. stops;
+  settle = λ e. absurd (swap_settle (sym is ∙ e));
+}
+
+pub settle_stopped : (map : SectorMap) (state : State) (old new : Chip) (told : Finding) → state.kind ≡ log.Settle
+    → IsToldAgain (view map new) state.mask state.floors told × IsKeptFor old new told
+    → IsStopped map state old new told
+settle_stopped map state old new told is stops = record {
+  swap = λ e. absurd (swap_settle (sym e ∙ is));
+  settle = λ e. stops;
+}
+
+some_same : (x y : State) → Some x ≡ Some y → x ≡ y
+some_same x y e = cc
+
+-- from the record that was read
+pub read_stopped : (map : SectorMap) (old mid new : Chip) (read state : State) (told : Finding) → mid ≡ old
+    → state_of map old ≡ Some read → state_of map old ≡ Some state → IsStopped map read mid new told
+    → IsStopped map state old new told
+read_stopped map old mid new read state told same is stood stops =
+    subst (λ s. IsStopped map s old new told) (some_same read state (sym is ∙ stood))
+    (subst (λ chip. IsStopped map read chip new told) same stops)
