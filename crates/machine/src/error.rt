@@ -24,10 +24,11 @@ pub enum Fault {
     /// The flash has no log of a device.
     #[error("the flash isn't provisioned")]
     NotProvisioned,
-    /// The running bytes of this image are no intact image; of several the lowest is told.
+    /// The running bytes of this image are no intact image, or, in the midst of an upgrade, those of an image of
+    /// its set; of several the lowest is told.
     #[error("the running image {0} is damaged")]
     RunningDamaged(u8),
-    /// A dependency of a running image isn't met.
+    /// A dependency of a running image isn't met, or the set of an upgrade isn't the one that would be chosen.
     #[error("the running set isn't valid")]
     InvalidSet,
     /// A call on the flash failed.
