@@ -42,3 +42,9 @@ replies_text-more replies i reply below is =
     ∙ replies_text-append 1 (take i replies) (reply ∷ [])
     ∙ ap (λ text. replies_text 1 (take i replies) ++ text) (append-nil (reply_text (1 + length (take i replies)) reply)
     ∙ ap (λ k. reply_text k reply) number)
+
+-- the lines of a state, whose last ones were added one after the other
+pub state-in_a_row : (w kind n s set left q sequence floors swaps : List ℕ)
+    → ((w ++ (kind ++ (n ++ (s ++ (set ++ (n ++ (left ++ (q ++ (sequence ++ n))))))))) ++ floors) ++ swaps
+    ≡ (w ++ (kind ++ n)) ++ ((s ++ (set ++ n)) ++ (left ++ ((q ++ (sequence ++ n)) ++ (floors ++ swaps))))
+state-in_a_row w kind n s set left q sequence floors swaps = simp append_assoc

@@ -33,7 +33,7 @@ const KEYS_WITH_TRIAL_BOOTS: [&str; 5] = [
 ];
 
 /// What a device file says.
-#[derive(Debug, Drop)]
+#[derive(Drop)]
 pub struct DeviceFields {
     /// The length of a sector in bytes.
     pub sector_size: u32,

@@ -60,24 +60,26 @@ fn manifest_text<'a, A: Allocator>(
     let sequence = manifest.sequence;
     let mut text = format!(in heap; "sequence {sequence}\n")?;
     for component in manifest.components.as_slice() {
-        let line = component_line(heap, component)?;
-        text.push_str(&line)?;
+        write_component(heap, &mut text, component)?;
     }
     Ok(text)
 }
 
-/// What a component says, as a line.
-fn component_line<'a, A: Allocator>(
-    heap: &'a A,
+/// Adds to a text what a component says, as a line.
+fn write_component<A: Allocator>(
+    heap: &A,
+    text: &mut String<&A>,
     component: &Component,
-) -> Result<String<&'a A>, AllocError>
-    ensures { IfOk result (λ line. string_bytes line ≡ component_text component.now ++ 10 ∷ []) }
+) -> Result<(), AllocError>
+    ensures { IfOk result (λ _. string_bytes text.new
+        ≡ string_bytes text.old ++ (component_text component.now ++ 10 ∷ [])) }
 {
-    let Component { image, size, .. } = *component;
+    let image = component.image;
+    let size = component.size;
     let kind = kind_text(component.permanent);
     let digest = hex::encode(heap, component.digest.as_slice())?;
     let precursor = precursor_text(heap, component.precursor)?;
-    format!(in heap; "component {image} {size} {kind} {digest}{precursor}\n")
+    writeln!(text, "component {image} {size} {kind} {digest}{precursor}")
 }
 
 /// The word for the kind of a request.

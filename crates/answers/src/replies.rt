@@ -1,5 +1,7 @@
 //! What is printed of the replies of a device.
-ghost use Rattle.std.specs.Prelude.{◌≡◌, IfOk, string_bytes};
+ghost use Rattle.std.specs.Fmt.{WritesOnOk};
+ghost use Rattle.std.specs.Prelude.{◌≡◌, IfOk, Some, decimal, string_bytes};
+ghost use Rattle.common.specs.Lines.{◌␣◌};
 ghost use Rattle.answers.specs.ReplyText.{decision_text, fault_text, group_text, is_some_taken, refused_fault_text, replies_text, reply_text, set_text, upload_text};
 
 use certificate::{Report, ReportedImage};
@@ -7,6 +9,7 @@ use common::limits::MOST_IMAGES;
 use machine::{Fault, Reply};
 use sector_map::is_member;
 use std::alloc::{AllocError, Allocator};
+use std::fmt;
 use upload::UploadError;
 
 /// What `run` prints of the replies of a device, one to each event, the events numbered from 1: text in memory of
@@ -47,16 +50,16 @@ fn reply_text<'a, A: Allocator>(
             format!(in alloc; "{number} {decision}\n{report}")
         }
         Reply::Reverted(set) => {
-            let set = set_text(alloc, *set)?;
+            let set = Members(*set);
             format!(in alloc; "{number} reverted{set}\n")
         }
         Reply::TrialAgain { set, left } => {
-            let set = set_text(alloc, *set)?;
+            let set = Members(*set);
             format!(in alloc; "{number} trial-again{set} left {left}\n")
         }
         Reply::Refused(fault) => {
-            let fault = fault_text(alloc, *fault)?;
-            format!(in alloc; "{number} refused {fault}\n")
+            let reason = Reason(*fault);
+            format!(in alloc; "{number} refused {reason}\n")
         }
         Reply::Cut => format!(in alloc; "{number} cut\n"),
     }
@@ -82,18 +85,28 @@ fn is_some_taken(images: &[ReportedImage]) -> bool
     images.iter().any(|image| image.is_taken)
 }
 
-/// The images of a set, each after a space: bit i is for image i.
-pub fn set_text<A: Allocator>(alloc: &A, set: u8) -> Result<String<&A>, AllocError>
-    ensures { IfOk result (λ text. string_bytes text ≡ set_text set) }
+/// The images of a set to print, each after a space: bit i is for image i.
+#[derive(Drop)]
+pub struct Members(pub u8);
+
+impl fmt::Display for Members {
+    ghost output = { λ members. Some (set_text members.0) };
+
+    fn fmt<W: fmt::Write>(&self, f: &mut fmt::Formatter<W>) -> fmt::Result {
+        write_members(f, self.0)
+    }
+}
+
+/// Writes the images of a set, each after a space.
+fn write_members<W: fmt::Write>(f: &mut fmt::Formatter<W>, set: u8) -> fmt::Result
+    ensures { WritesOnOk W.write_str_gives f.old result (set_text set) f.new }
 {
-    let mut text = String::new(alloc);
     for image in 0..MOST_IMAGES as u8 {
         if is_member(set, image) {
-            let member = format!(in alloc; " {image}")?;
-            text.push_str(&member)?;
+            write!(f, " {image}")?;
         }
     }
-    Ok(text)
+    Ok(())
 }
 
 /// The line `refused GROUP CODE NAME` of a device that refuses a call, with the image after `RunningDamaged` and the
@@ -104,47 +117,64 @@ pub fn set_text<A: Allocator>(alloc: &A, set: u8) -> Result<String<&A>, AllocErr
 pub fn refused_fault_text<A: Allocator>(alloc: &A, fault: Fault) -> Result<String<&A>, AllocError>
     ensures { IfOk result (λ text. string_bytes text ≡ refused_fault_text fault) }
 {
-    let fault = fault_text(alloc, fault)?;
-    format!(in alloc; "refused {fault}\n")
+    let reason = Reason(fault);
+    format!(in alloc; "refused {reason}\n")
 }
 
-/// Why a call of a device is refused. The image that is damaged stands behind `RunningDamaged`.
-fn fault_text<A: Allocator>(alloc: &A, fault: Fault) -> Result<String<&A>, AllocError>
-    ensures { IfOk result (λ text. string_bytes text ≡ fault_text fault) }
-{
-    match fault {
-        Fault::Manifest(error) => group_text(alloc, "manifest", error.code(), error.name()),
-        Fault::Upload(error) => upload_text(alloc, error),
-        Fault::RunningDamaged(image) => {
-            let fault = group_text(alloc, "boot", fault.code(), fault.name())?;
-            format!(in alloc; "{fault} {image}")
+/// Why a call of a device is refused, to print. The image that is damaged stands behind `RunningDamaged`.
+#[derive(Drop)]
+struct Reason(Fault);
+
+impl fmt::Display for Reason {
+    ghost output = { λ reason. Some (fault_text reason.0) };
+
+    fn fmt<W: fmt::Write>(&self, f: &mut fmt::Formatter<W>) -> fmt::Result {
+        let fault = self.0;
+        match fault {
+            Fault::Manifest(error) => write_group(f, "manifest", error.code(), error.name()),
+            Fault::Upload(error) => write_upload(f, error),
+            Fault::RunningDamaged(image) => {
+                write_numbered(f, "boot", fault.code(), fault.name(), image)
+            }
+            _ => write_group(f, "boot", fault.code(), fault.name()),
         }
-        _ => group_text(alloc, "boot", fault.code(), fault.name()),
     }
 }
 
-/// Why an upload is refused. The number of the check that the bytes fail stands behind `NotAnImage`.
-fn upload_text<A: Allocator>(alloc: &A, error: UploadError) -> Result<String<&A>, AllocError>
-    ensures { IfOk result (λ text. string_bytes text ≡ upload_text error) }
+/// Writes why an upload is refused. The number of the check that the bytes fail stands behind `NotAnImage`.
+fn write_upload<W: fmt::Write>(f: &mut fmt::Formatter<W>, error: UploadError) -> fmt::Result
+    ensures { WritesOnOk W.write_str_gives f.old result (upload_text error) f.new }
 {
     match error {
         UploadError::NotAnImage(fault) => {
-            let check = fault.code();
-            let error = group_text(alloc, "upload", error.code(), error.name())?;
-            format!(in alloc; "{error} {check}")
+            write_numbered(f, "upload", error.code(), error.name(), fault.code())
         }
-        _ => group_text(alloc, "upload", error.code(), error.name()),
+        _ => write_group(f, "upload", error.code(), error.name()),
     }
 }
 
-/// What was wrong: the word of the layer that refused, the number and the name.
-fn group_text<'a, A: Allocator>(
-    alloc: &'a A,
+/// Writes what was wrong: the word of the layer that refused, the number and the name.
+fn write_group<W: fmt::Write>(
+    f: &mut fmt::Formatter<W>,
     group: &str,
     code: u8,
     name: &str,
-) -> Result<String<&'a A>, AllocError>
-    ensures { IfOk result (λ text. string_bytes text ≡ group_text group.now code name.now) }
+) -> fmt::Result
+    ensures { WritesOnOk W.write_str_gives f.old result (group_text group.now code name.now) f.new }
 {
-    format!(in alloc; "{group} {code} {name}")
+    write!(f, "{group} {code} {name}")
+}
+
+/// Writes what was wrong, with a number behind it.
+fn write_numbered<W: fmt::Write>(
+    f: &mut fmt::Formatter<W>,
+    group: &str,
+    code: u8,
+    name: &str,
+    number: u8,
+) -> fmt::Result
+    ensures { WritesOnOk W.write_str_gives f.old result
+        (group_text group.now code name.now ␣ decimal number) f.new }
+{
+    write!(f, "{group} {code} {name} {number}")
 }

@@ -1,5 +1,5 @@
 //! `bootswap show`: what stands on the flash of a device.
-ghost use Rattle.std.specs.Prelude.{◌≡◌, ◌<◌, ◌≤◌, IfOk, true, length, slice_index, string_bytes};
+ghost use Rattle.std.specs.Prelude.{◌≡◌, ◌<◌, ◌≤◌, ◌++◌, IfOk, Some, true, length, slice_index, string_bytes};
 ghost use Rattle.flash_model.specs.Chip.{Chip};
 ghost use Rattle.sector_map.specs.Map.{IsLaidOut};
 ghost use Rattle.set_log.specs.Log.{state_of};
@@ -9,13 +9,14 @@ ghost use Rattle.answers.specs.ShowEnd.{Shows, stand_text, swap_type_in};
 ghost use Rattle.answers.specs.StateText.{floor_lines, images_text, kind_text, left_text, swap_lines, swap_type_text};
 
 use crate::flash::flash_of;
-use crate::replies::{refused_fault_text, set_text};
+use crate::replies::{Members, refused_fault_text};
 use crate::streams::write_all;
 use flash_model::Flash;
 use machine::Fault;
 use sector_map::{SectorMap, Side};
 use set_log::{Kind, LogError, State, read_state};
 use std::alloc::{AllocError, Allocator, Global};
+use std::fmt;
 use std::io::Write;
 use std::sync::ledger::{Blank, Ledger};
 use trailer::{SwapType, Trailer, read_trailer, swap_type};
@@ -108,12 +109,13 @@ fn stand_text<'a, A: Allocator, F: Flash>(
         return refused_fault_text(heap, Fault::NotProvisioned);
     };
     let kind = kind_text(state.kind);
-    let set = images_text(heap, state.mask)?;
-    let left = left_text(heap, state.left)?;
+    let set = Images(state.mask);
+    let left = Left(state.left);
     let sequence = state.sequence;
-    let floors = floor_lines(heap, &state, map)?;
-    let swaps = swap_lines(heap, flash, map)?;
-    format!(in heap; "state {kind}\nset{set}\n{left}sequence {sequence}\n{floors}{swaps}")
+    let mut text = format!(in heap; "state {kind}\nset{set}\n{left}sequence {sequence}\n")?;
+    write_floors(&mut text, &state, map)?;
+    write_swaps(&mut text, flash, map)?;
+    Ok(text)
 }
 
 /// What a device is in the midst of.
@@ -130,63 +132,72 @@ fn kind_text(kind: Kind) -> &'static str
     }
 }
 
-/// The images of a set, each after a space, or that there are none.
-fn images_text<A: Allocator>(heap: &A, set: u8) -> Result<String<&A>, AllocError>
-    ensures { IfOk result (λ text. string_bytes text ≡ images_text set) }
-{
-    if set == 0 {
-        format!(in heap; " -")
-    } else {
-        set_text(heap, set)
+/// The images of a set to print, each after a space, or that there are none.
+#[derive(Drop)]
+struct Images(u8);
+
+impl fmt::Display for Images {
+    ghost output = { λ images. Some (images_text images.0) };
+
+    fn fmt<W: fmt::Write>(&self, f: &mut fmt::Formatter<W>) -> fmt::Result {
+        if self.0 == 0 {
+            write!(f, " -")
+        } else {
+            let members = Members(self.0);
+            write!(f, "{members}")
+        }
     }
 }
 
-/// How many boots more a trial lasts, as a line, where any are left.
-fn left_text<A: Allocator>(heap: &A, left: u8) -> Result<String<&A>, AllocError>
-    ensures { IfOk result (λ text. string_bytes text ≡ left_text left) }
-{
-    if left == 0 {
-        Ok(String::new(heap))
-    } else {
-        format!(in heap; "left {left}\n")
+/// How many boots more a trial lasts, to print as a line where any are left.
+#[derive(Drop)]
+struct Left(u8);
+
+impl fmt::Display for Left {
+    ghost output = { λ left. Some (left_text left.0) };
+
+    fn fmt<W: fmt::Write>(&self, f: &mut fmt::Formatter<W>) -> fmt::Result {
+        let left = self.0;
+        if left == 0 {
+            Ok(())
+        } else {
+            writeln!(f, "left {left}")
+        }
     }
 }
 
-/// The floor of each image, as a line.
-fn floor_lines<'a, A: Allocator>(
-    heap: &'a A,
+/// Adds the floor of each image to a text, as a line.
+fn write_floors<A: Allocator>(
+    text: &mut String<A>,
     state: &State,
     map: &SectorMap,
-) -> Result<String<&'a A>, AllocError>
-    ensures { IfOk result (λ text. string_bytes text ≡ floor_lines map.now.images state.now) }
+) -> Result<(), AllocError>
+    ensures { IfOk result (λ _. string_bytes text.new
+        ≡ string_bytes text.old ++ floor_lines map.now.images state.now) }
 {
-    let mut text = String::new(heap);
     for image in 0..map.images {
         let floor = state.floors[usize::from(image)];
-        let line = format!(in heap; "floor {image} {floor}\n")?;
-        text.push_str(&line)?;
+        writeln!(text, "floor {image} {floor}")?;
     }
-    Ok(text)
+    Ok(())
 }
 
-/// What the trailers of each image ask of a boot, as a line, on a flash that has power.
-fn swap_lines<'a, A: Allocator, F: Flash>(
-    heap: &'a A,
+/// Adds to a text what the trailers of each image ask of a boot, as a line, on a flash that has power.
+fn write_swaps<A: Allocator, F: Flash>(
+    text: &mut String<A>,
     flash: &mut F,
     map: &SectorMap,
-) -> Result<String<&'a A>, AllocError>
+) -> Result<(), AllocError>
     requires laid_out { IsLaidOut map.now (F.chip flash.old) }
     requires on { (F.chip flash.old).is_on ≡ true }
-    ensures { IfOk result (λ text. string_bytes text
-        ≡ swap_lines map.now.images (swap_type_in map.now (F.chip flash.old))) }
+    ensures { IfOk result (λ _. string_bytes text.new ≡ string_bytes text.old
+        ++ swap_lines map.now.images (swap_type_in map.now (F.chip flash.old))) }
 {
-    let mut text = String::new(heap);
     for image in 0..map.images {
         let asked = swap_type_text(swap_type_on(flash, map, image));
-        let line = format!(in heap; "swap {image} {asked}\n")?;
-        text.push_str(&line)?;
+        writeln!(text, "swap {image} {asked}")?;
     }
-    Ok(text)
+    Ok(())
 }
 
 /// What the trailers of an image ask of a boot, on a flash that has power.

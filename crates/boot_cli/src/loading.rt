@@ -13,7 +13,7 @@ use script::{Instruction, Line, PartText, Reading, TornText, line_of};
 use std::alloc::{AllocError, Allocator, Global};
 
 /// A write of the flash that a script has cut.
-#[derive(Debug, Drop)]
+#[derive(Drop)]
 pub struct Cut {
     /// The number of the write, from 1.
     pub write: u32,
@@ -22,7 +22,7 @@ pub struct Cut {
 }
 
 /// An event of a script, with the bytes that come in it.
-#[derive(Debug, Drop)]
+#[derive(Drop)]
 pub enum Step<A: Allocator> {
     /// A manifest comes.
     Accept(Vec<u8, A>),
@@ -58,7 +58,7 @@ impl<A: Allocator> Step<A> {
 }
 
 /// What a script says.
-#[derive(Debug, Drop)]
+#[derive(Drop)]
 pub struct Script<A: Allocator> {
     /// The writes that are cut, by rising numbers.
     pub cuts: Vec<Cut>,

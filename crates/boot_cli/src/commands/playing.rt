@@ -26,7 +26,7 @@ use std::marker::Brand;
 use std::sync::ledger::{Blank, Ledger};
 
 /// What came of a run.
-#[derive(Debug, Drop)]
+#[derive(Drop)]
 pub struct Played {
     /// The reply to each event.
     pub replies: Vec<Reply>,
@@ -86,11 +86,10 @@ fn play_script<'a, 'h, A: Allocator, F: FlashFile + Drop, O: Write>(
     let Ok(events) = events_of(heap, &steps) else {
         return Err(Refusal::NoMemory);
     };
-    let (blank, memory_blank) = (Blank::new(2), Blank::new(2));
     let played = play::<Brand, Brand, F>(
         alloc,
-        blank,
-        memory_blank,
+        Blank::new(2),
+        Blank::new(2),
         device,
         bytes,
         cuts,

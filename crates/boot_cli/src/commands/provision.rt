@@ -19,7 +19,7 @@ use std::marker::Brand;
 use std::sync::ledger::{Blank, Ledger};
 
 /// How making a flash ended.
-#[derive(Clone, Copy, Debug, PartialEq, Eq)]
+#[derive(Clone, Copy)]
 pub enum Made {
     /// It is a device's.
     Done,
