@@ -2,3 +2,4 @@
 mod flash_files;
 mod maps;
 mod memory_flash;
+mod same;

@@ -1,6 +1,7 @@
 //! What no clause says of making: that an image is made where memory suffices, of which bytes,
 //! against digests that another program took.
 
+use crate::tests::same::same;
 use crate::tests::samples::{COUNTED, DEPENDENT, PLAIN, dependency, expect_numbers, spec, version};
 use common::limits::MOST_DEPENDENCIES;
 use linked_list_allocator::LocalHeap;
@@ -40,7 +41,7 @@ const EVERY_FIELD: [u8; 73] = [
 #[test]
 fn an_image_with_neither_counter_nor_dependency_is_made(rt: HostRuntime) -> Result<(), Fail> {
     let bytes = make_image(rt.alloc(), &spec(&[]))?;
-    assert_eq!(rt; bytes.as_slice(), PLAIN.as_slice());
+    same(&rt, "the image", &bytes.as_slice(), &PLAIN.as_slice());
     Ok(())
 }
 
@@ -52,7 +53,7 @@ fn an_image_with_a_dependency_is_made(rt: HostRuntime) -> Result<(), Fail> {
         ..spec(&dependencies)
     };
     let bytes = make_image(rt.alloc(), &asked)?;
-    assert_eq!(rt; bytes.as_slice(), DEPENDENT.as_slice());
+    same(&rt, "the image", &bytes.as_slice(), &DEPENDENT.as_slice());
     Ok(())
 }
 
@@ -64,7 +65,7 @@ fn an_image_with_counter_and_dependency_is_made(rt: HostRuntime) -> Result<(), F
         ..spec(&dependencies)
     };
     let bytes = make_image(rt.alloc(), &asked)?;
-    assert_eq!(rt; bytes.as_slice(), COUNTED.as_slice());
+    same(&rt, "the image", &bytes.as_slice(), &COUNTED.as_slice());
     Ok(())
 }
 
@@ -83,7 +84,7 @@ fn every_field_is_written(rt: HostRuntime) -> Result<(), Fail> {
         ..spec(&[])
     };
     let bytes = make_image(rt.alloc(), &asked)?;
-    assert_eq!(rt; bytes.as_slice(), EVERY_FIELD.as_slice());
+    same(&rt, "the image", &bytes.as_slice(), &EVERY_FIELD.as_slice());
     Ok(())
 }
 
@@ -96,15 +97,25 @@ fn a_body_may_be_empty(rt: HostRuntime) -> Result<(), Fail> {
             ..spec(&[])
         },
     )?;
-    assert_eq!(rt; bytes.len(), 72);
-    assert_eq!(rt; &bytes.as_slice()[40..], EMPTY_DIGEST.as_slice());
+    assert!(rt; bytes.len() == 72);
+    same(
+        &rt,
+        "the digest",
+        &&bytes.as_slice()[40..],
+        &EMPTY_DIGEST.as_slice(),
+    );
     Ok(())
 }
 
 fn expect_filled(rt: &impl Abort, bytes: &[u8]) {
-    assert_eq!(rt; bytes.len(), 556);
-    assert_eq!(rt; &bytes[508..516], b"\0\0\0\0ABCD".as_slice());
-    assert_eq!(rt; &bytes[524..], FILLED_DIGEST.as_slice());
+    assert!(rt; bytes.len() == 556);
+    same(
+        rt,
+        "the header and body",
+        &&bytes[508..516],
+        &b"\0\0\0\0ABCD".as_slice(),
+    );
+    same(rt, "the digest", &&bytes[524..], &FILLED_DIGEST.as_slice());
 }
 
 #[test]
@@ -120,10 +131,15 @@ fn a_header_of_512_bytes_is_filled_with_zeros(rt: HostRuntime) -> Result<(), Fai
 
 /// Asserts that the image at full size is described by what it was made of.
 fn expect_full(rt: &impl Abort, description: &Desc, asked: &ImageSpec<'_>) {
-    assert_eq!(rt; description.version, asked.version);
+    same(rt, "the version", &description.version, &asked.version);
     expect_numbers(rt, description, 4294967295, 0x111, 3_065_843);
-    assert_eq!(rt; description.dependencies.as_slice(), asked.dependencies);
-    assert_eq!(rt; description.digest, FULL_DIGEST);
+    same(
+        rt,
+        "the dependencies",
+        &description.dependencies.as_slice(),
+        &asked.dependencies,
+    );
+    same(rt, "the digest", &description.digest, &FULL_DIGEST);
 }
 
 // A body that takes half the memory at first, or that gives up above some size, meets every
@@ -156,14 +172,19 @@ fn an_image_of_every_limit_is_made_in_room_for_one(rt: HostRuntime) -> Result<()
 
 fn expect_no_room(rt: &impl Abort, alloc: Global, asked: &ImageSpec<'_>) -> Result<(), Fail> {
     let small = LocalHeap::new(alloc, 64)?;
-    assert_eq!(rt; make_image(&small, asked).err(), Some(MakeError::NoMemory));
+    same(
+        rt,
+        "the error",
+        &make_image(&small, asked).err(),
+        &Some(MakeError::NoMemory),
+    );
     Ok(())
 }
 
 fn expect_room(rt: &impl Abort, alloc: Global, asked: &ImageSpec<'_>) -> Result<(), Fail> {
     let ample = LocalHeap::new(alloc, 4096)?;
     let bytes = make_image(&ample, asked)?;
-    assert_eq!(rt; bytes.as_slice(), COUNTED.as_slice());
+    same(rt, "the image", &bytes.as_slice(), &COUNTED.as_slice());
     Ok(())
 }
 
@@ -195,6 +216,11 @@ fn a_making_is_refused_by_the_first_check_that_fails(rt: HostRuntime) {
             flags,
             ..spec(&many)
         };
-        assert_eq!(rt; make_image(rt.alloc(), &asked).err(), Some(error));
+        same(
+            &rt,
+            "the error",
+            &make_image(rt.alloc(), &asked).err(),
+            &Some(error),
+        );
     }
 }

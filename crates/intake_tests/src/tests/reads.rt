@@ -2,6 +2,7 @@
 
 ghost use Rattle.std.specs.Prelude.{◌≡◌};
 
+use crate::tests::same::same;
 use crate::tests::samples::{COUNTED, damaged, dependency, letters, spec};
 use crate::tests::slot::fault_of;
 use flash_model::{Flash, FlashError, MemFlash};
@@ -70,7 +71,12 @@ fn expect_described<F: Flash>(rt: &impl Abort, flash: &mut F) -> Result<(), Fail
     let map = SectorMap::new(512, &[2, 1])?;
     assert!(rt; map.images == 2);
     assert!(rt; map.fits(flash));
-    assert_eq!(rt; fault_of(&describe_slot(flash, &map, 0, Side::Primary)), 0);
+    same(
+        rt,
+        "the fault of the slot",
+        &fault_of(&describe_slot(flash, &map, 0, Side::Primary)),
+        &0,
+    );
     Ok(())
 }
 
@@ -110,8 +116,8 @@ fn expect_read(
     at_once: usize,
 ) -> Result<(), Fail> {
     let (read, most) = bytes_read(rt, alloc, image)?;
-    assert_eq!(rt; read, bytes);
-    assert_eq!(rt; most, at_once);
+    same(rt, "the bytes read", &read, &bytes);
+    same(rt, "the most at once", &most, &at_once);
     Ok(())
 }
 
@@ -137,7 +143,12 @@ fn each_entry_is_read_once_beside_the_digest(rt: HostRuntime) -> Result<(), Fail
     let image = make_image(rt.alloc(), &asked)?;
     let (read, _most) = bytes_read(&rt, rt.alloc(), image.as_slice())?;
     let protected = 4 + (4 + 4) + 16 * (4 + 12);
-    assert_eq!(rt; read, (32 + 4 + protected) + 32 + protected + 4 + (4 + 32));
+    same(
+        &rt,
+        "the bytes read",
+        &read,
+        &((32 + 4 + protected) + 32 + protected + 4 + (4 + 32)),
+    );
     Ok(())
 }
 
@@ -150,6 +161,11 @@ fn values_that_are_not_asked_for_are_not_read(rt: HostRuntime) -> Result<(), Fai
     image.extend_from_slice(&[0x40, 0x00, 0x0c, 0x00])?;
     image.extend_from_slice(&[0x00; 12])?;
     let (read, _most) = bytes_read(&rt, rt.alloc(), image.as_slice())?;
-    assert_eq!(rt; read, (32 + 4) + 32 + 4 + (4 + 32) + 4 + 4);
+    same(
+        &rt,
+        "the bytes read",
+        &read,
+        &((32 + 4) + 32 + 4 + (4 + 32) + 4 + 4),
+    );
     Ok(())
 }

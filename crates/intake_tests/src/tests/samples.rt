@@ -1,5 +1,6 @@
 //! Images for tests, with digests that another program took, and what they are made of.
 
+use crate::tests::same::same;
 use std::alloc::Global;
 use std::process::Abort;
 use std::test::Fail;
@@ -107,7 +108,7 @@ pub(super) fn expect_numbers(
     flags: u32,
     length: u64,
 ) {
-    assert_eq!(rt; description.counter, counter);
-    assert_eq!(rt; description.flags, flags);
-    assert_eq!(rt; description.length, length);
+    same(rt, "the counter", &description.counter, &counter);
+    same(rt, "the flags", &description.flags, &flags);
+    same(rt, "the length", &description.length, &length);
 }

@@ -3,6 +3,7 @@
 
 ghost use Rattle.std.specs.Prelude.{◌≡◌, ◌<◌, ◌≤◌, length};
 
+use crate::tests::same::same;
 use crate::tests::samples::{
     ABC_DIGEST, COUNTED, DEPENDENT, PLAIN, damaged, dependency, expect_numbers, letters, spec,
     version,
@@ -91,7 +92,7 @@ fn look_in<L: Ledger>(
     let mut flash = MemFlash::<L>::from_bytes(alloc, blank, sector_size, bytes);
     let map = SectorMap::new(sector_size, &[2, 1])?;
     let seen = seen_in(rt, &mut flash, &map, len)?;
-    assert_eq!(rt; flash.writes(), 0);
+    same(rt, "the writes", &flash.writes(), &0);
     Ok(seen)
 }
 
@@ -128,27 +129,49 @@ fn expect_faults(
     faults: (u8, u8),
 ) -> Result<(), Fail> {
     let seen = look(rt, alloc, 512, image, 0xff, len)?;
-    assert_eq!(rt; fault_of(&seen.slot), faults.0);
-    assert_eq!(rt; fault_of(&seen.file), faults.1);
+    same(
+        rt,
+        "the fault of the slot",
+        &fault_of(&seen.slot),
+        &faults.0,
+    );
+    same(
+        rt,
+        "the fault of the file",
+        &fault_of(&seen.file),
+        &faults.1,
+    );
     Ok(())
 }
 
 /// Asserts that this describes the image with security counter 5 and a dependency.
 fn expect_counted(rt: &impl Abort, description: &Desc) {
-    assert_eq!(rt; description.version, version(1));
+    same(rt, "the version", &description.version, &version(1));
     expect_numbers(rt, description, 5, 0, 104);
-    assert_eq!(rt;
-        description.dependencies.as_slice(),
-        [dependency()].as_slice()
+    same(
+        rt,
+        "the dependencies",
+        &description.dependencies.as_slice(),
+        &[dependency()].as_slice(),
     );
-    assert_eq!(rt; description.digest.as_slice(), &COUNTED[72..]);
+    same(
+        rt,
+        "the digest",
+        &description.digest.as_slice(),
+        &&COUNTED[72..],
+    );
 }
 
 #[test]
 fn a_slot_says_what_its_image_says(rt: HostRuntime) -> Result<(), Fail> {
     let seen = look(&rt, rt.alloc(), 512, &COUNTED, 0xff, 104)?;
     assert!(rt; seen.slot == seen.file);
-    assert_eq!(rt; fault_of(&seen.primary), 2);
+    same(
+        &rt,
+        "the fault of the primary slot",
+        &fault_of(&seen.primary),
+        &2,
+    );
     let description = seen.slot?;
     expect_counted(&rt, &description);
     Ok(())
@@ -157,8 +180,8 @@ fn a_slot_says_what_its_image_says(rt: HostRuntime) -> Result<(), Fail> {
 #[test]
 fn a_file_is_digested_whole(rt: HostRuntime) -> Result<(), Fail> {
     let letters = look(&rt, rt.alloc(), 512, b"abcd", 0xff, 3)?;
-    assert_eq!(rt; letters.digest, ABC_DIGEST);
-    assert_eq!(rt; fault_of(&letters.file), 1);
+    same(&rt, "the digest", &letters.digest, &ABC_DIGEST);
+    same(&rt, "the fault of the file", &fault_of(&letters.file), &1);
     Ok(())
 }
 
@@ -174,8 +197,8 @@ fn expect_digest(
     let seen = look(rt, alloc, 512, image.as_slice(), 0xff, length)?;
     assert!(rt; seen.slot == seen.file);
     let description = seen.slot?;
-    assert_eq!(rt; description.length, u64::from(length));
-    assert_eq!(rt; description.digest, digest);
+    same(rt, "the length", &description.length, &u64::from(length));
+    same(rt, "the digest", &description.digest, &digest);
     Ok(())
 }
 
@@ -220,7 +243,7 @@ fn expect_refused(
     requires small { sector_size ≤ 4096 }
 {
     let seen = look(rt, alloc, sector_size, contents.0, contents.1, len)?;
-    assert_eq!(rt; fault_of(&seen.file), fault);
+    same(rt, "the fault of the file", &fault_of(&seen.file), &fault);
     Ok(())
 }
 
@@ -259,7 +282,7 @@ fn agrees(
     let Ok(own) = describe(image.as_slice()) else {
         return Ok(false);
     };
-    assert_eq!(rt; own.length, u64::from(len));
+    same(rt, "the length", &own.length, &u64::from(len));
     let whole = look(rt, alloc, sector_size, image.as_slice(), after, len)?;
     let own = Ok(own);
     Ok(whole.slot == own && whole.file == own)
@@ -283,7 +306,7 @@ fn another_image_may_follow_the_image(rt: HostRuntime) -> Result<(), Fail> {
     both.extend_from_slice(&COUNTED)?;
     let seen = look(&rt, rt.alloc(), 512, both.as_slice(), 0xff, 180)?;
     assert!(rt; seen.slot == describe(&PLAIN).map_err(SlotError::Image));
-    assert_eq!(rt; fault_of(&seen.file), 13);
+    same(&rt, "the fault of the file", &fault_of(&seen.file), &13);
     Ok(())
 }
 
@@ -291,7 +314,7 @@ fn another_image_may_follow_the_image(rt: HostRuntime) -> Result<(), Fail> {
 #[test]
 fn an_image_may_reach_to_the_end_of_its_slot_and_no_further(rt: HostRuntime) -> Result<(), Fail> {
     let whole = letters(rt.alloc(), 952)?;
-    assert_eq!(rt; whole.len(), 1024);
+    assert!(rt; whole.len() == 1024);
     expect_faults(&rt, rt.alloc(), whole.as_slice(), 1024, (0, 0))?;
     let longer = letters(rt.alloc(), 953)?;
     expect_faults(&rt, rt.alloc(), longer.as_slice(), 1024, (5, 5))
@@ -334,7 +357,7 @@ fn fronts_are_refused(rt: &impl Abort, alloc: Global, image: &[u8]) -> Result<()
             let seen = look(rt, alloc, 512, &image[..len], after, len as u32)?;
             assert!(rt; fault_of(&seen.slot) != 0);
             let wanted = if len < 32 { 1 } else { 5 };
-            assert_eq!(rt; fault_of(&seen.file), wanted);
+            same(rt, "the fault of the file", &fault_of(&seen.file), &wanted);
         }
     }
     Ok(())
@@ -355,9 +378,11 @@ fn expect_off<F: Flash>(rt: &impl Abort, flash: &mut F, map: &SectorMap) {
     let off = Err(SlotError::Flash(FlashError::Off));
     assert!(rt; describe_slot(flash, map, 0, Side::Primary) == off);
     assert!(rt; describe_file(flash, map, 0, Side::Primary, 76) == off);
-    assert_eq!(rt;
-        digest_file(flash, map, 0, Side::Primary, 76),
-        Err(FlashError::Off)
+    same(
+        rt,
+        "the digest",
+        &digest_file(flash, map, 0, Side::Primary, 76),
+        &Err(FlashError::Off),
     );
 }
 
@@ -379,7 +404,7 @@ fn off_and_on<L: Ledger>(rt: &impl Abort, alloc: Global, blank: Blank) -> Result
     flash.arm(1, Torn::Keep)?;
     assert!(rt; map.images == 2);
     assert!(rt; map.fits(&flash));
-    assert_eq!(rt; flash.erase(0), Err(FlashError::Cut));
+    same(rt, "the erase", &flash.erase(0), &Err(FlashError::Cut));
     expect_off(rt, &mut flash, &map);
     flash.restart();
     expect_erased(rt, &mut flash, &map);
@@ -410,7 +435,7 @@ fn expect_two_entries<L: Ledger>(rt: &impl Abort, flash: &mut MemFlash<L>) -> Re
         second.map(|tlv| (tlv.kind, tlv.value)) == Some((0xa050, Span { at: 610, len: 0 }))
     );
     assert!(rt; entries.next(flash)?.is_none());
-    assert_eq!(rt; entries.rest(), Span { at: 610, len: 3 });
+    same(rt, "the rest", &entries.rest(), &Span { at: 610, len: 3 });
     Ok(())
 }
 

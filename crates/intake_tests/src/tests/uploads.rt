@@ -54,7 +54,7 @@ const RUNNING_DIGEST: [u8; 32] = [
 /// Two images of two sectors of 512 bytes each.
 fn two_images(rt: &impl Abort) -> Result<SectorMap, Fail> {
     let map = SectorMap::new(512, &[2, 2])?;
-    assert_eq!(rt; map.images, 2);
+    assert!(rt; map.images == 2);
     Ok(map)
 }
 
@@ -178,7 +178,12 @@ fn play<F: Flash>(
     ensures { AllOpenAt (view map.now (F.chip flash.new)) uploads.new.sessions }
 {
     for (step, expected) in steps {
-        assert_eq!(rt; take(rt, uploads, flash, map, *step)?, *expected);
+        same(
+            rt,
+            "the step",
+            &take(rt, uploads, flash, map, *step)?,
+            expected,
+        );
     }
     Ok(())
 }
@@ -257,11 +262,26 @@ fn finish_both<F: Flash>(
     requires { AllOpenAt (view map.now (F.chip flash.old)) uploads.old.sessions }
     ensures { AllOpenAt (view map.now (F.chip flash.new)) uploads.new.sessions }
 {
-    assert_eq!(rt; request_of(rt, flash, map, 0)?, None);
+    same(
+        rt,
+        "the request for image 0",
+        &request_of(rt, flash, map, 0)?,
+        &None,
+    );
     let steps = [(Step::Finish(1), DONE), (Step::Finish(0), DONE)];
     play(rt, uploads, flash, map, &steps)?;
-    assert_eq!(rt; request_of(rt, flash, map, 0)?, Some(Kind::Test));
-    assert_eq!(rt; request_of(rt, flash, map, 1)?, Some(Kind::Permanent));
+    same(
+        rt,
+        "the request for image 0",
+        &request_of(rt, flash, map, 0)?,
+        &Some(Kind::Test),
+    );
+    same(
+        rt,
+        "the request for image 1",
+        &request_of(rt, flash, map, 1)?,
+        &Some(Kind::Permanent),
+    );
     Ok(())
 }
 
@@ -279,8 +299,18 @@ fn withdraw_first<F: Flash>(
         (Step::Withdraw(0), Err(UploadError::NothingRequested)),
     ];
     play(rt, uploads, flash, map, &steps)?;
-    assert_eq!(rt; request_of(rt, flash, map, 0)?, None);
-    assert_eq!(rt; request_of(rt, flash, map, 1)?, Some(Kind::Permanent));
+    same(
+        rt,
+        "the request for image 0",
+        &request_of(rt, flash, map, 0)?,
+        &None,
+    );
+    same(
+        rt,
+        "the request for image 1",
+        &request_of(rt, flash, map, 1)?,
+        &Some(Kind::Permanent),
+    );
     Ok(())
 }
 
@@ -310,7 +340,7 @@ fn refused_manifests<L: Ledger>(rt: &impl Abort, alloc: Global, blank: Blank) ->
         (Step::Accept(&both), Err(UploadError::TooBig)),
     ];
     play(rt, &mut uploads, &mut flash, &map, &steps)?;
-    assert_eq!(rt; received(&uploads, 0), Some(5));
+    same(rt, "what came of image 0", &received(&uploads, 0), &Some(5));
     let other = one_component(4, component(1, 96, SECOND_DIGEST))?;
     play(
         rt,
@@ -319,17 +349,22 @@ fn refused_manifests<L: Ledger>(rt: &impl Abort, alloc: Global, blank: Blank) ->
         &map,
         &[(Step::Accept(&other), DONE)],
     )?;
-    assert_eq!(rt; received(&uploads, 0), Some(5));
-    assert_eq!(rt; received(&uploads, 1), Some(0));
+    same(rt, "what came of image 0", &received(&uploads, 0), &Some(5));
+    same(rt, "what came of image 1", &received(&uploads, 1), &Some(0));
     let steps = [
         (Step::Piece(0, &FIRST[5..16]), DONE),
         (Step::Accept(&whole), DONE),
     ];
     play(rt, &mut uploads, &mut flash, &map, &steps)?;
-    assert_eq!(rt; received(&uploads, 0), Some(0));
+    same(rt, "what came of image 0", &received(&uploads, 0), &Some(0));
     expect_bytes(rt, &flash, 3072, &[0xff; 16]);
     assert!(rt; map.fits(&flash));
-    assert_eq!(rt; read_state(&mut flash, &map)?.sequence, 4);
+    same(
+        rt,
+        "the sequence number",
+        &read_state(&mut flash, &map)?.sequence,
+        &4,
+    );
     Ok(())
 }
 
@@ -404,7 +439,12 @@ fn refused_uploads<L: Ledger>(rt: &impl Abort, alloc: Global, blank: Blank) -> R
         (Step::Withdraw(2), Err(UploadError::NothingRequested)),
     ];
     play(rt, &mut uploads, &mut flash, &map, &steps)?;
-    assert_eq!(rt; request_of(rt, &mut flash, &map, 0)?, None);
+    same(
+        rt,
+        "the request for image 0",
+        &request_of(rt, &mut flash, &map, 0)?,
+        &None,
+    );
     Ok(())
 }
 
@@ -481,14 +521,16 @@ fn upload_cut<L: Ledger>(
 {
     let map = two_images(rt)?;
     let mut flash = begun::<L>(rt, alloc, blank, &map)?;
-    assert_eq!(rt; flash.writes(), 6);
+    assert!(rt; flash.writes() == 6);
     flash.arm(write, torn)?;
     let mut uploads = Uploads::new();
-    assert_eq!(rt;
-        upload_and(rt, &mut uploads, &mut flash, &map, next)?,
-        Err(UploadError::Flash(FlashError::Cut))
+    same(
+        rt,
+        "the upload",
+        &upload_and(rt, &mut uploads, &mut flash, &map, next)?,
+        &Err(UploadError::Flash(FlashError::Cut)),
     );
-    assert_eq!(rt; received(&uploads, 0), None);
+    same(rt, "what came of image 0", &received(&uploads, 0), &None);
     flash.restart();
     assert!(rt; map.fits(&flash));
     let sequence = read_state(&mut flash, &map)?.sequence;
@@ -526,7 +568,7 @@ fn an_upload_that_is_cut_is_requested_whole_or_not(rt: HostRuntime) -> Result<()
                 17 | 18 => (5, None),
                 _ => (4, None),
             };
-            assert_eq!(&rt; found, wanted);
+            same(&rt, "what is found", &found, &wanted);
         }
     }
     Ok(())
@@ -540,7 +582,7 @@ fn a_withdrawal_that_is_cut_leaves_the_request_or_none(rt: HostRuntime) -> Resul
         for write in 14..17 {
             let found = after_a_cut(&rt, rt.alloc(), write, which, None)?;
             let wanted = if write == 14 && !set { permanent } else { None };
-            assert_eq!(&rt; found, (4, wanted));
+            same(&rt, "what is found", &found, &(4, wanted));
         }
     }
     Ok(())

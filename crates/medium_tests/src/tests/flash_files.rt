@@ -2,6 +2,7 @@
 
 ghost use Rattle.std.specs.Prelude.{◌≡◌, ◌+◌, ◌≤◌, Some};
 
+use crate::tests::same::same;
 use file_flash::{FileFlash, FlashFile};
 use flash_model::{Flash, FlashError, MemFlash, Torn, is_erased};
 use std::alloc::Global;
@@ -125,13 +126,13 @@ fn play<L: Ledger, M: Ledger>(
     };
     let mut flash = FileFlash::<RecordedFile, L, M>::over(memory, blanks.0, file);
     for (step, expected) in steps {
-        assert_eq!(rt; answer(rt, &mut flash, *step), *expected);
+        same(rt, "the answer", &answer(rt, &mut flash, *step), expected);
         assert!(rt; flash.has_failed() || flash.file().bytes.as_slice() == flash.bytes());
     }
     flash.restart();
     assert!(rt; flash.bytes().len() == 48 && flash.file().bytes.len() == 48);
     let mut memory = [0; 48];
-    assert_eq!(rt; flash.read(0, &mut memory), Ok(()));
+    same(rt, "the read", &flash.read(0, &mut memory), &Ok(()));
     assert!(rt; memory.as_slice() == flash.bytes());
     let mut file = [0; 48];
     file.copy_from_slice(&flash.file().bytes);
@@ -173,16 +174,15 @@ fn around(all: u8, at: usize, range: &[u8; 16]) -> [u8; 48]
 fn a_program_reaches_its_place_in_the_file(rt: HostRuntime) -> Result<(), Fail> {
     let program = [(Step::Program(8), DONE)];
     let bytes = around(0xff, 8, &SIXTEEN);
-    assert_eq!(rt;
-        played(&rt, rt.alloc(), 0xff, UNCUT, 0, &program)?,
-        Seen {
-            memory: bytes,
-            file: bytes,
-            writes: 1,
-            last: (8, 16),
-            has_failed: false
-        }
-    );
+    let seen = played(&rt, rt.alloc(), 0xff, UNCUT, 0, &program)?;
+    let wanted = Seen {
+        memory: bytes,
+        file: bytes,
+        writes: 1,
+        last: (8, 16),
+        has_failed: false,
+    };
+    same(&rt, "what is seen", &seen, &wanted);
     Ok(())
 }
 
@@ -190,16 +190,15 @@ fn a_program_reaches_its_place_in_the_file(rt: HostRuntime) -> Result<(), Fail> 
 fn an_erase_reaches_its_place_in_the_file(rt: HostRuntime) -> Result<(), Fail> {
     let erase = [(Step::Erase(2), DONE)];
     let bytes = around(0x07, 32, &[0xff; 16]);
-    assert_eq!(rt;
-        played(&rt, rt.alloc(), 0x07, UNCUT, 0, &erase)?,
-        Seen {
-            memory: bytes,
-            file: bytes,
-            writes: 1,
-            last: (32, 16),
-            has_failed: false
-        }
-    );
+    let seen = played(&rt, rt.alloc(), 0x07, UNCUT, 0, &erase)?;
+    let wanted = Seen {
+        memory: bytes,
+        file: bytes,
+        writes: 1,
+        last: (32, 16),
+        has_failed: false,
+    };
+    same(&rt, "what is seen", &seen, &wanted);
     Ok(())
 }
 
@@ -212,16 +211,15 @@ fn writes_reach_the_file_one_after_the_other(rt: HostRuntime) -> Result<(), Fail
     ];
     let mut bytes = around(0x07, 0, &SIXTEEN);
     bytes[16..32].fill(0xff);
-    assert_eq!(rt;
-        played(&rt, rt.alloc(), 0x07, UNCUT, 0, &steps)?,
-        Seen {
-            memory: bytes,
-            file: bytes,
-            writes: 3,
-            last: (16, 16),
-            has_failed: false
-        }
-    );
+    let seen = played(&rt, rt.alloc(), 0x07, UNCUT, 0, &steps)?;
+    let wanted = Seen {
+        memory: bytes,
+        file: bytes,
+        writes: 3,
+        last: (16, 16),
+        has_failed: false,
+    };
+    same(&rt, "what is seen", &seen, &wanted);
     Ok(())
 }
 
@@ -240,16 +238,15 @@ fn a_program_that_is_cut_leaves_the_same_bytes_in_memory_and_in_the_file(
         (Torn::Done, around(0xff, 8, &SIXTEEN)),
         (Torn::Bytes(pattern), around(0xff, 8, &TORN)),
     ] {
-        assert_eq!(rt;
-            played(&rt, rt.alloc(), 0xff, (1, torn), 0, &steps)?,
-            Seen {
-                memory: bytes,
-                file: bytes,
-                writes: 1,
-                last: (8, 16),
-                has_failed: false
-            }
-        );
+        let seen = played(&rt, rt.alloc(), 0xff, (1, torn), 0, &steps)?;
+        let wanted = Seen {
+            memory: bytes,
+            file: bytes,
+            writes: 1,
+            last: (8, 16),
+            has_failed: false,
+        };
+        same(&rt, "what is seen", &seen, &wanted);
     }
     Ok(())
 }
@@ -269,16 +266,15 @@ fn an_erase_that_is_cut_leaves_the_same_bytes_in_memory_and_in_the_file(
         (Torn::Done, around(0x07, 16, &[0xff; 16])),
         (Torn::Bytes(pattern), around(0x07, 16, &TORN)),
     ] {
-        assert_eq!(rt;
-            played(&rt, rt.alloc(), 0x07, (1, torn), 0, &steps)?,
-            Seen {
-                memory: bytes,
-                file: bytes,
-                writes: 1,
-                last: (16, 16),
-                has_failed: false
-            }
-        );
+        let seen = played(&rt, rt.alloc(), 0x07, (1, torn), 0, &steps)?;
+        let wanted = Seen {
+            memory: bytes,
+            file: bytes,
+            writes: 1,
+            last: (16, 16),
+            has_failed: false,
+        };
+        same(&rt, "what is seen", &seen, &wanted);
     }
     Ok(())
 }
@@ -292,16 +288,15 @@ fn a_flash_goes_on_after_a_cut_and_a_restart(rt: HostRuntime) -> Result<(), Fail
         (Step::Program(0), DONE),
     ];
     let bytes = around(0x07, 0, &SIXTEEN);
-    assert_eq!(rt;
-        played(&rt, rt.alloc(), 0x07, (2, Torn::Keep), 0, &steps)?,
-        Seen {
-            memory: bytes,
-            file: bytes,
-            writes: 3,
-            last: (0, 16),
-            has_failed: false
-        }
-    );
+    let seen = played(&rt, rt.alloc(), 0x07, (2, Torn::Keep), 0, &steps)?;
+    let wanted = Seen {
+        memory: bytes,
+        file: bytes,
+        writes: 3,
+        last: (0, 16),
+        has_failed: false,
+    };
+    same(&rt, "what is seen", &seen, &wanted);
     Ok(())
 }
 
@@ -316,16 +311,15 @@ fn where_the_first_write_of_the_file_fails_all_are_cut(rt: HostRuntime) -> Resul
         (Step::Restart, DONE),
         (Step::Erase(1), CUT),
     ];
-    assert_eq!(rt;
-        played(&rt, rt.alloc(), 0x07, UNCUT, 1, &steps)?,
-        Seen {
-            memory: around(0x07, 0, &[0xff; 16]),
-            file: [0x07; 48],
-            writes: 1,
-            last: (0, 16),
-            has_failed: true,
-        }
-    );
+    let seen = played(&rt, rt.alloc(), 0x07, UNCUT, 1, &steps)?;
+    let wanted = Seen {
+        memory: around(0x07, 0, &[0xff; 16]),
+        file: [0x07; 48],
+        writes: 1,
+        last: (0, 16),
+        has_failed: true,
+    };
+    same(&rt, "what is seen", &seen, &wanted);
     Ok(())
 }
 
@@ -340,16 +334,15 @@ fn where_the_second_write_of_the_file_fails_the_later_ones_are_cut(
         (Step::Restart, DONE),
         (Step::Erase(1), CUT),
     ];
-    assert_eq!(rt;
-        played(&rt, rt.alloc(), 0x07, UNCUT, 2, &steps)?,
-        Seen {
-            memory: around(0x07, 0, &SIXTEEN),
-            file: around(0x07, 0, &[0xff; 16]),
-            writes: 2,
-            last: (0, 16),
-            has_failed: true,
-        }
-    );
+    let seen = played(&rt, rt.alloc(), 0x07, UNCUT, 2, &steps)?;
+    let wanted = Seen {
+        memory: around(0x07, 0, &SIXTEEN),
+        file: around(0x07, 0, &[0xff; 16]),
+        writes: 2,
+        last: (0, 16),
+        has_failed: true,
+    };
+    same(&rt, "what is seen", &seen, &wanted);
     Ok(())
 }
 
@@ -367,16 +360,15 @@ fn where_the_third_write_of_the_file_fails_the_later_ones_are_cut(
     let file = around(0x07, 0, &SIXTEEN);
     let mut memory = file;
     memory[32..].fill(0xff);
-    assert_eq!(rt;
-        played(&rt, rt.alloc(), 0x07, UNCUT, 3, &steps)?,
-        Seen {
-            memory,
-            file,
-            writes: 3,
-            last: (32, 16),
-            has_failed: true
-        }
-    );
+    let seen = played(&rt, rt.alloc(), 0x07, UNCUT, 3, &steps)?;
+    let wanted = Seen {
+        memory,
+        file,
+        writes: 3,
+        last: (32, 16),
+        has_failed: true,
+    };
+    same(&rt, "what is seen", &seen, &wanted);
     Ok(())
 }
 
@@ -388,15 +380,14 @@ fn a_write_that_is_cut_twice_over_is_cut_once(rt: HostRuntime) -> Result<(), Fai
         (Step::Restart, DONE),
         (Step::Erase(0), CUT),
     ];
-    assert_eq!(rt;
-        played(&rt, rt.alloc(), 0x07, (1, Torn::Done), 1, &steps)?,
-        Seen {
-            memory: around(0x07, 16, &[0xff; 16]),
-            file: [0x07; 48],
-            writes: 1,
-            last: (16, 16),
-            has_failed: true,
-        }
-    );
+    let seen = played(&rt, rt.alloc(), 0x07, (1, Torn::Done), 1, &steps)?;
+    let wanted = Seen {
+        memory: around(0x07, 16, &[0xff; 16]),
+        file: [0x07; 48],
+        writes: 1,
+        last: (16, 16),
+        has_failed: true,
+    };
+    same(&rt, "what is seen", &seen, &wanted);
     Ok(())
 }

@@ -2,6 +2,7 @@
 
 ghost use Rattle.std.specs.Prelude.{◌≡◌, ◌+◌, ◌<◌, ◌≤◌};
 
+use crate::tests::same::same;
 use flash_model::{Flash, FlashError, MemFlash, Torn, is_erased};
 use std::alloc::Global;
 use std::marker::Brand;
@@ -38,7 +39,7 @@ fn cut<L: Ledger>(
         assert!(rt; is_erased(&mut flash, 8, 16) == Ok(true));
         flash.program(8, &SIXTEEN)
     };
-    assert_eq!(rt; end, Err(FlashError::Cut));
+    same(rt, "the end", &end, &Err(FlashError::Cut));
     let mut bytes = [0; 32];
     bytes.copy_from_slice(flash.bytes());
     Ok(bytes)
@@ -66,21 +67,29 @@ fn around(all: u8, at: usize, range: &[u8; 16]) -> [u8; 32]
 fn a_cut_program_leaves_what_was_armed(rt: HostRuntime) -> Result<(), Fail> {
     let pattern = vec![in rt.alloc(); 0x5a, 0xa5, 0x00]?;
     let none = Vec::new(rt.alloc());
-    assert_eq!(rt;
-        bytes_after_a_cut(&rt, rt.alloc(), false, Torn::Keep)?,
-        [0xff; 32]
+    same(
+        &rt,
+        "the bytes",
+        &bytes_after_a_cut(&rt, rt.alloc(), false, Torn::Keep)?,
+        &[0xff; 32],
     );
-    assert_eq!(rt;
-        bytes_after_a_cut(&rt, rt.alloc(), false, Torn::Done)?,
-        around(0xff, 8, &SIXTEEN)
+    same(
+        &rt,
+        "the bytes",
+        &bytes_after_a_cut(&rt, rt.alloc(), false, Torn::Done)?,
+        &around(0xff, 8, &SIXTEEN),
     );
-    assert_eq!(rt;
-        bytes_after_a_cut(&rt, rt.alloc(), false, Torn::Bytes(pattern))?,
-        around(0xff, 8, &TORN)
+    same(
+        &rt,
+        "the bytes",
+        &bytes_after_a_cut(&rt, rt.alloc(), false, Torn::Bytes(pattern))?,
+        &around(0xff, 8, &TORN),
     );
-    assert_eq!(rt;
-        bytes_after_a_cut(&rt, rt.alloc(), false, Torn::Bytes(none))?,
-        [0xff; 32]
+    same(
+        &rt,
+        "the bytes",
+        &bytes_after_a_cut(&rt, rt.alloc(), false, Torn::Bytes(none))?,
+        &[0xff; 32],
     );
     Ok(())
 }
@@ -89,21 +98,29 @@ fn a_cut_program_leaves_what_was_armed(rt: HostRuntime) -> Result<(), Fail> {
 fn a_cut_erase_leaves_what_was_armed(rt: HostRuntime) -> Result<(), Fail> {
     let pattern = vec![in rt.alloc(); 0x5a, 0xa5, 0x00]?;
     let none = Vec::new(rt.alloc());
-    assert_eq!(rt;
-        bytes_after_a_cut(&rt, rt.alloc(), true, Torn::Keep)?,
-        [0x07; 32]
+    same(
+        &rt,
+        "the bytes",
+        &bytes_after_a_cut(&rt, rt.alloc(), true, Torn::Keep)?,
+        &[0x07; 32],
     );
-    assert_eq!(rt;
-        bytes_after_a_cut(&rt, rt.alloc(), true, Torn::Done)?,
-        around(0x07, 16, &[0xff; 16])
+    same(
+        &rt,
+        "the bytes",
+        &bytes_after_a_cut(&rt, rt.alloc(), true, Torn::Done)?,
+        &around(0x07, 16, &[0xff; 16]),
     );
-    assert_eq!(rt;
-        bytes_after_a_cut(&rt, rt.alloc(), true, Torn::Bytes(pattern))?,
-        around(0x07, 16, &TORN)
+    same(
+        &rt,
+        "the bytes",
+        &bytes_after_a_cut(&rt, rt.alloc(), true, Torn::Bytes(pattern))?,
+        &around(0x07, 16, &TORN),
     );
-    assert_eq!(rt;
-        bytes_after_a_cut(&rt, rt.alloc(), true, Torn::Bytes(none))?,
-        [0x07; 32]
+    same(
+        &rt,
+        "the bytes",
+        &bytes_after_a_cut(&rt, rt.alloc(), true, Torn::Bytes(none))?,
+        &[0x07; 32],
     );
     Ok(())
 }
@@ -117,12 +134,12 @@ fn counted<L: Ledger>(rt: &impl Abort, alloc: Global, blank: Blank) -> Result<(u
 {
     let mut flash = MemFlash::<L>::new(alloc, blank, 16, 2)?;
     flash.arm(2, Torn::Keep)?;
-    assert_eq!(rt; flash.erase(0), Ok(()));
+    same(rt, "the erase", &flash.erase(0), &Ok(()));
     flash.arm(1, Torn::Keep)?;
-    assert_eq!(rt; flash.erase(0), Err(FlashError::Cut));
-    assert_eq!(rt; flash.erase(0), Err(FlashError::Off));
+    same(rt, "the erase", &flash.erase(0), &Err(FlashError::Cut));
+    same(rt, "the erase", &flash.erase(0), &Err(FlashError::Off));
     flash.restart();
-    assert_eq!(rt; flash.erase(0), Ok(()));
+    same(rt, "the erase", &flash.erase(0), &Ok(()));
     Ok((flash.writes(), flash.erases()))
 }
 
@@ -132,7 +149,12 @@ fn counts_of_three_writes(rt: &impl Abort, alloc: Global) -> Result<(u64, u64), 
 
 #[test]
 fn writes_that_are_cut_count_and_refused_ones_do_not(rt: HostRuntime) -> Result<(), Fail> {
-    assert_eq!(rt; counts_of_three_writes(&rt, rt.alloc())?, (3, 2));
+    same(
+        &rt,
+        "the writes and erases",
+        &counts_of_three_writes(&rt, rt.alloc())?,
+        &(3, 2),
+    );
     Ok(())
 }
 

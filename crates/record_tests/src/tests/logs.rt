@@ -4,6 +4,7 @@
 
 ghost use Rattle.std.specs.Prelude.{◌≡◌, ◌+◌, ◌<◌, ◌≤◌};
 
+use crate::tests::same::same;
 use flash_model::{FLAG, Flash, FlashError, MemFlash, Torn};
 use sector_map::SectorMap;
 use set_log::{
@@ -19,7 +20,7 @@ use std::test::Fail;
 /// Two images of two sectors of 512 bytes each.
 fn two_images(rt: &impl Abort) -> Result<SectorMap, Fail> {
     let map = SectorMap::new(512, &[2, 2])?;
-    assert_eq!(rt; map.images, 2);
+    assert!(rt; map.images == 2);
     Ok(map)
 }
 
@@ -51,7 +52,7 @@ fn begin<F: Flash>(
     assert!(rt; map.fits(flash));
     assert!(rt; state.fits(map.images));
     start(flash, map, state)?;
-    assert_eq!(rt; state_in(rt, flash, map)?, *state);
+    same(rt, "the state", &state_in(rt, flash, map)?, state);
     Ok(())
 }
 
@@ -101,15 +102,27 @@ fn fifty_appends<L: Ledger>(rt: &impl Abort, alloc: Global, blank: Blank) -> Res
 {
     let map = two_images(rt)?;
     let mut flash = begun::<L>(rt, alloc, blank, &map, &steady(0))?;
-    assert_eq!(rt; flash.writes(), 6);
+    assert!(rt; flash.writes() == 6);
     for sequence in 1..=50 {
         append_to(rt, &mut flash, &map, &steady(sequence))??;
         assert!(rt; map.fits(&flash));
-        assert_eq!(rt; read_state(&mut flash, &map)?, steady(sequence));
-        assert_eq!(rt; flash.erases(), 3 + u64::from(sequence / 7));
-        assert_eq!(rt;
-            flash.writes(),
-            6 + u64::from(2 * sequence + 2 * (sequence / 7))
+        same(
+            rt,
+            "the state",
+            &read_state(&mut flash, &map)?,
+            &steady(sequence),
+        );
+        same(
+            rt,
+            "the erases",
+            &flash.erases(),
+            &(3 + u64::from(sequence / 7)),
+        );
+        same(
+            rt,
+            "the writes",
+            &flash.writes(),
+            &(6 + u64::from(2 * sequence + 2 * (sequence / 7))),
         );
         if sequence == 6 {
             for place in 0..7 {
@@ -137,9 +150,11 @@ fn append_seven<F: Flash>(rt: &impl Abort, flash: &mut F, map: &SectorMap) -> Re
     for sequence in 1..7 {
         append_to(rt, flash, map, &steady(sequence))??;
     }
-    assert_eq!(rt;
-        append_to(rt, flash, map, &steady(7))?,
-        Err(FlashError::Cut)
+    same(
+        rt,
+        "the append",
+        &append_to(rt, flash, map, &steady(7))?,
+        &Err(FlashError::Cut),
     );
     flash.restart();
     Ok(())
@@ -207,13 +222,13 @@ fn order_of_writes(rt: &impl Abort, alloc: Global, write: u64) -> Result<[bool; 
 #[test]
 fn the_seventh_append_erases_writes_gates_and_closes(rt: HostRuntime) -> Result<(), Fail> {
     let erased = order_of_writes(&rt, rt.alloc(), 19)?;
-    assert_eq!(rt; erased, [true, false, false, false]);
+    same(&rt, "the erase", &erased, &[true, false, false, false]);
     let written = order_of_writes(&rt, rt.alloc(), 20)?;
-    assert_eq!(rt; written, [false, true, false, false]);
+    same(&rt, "the write", &written, &[false, true, false, false]);
     let gated = order_of_writes(&rt, rt.alloc(), 21)?;
-    assert_eq!(rt; gated, [false, false, true, false]);
+    same(&rt, "the gate", &gated, &[false, false, true, false]);
     let closed = order_of_writes(&rt, rt.alloc(), 22)?;
-    assert_eq!(rt; closed, [false, false, false, true]);
+    same(&rt, "the close", &closed, &[false, false, false, true]);
     Ok(())
 }
 
@@ -267,12 +282,12 @@ fn a_torn_sector_does_not_count_though_its_records_are_later(rt: HostRuntime) ->
     for closed in [false, true] {
         let torn = Torn::Bytes(later_sector(rt.alloc(), closed)?);
         let state = state_after_a_torn_erase(&rt, rt.alloc(), torn)?;
-        assert_eq!(rt; state, steady(6));
+        same(&rt, "the state", &state, &steady(6));
     }
     for byte in [0, 1, 0x5a, 0xff] {
         let torn = Torn::Bytes(vec![in rt.alloc(); byte]?);
         let state = state_after_a_torn_erase(&rt, rt.alloc(), torn)?;
-        assert_eq!(rt; state, steady(6));
+        same(&rt, "the state", &state, &steady(6));
     }
     Ok(())
 }
@@ -376,7 +391,12 @@ fn is_cut<F: Flash>(
     if cut {
         append_again(rt, flash, map, sequence)?;
     }
-    assert_eq!(rt; state_in(rt, flash, map)?, steady(sequence));
+    same(
+        rt,
+        "the state",
+        &state_in(rt, flash, map)?,
+        &steady(sequence),
+    );
     Ok(cut)
 }
 
@@ -422,7 +442,12 @@ fn the_old_state_or_the_new_one_stands_wherever_a_write_is_cut(
             assert!(rt; cut > 0);
         }
     }
-    assert_eq!(rt; with_one_cut(&rt, rt.alloc(), 121, Torn::Keep)?, 0);
+    same(
+        &rt,
+        "the cuts",
+        &with_one_cut(&rt, rt.alloc(), 121, Torn::Keep)?,
+        &0,
+    );
     Ok(())
 }
 
@@ -613,9 +638,9 @@ fn ten_thousand_logs_of_any_bytes_are_read_as_plainly(rt: HostRuntime) -> Result
         match plain {
             Some(state) => {
                 states = states.saturating_add(1);
-                assert_eq!(rt; read, Ok(state));
+                same(&rt, "what is read", &read, &Ok(state));
             }
-            None => assert_eq!(rt; read, Err(LogError::NoLog)),
+            None => same(&rt, "what is read", &read, &Err(LogError::NoLog)),
         }
     }
     // Some have a state, and some have none.
@@ -681,6 +706,6 @@ fn each_error_has_its_number_name_and_sentence(rt: HostRuntime) -> Result<(), Fa
     let expected = "1 NoLog: the log has no state
 2 Flash: the flash is off
 ";
-    assert_eq!(rt; lines.as_str(), expected);
+    same(&rt, "the lines", &lines.as_str(), &expected);
     Ok(())
 }

@@ -4,6 +4,7 @@
 
 ghost use Rattle.std.specs.Prelude.{◌≡◌, ◌<◌, ◌≤◌};
 
+use crate::tests::same::same;
 use flash_model::{Flash, FlashError, MemFlash, Torn};
 use sector_map::{SectorMap, Side, is_within};
 use std::alloc::Global;
@@ -125,8 +126,8 @@ const PARTS: [(u8, u8, u8); 4] = [(0, 0, 2), (2, 48, 5), (5, 48, 12), (13, 0, 16
 /// Compares all bytes but scratch and the status units.
 fn assert_stands(rt: &impl Abort, bytes: &[u8], wanted: &[u8], sector_size: u16) {
     let size = usize::from(sector_size);
-    assert_eq!(rt; bytes.len(), 16 * size);
-    assert_eq!(rt; wanted.len(), 16 * size);
+    assert!(rt; bytes.len() == 16 * size);
+    assert!(rt; wanted.len() == 16 * size);
     for (sector, offset, end) in PARTS {
         let from = usize::from(sector) * size + usize::from(offset);
         assert_part(rt, bytes, wanted, from, usize::from(end) * size);
@@ -146,8 +147,8 @@ fn flash_of<L: Ledger>(
     requires two { L.parts ≡ 2 }
     requires large { 512 ≤ sector_size }
 {
-    assert_eq!(rt; bytes.len(), 16 * usize::from(sector_size));
-    assert_eq!(rt; bytes.len() % usize::from(sector_size), 0);
+    assert!(rt; bytes.len() == 16 * usize::from(sector_size));
+    assert!(rt; bytes.len() % usize::from(sector_size) == 0);
     MemFlash::<L>::from_bytes(alloc, blank, u32::from(sector_size), bytes)
 }
 
@@ -221,7 +222,12 @@ fn two_images_of_two_sectors_take_12_erases(rt: HostRuntime) -> Result<(), Fail>
         swap_size: 0,
     };
     // Each step takes an erase, two pieces of 256 bytes, and a status unit.
-    assert_eq!(rt; swap_from(&rt, rt.alloc(), 0b11, &from, &wanted)?, (12, 48));
+    same(
+        &rt,
+        "the erases and writes",
+        &swap_from(&rt, rt.alloc(), 0b11, &from, &wanted)?,
+        &(12, 48),
+    );
     Ok(())
 }
 
@@ -238,7 +244,12 @@ fn a_swap_goes_on_at_a_status_count_of_4(rt: HostRuntime) -> Result<(), Fail> {
         counts: [6, 0],
         swap_size: 0,
     };
-    assert_eq!(rt; swap_from(&rt, rt.alloc(), 0b01, &from, &wanted)?, (2, 8));
+    same(
+        &rt,
+        "the erases and writes",
+        &swap_from(&rt, rt.alloc(), 0b01, &from, &wanted)?,
+        &(2, 8),
+    );
     Ok(())
 }
 
@@ -250,7 +261,12 @@ fn a_size_of_96_bytes_moves_one_sector_of_each_slot(rt: HostRuntime) -> Result<(
         counts: [3, 3],
         swap_size: 96,
     };
-    assert_eq!(rt; swap_from(&rt, rt.alloc(), 0b11, &from, &wanted)?, (6, 24));
+    same(
+        &rt,
+        "the erases and writes",
+        &swap_from(&rt, rt.alloc(), 0b11, &from, &wanted)?,
+        &(6, 24),
+    );
     Ok(())
 }
 
@@ -259,9 +275,11 @@ fn a_mask_of_no_image_and_images_that_are_done_write_nothing(rt: HostRuntime) ->
     // The last: image 0 is done, while image 1 has a sector in scratch.
     for (mask, counts) in [(0, [2, 0]), (0b11, [6, 6]), (0b01, [6, 2])] {
         let standing = after_steps(counts, 2, 0);
-        assert_eq!(rt;
-            swap_from(&rt, rt.alloc(), mask, &standing, &standing)?,
-            (0, 0)
+        same(
+            &rt,
+            "the erases and writes",
+            &swap_from(&rt, rt.alloc(), mask, &standing, &standing)?,
+            &(0, 0),
         );
     }
     Ok(())
@@ -283,7 +301,7 @@ fn end_from(
     let (erases, _) = swap_from(rt, alloc, 0b11, &from, &wanted)?;
     let done = u64::from(counts[0]) + u64::from(counts[1]);
     assert!(rt; done <= 2 * u64::from(all));
-    assert_eq!(rt; erases, 2 * u64::from(all) - done);
+    same(rt, "the erases", &erases, &(2 * u64::from(all) - done));
     Ok(())
 }
 
@@ -357,7 +375,7 @@ fn is_cut<F: Flash>(rt: &impl Abort, flash: &mut F, map: &SectorMap) -> bool {
     match swap(rt, flash, map, 0b11, Side::Primary) {
         Ok(()) => false,
         Err(error) => {
-            assert_eq!(rt; error, FlashError::Cut);
+            same(rt, "the error", &error, &FlashError::Cut);
             true
         }
     }
@@ -397,7 +415,7 @@ fn ended_after_cuts<L: Ledger>(
     let cuts = cuts_before_the_end(rt, &mut flash, &map);
     assert_stands(rt, flash.bytes(), &wanted, sizes.sector);
     for image in 0..2 {
-        assert_eq!(rt; counted(rt, &mut flash, &map, image)?, 6);
+        same(rt, "the count", &counted(rt, &mut flash, &map, image)?, &6);
     }
     Ok(cuts)
 }
@@ -429,7 +447,7 @@ fn a_swap_ends_after_a_cut_of_any_write(rt: HostRuntime) -> Result<(), Fail> {
             let first = (write, torn(rt.alloc(), which)?);
             let cuts = end_after_cuts(&rt, rt.alloc(), USUAL, first, (100, Torn::Keep))?;
             // There are 48 writes.
-            assert_eq!(rt; cuts, if write < 49 { 1 } else { 0 });
+            same(&rt, "the cuts", &cuts, &(if write < 49 { 1 } else { 0 }));
         }
     }
     Ok(())
@@ -442,7 +460,12 @@ fn a_swap_ends_after_a_cut_of_any_write_of_its_recovery(rt: HostRuntime) -> Resu
             for which in 0..25 {
                 let first = (write, torn(rt.alloc(), which / 5)?);
                 let second = (later, torn(rt.alloc(), which)?);
-                assert_eq!(rt; end_after_cuts(&rt, rt.alloc(), USUAL, first, second)?, 2);
+                same(
+                    &rt,
+                    "the cuts",
+                    &end_after_cuts(&rt, rt.alloc(), USUAL, first, second)?,
+                    &2,
+                );
             }
         }
     }
@@ -459,7 +482,7 @@ fn sectors_of_576_bytes_are_copied_to_their_last_piece(rt: HostRuntime) -> Resul
     for write in 1..62 {
         let first = (write, torn(rt.alloc(), write)?);
         let cuts = end_after_cuts(&rt, rt.alloc(), sizes, first, (100, Torn::Keep))?;
-        assert_eq!(rt; cuts, if write < 61 { 1 } else { 0 });
+        same(&rt, "the cuts", &cuts, &(if write < 61 { 1 } else { 0 }));
     }
     Ok(())
 }
@@ -468,10 +491,10 @@ fn sectors_of_576_bytes_are_copied_to_their_last_piece(rt: HostRuntime) -> Resul
 /// sector 11, with any bytes in its primary one.
 fn counted_aside(rt: &impl Abort, alloc: Global, count: u8) -> Result<Vec<u8>, Fail> {
     let mut bytes = bytes_of(alloc, 512, &after_steps([0, count], 2, 0))?;
-    assert_eq!(rt; bytes.len(), 8192);
+    assert!(rt; bytes.len() == 8192);
     bytes[2560..3072].copy_from_slice(&[0x5a; 512]);
     for offset in 0..512u16 {
-        assert_eq!(rt; bytes.len(), 8192);
+        assert!(rt; bytes.len() == 8192);
         bytes[5632 + usize::from(offset)] = trailer_byte(512, count, 0, offset);
     }
     Ok(bytes)
@@ -492,7 +515,7 @@ fn swapped_on_the_other_side<L: Ledger>(
     let wanted = counted_aside(rt, alloc, 6)?;
     let mut flash = flash_of::<L>(rt, alloc, blank, 512, bytes);
     swap(rt, &mut flash, &map, 0b10, Side::Secondary)?;
-    assert_eq!(rt; flash.erases(), 6);
+    same(rt, "the erases", &flash.erases(), &6);
     assert_stands(rt, flash.bytes(), &wanted, 512);
     Ok(())
 }
@@ -515,8 +538,13 @@ fn refused_when_off<L: Ledger>(rt: &impl Abort, alloc: Global, blank: Blank) -> 
     let mut flash = flash_of::<L>(rt, alloc, blank, 512, bytes);
     flash.arm(1, Torn::Keep)?;
     for error in [FlashError::Cut, FlashError::Off, FlashError::Off] {
-        assert_eq!(rt; swap(rt, &mut flash, &map, 0b01, Side::Primary), Err(error));
-        assert_eq!(rt; flash.writes(), 1);
+        same(
+            rt,
+            "the swap",
+            &swap(rt, &mut flash, &map, 0b01, Side::Primary),
+            &Err(error),
+        );
+        same(rt, "the writes", &flash.writes(), &1);
         assert!(rt; flash.bytes() == wanted.as_slice());
     }
     Ok(())
@@ -531,17 +559,17 @@ fn a_flash_that_is_off_stays_as_it_is(rt: HostRuntime) -> Result<(), Fail> {
 /// first is erased.
 fn out_of_order(rt: &impl Abort, alloc: Global) -> Result<Vec<u8>, Fail> {
     let mut bytes = bytes_of(alloc, 512, &after_steps([0, 0], 2, 0))?;
-    assert_eq!(rt; bytes.len(), 8192);
+    assert!(rt; bytes.len() == 8192);
     bytes[1032] = 0x00;
     Ok(bytes)
 }
 
 /// Asserts that the second step wasn't made, and that its unit wasn't written.
 fn assert_left_out<L: Ledger>(rt: &impl Abort, flash: &MemFlash<L>) {
-    assert_eq!(rt; flash.erases(), 5);
-    assert_eq!(rt; flash.writes(), 20);
-    assert_eq!(rt; flash.bytes().len(), 8192);
-    assert_eq!(rt; flash.bytes()[1032], 0x00);
+    same(rt, "the erases", &flash.erases(), &5);
+    same(rt, "the writes", &flash.writes(), &20);
+    assert!(rt; flash.bytes().len() == 8192);
+    same(rt, "byte 1032", &flash.bytes()[1032], &0x00);
 }
 
 /// Swaps image 0 on a flash at no place of a swap.
@@ -555,7 +583,7 @@ fn ended_at_no_place<L: Ledger>(rt: &impl Abort, alloc: Global, blank: Blank) ->
     let mut flash = flash_of::<L>(rt, alloc, blank, 512, bytes);
     swap(rt, &mut flash, &map, 0b01, Side::Primary)?;
     assert_left_out(rt, &flash);
-    assert_eq!(rt; counted(rt, &mut flash, &map, 0)?, 6);
+    same(rt, "the count", &counted(rt, &mut flash, &map, 0)?, &6);
     Ok(())
 }
 

@@ -5,6 +5,7 @@
 ghost use Rattle.std.specs.Prelude.{◌≡◌, ◌<◌};
 ghost use Rattle.sector_map.specs.Map.{IsLaidOut};
 
+use crate::tests::same::same;
 use flash_model::{FLAG, Flash, FlashError, MemFlash, Torn};
 use sector_map::{SectorMap, Side};
 use std::alloc::Global;
@@ -74,7 +75,7 @@ impl Seen {
 /// Two images of two sectors of 512 bytes each.
 fn two_images(rt: &impl Abort) -> Result<SectorMap, Fail> {
     let map = SectorMap::new(512, &[2, 2])?;
-    assert_eq!(rt; map.images, 2);
+    assert!(rt; map.images == 2);
     Ok(map)
 }
 
@@ -140,7 +141,7 @@ fn play<L: Ledger>(
     steps: Steps,
 ) -> Result<(), Fail> {
     for (step, expected) in steps {
-        assert_eq!(rt; take(rt, flash, map, *step), *expected);
+        same(rt, "the step", &take(rt, flash, map, *step), expected);
     }
     Ok(())
 }
@@ -226,24 +227,31 @@ const WITHDRAWN: [(Step, Result<(), FlashError>); 2] = [
 #[test]
 fn a_request_takes_two_writes(rt: HostRuntime) -> Result<(), Fail> {
     let cleared = after(&rt, rt.alloc(), UNCUT, &[(Step::Clear, DONE)])?;
-    assert_eq!(rt; cleared.writes, 0);
+    same(&rt, "the writes", &cleared.writes, &0);
     let requested = after(&rt, rt.alloc(), UNCUT, &WITHDRAWN[..1])?;
-    assert_eq!(rt; requested.writes, 2);
+    same(&rt, "the writes", &requested.writes, &2);
     assert!(rt; requested.has(4584, &FLAG) && requested.has(4592, &MAGIC));
-    assert_eq!(rt;
-        swap_type(&requested.primary, &requested.secondary),
-        SwapType::Perm
+    same(
+        &rt,
+        "the swap type",
+        &swap_type(&requested.primary, &requested.secondary),
+        &SwapType::Perm,
     );
-    assert_eq!(rt; requested.request, Some(Kind::Permanent));
+    same(
+        &rt,
+        "the request",
+        &requested.request,
+        &Some(Kind::Permanent),
+    );
     Ok(())
 }
 
 #[test]
 fn a_withdrawal_takes_three_writes(rt: HostRuntime) -> Result<(), Fail> {
     let withdrawn = after(&rt, rt.alloc(), UNCUT, &WITHDRAWN)?;
-    assert_eq!(rt; withdrawn.writes, 5);
-    assert_eq!(rt; withdrawn.erases, 2);
-    assert_eq!(rt; withdrawn.request, None);
+    same(&rt, "the writes", &withdrawn.writes, &5);
+    same(&rt, "the erases", &withdrawn.erases, &2);
+    same(&rt, "the request", &withdrawn.request, &None);
     Ok(())
 }
 
@@ -259,8 +267,8 @@ fn a_request_that_is_cut_at_its_first_write_does_not_stand(rt: HostRuntime) -> R
     for which in 0..5 {
         let cut = (1, torn(rt.alloc(), which)?);
         let seen = after(&rt, rt.alloc(), cut, &REQUEST_CUT)?;
-        assert_eq!(rt; seen.secondary.magic, Magic::Unset);
-        assert_eq!(rt; seen.request, None);
+        same(&rt, "the magic", &seen.secondary.magic, &Magic::Unset);
+        same(&rt, "the request", &seen.request, &None);
     }
     Ok(())
 }
@@ -278,8 +286,8 @@ fn a_request_that_is_cut_at_its_last_write_stands_whole_or_not(
             2 => (Magic::Bad, None),
             _ => (Magic::Unset, None),
         };
-        assert_eq!(rt; seen.secondary.magic, magic);
-        assert_eq!(rt; seen.request, request);
+        same(&rt, "the magic", &seen.secondary.magic, &magic);
+        same(&rt, "the request", &seen.request, &request);
     }
     Ok(())
 }
@@ -288,7 +296,7 @@ fn a_request_that_is_cut_at_its_last_write_stands_whole_or_not(
 fn a_size_is_written_as_a_number_and_four_zero_bytes(rt: HostRuntime) -> Result<(), Fail> {
     let seen = after(&rt, rt.alloc(), UNCUT, &[(Step::WriteSize(96), DONE)])?;
     assert!(rt; seen.has(1488, &[0x60, 0, 0, 0, 0, 0, 0, 0]));
-    assert_eq!(rt; seen.sizes, (Some(96), None));
+    same(&rt, "the sizes", &seen.sizes, &(Some(96), None));
     Ok(())
 }
 
@@ -305,18 +313,20 @@ const SETTLED: [(Step, Result<(), FlashError>); 5] = [
 fn what_is_settled_is_not_written_again(rt: HostRuntime) -> Result<(), Fail> {
     // The secondary trailer is erased; copy_done and the magic are written, and no more the second time.
     let once = after(&rt, rt.alloc(), UNCUT, &SETTLED[..1])?;
-    assert_eq!(rt; once.writes, 3);
+    same(&rt, "the writes", &once.writes, &3);
     let twice = after(&rt, rt.alloc(), UNCUT, &SETTLED[..2])?;
-    assert_eq!(rt; twice.writes, 4);
-    assert_eq!(rt;
-        swap_type(&twice.primary, &twice.secondary),
-        SwapType::Revert
+    same(&rt, "the writes", &twice.writes, &4);
+    same(
+        &rt,
+        "the swap type",
+        &swap_type(&twice.primary, &twice.secondary),
+        &SwapType::Revert,
     );
     let confirmed = after(&rt, rt.alloc(), UNCUT, &SETTLED[..4])?;
-    assert_eq!(rt; confirmed.writes, 5);
+    same(&rt, "the writes", &confirmed.writes, &5);
     let back = after(&rt, rt.alloc(), UNCUT, &SETTLED)?;
-    assert_eq!(rt; back.writes, 10);
-    assert_eq!(rt; back.erases, 4);
+    same(&rt, "the writes", &back.writes, &10);
+    same(&rt, "the erases", &back.erases, &4);
     Ok(())
 }
 
@@ -335,7 +345,7 @@ fn status_units_are_counted(rt: HostRuntime) -> Result<(), Fail> {
         (7, 6),
     ] {
         let seen = after(&rt, rt.alloc(), UNCUT, &steps[..pushed])?;
-        assert_eq!(rt; seen.statuses, count);
+        same(&rt, "the statuses", &seen.statuses, &count);
     }
     Ok(())
 }
@@ -354,9 +364,11 @@ fn a_withdrawal_that_is_cut_leaves_the_request_or_none(rt: HostRuntime) -> Resul
         let cut = (3, torn(rt.alloc(), which)?);
         let seen = after(&rt, rt.alloc(), cut, &WITHDRAWAL_CUT)?;
         let stands = which == 0 || which >= 3;
-        assert_eq!(rt;
-            seen.request,
-            if stands { Some(Kind::Permanent) } else { None }
+        same(
+            &rt,
+            "the request",
+            &seen.request,
+            &(if stands { Some(Kind::Permanent) } else { None }),
         );
     }
     // The erases of the slot's first sector and of the trailer.
@@ -364,7 +376,7 @@ fn a_withdrawal_that_is_cut_leaves_the_request_or_none(rt: HostRuntime) -> Resul
         for which in 0..5 {
             let cut = (write, torn(rt.alloc(), which)?);
             let seen = after(&rt, rt.alloc(), cut, &WITHDRAWAL_CUT)?;
-            assert_eq!(rt; seen.request, None);
+            same(&rt, "the request", &seen.request, &None);
         }
     }
     Ok(())
@@ -384,7 +396,7 @@ fn trailers_are_settled_after_any_cut(rt: HostRuntime) -> Result<(), Fail> {
             let cut = (write, torn(rt.alloc(), which)?);
             let seen = after(&rt, rt.alloc(), cut, &SETTLING_CUT)?;
             assert!(rt; seen.has(1504, &FLAG) && seen.has(1512, &FLAG) && seen.has(1520, &MAGIC));
-            assert_eq!(rt; seen.secondary.magic, Magic::Unset);
+            same(&rt, "the magic", &seen.secondary.magic, &Magic::Unset);
         }
     }
     Ok(())
@@ -401,8 +413,13 @@ fn a_confirmation_that_is_cut_stands_or_not(rt: HostRuntime) -> Result<(), Fail>
     for which in 0..5 {
         let cut = (1, torn(rt.alloc(), which)?);
         let trailer = after(&rt, rt.alloc(), cut, &CONFIRMATION_CUT)?.primary;
-        assert_eq!(rt; trailer.image_ok, which == 1 || which == 2);
-        assert_eq!(rt; trailer.magic, Magic::Unset);
+        same(
+            &rt,
+            "the flag image_ok",
+            &trailer.image_ok,
+            &(which == 1 || which == 2),
+        );
+        same(&rt, "the magic", &trailer.magic, &Magic::Unset);
         assert!(rt; !trailer.copy_done && !trailer.withdrawn);
     }
     Ok(())
@@ -426,7 +443,7 @@ fn a_clearing_that_is_cut_leaves_any_bytes(rt: HostRuntime) -> Result<(), Fail> 
             4 => Some(Kind::Test),
             _ => None,
         };
-        assert_eq!(rt; seen.request, stands);
+        same(&rt, "the request", &seen.request, &stands);
     }
     Ok(())
 }
@@ -442,7 +459,12 @@ fn a_size_that_is_cut_is_read_or_none(rt: HostRuntime) -> Result<(), Fail> {
     for which in 0..5 {
         let cut = (1, torn(rt.alloc(), which)?);
         let seen = after(&rt, rt.alloc(), cut, &SIZE_CUT)?;
-        assert_eq!(rt; seen.sizes.0, if which == 1 { Some(96) } else { None });
+        same(
+            &rt,
+            "the size",
+            &seen.sizes.0,
+            &(if which == 1 { Some(96) } else { None }),
+        );
     }
     Ok(())
 }
