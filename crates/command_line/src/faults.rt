@@ -76,15 +76,16 @@ pub(crate) fn misuse(alloc: Global, order: &Order<'_>) -> Result<Option<Error>, 
 
 /// The subcommand of an order, with its name as its usage has it.
 fn command_of<'a>(alloc: Global, order: &Order<'_>) -> Result<Command<'a>, AllocError> {
-    match order {
-        Order::Choose { .. } => commands::choose(alloc)?.bin_name("bootswap choose"),
-        Order::Check { .. } => commands::check(alloc)?.bin_name("bootswap check"),
-        Order::Image { .. } => commands::image(alloc)?.bin_name("bootswap image"),
-        Order::Manifest { .. } => commands::manifest(alloc)?.bin_name("bootswap manifest"),
-        Order::Provision { .. } => commands::provision(alloc)?.bin_name("bootswap provision"),
-        Order::Show { .. } => commands::show(alloc)?.bin_name("bootswap show"),
-        Order::Run { .. } => commands::run(alloc)?.bin_name("bootswap run"),
-    }
+    let (command, name) = match order {
+        Order::Choose { .. } => (commands::choose(alloc), "bootswap choose"),
+        Order::Check { .. } => (commands::check(alloc), "bootswap check"),
+        Order::Image { .. } => (commands::image(alloc), "bootswap image"),
+        Order::Manifest { .. } => (commands::manifest(alloc), "bootswap manifest"),
+        Order::Provision { .. } => (commands::provision(alloc), "bootswap provision"),
+        Order::Show { .. } => (commands::show(alloc), "bootswap show"),
+        Order::Run { .. } => (commands::run(alloc), "bootswap run"),
+    };
+    command?.bin_name(name)
 }
 
 fn writes_to_standard_input(order: &Order<'_>) -> bool
