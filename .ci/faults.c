@@ -1,7 +1,7 @@
 /* Loaded before a program, makes one of its calls go wrong, the one whose number is FAULT_AT: of those that open, read,
-   write or size a file (FAULT=fail), of those that read or write (FAULT=short, after which the call moves one byte at
+   write, size or close a file (FAULT=fail), of those that read or write (FAULT=short, after which the call moves one byte at
    most), or of the allocations (FAULT=memory). When the program ends, the number of those calls is written to the file
-   FAULT_COUNT. `./gate --faults` compiles and uses it. */
+   FAULT_COUNT. `./gate` compiles and uses it. */
 #define _GNU_SOURCE
 #include <errno.h>
 #include <fcntl.h>
@@ -47,6 +47,13 @@ int open(const char *name, int flags, ...) {
 }
 
 int ftruncate(int file, off_t length) { return has_failed() ? -1 : (int)syscall(SYS_ftruncate, file, length); }
+
+/* A close that fails has let go of the file, as on Linux. */
+int close(int file) {
+    int is_bad = has_failed();
+    int closed = (int)syscall(SYS_close, file);
+    return is_bad ? -1 : closed;
+}
 
 /* Makes a call that moves bytes; `at` is a place of the file, for the calls that take one. */
 static ssize_t moved(long call, int file, const void *bytes, size_t length, off_t at) {

@@ -24,7 +24,7 @@ LOG = f"{OUT}/bootswap.log"
 PROGRAM = f"{OUT}/bootswap"
 
 # What is told before a build: as measured on 4 processors, all of them taken.
-COST = "some 64 minutes of one processor, 1 GB of disk"
+COST = "60 to 75 minutes of one processor, 1 GB of disk"
 
 # The most memory that the check of a crate has taken, in bytes, and what each further process of one takes.
 MEMORY, MEMORY_OF_JOB = 2_300_000_000, 800_000_000
