@@ -8,7 +8,8 @@
 //! is made that has them. Does not allocate but to make an image.
 //!
 //! One reader serves bytes in memory, a file in a slot and the front of a slot, and has one proof: it reads span by
-//! span ([`Span`]), and hashes a flash by pieces of 256 bytes. `answers` and `bench_exports` call the crate.
+//! span ([`Span`]), and hashes a flash by pieces of 256 bytes. `upload`, `boot_core`, `answers` and `bench_exports`
+//! call the crate.
 #![tactic(auto)]
 
 mod desc;

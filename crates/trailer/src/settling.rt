@@ -133,8 +133,8 @@ fn is_trailer_whole<F: Flash>(
     Ok(copy_done && image_ok && magic)
 }
 
-/// Erases a primary trailer where the units that settling writes can't be written: after a swap back always,
-/// else where one of them is torn.
+/// Erases a primary trailer where the units that settling writes can't be written: after a swap back always, else where
+/// one of them is torn, or is set and has to stay erased.
 fn make_whole<F: Flash>(
     flash: &mut F,
     map: &SectorMap,
@@ -162,8 +162,8 @@ fn make_whole<F: Flash>(
 
 /// Settles the trailers of an image whose slots were swapped. The secondary trailer is erased. The primary one
 /// gets `copy_done`, `image_ok` unless the image is to be tried, and the magic; it is erased first where one of
-/// these units is torn, that is, set and not to its value, and after a swap back always. Units that hold their
-/// values aren't written again.
+/// these units is torn, that is, set and not to its value, where `image_ok` is set of an image that is to be tried,
+/// and after a swap back always. Units that hold their values aren't written again.
 ///
 /// It can be repeated, whatever the trailers hold. The map is laid out on the flash, and has the image, which is
 /// told by its number from 0.
