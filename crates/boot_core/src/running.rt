@@ -83,7 +83,7 @@ fn step<F: Flash>(alloc: Global, device: &mut Device<F>, event: &Event) -> Reply
 ///
 /// For every list of events and wherever power fails in it: where the device holds a state of the machine of whole
 /// images, the events with these replies are a run of that machine to a state which the device holds then, and as
-/// many replies are `Cut` as writes were cut. The flash has power as the run begins.
+/// many replies are `Cut` as writes were cut. The flash has power as the run begins, and when it ends.
 ///
 /// # Errors
 /// `AllocError` where there is no memory for the replies, which are reserved first: nothing was done.
@@ -98,6 +98,8 @@ pub fn run<F: Flash>(
     ensures each { IfOk result (λ replies. length replies.items ≡ length events.now) }
     ensures cuts { IfOk result (λ replies. device.new.here.flash.cuts
         ≡ device.old.here.flash.cuts + cuts_in replies.items) }
+    // So another run can follow.
+    ensures on { device.new.here.flash.is_on ≡ true }
     ensures setup { device.new.setup ≡ device.old.setup }
     ensures nothing { IfErr result (λ error. device.new ≡ device.old) }
 {
