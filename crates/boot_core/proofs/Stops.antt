@@ -1,5 +1,5 @@
 -- What a reply tells is told of the finding that it comes of.
-use Rattle.std.proofs.Common.{rules, ◌≡◌, ◌∙◌, ℕ, Bool, true, false, List, Some, ap, sym, subst}
+use Rattle.std.proofs.Common.{rules, ◌≡◌, ◌∙◌, ℕ, Bool, true, false, List, Some, ap, refl, sym, subst}
 use Rattle.flash_model.specs.Chip.{Chip}
 use Rattle.flash_model.specs.declared.error.FlashError.{FlashError}
 use Rattle.flash_model.specs.declared.error.FlashError.TheVariants as flash
@@ -11,12 +11,13 @@ use Rattle.set_log.specs.declared.state.State.{State}
 use Rattle.set_log.specs.declared.state.Kind.{Kind}
 use Rattle.set_log.specs.declared.state.Kind.TheVariants as log
 use Rattle.upload.specs.View.{view}
+use Rattle.machine.specs.Boots.{is_answer}
 use Rattle.machine.specs.Passing.{reply_of}
 use Rattle.machine.specs.declared.finding.Finding.{Finding}
 use Rattle.machine.specs.declared.finding.Finding.TheVariants.{Decided, Damaged, Invalid}
 use Rattle.machine.specs.declared.error.Fault.TheVariants as no
 use Rattle.machine.specs.declared.reply.Reply.TheVariants.{Refused}
-use Rattle.boot_core.specs.Answers.{fault_reply}
+use Rattle.boot_core.specs.Answers.{fault_reply, is_stopped}
 use Rattle.boot_core.specs.Found.{IsKeptFor, IsStopped, IsSwapAloneFor, IsToldAgain}
 
 -- a reply comes of one finding, but for what was decided
@@ -129,3 +130,13 @@ pub read_stopped : (map : SectorMap) (old mid new : Chip) (read state : State) (
 read_stopped map old mid new read state told same is stood stops =
     subst (λ s. IsStopped map s old new told) (some_same read state (sym is ∙ stood))
     (subst (λ chip. IsStopped map read chip new told) same stops)
+
+-- .. and answers nothing
+pub flash_unanswered : (error : FlashError) → is_answer (fault_reply (no.Flash error)) ≡ false
+flash_unanswered flash.Cut = refl
+flash_unanswered flash.Off = refl
+
+-- .. and it tells so
+pub flash_stopped_it : (error : FlashError) → is_stopped (fault_reply (no.Flash error)) ≡ true
+flash_stopped_it flash.Cut = refl
+flash_stopped_it flash.Off = refl

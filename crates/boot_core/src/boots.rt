@@ -1,7 +1,7 @@
 //! A boot, from whatever record stands.
 
-ghost use Rattle.std.specs.Prelude.{◌≡◌, ◌+◌, ◌≤◌, Bool, true, None, Some, Err, IfOk};
-ghost use Rattle.boot_core.specs.Answers.{EndsCall, IsBootReply, reply_of_boot};
+ghost use Rattle.std.specs.Prelude.{◌≡◌, ◌⊎◌, ◌+◌, ◌≤◌, Bool, true, None, Some, Err, IfOk};
+ghost use Rattle.boot_core.specs.Answers.{EndsCall, IsBootReply, is_stopped, reply_of_boot};
 ghost use Rattle.boot_core.specs.Device.{made, seen};
 ghost use Rattle.boot_core.specs.Found.{IsStopped};
 ghost use Rattle.boot_core.specs.Wear.{IsWorn};
@@ -156,6 +156,8 @@ pub(crate) fn boot_device<F: Flash>(
         (seen (F.chip flash.old) uploads.old.sessions is_up.old)
         (seen (F.chip flash.new) uploads.new.sessions is_up.new) event.Boot (reply_of_boot result) }
     ensures ok { IfOk result (λ reply. is_answer reply ≡ true) }
+    ensures up { is_up.new ≡ is_answer (reply_of_boot result) }
+    ensures told { IsBootReply (reply_of_boot result) ⊎ (is_stopped (reply_of_boot result) ≡ true) }
     ensures answers { (F.chip flash.old).is_on ≡ true → cut_of (reply_of_boot result) ≡ 0
         → (s : DeviceState) → Stands map.now (F.chip flash.old) s → IsReadSound s
         → is_answer (reply_of_boot result) ≡ true }

@@ -1,7 +1,8 @@
 //! The device that programs and bootloaders hold.
 
-ghost use Rattle.std.specs.Prelude.{◌≡◌, ◌+◌, ◌≤◌, Bool, true, false, None, Some, Err, IfOk};
-ghost use Rattle.boot_core.specs.Answers.{EndsCall, reply_of_boot, reply_of_result};
+ghost use Rattle.std.specs.Prelude.{◌≡◌, ◌⊎◌, ◌+◌, ◌≤◌, Bool, true, false, None, Some, Err, IfOk};
+ghost use Rattle.boot_core.specs.Answers.{EndsCall, IsBootReply, is_stopped};
+ghost use Rattle.boot_core.specs.Answers.{reply_of_boot, reply_of_result};
 ghost use Rattle.boot_core.specs.Found.{IsStopped};
 ghost use Rattle.machine.specs.Passing.{reply_of};
 ghost use Rattle.machine.specs.declared.finding.Finding.{Finding};
@@ -130,6 +131,11 @@ impl<F: Flash> Device<F> {
         ensures steps { self.old.here.flash.is_on ≡ true → StepsTo self.old.setup self.old.here
             self.new.here event.Boot (reply_of_boot result) }
         ensures ok { IfOk result (λ reply. is_answer reply ≡ true) }
+        // On any flash: the device is up exactly where the boot answered, and no other call's refusal is told, unless
+        // the flash stopped it.
+        ensures up { self.new.here.up ≡ is_answer (reply_of_boot result) }
+        ensures told { IsBootReply (reply_of_boot result)
+            ⊎ (is_stopped (reply_of_boot result) ≡ true) }
         // From a state that is read sound a boot answers, unless it is cut.
         ensures answers { self.old.here.flash.is_on ≡ true → cut_of (reply_of_boot result) ≡ 0
             → (s : DeviceState) → Stands self.old.setup.map self.old.here.flash s → IsReadSound s

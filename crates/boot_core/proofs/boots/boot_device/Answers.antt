@@ -1,12 +1,13 @@
-use Rattle.std.proofs.Common.{◌+◌, ap, sym, subst, ◌∙◌}
+use Rattle.std.proofs.Common.{◌+◌, ap, inl, inr, sym, subst, ◌∙◌}
 use Rattle.machine.specs.Boots.{is_answer}
 use Rattle.machine.specs.Passing.{StepsTo}
 use Rattle.machine.specs.declared.event.Event.TheVariants as event
 use Rattle.machine.proofs.Stepping.{steps_boot}
+use Rattle.boot_core.specs.Answers.{IsBootReply}
 use Rattle.boot_core.specs.Device.{made, seen}
 use Rattle.boot_core.proofs.Stopping.{boot_stopped}
 use Rattle.boot_core.specs.Wear.{IsWorn}
-use Rattle.boot_core.proofs.Stops.{flash_stopped}
+use Rattle.boot_core.proofs.Stops.{flash_stopped, flash_stopped_it, flash_unanswered}
 use Rattle.boot_core.proofs.boots.boot_device.Goals as goal
 
 pub returns-in-Ok-clause-steps : goal.returns-in-Ok-clause-steps
@@ -40,3 +41,16 @@ returns-in-Ok-clause-stops g c = λ state finding permanent stood is.
 pub returns-in-Err-clause-stops : goal.returns-in-Err-clause-stops
 returns-in-Err-clause-stops g c = λ state finding permanent stood is.
     flash_stopped c.args.map.now state _ _ c.in-Err.error finding permanent is
+
+pub returns-in-Ok-clause-up : goal.returns-in-Ok-clause-up
+returns-in-Ok-clause-up g c = c.conclude.ensures.up ∙ sym (ap is_answer c.conclude.ensures.is)
+
+pub returns-in-Err-clause-up : goal.returns-in-Err-clause-up
+returns-in-Err-clause-up g c = sym (flash_unanswered c.in-Err.error)
+
+pub returns-in-Ok-clause-told : goal.returns-in-Ok-clause-told
+returns-in-Ok-clause-told g c = inl (subst (λ reply. IsBootReply reply) (sym c.conclude.ensures.is)
+    c.in-Ok.ensures.told)
+
+pub returns-in-Err-clause-told : goal.returns-in-Err-clause-told
+returns-in-Err-clause-told g c = inr (flash_stopped_it c.in-Err.error)
