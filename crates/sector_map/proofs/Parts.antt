@@ -6,17 +6,19 @@ use Rattle.flash_model.proofs.Frame.{product_le}
 use Rattle.flash_model.proofs.Ranges.{range_same, range_at}
 use Rattle.sector_map.specs.declared.layout.SectorMap.{SectorMap}
 use Rattle.sector_map.specs.Part.{Part, only}
-use Rattle.sector_map.specs.Map.{start_of, first_of, count_of, sectors_of, IsMap, IsLaidOut, IsIn, Keeps, part_of}
-use Rattle.sector_map.proofs.Places.{apart}
+use Rattle.sector_map.specs.Map.{start_of, first_of, count_of, sectors_of, end_of_map, IsMap, IsLaidOut, IsIn, Keeps, part_of}
+use Rattle.sector_map.proofs.Places.{apart, within}
 use Rattle.sector_map.proofs.Products.{mul_le, lower, upper, sector_at}
 
 -- what is the same sector by sector is the same part by part
 pub keeps_of_sectors : (map : SectorMap) (touched : Part → Bool) (old new : Chip) → IsLaidOut map old
     → new.sector_size ≡ old.sector_size → new.sectors ≡ old.sectors → length new.bytes ≡ length old.bytes
     → ((part : Part) (s : ℕ) → touched part ≡ false → IsIn map part s → SameSector s old new)
+    → ((k : ℕ) → end_of_map map ≤ k → slice_index new.bytes k ≡ slice_index old.bytes k)
     → Keeps map touched old new
 unfolding part_of
-keeps_of_sectors map touched old new laid size sectors long same = record {
+keeps_of_sectors map touched old new laid size sectors long same behind = record {
+  behind = behind;
   sector_size = size;
   sectors = sectors;
   size = long;
@@ -44,7 +46,13 @@ laid_out_kept map touched old new laid keeps = record {
 
 -- what isn't written is kept
 pub keeps_refl : (map : SectorMap) (touched : Part → Bool) (chip : Chip) → Keeps map touched chip chip
-keeps_refl map touched chip = record { sector_size = refl; sectors = refl; size = refl; parts = λ part e. refl }
+keeps_refl map touched chip = record {
+  sector_size = refl;
+  sectors = refl;
+  size = refl;
+  parts = λ part e. refl;
+  behind = λ k le. refl;
+}
 
 -- the same bytes have the same parts, whatever the power and the counts
 pub keeps_bytes : (map : SectorMap) (touched : Part → Bool) (old new : Chip) → new.sector_size ≡ old.sector_size
@@ -58,6 +66,7 @@ keeps_bytes map touched old new size sectors same = record {
   parts = λ part e. ap
       (λ bytes. slice_range bytes (start_of map part)
       ((first_of map part + count_of map part) * map.sector_size)) same;
+  behind = λ k le. ap (λ bytes. slice_index bytes k) same;
 }
 
 -- two calls in turn
@@ -68,6 +77,7 @@ keeps_trans map touched old mid new a b = record {
   sectors = b.sectors ∙ a.sectors;
   size = b.size ∙ a.size;
   parts = λ part e. b.parts part e ∙ a.parts part e;
+  behind = λ k le. b.behind k le ∙ a.behind k le;
 }
 
 -- what touches less touches no more
@@ -80,7 +90,18 @@ keeps_wider map less more old new wider a =
       size = a.size;
       parts =
           λ part e. a.parts part (wider part e);
+      behind = a.behind;
     }
+
+-- no part reaches behind the map
+behind_parts : (map : SectorMap) (part : Part) (k : ℕ) → IsMap map → end_of_map map ≤ k
+    → first_of map part * map.sector_size ≤ k
+    → k < (first_of map part + count_of map part) * map.sector_size → ⊥
+behind_parts map part k is_map le low high =
+    let at = sector_at (first_of map part) (count_of map part) map.sector_size k (omega (arith, is_map.trailers 0)) low
+    high in
+    let there = within map part (k / map.sector_size) is_map (record { low = at.0; high = at.1 }) in
+    omega (arith, le, at.2, at.3, product_le (k / map.sector_size) (sectors_of map) map.sector_size there)
 
 -- a write inside one part keeps all other parts
 pub keeps_others : (map : SectorMap) (part : Part) (at n : ℕ) (old new : Chip) → IsLaidOut map old
@@ -100,6 +121,12 @@ keeps_others map part at n old new laid same low high =
           (cases_lt k (at + n)))
           (cases_lt k at);
     })
+    (λ k le. ⊎_elim (λ (lt : k < at). same.before k lt)
+    (λ (ge : at ≤ k). ⊎_elim
+    (λ (lt : k < at + n). absurd (behind_parts map part k laid.is_map le (omega arith) (omega arith)))
+    (λ (ge : at + n ≤ k). same.after k ge)
+    (cases_lt k (at + n)))
+    (cases_lt k at))
   where
     inside : (s o k : ℕ) → o < map.sector_size → k ≡ s * map.sector_size + o → at ≤ k → k < at + n → IsIn map part s
     inside s o k lt is ge below =

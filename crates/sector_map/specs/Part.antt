@@ -80,3 +80,7 @@ swap_of mask on (Slot i side) = is_member mask i
 swap_of mask on (TrailerOf i side) = is_member mask i && same_side side on
 swap_of mask on Scratch = true
 swap_of mask on Log = false
+
+-- Any part of the map: what lies behind the map alone is left.
+abbrev pub any_part : Part → Bool
+any_part part = true

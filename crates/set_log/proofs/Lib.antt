@@ -5,6 +5,7 @@ mod View
 mod Last
 mod Turns
 mod Moves
+mod Placing
 pub mod Table
 mod Said
 pub mod Kept

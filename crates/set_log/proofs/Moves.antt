@@ -92,7 +92,7 @@ pub erased_keeps : (e sector next : ℕ) (old new : Chip) → HasPlaces e → Is
 erased_keeps e sector next old new sized active is same =
     register_by_next e sector old new sized active (subst (λ s. SameOutside (s * e) e old new) is same)
 
-moved_within : (e sector next : ℕ) (old erased mid : Chip) → Moved e sector next old erased mid
+pub moved_within : (e sector next : ℕ) (old erased mid : Chip) → Moved e sector next old erased mid
     → SameOutside (next * e) e old mid
 moved_within e sector next old erased mid m = same_outside_trans (next * e) e old erased mid m.first
     (same_outside_wider _ 64 (next * e) e erased mid m.second (omega arith) (omega (arith, m.sized.room)))
@@ -169,7 +169,7 @@ place_put map sector place body old mid new eq fits active free same put =
     free.within same) ∙ put
 
 -- A sector with a free place has room.
-room_of_free : (e sector place : ℕ) (log : Chip) → IsFree e log sector place → has_room e log.bytes sector ≡ true
+pub room_of_free : (e sector place : ℕ) (log : Chip) → IsFree e log sector place → has_room e log.bytes sector ≡ true
 room_of_free e sector place log free = reads_erased_of log _ 64 (record {
   each = λ k low high. free.erased.each k (omega (arith, free.within)) (omega (arith, free.within));
 })

@@ -1,11 +1,13 @@
 //! The state of the log: read, written, and begun.
 
-ghost use Rattle.std.specs.Prelude.{◌≡◌, ◌⊎◌, ℕ, ◌+◌, ◌<◌, ◌≤◌, Some, None, true, OnOk, IsSome, if◌then◌else◌};
-ghost use Rattle.flash_model.specs.Chip.{Chip, Ends};
+ghost use Rattle.std.specs.Prelude.{◌≡◌, ◌⊎◌, ℕ, ◌+◌, ◌*◌, ◌<◌, ◌≤◌, Some, None, false, true, OnOk, IsSome, if◌then◌else◌};
+ghost use Rattle.flash_model.specs.Chip.{Chip, Ends, SameOutside};
 ghost use Rattle.sector_map.specs.Map.{IsLaidOut, IsWithin, Keeps};
 ghost use Rattle.sector_map.specs.Part.{Log, only};
-ghost use Rattle.set_log.specs.Log.{Answers, is_place_free, state_of};
-ghost use Rattle.set_log.specs.Record.{fits};
+ghost use Rattle.set_log.specs.Log.{Answers, is_place_free, log_bytes, log_of, state_of};
+ghost use Rattle.set_log.specs.Record.{fits, record_bytes};
+ghost use Rattle.set_log.specs.Ring.{IsActive, is_closed};
+ghost use Rattle.set_log.specs.Written.{HasClosingFlag, IsBesideNext, IsFirstFree, IsMovedOn, IsWritten};
 
 use crate::error::LogError;
 use crate::reading::read_record;
@@ -67,6 +69,26 @@ pub fn append<F: Flash>(flash: &mut F, map: &SectorMap, state: &State) -> Result
     ensures either { (state_of map.now (F.chip flash.new) ≡ state_of map.now (F.chip flash.old))
         ⊎ (state_of map.now (F.chip flash.new) ≡ Some state.now) }
     ensures ok { OnOk result (state_of map.now (F.chip flash.new) ≡ Some state.now) }
+    // Where a place is free the record goes to the first such place of the active sector, and nothing else is written.
+    ensures within { let e = map.now.sector_size in (sector place : ℕ)
+        → IsActive e (log_bytes map.now (F.chip flash.old)) sector
+        → IsFirstFree e (log_of map.now (F.chip flash.old)) sector place
+        → SameOutside (sector * e + 64 * place) 64
+        (log_of map.now (F.chip flash.old)) (log_of map.now (F.chip flash.new)) }
+    ensures written { let e = map.now.sector_size in OnOk result ((sector place : ℕ)
+        → IsActive e (log_bytes map.now (F.chip flash.old)) sector
+        → IsFirstFree e (log_of map.now (F.chip flash.old)) sector place
+        → IsWritten e (log_of map.now (F.chip flash.new)) sector place (record_bytes state.now)) }
+    // Where none is, it goes to the first place of the next sector, and then the active one is closed.
+    ensures beside { let e = map.now.sector_size in (sector : ℕ)
+        → IsActive e (log_bytes map.now (F.chip flash.old)) sector
+        → is_place_free map.now (F.chip flash.old) ≡ false
+        → IsBesideNext e sector (log_of map.now (F.chip flash.old))
+        (log_of map.now (F.chip flash.new)) }
+    ensures moved { let e = map.now.sector_size in OnOk result ((sector : ℕ)
+        → IsActive e (log_bytes map.now (F.chip flash.old)) sector
+        → is_place_free map.now (F.chip flash.old) ≡ false
+        → IsMovedOn e sector (record_bytes state.now) (log_of map.now (F.chip flash.new))) }
     ensures erases { OnOk result ((F.chip flash.new).erases ≡ (F.chip flash.old).erases
         + (if is_place_free map.now (F.chip flash.old) then 0 else 1)) }
     ensures ends { Ends result (F.chip flash.old) (F.chip flash.new) }
@@ -90,6 +112,14 @@ pub fn start<F: Flash>(flash: &mut F, map: &SectorMap, state: &State) -> Result<
     requires fits { fits map.now.images state.now ≡ true }
     ensures outside { Keeps map.now (only Log) (F.chip flash.old) (F.chip flash.new) }
     ensures ok { OnOk result (state_of map.now (F.chip flash.new) ≡ Some state.now) }
+    // The record stands at the first place of the first sector, and a flag closes the third.
+    ensures written { let e = map.now.sector_size in OnOk result
+        (IsWritten e (log_of map.now (F.chip flash.new)) 0 0 (record_bytes state.now)
+        × HasClosingFlag e (log_of map.now (F.chip flash.new)) 2) }
+    // That is written last: once the three sectors are erased the third is closed only where the record stands.
+    ensures last { (F.chip flash.new).erases ≡ (F.chip flash.old).erases + 3
+        → is_closed map.now.sector_size (log_bytes map.now (F.chip flash.new)) 2 ≡ true
+        → state_of map.now (F.chip flash.new) ≡ Some state.now }
     ensures erases { OnOk result ((F.chip flash.new).erases ≡ (F.chip flash.old).erases + 3) }
     ensures ends { Ends result (F.chip flash.old) (F.chip flash.new) }
 {

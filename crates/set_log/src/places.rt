@@ -1,11 +1,13 @@
 //! The log seen as a flash of its own: its places and units, read and written one at a time.
 
-ghost use Rattle.std.specs.Prelude.{◌≡◌, ℕ, ◌+◌, ◌-◌, ◌*◌, ◌/◌, ◌<◌, ◌≤◌, false, true, OnOk, IfOk, not, slice_range};
+ghost use Rattle.std.specs.Prelude.{◌≡◌, ℕ, ◌+◌, ◌-◌, ◌*◌, ◌/◌, ◌<◌, ◌≤◌, false, true, OnErr, OnOk, IfOk, not, slice_range};
+ghost use Rattle.flash_model.specs.declared.unit.TheConstants.{FLAG};
 ghost use Rattle.flash_model.specs.Chip.{Chip, Ends, IsErased, Reads, SameOutside};
 ghost use Rattle.sector_map.specs.Map.{IsLaidOut, Keeps};
 ghost use Rattle.sector_map.specs.Part.{Log, only};
 ghost use Rattle.set_log.specs.Log.{log_bytes, log_of};
 ghost use Rattle.set_log.specs.Ring.{is_closed, places_in, reads_erased};
+ghost use Rattle.set_log.specs.Written.{HasClosingFlag};
 
 use crate::record::RECORD;
 use flash_model::{Flash, FlashError, is_erased, is_unit_erased, set_unit};
@@ -135,6 +137,8 @@ pub(crate) fn set_gate<F: Flash>(
         (log_of map.now (F.chip flash.old)) (log_of map.now (F.chip flash.new)) }
     ensures ok { OnOk result (reads_erased (log_bytes map.now (F.chip flash.new))
         (sector * map.now.sector_size + 64 * place + 56) 8 ≡ false) }
+    ensures flag { OnOk result (Reads (log_of map.now (F.chip flash.new))
+        (sector * map.now.sector_size + 64 * place + 56) FLAG) }
     ensures erases { (F.chip flash.new).erases ≡ (F.chip flash.old).erases }
     ensures ends { Ends result (F.chip flash.old) (F.chip flash.new) }
 {
@@ -152,6 +156,8 @@ pub(crate) fn close<F: Flash>(flash: &mut F, map: &SectorMap, sector: u32) -> Re
         (log_of map.now (F.chip flash.old)) (log_of map.now (F.chip flash.new)) }
     ensures ok { OnOk result (is_closed map.now.sector_size
         (log_bytes map.now (F.chip flash.new)) sector ≡ true) }
+    ensures flag { OnOk result
+        (HasClosingFlag map.now.sector_size (log_of map.now (F.chip flash.new)) sector) }
     ensures erases { (F.chip flash.new).erases ≡ (F.chip flash.old).erases }
     ensures ends { Ends result (F.chip flash.old) (F.chip flash.new) }
 {
@@ -172,6 +178,7 @@ pub(crate) fn erase_sector<F: Flash>(
     ensures ok { OnOk result (IsErased (log_of map.now (F.chip flash.new))
         (sector * map.now.sector_size) map.now.sector_size) }
     ensures erases { OnOk result ((F.chip flash.new).erases ≡ (F.chip flash.old).erases + 1) }
+    ensures uncounted { OnErr result ((F.chip flash.new).erases ≡ (F.chip flash.old).erases) }
     ensures ends { Ends result (F.chip flash.old) (F.chip flash.new) }
 {
     flash.erase(map.log_sector(sector))

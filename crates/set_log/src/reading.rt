@@ -4,7 +4,8 @@ ghost use Rattle.std.specs.Prelude.{◌≡◌, ℕ, ◌+◌, ◌-◌, ◌*◌, �
 ghost use Rattle.flash_model.specs.Chip.{Chip, Ends, IsErased};
 ghost use Rattle.sector_map.specs.Map.{IsLaidOut};
 ghost use Rattle.set_log.specs.Log.{log_bytes, log_of, record_of};
-ghost use Rattle.set_log.specs.Ring.{IsActive, IsFree, active_of, has_room, is_active, last_gated, last_of, next_of, places_in, previous_of};
+ghost use Rattle.set_log.specs.Written.{IsFirstFree};
+ghost use Rattle.set_log.specs.Ring.{IsActive, active_of, has_room, is_active, last_gated, last_of, next_of, places_in, previous_of};
 
 use crate::places::{is_closed, is_gated, is_place_erased, read_place};
 use crate::record::RECORD;
@@ -109,6 +110,16 @@ pub(crate) fn read_record<F: Flash>(
     Ok(found)
 }
 
+/// A place, where a sector has so many that it is one of them.
+fn place_among(place: u32, places: u32) -> Option<u32>
+    ensures { MatchOption result (places ≤ place) (λ found. (found ≡ place) × (place < places)) }
+{
+    if place < places {
+        return Some(place);
+    }
+    None
+}
+
 /// The first place of a sector behind the last one that isn't erased.
 pub(crate) fn free_place<F: Flash>(
     flash: &mut F,
@@ -120,19 +131,17 @@ pub(crate) fn free_place<F: Flash>(
     ensures same { F.chip flash.new ≡ F.chip flash.old }
     ensures ok { IfOk result (λ found. MatchOption found
         (has_room map.now.sector_size (log_bytes map.now (F.chip flash.old)) sector ≡ false)
-        (λ place. IsFree map.now.sector_size (log_of map.now (F.chip flash.old)) sector place)) }
+        (λ place. IsFirstFree map.now.sector_size (log_of map.now (F.chip flash.old)) sector
+        place)) }
     ensures ends { Ends result (F.chip flash.old) (F.chip flash.new) }
 {
     let places = map.record_places();
     let mut place = places;
     while place > 0 {
         if !is_place_erased(flash, map, sector, place - 1)? {
-            break;
+            return Ok(place_among(place, places));
         }
         place -= 1;
     }
-    if place < places {
-        return Ok(Some(place));
-    }
-    Ok(None)
+    Ok(Some(0))
 }

@@ -1,20 +1,22 @@
 -- The units that settling writes, one after the other.
-use Rattle.std.proofs.Common.{◌≡◌, ℕ, ◌<◌, Bool, true, false, not, arith, sym, ◌∙◌, ap, subst, refl, inl, inr, ⊎_elim, List, IsTrue, ◌↔◌, ◌||◌, if◌then◌else◌}
+use Rattle.std.proofs.Common.{◌≡◌, ℕ, ◌-◌, ◌<◌, Bool, true, false, not, arith, sym, ◌∙◌, ap, subst, refl, inl, inr, ⊎_elim, List, IsTrue, ◌↔◌, ◌||◌, if◌then◌else◌}
 use Rattle.std.specs.Str.{bytes_eq}
 use Rattle.std.proofs.lemmas.Slice.Eq.{bytes_eq-Decides}
 use Rattle.trailer.specs.declared.kinds.Magic.{Magic}
 use Rattle.trailer.specs.declared.kinds.Magic.TheVariants.{Good, Unset, Bad}
 use Rattle.flash_model.specs.Chip.{Chip, SameOutside}
+use Rattle.flash_model.proofs.Frame.{same_outside_trans, same_outside_wider}
 use Rattle.sector_map.specs.declared.layout.SectorMap.{SectorMap}
 use Rattle.sector_map.specs.declared.layout.Side.{Side}
 use Rattle.sector_map.specs.declared.layout.Side.TheVariants.{Primary, Secondary}
-use Rattle.sector_map.specs.Part.{TrailerOf, only, trailers_of}
+use Rattle.sector_map.specs.Part.{Part, TrailerOf, only, trailers_of}
 use Rattle.sector_map.specs.Map.{IsMap, IsLaidOut, Keeps}
 use Rattle.sector_map.proofs.Parts.{keeps_trans, keeps_wider, laid_out_kept}
 use Rattle.sector_map.proofs.Touched.{trailer_of_both}
-use Rattle.trailer.specs.Fields.{are_erased, flag, good_magic, magic_in, bytes_at, trailer_bytes, fields_at, erased_fields, place_of}
-use Rattle.trailer.specs.Settled.{is_whole_magic, IsFree, IsOkFree, IsWhole, HasMarks, IsSettled}
-use Rattle.trailer.proofs.Places.{units_alone}
+use Rattle.trailer.specs.Fields.{are_erased, flag, good_magic, magic_in, bytes_at, bytes_in, trailer_bytes, fields_at, erased_fields, place_of}
+use Rattle.trailer.specs.declared.kinds.Settling.{Settling}
+use Rattle.trailer.specs.Settled.{before_marks, is_confirmed, is_whole_magic, IsSpared, IsFree, IsOkFree, IsWhole, HasMarks, IsSettled}
+use Rattle.trailer.proofs.Places.{units_alone, range_besides, trailer_size}
 use Rattle.trailer.proofs.Erased.{erased_range}
 use Rattle.trailer.proofs.OwnFields.{unit_kept, fields_kept}
 use Rattle.trailer.proofs.FieldUnits.{good_of_bytes, copy_done_of_flag, image_ok_of_flag, image_ok_is}
@@ -103,7 +105,7 @@ module _ (map : SectorMap) (image : ℕ) (side : Side) (fits : IsMap map) (lt : 
   copy_done_beside_magic old new same = unit_kept map old new image _ 16 16 32 8 side same fits lt refl (omega arith)
       (omega arith) (omega arith) (omega arith) (inr (omega arith))
 
-  ok_beside_magic : (old new : Chip) → SameOutside (place_of map image side 16) 16 old new → bytes_at map new image
+  pub ok_beside_magic : (old new : Chip) → SameOutside (place_of map image side 16) 16 old new → bytes_at map new image
       side 24 8 ≡ bytes_at map old image side 24 8
   ok_beside_magic old new same = unit_kept map old new image _ 16 16 24 8 side same fits lt refl (omega arith)
       (omega arith) (omega arith) (omega arith) (inr (omega arith))
@@ -157,6 +159,56 @@ three_alone map old first second new image side a b c laid lt =
     keeps_trans map _ old second new two (units_alone map second new image _ 16 16 side c
     (laid_out_kept map _ old second laid two) lt refl (omega arith) (omega arith))
 
+-- .. and all bytes before them
+pub two_of_units : (map : SectorMap) (old mid new : Chip) (image : ℕ) (side : Side)
+    → SameOutside (place_of map image side 32) 8 old mid → SameOutside (place_of map image side 24) 8 mid new
+    → IsMap map → SameOutside (place_of map image side 32) 32 old new
+two_of_units map old mid new image side a b fits =
+    let room = fits.trailers image in
+    same_outside_trans _ 32 old mid new
+    (same_outside_wider _ 8 (place_of map image side 32) 32 old mid a (omega arith) (omega arith))
+    (same_outside_wider _ 8 (place_of map image side 32) 32 mid new b (omega (arith, room)) (omega (arith, room)))
+
+pub three_of_units : (map : SectorMap) (old first second new : Chip) (image : ℕ) (side : Side)
+    → SameOutside (place_of map image side 32) 8 old first → SameOutside (place_of map image side 24) 8 first second
+    → SameOutside (place_of map image side 16) 16 second new → IsMap map
+    → SameOutside (place_of map image side 32) 32 old new
+three_of_units map old first second new image side a b c fits =
+    let room = fits.trailers image in
+    same_outside_trans _ 32 old second new (two_of_units map old first second image side a b fits)
+    (same_outside_wider _ 16 (place_of map image side 32) 32 second new c (omega (arith, room)) (omega (arith, room)))
+
+-- so what is erased before them stays erased
+pub still_erased : (map : SectorMap) (old new : Chip) (image : ℕ) (side : Side)
+    → SameOutside (place_of map image side 32) 32 old new → IsMap map → image < map.images
+    → are_erased (trailer_bytes map old image side) ≡ true
+    → are_erased (before_marks map (trailer_bytes map new image side)) ≡ true
+still_erased map old new image side same fits lt all =
+    ap (λ (xs : List ℕ). are_erased xs) (range_besides map old new (TrailerOf image side) _ 32 0
+    (map.sector_size - 32) same (omega (arith, trailer_size map image side fits lt)) (inl (omega arith)))
+    ∙ erased_range (trailer_bytes map old image side) 0 (map.sector_size - 32) all
+
+-- trailers of the same bytes are whole alike ..
+whole_alike : (map : SectorMap) (old new : Chip) (image : ℕ) (side : Side) (confirmed : Bool)
+    → trailer_bytes map old image side ≡ trailer_bytes map new image side
+    → IsWhole map old image side confirmed → IsWhole map new image side confirmed
+whole_alike map old new image side confirmed here whole =
+    let unit = λ (from_end n : ℕ). ap (λ (bytes : List ℕ). bytes_in map.sector_size bytes from_end n) here in
+    record {
+      copy_done = subst (λ (u : List ℕ). IsFree u flag) (unit 32 8) whole.copy_done;
+      image_ok = subst (λ (u : List ℕ). IsOkFree confirmed u) (unit 24 8) whole.image_ok;
+      magic = subst (λ (u : List ℕ). IsFree u good_magic) (unit 16 16) whole.magic;
+    }
+
+-- .. and needn't be erased alike
+pub spared_alike : (map : SectorMap) (old new : Chip) (image : ℕ) (side : Side) (settling : Settling)
+    → trailer_bytes map old image side ≡ trailer_bytes map new image side
+    → IsSpared map old image side settling → IsSpared map new image side settling
+spared_alike map old new image side settling here spared = record {
+  forth = spared.forth;
+  whole = whole_alike map old new image side (is_confirmed settling) here spared.whole;
+}
+
 -- what the units say as fields
 ok_field : (map : SectorMap) (chip : Chip) (image : ℕ) (side : Side) (confirmed : Bool)
     → HasMarks map chip image side confirmed → (fields_at map chip image side).image_ok ≡ confirmed
@@ -173,6 +225,13 @@ settled map chip image confirmed marks erased = record {
   erased = erased;
 }
 
+-- the trailers of an image are two
+pub beside : (i : ℕ) → only (TrailerOf i Primary) (TrailerOf i Secondary) ≡ false
+beside i = grind arith
+
+pub across : (i : ℕ) → only (TrailerOf i Secondary) (TrailerOf i Primary) ≡ false
+across i = grind arith
+
 -- the secondary trailer stays as the primary one is written
 pub secondary_kept : (map : SectorMap) (old mid new : Chip) (image : ℕ)
     → fields_at map old image Secondary ≡ erased_fields → Keeps map (only (TrailerOf image Primary)) old mid
@@ -180,9 +239,6 @@ pub secondary_kept : (map : SectorMap) (old mid new : Chip) (image : ℕ)
     → fields_at map new image Secondary ≡ erased_fields
 secondary_kept map old mid new image erased a b = fields_kept map _ mid new image Secondary b (beside image) ∙
     fields_kept map _ old mid image Secondary a (beside image) ∙ erased
-  where
-    beside : (i : ℕ) → only (TrailerOf i Primary) (TrailerOf i Secondary) ≡ false
-    beside i = grind arith
 
 -- the trailers of one image
 pub one_of_trailers : (map : SectorMap) (old new : Chip) (image : ℕ) (side : Side)

@@ -1,5 +1,5 @@
 -- What settling makes of the trailers of an image.
-use Rattle.std.specs.Prelude.{◌≡◌, ◌⊎◌, ℕ, Bool, true, false, List}
+use Rattle.std.specs.Prelude.{◌≡◌, ◌⊎◌, ℕ, ◌-◌, Bool, true, false, List, slice_range}
 use Rattle.flash_model.specs.Chip.{Chip}
 use Rattle.sector_map.specs.declared.layout.SectorMap.{SectorMap}
 use Rattle.sector_map.specs.declared.layout.Side.{Side}
@@ -44,6 +44,17 @@ pub record IsWhole (map : SectorMap) (chip : Chip) (image : ℕ) (side : Side) (
   pub copy_done : IsFree (bytes_at map chip image side 32 8) flag
   pub image_ok : IsOkFree confirmed (bytes_at map chip image side 24 8)
   pub magic : IsFree (bytes_at map chip image side 16 16) good_magic
+
+-- A primary trailer that needn't be erased for its units to be written: none of them is torn, and it isn't settled
+-- after a swap back, for which it is erased always.
+pub record IsSpared (map : SectorMap) (chip : Chip) (image : ℕ) (side : Side) (settling : Settling)
+    : Type 0 where
+  pub forth : settling ≡ Back → ⊥
+  pub whole : IsWhole map chip image side (is_confirmed settling)
+
+-- The bytes of a trailer before copy_done, image_ok and the magic.
+abbrev pub before_marks : SectorMap → List ℕ → List ℕ
+before_marks map bytes = slice_range bytes 0 (map.sector_size - 32)
 
 -- copy_done, image_ok and the magic hold their values, byte for byte.
 pub record HasMarks (map : SectorMap) (chip : Chip) (image : ℕ) (side : Side) (confirmed : Bool)

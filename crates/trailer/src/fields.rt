@@ -4,7 +4,7 @@ ghost use Rattle.std.specs.Prelude.{◌≡◌, ℕ, ◌+◌, ◌<◌, true, fals
 ghost use Rattle.flash_model.specs.Chip.{Chip, Ends, SameOutside};
 ghost use Rattle.sector_map.specs.Map.{IsLaidOut, Keeps};
 ghost use Rattle.sector_map.specs.Part.{TrailerOf, only};
-ghost use Rattle.trailer.specs.Fields.{fields_at, place_of};
+ghost use Rattle.trailer.specs.Fields.{bytes_at, fields_at, flag, place_of};
 ghost use Rattle.trailer.specs.declared.kinds.Magic.TheVariants.{Good, Unset};
 
 use crate::format::{IMAGE_OK, MAGIC, MAGIC_PLACE, WITHDRAWN};
@@ -32,6 +32,7 @@ pub(crate) fn set_image_ok<F: Flash>(
         { image_ok = (fields_at map.now (F.chip flash.new) image side).image_ok } }
     ensures ok { OnOk result
         ((fields_at map.now (F.chip flash.new) image side).image_ok ≡ true) }
+    ensures flag { OnOk result (bytes_at map.now (F.chip flash.new) image side 24 8 ≡ flag) }
     ensures erases { OnOk result ((F.chip flash.new).erases ≡ (F.chip flash.old).erases) }
     ensures ends { Ends result (F.chip flash.old) (F.chip flash.new) }
 {

@@ -82,6 +82,8 @@ pub(crate) fn mark_trailer<F: Flash>(
     requires whole { IsWhole map.now (F.chip flash.old) image side confirmed }
     ensures outside { Keeps map.now (only (TrailerOf image side))
         (F.chip flash.old) (F.chip flash.new) }
+    ensures units { SameOutside (place_of map.now image side 32) 32
+        (F.chip flash.old) (F.chip flash.new) }
     ensures ok { OnOk result (HasMarks map.now (F.chip flash.new) image side confirmed) }
     ensures erases { OnOk result ((F.chip flash.new).erases ≡ (F.chip flash.old).erases) }
     ensures ends { Ends result (F.chip flash.old) (F.chip flash.new) }

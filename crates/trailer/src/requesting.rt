@@ -5,7 +5,8 @@ ghost use Rattle.flash_model.specs.Chip.{Chip, Ends, SameOutside};
 ghost use Rattle.sector_map.specs.Map.{IsLaidOut, Keeps};
 ghost use Rattle.sector_map.specs.Part.{TrailerOf, only};
 ghost use Rattle.sector_map.specs.declared.layout.Side.TheVariants.{Primary, Secondary};
-ghost use Rattle.trailer.specs.Fields.{erased_fields, fields_at, place_of};
+ghost use Rattle.trailer.specs.Fields.{bytes_at, erased_fields, fields_at, flag, place_of};
+ghost use Rattle.trailer.specs.declared.kinds.Kind.{Kind};
 ghost use Rattle.trailer.specs.Standing.{is_good, is_permanent, requested_fields, standing_of};
 
 use crate::fields::{set_image_ok, write_magic};
@@ -26,8 +27,12 @@ fn mark_kind<F: Flash>(
     requires erased { fields_at map.now (F.chip flash.old) image Secondary ≡ erased_fields }
     ensures outside { Keeps map.now (only (TrailerOf image Secondary))
         (F.chip flash.old) (F.chip flash.new) }
+    ensures unit { SameOutside (place_of map.now image Secondary 24) 8
+        (F.chip flash.old) (F.chip flash.new) }
     ensures own { fields_at map.now (F.chip flash.new) image Secondary ≡ record erased_fields
         { image_ok = (fields_at map.now (F.chip flash.new) image Secondary).image_ok } }
+    ensures flag { OnOk result (kind ≡ Kind.Permanent
+        → bytes_at map.now (F.chip flash.new) image Secondary 24 8 ≡ flag) }
     ensures ok { OnOk result (fields_at map.now (F.chip flash.new) image Secondary
         ≡ record erased_fields { image_ok = is_permanent kind }) }
     ensures erases { OnOk result ((F.chip flash.new).erases ≡ (F.chip flash.old).erases) }
@@ -58,6 +63,9 @@ pub fn request<F: Flash>(
     requires erased { fields_at map.now (F.chip flash.old) image Secondary ≡ erased_fields }
     ensures outside { Keeps map.now (only (TrailerOf image Secondary))
         (F.chip flash.old) (F.chip flash.new) }
+    // The last three units of the trailer are written, and no others: so swap info stays as it was.
+    ensures units { SameOutside (place_of map.now image Secondary 24) 24
+        (F.chip flash.old) (F.chip flash.new) }
     // Whatever happened, the request is whole, or the magic isn't good ..
     ensures either { (fields_at map.now (F.chip flash.new) image Secondary ≡ requested_fields kind)
         ⊎ (is_good (fields_at map.now (F.chip flash.new) image Secondary).magic ≡ false) }
@@ -66,11 +74,14 @@ pub fn request<F: Flash>(
         ⊎ (standing_of map.now (F.chip flash.new) image ≡ Some kind) }
     ensures ok { OnOk result
         (fields_at map.now (F.chip flash.new) image Secondary ≡ requested_fields kind) }
+    ensures flag { OnOk result (kind ≡ Kind.Permanent
+        → bytes_at map.now (F.chip flash.new) image Secondary 24 8 ≡ flag) }
     ensures erases { OnOk result ((F.chip flash.new).erases ≡ (F.chip flash.old).erases) }
     ensures ends { Ends result (F.chip flash.old) (F.chip flash.new) }
 {
     mark_kind(flash, map, image, kind)?;
-    write_magic(flash, map, image, Side::Secondary)
+    write_magic(flash, map, image, Side::Secondary)?;
+    Ok(())
 }
 
 /// Confirms the image in a primary slot: sets `image_ok` of its trailer, unless it is set.
@@ -97,6 +108,10 @@ pub fn set_ok<F: Flash>(flash: &mut F, map: &SectorMap, image: u8) -> Result<(),
         ≡ record (fields_at map.now (F.chip flash.old) image Primary) { image_ok = true }) }
     ensures ok { OnOk result (fields_at map.now (F.chip flash.new) image Primary
         ≡ record (fields_at map.now (F.chip flash.old) image Primary) { image_ok = true }) }
+    // Where it was erased it holds the flag.
+    ensures flag { OnOk result
+        ((fields_at map.now (F.chip flash.old) image Primary).image_ok ≡ false
+        → bytes_at map.now (F.chip flash.new) image Primary 24 8 ≡ flag) }
     ensures erases { OnOk result ((F.chip flash.new).erases ≡ (F.chip flash.old).erases) }
     ensures ends { Ends result (F.chip flash.old) (F.chip flash.new) }
 {

@@ -1,13 +1,15 @@
 //! Settling the trailers of an image after a swap.
 
-ghost use Rattle.std.specs.Prelude.{◌≡◌, ℕ, ◌+◌, ◌<◌, ◌≤◌, ◌↔◌, ◌||◌, IsTrue, OnOk, IfOk};
+ghost use Rattle.std.specs.Prelude.{◌≡◌, ℕ, ◌+◌, ◌<◌, ◌≤◌, ◌↔◌, ◌||◌, true, IsTrue, OnOk, IfOk};
 ghost use Rattle.std.specs.Str.{bytes_eq};
 ghost use Rattle.flash_model.specs.Chip.{Chip, Ends};
 ghost use Rattle.sector_map.specs.Map.{IsLaidOut, Keeps};
 ghost use Rattle.sector_map.specs.Part.{TrailerOf, only, trailers_of};
 ghost use Rattle.sector_map.specs.declared.layout.Side.TheVariants.{Primary, Secondary};
-ghost use Rattle.trailer.specs.Fields.{are_erased, bytes_at, fields_at, flag, good_magic};
-ghost use Rattle.trailer.specs.Settled.{HasMarks, IsFree, IsOkFree, IsSettled, IsWhole, is_confirmed, is_whole_magic};
+ghost use Rattle.trailer.specs.Fields.{are_erased, bytes_at, fields_at, flag, good_magic, trailer_bytes};
+ghost use Rattle.trailer.specs.Settled.{HasMarks, IsFree, IsOkFree, IsSettled, IsSpared, IsWhole};
+ghost use Rattle.trailer.specs.Settled.{before_marks, is_confirmed, is_whole_magic};
+ghost use Rattle.trailer.specs.declared.kinds.Settling.{Settling};
 
 use crate::clearing::erase_trailer;
 use crate::format::{COPY_DONE, IMAGE_OK};
@@ -148,7 +150,13 @@ fn make_whole<F: Flash>(
         (F.chip flash.old) (F.chip flash.new) }
     ensures ok { OnOk result
         (IsWhole map.now (F.chip flash.new) image side (is_confirmed settling)) }
+    ensures back { OnOk result (settling ≡ Settling.Back
+        → are_erased (trailer_bytes map.now (F.chip flash.new) image side) ≡ true) }
     ensures erases { OnOk result ((F.chip flash.new).erases ≤ (F.chip flash.old).erases + 1) }
+    ensures spares { OnOk result (IsSpared map.now (F.chip flash.old) image side settling
+        → F.chip flash.new ≡ F.chip flash.old) }
+    ensures must { OnOk result ((IsSpared map.now (F.chip flash.old) image side settling → ⊥)
+        → (F.chip flash.new).erases ≡ (F.chip flash.old).erases + 1) }
     ensures ends { Ends result (F.chip flash.old) (F.chip flash.new) }
 {
     if settling != Settling::Back
@@ -186,7 +194,17 @@ pub fn settle<F: Flash>(
     // No unit is left torn.
     ensures marks { OnOk result
         (HasMarks map.now (F.chip flash.new) image Primary (is_confirmed settling)) }
+    // Byte for byte: the secondary trailer is erased, and after a swap back all of the primary one but its marks.
+    ensures erased { OnOk result
+        (are_erased (trailer_bytes map.now (F.chip flash.new) image Secondary) ≡ true) }
+    ensures back { OnOk result (settling ≡ Settling.Back → are_erased
+        (before_marks map.now (trailer_bytes map.now (F.chip flash.new) image Primary)) ≡ true) }
     ensures erases { OnOk result ((F.chip flash.new).erases ≤ (F.chip flash.old).erases + 2) }
+    // The primary trailer is erased where it must be, and nowhere else.
+    ensures spares { OnOk result (IsSpared map.now (F.chip flash.old) image Primary settling
+        → (F.chip flash.new).erases ≡ (F.chip flash.old).erases + 1) }
+    ensures must { OnOk result ((IsSpared map.now (F.chip flash.old) image Primary settling → ⊥)
+        → (F.chip flash.new).erases ≡ (F.chip flash.old).erases + 2) }
     ensures ends { Ends result (F.chip flash.old) (F.chip flash.new) }
 {
     erase_trailer(flash, map, image, Side::Secondary)?;

@@ -1,10 +1,10 @@
 //! How far a swap has come.
 
 ghost use Rattle.std.specs.Prelude.{◌≡◌, ℕ, ◌+◌, ◌*◌, ◌<◌, ◌≤◌, OnOk, IfOk};
-ghost use Rattle.flash_model.specs.Chip.{Chip, Ends, SameOutside};
+ghost use Rattle.flash_model.specs.Chip.{Chip, Ends, Reads, SameOutside};
 ghost use Rattle.sector_map.specs.Map.{IsLaidOut, Keeps, slot_sectors, start_of};
 ghost use Rattle.sector_map.specs.Part.{TrailerOf, only};
-ghost use Rattle.trailer.specs.Fields.{are_erased, fields_at, trailer_bytes};
+ghost use Rattle.trailer.specs.Fields.{are_erased, fields_at, flag, trailer_bytes};
 ghost use Rattle.trailer.specs.Status.{status_count_of, status_unit};
 
 use flash_model::{Flash, FlashError, UNIT, is_unit_erased, set_unit};
@@ -102,6 +102,8 @@ pub fn push_status<F: Flash>(
         { is_fresh = (fields_at map.now (F.chip flash.new) image side).is_fresh } }
     ensures ok { OnOk result (status_count_of map.now (F.chip flash.old) image side
         < status_count_of map.now (F.chip flash.new) image side) }
+    ensures flag { OnOk result (Reads (F.chip flash.new) (start_of map.now (TrailerOf image side)
+        + 8 * status_count_of map.now (F.chip flash.old) image side) flag) }
     ensures erases { OnOk result ((F.chip flash.new).erases ≡ (F.chip flash.old).erases) }
     ensures ends { Ends result (F.chip flash.old) (F.chip flash.new) }
 {

@@ -1,8 +1,10 @@
-use Rattle.std.proofs.Common.{arith}
+use Rattle.std.proofs.Common.{arith, refl}
+use Rattle.flash_model.specs.Chip.{Reads}
+use Rattle.flash_model.specs.declared.unit.TheConstants.{FLAG}
 use Rattle.flash_model.specs.Units.{IsSet}
 use Rattle.std.proofs.lemmas.Result.{on_ok_weaker}
 use Rattle.sector_map.proofs.Parts.{laid_out_kept}
-use Rattle.set_log.proofs.View.{at_closing, flash_erased_of, unit_aligned, log_alone, log_same, log_set, open_reads, closed_by}
+use Rattle.set_log.proofs.View.{at_closing, flash_erased_of, unit_aligned, log_alone, log_same, log_set, log_reads, open_reads, closed_by}
 use Rattle.set_log.proofs.places.close.Goals as goal
 
 pub set_unit-requires-clause-erased : goal.set_unit-requires-clause-erased
@@ -39,3 +41,12 @@ returns-clause-ok g c =
     (log_set map _ _ _ (laid_out_kept map _ _ _ c.requires.laid_out (returns-clause-outside g c)) set
     (at_closing map _ c.args.sector c.requires.laid_out.is_map c.requires.sector c.closing_unit.ensures)))
     c.set_unit.ensures.ok
+
+pub returns-clause-flag : goal.returns-clause-flag
+returns-clause-flag g c =
+    let map = c.args.map.now in
+    on_ok_weaker c.set_unit.result
+    (λ (reads : Reads (g.F.Flash.chip c.set_unit.new.flash) c.closing_unit.result FLAG). log_reads map _ _ _ 8
+    FLAG reads
+    (at_closing map _ c.args.sector c.requires.laid_out.is_map c.requires.sector c.closing_unit.ensures) refl)
+    c.set_unit.ensures.flag

@@ -1,8 +1,10 @@
-use Rattle.std.proofs.Common.{◌+◌, arith, ap}
+use Rattle.std.proofs.Common.{◌+◌, arith, ap, refl}
+use Rattle.flash_model.specs.Chip.{Reads}
+use Rattle.flash_model.specs.declared.unit.TheConstants.{FLAG}
 use Rattle.flash_model.specs.Units.{IsSet}
 use Rattle.std.proofs.lemmas.Result.{on_ok_weaker}
 use Rattle.sector_map.proofs.Parts.{laid_out_kept}
-use Rattle.set_log.proofs.View.{at_gate, at_inside, flash_erased, place_aligned, log_alone, log_same, log_set}
+use Rattle.set_log.proofs.View.{at_gate, at_inside, flash_erased, place_aligned, log_alone, log_same, log_set, log_reads}
 use Rattle.set_log.proofs.places.set_gate.Goals as goal
 
 pub set_unit-requires-clause-inside : goal.set_unit-requires-clause-inside
@@ -50,3 +52,13 @@ returns-clause-ok g c =
     (at_gate map _ c.args.sector c.args.place c.requires.laid_out.is_map c.requires.sector c.requires.place
     (ap (λ a. a + 56) c.record_start.ensures)))
     c.set_unit.ensures.ok
+
+pub returns-clause-flag : goal.returns-clause-flag
+returns-clause-flag g c =
+    let map = c.args.map.now in
+    on_ok_weaker c.set_unit.result
+    (λ (reads : Reads (g.F.Flash.chip c.set_unit.new.flash) (c.record_start.result + 56) FLAG). log_reads map _ _ _ 8
+    FLAG reads
+    (at_gate map _ c.args.sector c.args.place c.requires.laid_out.is_map c.requires.sector c.requires.place
+    (ap (λ a. a + 56) c.record_start.ensures)) refl)
+    c.set_unit.ensures.flag
