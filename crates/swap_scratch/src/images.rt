@@ -5,7 +5,7 @@ ghost use Rattle.flash_model.specs.Chip.{Ends};
 ghost use Rattle.sector_map.specs.Map.{IsLaidOut, Keeps};
 ghost use Rattle.sector_map.specs.Part.{swap_one};
 ghost use Rattle.swap_scratch.specs.Used.{steps_of};
-ghost use Rattle.swap_scratch.specs.Place.{IsImagePlace, KeepsFields};
+ghost use Rattle.swap_scratch.specs.Place.{IsImagePlace, KeepsRest};
 ghost use Rattle.swap_scratch.specs.Swap.{IsAllCounted};
 
 use crate::steps::take_step;
@@ -25,7 +25,7 @@ pub(crate) fn swap_image<F: Flash>(
     requires laid_out { IsLaidOut map.now (F.chip flash.old) }
     requires there { image < map.now.images }
     ensures outside { Keeps map.now (swap_one image side) (F.chip flash.old) (F.chip flash.new) }
-    ensures fields { KeepsFields map.now side (F.chip flash.old) (F.chip flash.new) }
+    ensures rest { KeepsRest map.now side (F.chip flash.old) (F.chip flash.new) }
     ensures idle { IsAllCounted map.now (F.chip flash.old) side image
         → F.chip flash.new ≡ F.chip flash.old }
     ensures resumes { (x y : List ℕ) (c : ℕ)

@@ -6,7 +6,7 @@ ghost use Rattle.sector_map.specs.Map.{IsLaidOut, Keeps, slot_sectors};
 ghost use Rattle.sector_map.specs.Part.{swap_one};
 ghost use Rattle.trailer.specs.Status.{status_count_of};
 ghost use Rattle.swap_scratch.specs.Used.{used_of};
-ghost use Rattle.swap_scratch.specs.Place.{sectors_of_swap, moved_of, IsMove, IsPartway, IsImagePlace, KeepsFields};
+ghost use Rattle.swap_scratch.specs.Place.{sectors_of_swap, moved_of, IsMove, IsPartway, IsImagePlace, KeepsBehind, KeepsRest};
 
 use crate::copying::copy_sector;
 use flash_model::{Flash, FlashError};
@@ -56,6 +56,8 @@ fn move_sector<F: Flash>(
         (status / 3) (status % 3)
         → IsPartway (F.chip flash.new) (sectors_of_swap map.now image used) x y
         ((status + 1) / 3) ((status + 1) % 3)) }
+    ensures behind { KeepsBehind map.now image (used * map.now.sector_size)
+        (F.chip flash.old) (F.chip flash.new) }
     ensures erases { OnOk result ((F.chip flash.new).erases ≡ (F.chip flash.old).erases + 1) }
     ensures ends { Ends result (F.chip flash.old) (F.chip flash.new) }
 {
@@ -80,7 +82,7 @@ pub(crate) fn take_step<F: Flash>(
     requires count { status ≡ status_count_of map.now (F.chip flash.old) image side }
     requires below { status < 3 * used }
     ensures outside { Keeps map.now (swap_one image side) (F.chip flash.old) (F.chip flash.new) }
-    ensures fields { KeepsFields map.now side (F.chip flash.old) (F.chip flash.new) }
+    ensures rest { KeepsRest map.now side (F.chip flash.old) (F.chip flash.new) }
     ensures resumes { (x y : List ℕ)
         → IsImagePlace map.now (F.chip flash.old) side image x y status
         → IsImagePlace map.now (F.chip flash.new) side image x y status

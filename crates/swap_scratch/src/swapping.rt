@@ -5,7 +5,7 @@ ghost use Rattle.flash_model.specs.Chip.{Ends};
 ghost use Rattle.sector_map.specs.Map.{IsLaidOut, IsWithin, Keeps};
 ghost use Rattle.sector_map.specs.Part.{swap_of, is_member};
 ghost use Rattle.swap_scratch.specs.Used.{steps_of};
-ghost use Rattle.swap_scratch.specs.Place.{KeepsFields};
+ghost use Rattle.swap_scratch.specs.Place.{KeepsRest};
 ghost use Rattle.swap_scratch.specs.Swap.{AreSwapped, IsAllCounted, IsDoneBelow, IsSwapAt, share, steps_done, steps_in_all};
 
 use crate::images::swap_image;
@@ -24,7 +24,7 @@ fn swap_member<F: Flash>(
     requires within { IsWithin map.now mask }
     requires there { image < map.now.images }
     ensures outside { Keeps map.now (swap_of mask side) (F.chip flash.old) (F.chip flash.new) }
-    ensures fields { KeepsFields map.now side (F.chip flash.old) (F.chip flash.new) }
+    ensures rest { KeepsRest map.now side (F.chip flash.old) (F.chip flash.new) }
     ensures idle { (is_member mask image ≡ true
         → IsAllCounted map.now (F.chip flash.old) side image)
         → F.chip flash.new ≡ F.chip flash.old }
@@ -75,7 +75,7 @@ pub fn swap_set<F: Flash>(
     requires laid_out { IsLaidOut map.now (F.chip flash.old) }
     requires within { IsWithin map.now mask }
     ensures outside { Keeps map.now (swap_of mask side) (F.chip flash.old) (F.chip flash.new) }
-    ensures fields { KeepsFields map.now side (F.chip flash.old) (F.chip flash.new) }
+    ensures rest { KeepsRest map.now side (F.chip flash.old) (F.chip flash.new) }
     ensures idle { ((i : ℕ) → is_member mask i ≡ true
         → IsAllCounted map.now (F.chip flash.old) side i)
         → F.chip flash.new ≡ F.chip flash.old }

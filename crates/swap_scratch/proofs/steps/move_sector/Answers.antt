@@ -1,5 +1,5 @@
 use Rattle.std.proofs.Common.{arith, refl}
-use Rattle.swap_scratch.proofs.ImagePlaces.{order_of, keeps_move, step_inside}
+use Rattle.swap_scratch.proofs.ImagePlaces.{order_of, keeps_move, behind_move, step_inside}
 use Rattle.swap_scratch.proofs.Moves.{partway_beside, free_target, next}
 use Rattle.swap_scratch.proofs.steps.move_sector.Goals as goal
 
@@ -51,3 +51,13 @@ returns-clause-moved g c = λ x y was.
       size = refl;
       whole = refl;
     }) was
+
+pub returns-in_err-copy_sector-clause-behind : goal.returns-in_err-copy_sector-clause-behind
+returns-in_err-copy_sector-clause-behind g c = behind_move c.args.map.now c.args.image c.args.used c.args.status _ _ _ _
+    c.requires.laid_out c.requires.there c.requires.few c.requires.below c.sectors_of_step-from.ensures
+    c.copy_sector.ensures.outside
+
+pub returns-clause-behind : goal.returns-clause-behind
+returns-clause-behind g c = behind_move c.args.map.now c.args.image c.args.used c.args.status _ _ _ _
+    c.requires.laid_out c.requires.there c.requires.few c.requires.below c.sectors_of_step-from.ensures
+    c.copy_sector.ensures.outside

@@ -1,6 +1,6 @@
 use Rattle.std.proofs.Common.{arith, inl}
 use Rattle.swap_scratch.proofs.Sizes.{used_within}
-use Rattle.swap_scratch.proofs.Taking.{step_room, move_kept, step_fields, step_torn, step_taken}
+use Rattle.swap_scratch.proofs.Taking.{step_room, move_kept, move_rest, step_rest, step_torn, step_taken}
 use Rattle.swap_scratch.proofs.steps.take_step.Goals as goal
 
 pub move_sector-requires-clause-few : goal.move_sector-requires-clause-few
@@ -20,10 +20,11 @@ push_status-requires-clause-room g c = step_room c.args.map.now c.args.side c.ar
     c.args.used c.args.status _ _ c.requires.laid_out c.requires.there c.requires.used c.requires.count c.requires.below
     c.move_sector.ensures.outside
 
-pub returns-in_err-push_status-clause-fields : goal.returns-in_err-push_status-clause-fields
-returns-in_err-push_status-clause-fields g c = step_fields c.args.map.now c.args.side c.args.image
+pub returns-in_err-push_status-clause-rest : goal.returns-in_err-push_status-clause-rest
+returns-in_err-push_status-clause-rest g c = step_rest c.args.map.now c.args.side c.args.image
     c.args.used c.args.status _ _ c.requires.laid_out c.requires.there c.requires.used c.requires.count c.requires.below
     c.move_sector.ensures.outside _ c.push_status.ensures.outside c.push_status.ensures.unit
+    c.move_sector.ensures.behind
 
 pub returns-in_err-push_status-clause-resumes : goal.returns-in_err-push_status-clause-resumes
 returns-in_err-push_status-clause-resumes g c = step_torn c.args.map.now c.args.side c.args.image
@@ -31,10 +32,11 @@ returns-in_err-push_status-clause-resumes g c = step_torn c.args.map.now c.args.
     c.move_sector.ensures.outside _ c.push_status.ensures.outside c.push_status.ensures.unit
     c.move_sector.ensures.kept c.in_ok-move_sector.ensures.moved
 
-pub returns-clause-fields : goal.returns-clause-fields
-returns-clause-fields g c = step_fields c.args.map.now c.args.side c.args.image
+pub returns-clause-rest : goal.returns-clause-rest
+returns-clause-rest g c = step_rest c.args.map.now c.args.side c.args.image
     c.args.used c.args.status _ _ c.requires.laid_out c.requires.there c.requires.used c.requires.count c.requires.below
     c.move_sector.ensures.outside _ c.push_status.ensures.outside c.push_status.ensures.unit
+    c.move_sector.ensures.behind
 
 pub returns-clause-resumes : goal.returns-clause-resumes
 returns-clause-resumes g c = step_torn c.args.map.now c.args.side c.args.image
@@ -47,3 +49,8 @@ returns-clause-taken g c = step_taken c.args.map.now c.args.side c.args.image
     c.args.used c.args.status _ _ c.requires.laid_out c.requires.there c.requires.used c.requires.count c.requires.below
     c.move_sector.ensures.outside _ c.push_status.ensures.outside c.push_status.ensures.unit
     c.move_sector.ensures.kept c.in_ok-move_sector.ensures.moved c.in_ok-push_status.ensures.ok
+
+pub returns-in_err-move_sector-clause-rest : goal.returns-in_err-move_sector-clause-rest
+returns-in_err-move_sector-clause-rest g c = move_rest c.args.map.now c.args.side c.args.image c.args.used
+    c.args.status _ _ c.requires.laid_out c.requires.there c.requires.used c.requires.count c.requires.below
+    c.move_sector.ensures.outside c.move_sector.ensures.behind

@@ -2,7 +2,7 @@ use Rattle.std.proofs.Common.{rules, arith, refl, sym, ap, subst, ◌+◌, ◌�
 use Rattle.sector_map.proofs.Parts.{keeps_refl, keeps_trans, laid_out_kept}
 use Rattle.swap_scratch.specs.Used.{steps_of}
 use Rattle.swap_scratch.specs.Swap.{IsAllCounted, sum_over}
-use Rattle.swap_scratch.proofs.Taking.{fields_refl, fields_trans}
+use Rattle.swap_scratch.proofs.Taking.{rest_refl, rest_trans}
 use Rattle.swap_scratch.proofs.Members.{begun}
 use Rattle.swap_scratch.proofs.Sums.{sum_none, sum_more, share_same, counts_are}
 use Rattle.swap_scratch.proofs.Contents.{swapped_one}
@@ -12,7 +12,7 @@ pub loop-image-init : goal.loop-image-init
 loop-image-init g c = record {
   laid_out = c.requires.laid_out;
   outside = keeps_refl _ _ _;
-  fields = fields_refl _ _ _;
+  rest = rest_refl _ _ _;
   idle = λ done. refl;
   counted = λ i lt in_mask. absurd (omega arith);
   place = λ counts x y at. begun _ _ _ _ counts x y at;
@@ -21,9 +21,9 @@ loop-image-init g c = record {
   asleep = search rules;
 }
 
-pub returns-in_err-swap_member-clause-fields : goal.returns-in_err-swap_member-clause-fields
-returns-in_err-swap_member-clause-fields g c = fields_trans _ _ _ _ _ c.requires.laid_out
-    c.loop-image.invariant.laid_out c.loop-image.invariant.fields c.swap_member.ensures.fields
+pub returns-in_err-swap_member-clause-rest : goal.returns-in_err-swap_member-clause-rest
+returns-in_err-swap_member-clause-rest g c = rest_trans _ _ _ _ _ c.requires.laid_out
+    c.loop-image.invariant.laid_out c.loop-image.invariant.rest c.swap_member.ensures.rest
 
 pub loop-image-preserved : goal.loop-image-preserved
 loop-image-preserved g c =
@@ -31,7 +31,7 @@ loop-image-preserved g c =
     record {
       laid_out = laid_out_kept _ _ _ _ kept.laid_out c.swap_member.ensures.outside;
       outside = keeps_trans _ _ _ _ _ kept.outside c.swap_member.ensures.outside;
-      fields = fields_trans _ _ _ _ _ c.requires.laid_out kept.laid_out kept.fields c.swap_member.ensures.fields;
+      rest = rest_trans _ _ _ _ _ c.requires.laid_out kept.laid_out kept.rest c.swap_member.ensures.rest;
       idle = λ done.
           let here = kept.idle done in
           c.swap_member.ensures.idle (λ member. subst
@@ -44,7 +44,7 @@ loop-image-preserved g c =
         kept.erases counts x y at,
         c.in_ok-swap_member.ensures.erases counts x y (kept.place counts x y at),
         sum_more,
-        share_same _ c.args.side c.args.mask c.loop-image.image _ _ c.requires.laid_out kept.laid_out kept.fields
+        share_same _ c.args.side c.args.mask c.loop-image.image _ _ c.requires.laid_out kept.laid_out kept.rest
             (omega arith),
       );
       uncut = search rules;
