@@ -10,6 +10,7 @@ use Rattle.upload.specs.Device.{DeviceState, Machine, Session, Wanted}
 use Rattle.upload.specs.Steady.{IsFront, IsRequested, IsImageAt, IsSteadyAt, logged}
 use Rattle.upload.specs.Sessions.{AllOpenAt, upload_at, IsWritten, session_of, HasSession, IsUpAt}
 use Rattle.upload.specs.Withdrawal.{IsKeptOrGone}
+use Rattle.upload.specs.Taking.{LeavesAccept}
 use Rattle.upload.specs.Accepted.{latest, OpenedAt, IsOpening, IsOpened, opened, session_after, request_after, accepted, IsAcceptCut}
 use Rattle.upload.specs.declared.sessions.Upload.{Upload}
 use Rattle.upload.proofs.Frames.{erased_stands, unasked}
@@ -22,6 +23,32 @@ some_state a b e = cc
 -- one state stands in the log
 pub same_state : (w : View) (a b : State) → w.log ≡ Some a → w.log ≡ Some b → a ≡ b
 same_state w a b first second = some_state a b (sym first ∙ second)
+
+-- so the record with another sequence number is one
+pub same_record : (w : View) (a : State) (q : ℕ) → w.log ≡ Some a → {b : State} → w.log ≡ Some b
+    → Some (record a { sequence = q }) ≡ Some (record b { sequence = q })
+same_record w a q first {b} second = ap (λ (st : State). Some (record st { sequence = q })) (same_state w a b first second)
+
+-- what is left where the sequence number was being written ..
+pub leaves_early : (old mid : View) (state : State) (q : ℕ) → old.log ≡ Some state → KeepsView (only Log) old mid
+    → (mid.log ≡ old.log) ⊎ (mid.log ≡ Some (record state { sequence = q })) → LeavesAccept old mid q
+leaves_early old mid state q read keeps either = record {
+  log = λ one is. ⊎_elim (λ kept. inl kept) (λ wrote. inr (wrote ∙ same_record old state q read is)) either;
+  each = λ j. inl (keeps.slots j Secondary refl, keeps.trailers j Secondary refl);
+  first = λ one is. inr (λ j. (keeps.slots j Secondary refl, keeps.trailers j Secondary refl));
+}
+
+-- .. and later.
+pub leaves_late : (old mid new : View) (state : State) (q : ℕ) (cs : List Component) → old.log ≡ Some state
+    → KeepsView (only Log) old mid → mid.log ≡ Some (record state { sequence = q })
+    → IsOpening mid new (latest cs) → LeavesAccept old new q
+leaves_late old mid new state q cs read keeps wrote opening = record {
+  log = λ one is. inr (opening.log ∙ wrote ∙ same_record old state q read is);
+  each = λ j. ⊎_elim
+      (λ kept. inl (kept.0 ∙ keeps.slots j Secondary refl, kept.1 ∙ keeps.trailers j Secondary refl))
+      (λ gone. inr gone) (opening.either j);
+  first = λ one is. inl (opening.log ∙ wrote ∙ same_record old state q read is);
+}
 
 -- an image whose slots and trailer are as they were
 pub image_same : (old new : View) (s : DeviceState) (i : ℕ) → new.slot i Primary ≡ old.slot i Primary

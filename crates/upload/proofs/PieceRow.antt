@@ -1,6 +1,7 @@
 -- The row of a piece.
 use Rattle.std.proofs.Common.{◌≡◌, ℕ, ◌+◌, ◌<◌, ◌≤◌, ◌==◌, Bool, true, false, List, length, Option, Some, None, Ok, Err, refl, sym, ◌∙◌, ap, subst, arith, length-append, if◌then◌else◌}
 use Rattle.std.proofs.lemmas.Bool.{eqb-true}
+use Rattle.std.proofs.lemmas.Bool.Decides.{nat_tests}
 use Rattle.flash_model.specs.declared.error.FlashError.{FlashError}
 use Rattle.sector_map.specs.declared.layout.Side.TheVariants.{Secondary}
 use Rattle.sector_map.specs.Part.{Slot, only}
@@ -124,3 +125,20 @@ piece_more i w told tnew u bytes is out more m up =
       ),
       session_out i w told tnew out m up,
     )
+
+some_upload : (a b : Upload) → Some a ≡ Some b → a ≡ b
+some_upload a b e = cc
+
+same_image : (i : ℕ) → (i == i) ≡ true
+same_image i = grind (arith, nat_tests)
+
+-- an upload that took more is in the table
+pub took_more : (i : ℕ) (old new : View) (told tmid tnew : List (Option Upload)) (before after : Upload)
+    (bytes : List ℕ) → Some before ≡ upload_at told i → IsWith i (Some after) tmid tnew
+    → TakesMore old new i before after bytes → (u : Upload) → upload_at told i ≡ Some u
+    → (now : Upload) × (upload_at tnew i ≡ Some now) × TakesMore old new i u now bytes
+took_more i old new told tmid tnew before after bytes was put takes u is = (
+  after,
+  put i ∙ ap (λ b. if b then Some after else upload_at tmid i) (same_image i),
+  subst (λ v. TakesMore old new i v after bytes) (some_upload before u (was ∙ is)) takes,
+)

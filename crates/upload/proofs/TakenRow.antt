@@ -18,7 +18,7 @@ use Rattle.upload.specs.Steady.{IsFront, IsSteadyAt, logged}
 use Rattle.upload.specs.Sessions.{AllOpenAt, IsUpAt}
 use Rattle.upload.specs.Ending.{IsClosedAfter}
 use Rattle.upload.specs.Accepted.{Accepts, AllFit, AreThere, MayAccept, latest, AllFollow, AllFollowAt, FrontHasDigest, HasDigest, IsPrecursor, accepted}
-use Rattle.upload.specs.Taking.{CutsAccept, EndsAccept, IsNewer, IsUnchanged, MayTake, Refuses}
+use Rattle.upload.specs.Taking.{CutsAccept, EndsAccept, IsNewer, IsTaken, IsUnchanged, LeavesAccept, MayTake, Refuses}
 use Rattle.upload.specs.declared.sessions.Upload.{Upload}
 use Rattle.upload.specs.declared.error.UploadError.{UploadError}
 use Rattle.upload.specs.declared.error.UploadError.TheVariants as no
@@ -111,7 +111,7 @@ module _ (map : SectorMap) (old new : View) (told tmid tnew : List (Option Uploa
     same_up m ends.1 (after.same refl) up,
   )
   accept_row (Err (no.Flash flash.Cut)) ends after m up =
-      let (next, cut, rest) = ends.1 m.kept up.rest in (
+      let (next, cut, rest) = ends.2 m.kept up.rest in (
         closed m next,
         (may_accept m.kept ends.0.0 up.rest ends.0.1, cut, refl),
         record { up = up.up; rest = rest; open_ones = sessions_closed new tnew (after.closed refl) },
@@ -153,6 +153,28 @@ module _ (map : SectorMap) (old new : View) (told tmid tnew : List (Option Uploa
   accept_open (Err no.NothingRequested) ends after opens = absurd ends
   accept_open (Err no.NoMemory) ends after opens = absurd ends
 
+-- what is left stands after the table is closed, where the flash stopped the call
+module _ (map : SectorMap) (old new : View) (told tmid tnew : List (Option Upload)) (q : ℕ) (cs : List Component) where
+  same_table : IsUnchanged old new told tmid → tnew ≡ tmid → IsUnchanged old new told tnew
+  same_table same after = record { flash = same.flash; table = after ∙ same.table }
+
+  pub accept_ends : (result : Result Unit UploadError) → EndsAccept map old new told tmid q cs result
+      → IsClosedAfter result tmid tnew → EndsAccept map old new told tnew q cs result
+  accept_ends (Ok done) ends after =
+      (ends.0, subst (λ t. IsTaken old new told t q cs) (sym (after.same refl)) ends.1)
+  accept_ends (Err no.OldSequence) ends after = (ends.0, same_table ends.1 (after.same refl))
+  accept_ends (Err no.TooBig) ends after = (ends.0, same_table ends.1 (after.same refl))
+  accept_ends (Err no.WrongPrecursor) ends after = (ends.0, same_table ends.1 (after.same refl))
+  accept_ends (Err (no.Flash flash.Cut)) ends after = ends
+  accept_ends (Err (no.Flash flash.Off)) ends after = ends
+  accept_ends (Err no.NoSession) ends after = absurd ends
+  accept_ends (Err no.TooMuch) ends after = absurd ends
+  accept_ends (Err no.SizeWrong) ends after = absurd ends
+  accept_ends (Err no.DigestWrong) ends after = absurd ends
+  accept_ends (Err (no.NotAnImage code)) ends after = absurd ends
+  accept_ends (Err no.NothingRequested) ends after = absurd ends
+  accept_ends (Err no.NoMemory) ends after = absurd ends
+
 -- what the checks refuse
 pub refuses : (map : SectorMap) (w : View) (sessions : List (Option Upload)) (q : ℕ) (cs : List Component)
     (e : UploadError) → Refuses map w q cs e → EndsAccept map w w sessions sessions q cs (Err e)
@@ -171,10 +193,10 @@ refuses map w sessions q cs no.NoMemory because = absurd because
 
 -- the flash stops a manifest that is being taken
 pub stopped : (map : SectorMap) (old new : View) (told tnew : List (Option Upload)) (q : ℕ) (cs : List Component)
-    (error : FlashError) (state : State) → MayTake map old state q cs → CutsAccept old new q cs
-    → (error ≡ flash.Off → new ≡ old) → EndsAccept map old new told tnew q cs (Err (no.Flash error))
-stopped map old new told tnew q cs flash.Cut state may cuts off = ((state, may), cuts)
-stopped map old new told tnew q cs flash.Off state may cuts off = off refl
+    (error : FlashError) (state : State) → MayTake map old state q cs → LeavesAccept old new q
+    → CutsAccept old new q cs → (error ≡ flash.Off → new ≡ old) → EndsAccept map old new told tnew q cs (Err (no.Flash error))
+stopped map old new told tnew q cs flash.Cut state may leaves cuts off = ((state, may), leaves, cuts)
+stopped map old new told tnew q cs flash.Off state may leaves cuts off = off refl
 
 -- each named image is there, and its file fits the slot
 pub named_fit : (map : SectorMap) (chip : Chip) (cs : List Component) → IsLaidOut map chip → AreThere map cs

@@ -1,5 +1,5 @@
 -- Whether a manifest may be taken, and what taking it leaves on the flash.
-use Rattle.std.specs.Prelude.{◌≡◌, ℕ, ◌<◌, ◌≤◌, List, Option, Some, Result, Ok, Err}
+use Rattle.std.specs.Prelude.{◌≡◌, ◌⊎◌, ℕ, ◌<◌, ◌≤◌, List, [], Option, Some, Result, Ok, Err}
 use Rattle.flash_model.specs.declared.error.FlashError.TheVariants as flash
 use Rattle.sector_map.specs.declared.layout.SectorMap.{SectorMap}
 use Rattle.set_log.specs.declared.state.State.{State}
@@ -10,8 +10,11 @@ use Rattle.upload.specs.declared.sessions.Upload.{Upload}
 use Rattle.upload.specs.View.{View}
 use Rattle.upload.specs.Device.{DeviceState, Machine}
 use Rattle.upload.specs.Steady.{IsSteadyAt}
-use Rattle.upload.specs.Sessions.{AllOpenAt, IsUpAt}
-use Rattle.upload.specs.Accepted.{AllFit, AllFollowAt, IsAcceptCut, accepted}
+use Rattle.sector_map.specs.declared.layout.Side.TheVariants.{Secondary}
+use Rattle.trailer.specs.Fields.{erased_fields}
+use Rattle.upload.specs.Sessions.{AllOpenAt, IsUpAt, IsWritten, upload_at}
+use Rattle.upload.specs.Withdrawal.{IsKeptOrGone}
+use Rattle.upload.specs.Accepted.{AllFit, AllFollowAt, IsAcceptCut, OpenedAt, accepted, latest}
 
 -- The state of the log, whose sequence number isn't above the manifest's.
 pub record IsNewer (w : View) (state : State) (sequence : ℕ) : Type 0 where
@@ -43,9 +46,15 @@ Refuses map w sequence cs (no.NotAnImage fault) = ⊥
 Refuses map w sequence cs no.NothingRequested = ⊥
 Refuses map w sequence cs no.NoMemory = ⊥
 
--- A manifest was taken.
+-- A manifest was taken: its sequence number stands, each named image has an erased slot and trailer and a new upload,
+-- and uploads of other images go on.
 pub record IsTaken (old new : View) (told tnew : List (Option Upload)) (sequence : ℕ)
     (cs : List Component) : Type 0 where
+  pub log : (state : State) → old.log ≡ Some state
+      → new.log ≡ Some (record state { sequence = sequence })
+  pub empty : (j : ℕ) (c : Component) → latest cs j ≡ Some c
+      → (new.trailer j Secondary ≡ erased_fields) × IsWritten (new.slot j Secondary) []
+  pub table : (j : ℕ) → OpenedAt (upload_at tnew j) (upload_at told j) (latest cs j)
   pub opens : AllOpenAt old told → AllOpenAt new tnew
   pub steps : (m : Machine) → IsUpAt old told m → IsUpAt new tnew (accepted m sequence cs)
 
@@ -59,6 +68,17 @@ abbrev pub CutsAccept : View → View → ℕ → List Component → Type 0
 CutsAccept old new sequence cs = (s : DeviceState) → IsSteadyAt old s
     → (next : DeviceState) × IsAcceptCut s sequence cs next × IsSteadyAt new next
 
+-- Whatever a flash holds: the old sequence number stands or the new one, each request is as it was or gone, and
+-- unless the new number stands each slot and trailer is as it was.
+pub record LeavesAccept (old new : View) (sequence : ℕ) : Type 0 where
+  pub log : (state : State) → old.log ≡ Some state
+      → (new.log ≡ old.log) ⊎ (new.log ≡ Some (record state { sequence = sequence }))
+  pub each : (j : ℕ) → IsKeptOrGone old new j
+  pub first : (state : State) → old.log ≡ Some state
+      → (new.log ≡ Some (record state { sequence = sequence }))
+      ⊎ ((j : ℕ) → (new.slot j Secondary ≡ old.slot j Secondary)
+      × (new.trailer j Secondary ≡ old.trailer j Secondary))
+
 -- What taking a manifest leaves on the flash and in the table.
 abbrev pub EndsAccept : SectorMap → View → View → List (Option Upload) → List (Option Upload) → ℕ
     → List Component → Result Unit UploadError → Type 0
@@ -71,7 +91,8 @@ EndsAccept map old new told tnew sequence cs (Err no.TooBig) =
 EndsAccept map old new told tnew sequence cs (Err no.WrongPrecursor) =
     Refuses map old sequence cs no.WrongPrecursor × IsUnchanged old new told tnew
 EndsAccept map old new told tnew sequence cs (Err (no.Flash flash.Cut)) =
-    ((state : State) × MayTake map old state sequence cs) × CutsAccept old new sequence cs
+    ((state : State) × MayTake map old state sequence cs) × LeavesAccept old new sequence
+    × CutsAccept old new sequence cs
 EndsAccept map old new told tnew sequence cs (Err (no.Flash flash.Off)) = new ≡ old
 EndsAccept map old new told tnew sequence cs (Err no.NoSession) = ⊥
 EndsAccept map old new told tnew sequence cs (Err no.TooMuch) = ⊥

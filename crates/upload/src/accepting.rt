@@ -1,6 +1,6 @@
 //! Taking a manifest.
 
-ghost use Rattle.std.specs.Prelude.{◌≡◌, ◌≢◌, ◌⊎◌, ◌+◌, ◌≤◌, ◌<◌, ℕ, true, OnOk, Some, None};
+ghost use Rattle.std.specs.Prelude.{◌≡◌, ◌≢◌, ◌⊎◌, ◌+◌, ◌≤◌, ◌<◌, ℕ, false, true, Err, IfErr, OnOk, Some, None};
 ghost use Rattle.flash_model.specs.Chip.{Chip, Ends};
 ghost use Rattle.sector_map.specs.Map.{IsLaidOut, Keeps};
 ghost use Rattle.sector_map.specs.Part.{Log, only};
@@ -9,10 +9,10 @@ ghost use Rattle.set_log.specs.Record.{fits};
 ghost use Rattle.upload.specs.View.{view};
 ghost use Rattle.upload.specs.Device.{DeviceState, Machine};
 ghost use Rattle.upload.specs.Steady.{IsSteadyAt};
-ghost use Rattle.upload.specs.Sessions.{AllOpenAt, IsUpAt};
-ghost use Rattle.upload.specs.Ending.{EndsUpload};
-ghost use Rattle.upload.specs.Accepted.{Accepts, AreThere, AllFit, IsAcceptCut, accepted, accepted_parts};
-ghost use Rattle.upload.specs.Taking.{EndsAccept};
+ghost use Rattle.upload.specs.Sessions.{AllClosed, AllOpenAt, IsUpAt};
+ghost use Rattle.upload.specs.Ending.{EndsUpload, is_flash};
+ghost use Rattle.upload.specs.Accepted.{Accepts, AreThere, AllFit, IsAcceptCut, accepted_parts};
+ghost use Rattle.upload.specs.Taking.{EndsAccept, IsTaken, LeavesAccept};
 
 use crate::error::UploadError;
 use crate::judging::judge_manifest;
@@ -70,13 +70,11 @@ fn write_manifest<F: Flash>(
     ensures cut { (s : DeviceState) → IsSteadyAt (view map.now (F.chip flash.old)) s
         → (next : DeviceState) × IsAcceptCut s sequence components.now next
         × IsSteadyAt (view map.now (F.chip flash.new)) next }
-    ensures all_open { OnOk result (
-        AllOpenAt (view map.now (F.chip flash.old)) uploads.old.sessions
-        → AllOpenAt (view map.now (F.chip flash.new)) uploads.new.sessions) }
-    ensures ok { OnOk result ((m : Machine)
-        → IsUpAt (view map.now (F.chip flash.old)) uploads.old.sessions m
-        → IsUpAt (view map.now (F.chip flash.new)) uploads.new.sessions
-        (accepted m sequence components.now)) }
+    ensures leaves { LeavesAccept (view map.now (F.chip flash.old))
+        (view map.now (F.chip flash.new)) sequence }
+    ensures ok { OnOk result (IsTaken (view map.now (F.chip flash.old))
+        (view map.now (F.chip flash.new)) uploads.old.sessions uploads.new.sessions
+        sequence components.now) }
     ensures ends { Ends result (F.chip flash.old) (F.chip flash.new) }
 {
     record_sequence(flash, map, state, sequence)?;
@@ -98,6 +96,8 @@ fn take_manifest<F: Flash>(
     ensures accepts { EndsAccept map.now (view map.now (F.chip flash.old))
         (view map.now (F.chip flash.new)) uploads.old.sessions uploads.new.sessions
         manifest.now.sequence manifest.now.components.items result }
+    ensures nothing { IfErr result (λ error. is_flash {T = Unit} (Err error) ≡ false
+        → F.chip flash.new ≡ F.chip flash.old) }
     ensures ends { EndsUpload result (F.chip flash.old) (F.chip flash.new) }
 {
     let state = match judge_manifest(flash, map, manifest) {
@@ -139,6 +139,14 @@ impl Uploads {
             (F.chip flash.old) (F.chip flash.new) }
         ensures all_open { AllOpenAt (view map.now (F.chip flash.old)) self.old.sessions
             → AllOpenAt (view map.now (F.chip flash.new)) self.new.sessions }
+        // On any flash: what is answered, and what is left then.
+        ensures accepts { EndsAccept map.now (view map.now (F.chip flash.old))
+            (view map.now (F.chip flash.new)) self.old.sessions self.new.sessions
+            manifest.now.sequence manifest.now.components.items result }
+        ensures nothing { IfErr result (λ error. is_flash {T = Unit} (Err error) ≡ false
+            → F.chip flash.new ≡ F.chip flash.old) }
+        ensures closed { is_flash result ≡ true → AllClosed self.new.sessions }
+        // On a flash that holds a state: the step of a machine that knows whole images.
         ensures row { (m : Machine)
             → IsUpAt (view map.now (F.chip flash.old)) self.old.sessions m
             → (next : Machine) × Accepts map.now m manifest.now.sequence

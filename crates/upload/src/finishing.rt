@@ -1,6 +1,6 @@
 //! Finishing an upload.
 
-ghost use Rattle.std.specs.Prelude.{◌≡◌, ◌⊎◌, ◌+◌, ◌-◌, ◌*◌, ◌++◌, ◌≤◌, ◌<◌, ℕ, Some, None, length, take, List, OnOk, replicate};
+ghost use Rattle.std.specs.Prelude.{◌≡◌, ◌⊎◌, ◌+◌, ◌-◌, ◌*◌, ◌++◌, ◌≤◌, ◌<◌, ℕ, false, true, Some, None, Err, length, take, List, OnOk, replicate};
 ghost use Rattle.flash_model.specs.Chip.{Chip, Ends};
 ghost use Rattle.sector_map.specs.Map.{IsLaidOut, Keeps, length_of};
 ghost use Rattle.sector_map.specs.Part.{Slot, incoming_of, only};
@@ -8,8 +8,10 @@ ghost use Rattle.sector_map.specs.declared.layout.Side.TheVariants.{Secondary};
 ghost use Rattle.trailer.specs.Standing.{incoming_slot};
 ghost use Rattle.upload.specs.View.{view};
 ghost use Rattle.upload.specs.Device.{Machine};
-ghost use Rattle.upload.specs.Sessions.{AllOpenAt, IsOpenAt, IsUpAt, IsUploadAt, IsWritten, session_of, upload_at};
-ghost use Rattle.upload.specs.Ending.{EndsUpload};
+ghost use Rattle.upload.specs.Sessions.{AllOpenAt, IsOpenAt, IsUpAt, IsUploadAt, IsWith, IsWritten};
+ghost use Rattle.upload.specs.Sessions.{AllClosed, session_of, upload_at};
+ghost use Rattle.upload.specs.declared.error.UploadError.TheVariants.{NoSession};
+ghost use Rattle.upload.specs.Ending.{EndsUpload, is_flash};
 ghost use Rattle.upload.specs.Finish.{EndsFinish, FinishRow, Judges};
 ghost use Rattle.upload.specs.declared.sessions.Upload.{Upload};
 
@@ -158,6 +160,17 @@ impl Uploads {
         ensures outside { Keeps map.now (incoming_of image) (F.chip flash.old) (F.chip flash.new) }
         ensures all_open { AllOpenAt (view map.now (F.chip flash.old)) self.old.sessions
             → AllOpenAt (view map.now (F.chip flash.new)) self.new.sessions }
+        // On any flash: what is answered, and what is left then. Nothing is requested but a whole image.
+        ensures finishes { (u : Upload) (written : List ℕ)
+            → upload_at self.old.sessions image ≡ Some u
+            → IsUploadAt (view map.now (F.chip flash.old)) image u written
+            → EndsFinish (view map.now (F.chip flash.new)) image (session_of u written) result }
+        ensures none { upload_at self.old.sessions image ≡ None → (result ≡ Err NoSession)
+            × (F.chip flash.new ≡ F.chip flash.old) }
+        ensures closes { is_flash result ≡ false
+            → IsWith image None self.old.sessions self.new.sessions }
+        ensures closed { is_flash result ≡ true → AllClosed self.new.sessions }
+        // On a flash that holds a state: the step of a machine that knows whole images.
         ensures row { (m : Machine)
             → IsUpAt (view map.now (F.chip flash.old)) self.old.sessions m
             → (next : Machine) × FinishRow m image result next

@@ -1,14 +1,15 @@
 //! Taking a piece of an upload.
 
-ghost use Rattle.std.specs.Prelude.{◌≡◌, ◌≤◌, ◌<◌, ℕ, Some, List, OnOk};
+ghost use Rattle.std.specs.Prelude.{◌≡◌, ◌+◌, ◌≤◌, ◌<◌, ℕ, false, true, Some, None, Err, IfErr, List, OnOk, length};
 ghost use Rattle.sector_map.specs.Map.{IsLaidOut, Keeps};
 ghost use Rattle.sector_map.specs.Part.{Slot, only};
 ghost use Rattle.sector_map.specs.declared.layout.Side.TheVariants.{Secondary};
 ghost use Rattle.upload.specs.View.{view};
 ghost use Rattle.upload.specs.Device.{Machine};
-ghost use Rattle.upload.specs.Sessions.{AllOpenAt, IsOpenAt, IsUpAt, upload_at};
-ghost use Rattle.upload.specs.Ending.{EndsUpload};
-ghost use Rattle.upload.specs.Piece.{Pieces};
+ghost use Rattle.upload.specs.Sessions.{AllClosed, AllOpenAt, IsOpenAt, IsUpAt, upload_at};
+ghost use Rattle.upload.specs.Ending.{EndsUpload, is_flash};
+ghost use Rattle.upload.specs.Piece.{Pieces, TakesMore};
+ghost use Rattle.upload.specs.declared.error.UploadError.TheVariants.{NoSession, TooMuch};
 ghost use Rattle.upload.specs.declared.sessions.Upload.{Upload};
 
 use crate::adding::add_bytes;
@@ -43,6 +44,19 @@ impl Uploads {
             (F.chip flash.old) (F.chip flash.new) }
         ensures all_open { AllOpenAt (view map.now (F.chip flash.old)) self.old.sessions
             → AllOpenAt (view map.now (F.chip flash.new)) self.new.sessions }
+        // On any flash: what is answered, and what is left then.
+        ensures takes { OnOk result ((u : Upload) → upload_at self.old.sessions image ≡ Some u
+            → (after : Upload) × (upload_at self.new.sessions image ≡ Some after)
+            × TakesMore (view map.now (F.chip flash.old)) (view map.now (F.chip flash.new))
+            image u after bytes.now) }
+        ensures none { upload_at self.old.sessions image ≡ None → (result ≡ Err NoSession)
+            × (F.chip flash.new ≡ F.chip flash.old) }
+        ensures more { (u : Upload) → upload_at self.old.sessions image ≡ Some u
+            → u.size < u.received + length bytes.now → result ≡ Err TooMuch }
+        ensures nothing { IfErr result (λ error. is_flash {T = Unit} (Err error) ≡ false
+            → F.chip flash.new ≡ F.chip flash.old) }
+        ensures closed { is_flash result ≡ true → AllClosed self.new.sessions }
+        // On a flash that holds a state: the step of a machine that knows whole images.
         ensures row { (m : Machine)
             → IsUpAt (view map.now (F.chip flash.old)) self.old.sessions m
             → (next : Machine) × Pieces m image bytes.now result next

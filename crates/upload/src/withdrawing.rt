@@ -1,13 +1,14 @@
 //! Taking back what is requested.
 
-ghost use Rattle.std.specs.Prelude.{◌≡◌, ◌≤◌, ◌<◌, ℕ};
+ghost use Rattle.std.specs.Prelude.{◌≡◌, ◌≤◌, ◌<◌, ℕ, false, Err, IfErr};
 ghost use Rattle.flash_model.specs.Chip.{Chip};
 ghost use Rattle.sector_map.specs.Map.{IsLaidOut, Keeps};
 ghost use Rattle.sector_map.specs.Part.{incoming_of};
 ghost use Rattle.upload.specs.View.{view};
 ghost use Rattle.upload.specs.Device.{Machine};
 ghost use Rattle.upload.specs.Sessions.{AllOpenAt, IsUpAt};
-ghost use Rattle.upload.specs.Ending.{EndsUpload};
+ghost use Rattle.upload.specs.Ending.{EndsUpload, IsClosedAfter, is_flash};
+ghost use Rattle.upload.specs.declared.error.UploadError.TheVariants.{NothingRequested};
 ghost use Rattle.upload.specs.Withdrawal.{EndsWithdraw, Withdraws};
 
 use crate::error::UploadError;
@@ -23,6 +24,8 @@ fn withdraw_standing<F: Flash>(flash: &mut F, map: &SectorMap, image: u8) -> Res
     ensures outside { Keeps map.now (incoming_of image) (F.chip flash.old) (F.chip flash.new) }
     ensures withdraws { EndsWithdraw (view map.now (F.chip flash.old))
         (view map.now (F.chip flash.new)) image result }
+    ensures nothing { IfErr result (λ error. is_flash {T = Unit} (Err error) ≡ false
+        → F.chip flash.new ≡ F.chip flash.old) }
     ensures ends { EndsUpload result (F.chip flash.old) (F.chip flash.new) }
 {
     match standing(flash, map, image) {
@@ -55,6 +58,14 @@ impl Uploads {
         ensures outside { Keeps map.now (incoming_of image) (F.chip flash.old) (F.chip flash.new) }
         ensures all_open { AllOpenAt (view map.now (F.chip flash.old)) self.old.sessions
             → AllOpenAt (view map.now (F.chip flash.new)) self.new.sessions }
+        // On any flash: what is answered, and what is left then.
+        ensures withdraws { image < map.now.images → EndsWithdraw
+            (view map.now (F.chip flash.old)) (view map.now (F.chip flash.new)) image result }
+        ensures unknown { map.now.images ≤ image → result ≡ Err NothingRequested }
+        ensures nothing { IfErr result (λ error. is_flash {T = Unit} (Err error) ≡ false
+            → F.chip flash.new ≡ F.chip flash.old) }
+        ensures table { IsClosedAfter result self.old.sessions self.new.sessions }
+        // On a flash that holds a state: the step of a machine that knows whole images.
         ensures row { (m : Machine)
             → IsUpAt (view map.now (F.chip flash.old)) self.old.sessions m
             → (next : Machine) × Withdraws m image result next

@@ -1,6 +1,6 @@
 use Rattle.std.proofs.Common.{◌∙◌, ap, subst}
 use Rattle.upload.specs.View.{view}
-use Rattle.upload.specs.Taking.{CutsAccept, IsTaken}
+use Rattle.upload.specs.Taking.{CutsAccept, IsTaken, LeavesAccept}
 use Rattle.upload.proofs.Ends.{same_off}
 use Rattle.upload.proofs.TakenRow.{stopped}
 use Rattle.upload.proofs.accepting.take_manifest.Goals as goal
@@ -16,7 +16,7 @@ returns-in-Ok-write_manifest-clause-accepts g c =
       subst (λ cs. IsTaken (view c.args.map.now (g.F.Flash.chip c.args.flash.now)) new told tnew sequence cs)
           c.as_slice-components.ensures.value
           (subst (λ w. IsTaken w new told tnew sequence c.as_slice-components.result.now) same
-          (record { opens = c.in-Ok-write_manifest.ensures.all_open; steps = c.in-Ok-write_manifest.ensures.ok })),
+          c.in-Ok-write_manifest.ensures.ok),
     )
 
 pub returns-in-Err-write_manifest-clause-accepts : goal.returns-in-Err-write_manifest-clause-accepts
@@ -27,6 +27,7 @@ returns-in-Err-write_manifest-clause-accepts g c =
     stopped c.args.map.now (view c.args.map.now (g.F.Flash.chip c.args.flash.now)) new c.args.uploads.now.sessions
     c.write_manifest.new.uploads.sessions sequence c.args.manifest.now.components.items c.in-Err-write_manifest.error
     c.in-Ok.state c.in-Ok.ensures.ok
+    (subst (λ w. LeavesAccept w new sequence) same c.write_manifest.ensures.leaves)
     (subst (λ cs. CutsAccept (view c.args.map.now (g.F.Flash.chip c.args.flash.now)) new sequence cs)
     c.as_slice-components.ensures.value
     (subst (λ w. CutsAccept w new sequence c.as_slice-components.result.now) same c.write_manifest.ensures.cut))

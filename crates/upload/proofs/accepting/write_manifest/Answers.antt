@@ -1,10 +1,11 @@
-use Rattle.std.proofs.Common.{refl}
+use Rattle.std.proofs.Common.{refl, ◌∙◌}
 use Rattle.std.proofs.lemmas.Result.{on_ok_weaker}
 use Rattle.sector_map.proofs.Parts.{keeps_trans, keeps_wider, laid_out_kept}
+use Rattle.upload.specs.View.{view}
 use Rattle.upload.specs.Accepted.{accepted_parts}
 use Rattle.upload.proofs.Views.{view_kept}
 use Rattle.upload.proofs.Opened.{log_of_accepted, parts_and_log}
-use Rattle.upload.proofs.AcceptRow.{sequenced, sequence_cut, cut_after, accept_done, opens_all}
+use Rattle.upload.proofs.AcceptRow.{sequenced, sequence_cut, cut_after, accept_done, opens_all, leaves_early, leaves_late, same_record}
 use Rattle.upload.proofs.TakenRow.{named_fit}
 use Rattle.upload.proofs.accepting.write_manifest.Goals as goal
 
@@ -31,20 +32,29 @@ returns-clause-cut g c = λ s was. cut_after _ _ _ c.open_all.ensures.opening s 
     (sequenced _ _ _ _ s c.requires.read (view_kept c.args.map.now _ _ _ c.record_sequence.ensures.outside)
     c.in_ok-record_sequence.ensures.ok was)
 
-pub returns-clause-all_open : goal.returns-clause-all_open
-returns-clause-all_open g c =
-    let laid = laid_out_kept c.args.map.now _ _ (g.F.Flash.chip c.record_sequence.new.flash) c.requires.laid_out
-    c.record_sequence.ensures.outside in
-    on_ok_weaker c.open_all.result (λ all. opens_all _ _ _ c.args.components.now _ _
-    (view_kept c.args.map.now _ _ _ c.record_sequence.ensures.outside)
-    (named_fit c.args.map.now _ c.args.components.now laid c.requires.there c.requires.fit) all)
-    c.open_all.ensures.opened
+pub returns-in_err-record_sequence-clause-leaves : goal.returns-in_err-record_sequence-clause-leaves
+returns-in_err-record_sequence-clause-leaves g c =
+    leaves_early _ _ _ _ c.requires.read (view_kept c.args.map.now _ _ _ c.record_sequence.ensures.outside)
+    c.record_sequence.ensures.either
+
+pub returns-clause-leaves : goal.returns-clause-leaves
+returns-clause-leaves g c =
+    leaves_late _ _ _ _ _ c.args.components.now c.requires.read
+    (view_kept c.args.map.now _ _ _ c.record_sequence.ensures.outside) c.in_ok-record_sequence.ensures.ok
+    c.open_all.ensures.opening
 
 pub returns-clause-ok : goal.returns-clause-ok
 returns-clause-ok g c =
     let laid = laid_out_kept c.args.map.now _ _ (g.F.Flash.chip c.record_sequence.new.flash) c.requires.laid_out
     c.record_sequence.ensures.outside in
-    on_ok_weaker c.open_all.result (λ all. accept_done _ _ _ c.args.components.now _ _
-    (view_kept c.args.map.now _ _ _ c.record_sequence.ensures.outside)
-    (named_fit c.args.map.now _ c.args.components.now laid c.requires.there c.requires.fit) all _ _ c.requires.read
-    c.in_ok-record_sequence.ensures.ok) c.open_all.ensures.opened
+    let kept = view_kept c.args.map.now _ _ _ c.record_sequence.ensures.outside in
+    let fit = named_fit c.args.map.now _ c.args.components.now laid c.requires.there c.requires.fit in
+    on_ok_weaker c.open_all.result (λ all. record {
+      log = λ state read. all.opening.log ∙ c.in_ok-record_sequence.ensures.ok
+          ∙ same_record (view c.args.map.now (g.F.Flash.chip c.args.flash.now)) _ c.args.sequence c.requires.read read;
+      empty = all.empty;
+      table = all.table;
+      opens = opens_all _ _ _ c.args.components.now _ _ kept fit all;
+      steps = accept_done _ _ _ c.args.components.now _ _ kept fit all _ _ c.requires.read
+          c.in_ok-record_sequence.ensures.ok;
+    }) c.open_all.ensures.opened
