@@ -14,12 +14,13 @@ use Rattle.machine.specs.States.{taken_on_trial, wanted_bytes}
 use Rattle.machine.specs.Boots.{Boots, IsDecision, IsOver, IsPlain, IsReadAs, IsReported, IsTaken}
 use Rattle.machine.specs.Intake.{Setup}
 use Rattle.machine.specs.Steps.{IsRun, IsStep}
-use Rattle.machine.specs.Headline.{AreCut, HasFinished, IsBootedAt, IsTriedBy, StartsGreatest, StaysForGood}
-use Rattle.machine.specs.Headline.{TakesNone, request_by, running_by}
+use Rattle.machine.specs.Headline.{AreCut, DoesSomething, HasFinished, IsBootedAt, IsTriedBy, StartsGreatest}
+use Rattle.machine.specs.Headline.{StaysForGood, TakesNone, request_by, running_by}
+use Rattle.machine.specs.declared.error.Fault.TheVariants as no
 use Rattle.machine.specs.declared.event.Event.{Event}
 use Rattle.machine.specs.declared.event.Event.TheVariants as event
 use Rattle.machine.specs.declared.reply.Reply.{Reply}
-use Rattle.machine.specs.declared.reply.Reply.TheVariants.{Booted}
+use Rattle.machine.specs.declared.reply.Reply.TheVariants.{Done, Booted, Reverted, TrialAgain, Refused, Cut}
 
 true_false : true ≡ false → ⊥
 true_false e = cc
@@ -257,6 +258,30 @@ read_same s t trial tried reads = ⊎_elim
     begun.2)
     reads
 
+-- a complete boot that did nothing leaves the state as it is read
+finished : (boots : ℕ) (s : DeviceState) (reply : Reply) (next : DeviceState) → Boots boots s reply next
+    → IsReadAs s next ⊎ DoesSomething reply
+finished boots s (Booted table report permanent) next (read, reads, steady, (told, either)) = ⊎_elim
+    (λ (plain : IsPlain read report permanent next). inl (subst (λ k. IsReadAs s k) (sym plain.2) reads))
+    (λ (taken : (mask : ℕ) × (is_member mask ≡ taken_in report) × IsDecision read table mask permanent
+    × IsTaken boots read mask permanent next).
+    inr (takes_some boots s read next table report reads steady told taken.0 taken.1 permanent taken.2))
+    either
+finished boots s (Reverted mask) next back = inr tt
+finished boots s (TrialAgain set left) next again = inr tt
+finished boots s (Refused (no.RunningDamaged i)) next (reads, steady, damaged) = inl reads
+finished boots s (Refused no.InvalidSet) next (reads, steady, invalid) = inl reads
+finished boots s (Refused no.NotBooted) next never = absurd never
+finished boots s (Refused no.OnTrial) next never = absurd never
+finished boots s (Refused no.NotOnTrial) next never = absurd never
+finished boots s (Refused no.NotProvisioned) next never = absurd never
+finished boots s (Refused (no.Flash error)) next never = absurd never
+finished boots s (Refused no.NoMemory) next never = absurd never
+finished boots s (Refused (no.Manifest error)) next never = absurd never
+finished boots s (Refused (no.Upload error)) next never = absurd never
+finished boots s Done next never = absurd never
+finished boots s Cut next never = absurd never
+
 -- what is read of a state as it is read
 read_again : (s t r : DeviceState) → IsReadAs s t → IsReadAs t r → IsReadAs s r
 read_again s t r first second = ⊎_elim
@@ -304,7 +329,9 @@ cut_boots setup (suc times) m mid last table report permanent (next, (cut, is), 
     let later = cut_boots setup times next mid last table report permanent run step in
     ⊎_elim (λ (same : next.kept ≡ m.kept). on (inl same) later)
     (λ rest. ⊎_elim (λ (reads : IsReadAs m.kept next.kept). on (inr reads) later)
-    (λ (done : (reply : Reply) × Boots setup.boots m.kept reply next.kept). inr (record {
+    (λ (done : (reply : Reply) × Boots setup.boots m.kept reply next.kept). ⊎_elim
+    (λ (reads : IsReadAs m.kept next.kept). on (inr reads) later)
+    (λ (did : DoesSomething done.0). inr (record {
       earlier = 0;
       later = times;
       count = omega arith;
@@ -313,8 +340,10 @@ cut_boots setup (suc times) m mid last table report permanent (next, (cut, is), 
       reply = done.0;
       next = next.kept;
       boots = done.1;
+      did = did;
       goes_on = subst (λ k. AreCut setup k times mid) is run;
-    })) rest)
+    }))
+    (finished setup.boots m.kept done.0 next.kept done.1)) rest)
     cut
   where
     on : (next.kept ≡ m.kept) ⊎ IsReadAs m.kept next.kept
@@ -323,15 +352,16 @@ cut_boots setup (suc times) m mid last table report permanent (next, (cut, is), 
     on kept later = ⊎_elim
         (λ (starts : StartsGreatest setup.boots next.kept table report permanent last.kept).
         inl (starts_from setup.boots m.kept next.kept table report permanent last.kept kept starts))
-        (λ (finished : HasFinished setup next mid times). inr (record {
-          earlier = suc finished.earlier;
-          later = finished.later;
-          count = omega (arith, finished.count);
-          before = finished.before;
-          so_far = (next, (cut, is), finished.so_far);
-          reply = finished.reply;
-          next = finished.next;
-          boots = finished.boots;
-          goes_on = finished.goes_on;
+        (λ (ended : HasFinished setup next mid times). inr (record {
+          earlier = suc ended.earlier;
+          later = ended.later;
+          count = omega (arith, ended.count);
+          before = ended.before;
+          so_far = (next, (cut, is), ended.so_far);
+          reply = ended.reply;
+          next = ended.next;
+          boots = ended.boots;
+          did = ended.did;
+          goes_on = ended.goes_on;
         }))
         later

@@ -16,7 +16,7 @@ use Rattle.machine.specs.Steps.{IsRun}
 use Rattle.machine.specs.declared.event.Event.{Event}
 use Rattle.machine.specs.declared.event.Event.TheVariants as event
 use Rattle.machine.specs.declared.reply.Reply.{Reply}
-use Rattle.machine.specs.declared.reply.Reply.TheVariants.{Cut}
+use Rattle.machine.specs.declared.reply.Reply.TheVariants.{Done, Booted, Reverted, TrialAgain, Refused, Cut}
 
 -- What an image runs where a report is followed: the requested bytes where it is taken, else what ran.
 abbrev pub running_by : DeviceState → Report → ℕ → Option (List ℕ)
@@ -95,8 +95,19 @@ abbrev pub AreCut : Setup → Machine → ℕ → Machine → Type 0
 AreCut setup m times last =
     IsRun setup m (replicate times event.Boot) (replicate times Cut) last
 
--- One of so many boots that are cut had finished: power failed when its last write counted already, so that the cut
--- left the state after a complete boot.
+-- A complete boot with this reply did something: it took an image, went back to the old images of a trial, or began
+-- another boot of one. One that takes nothing or is refused leaves the state as it is read.
+abbrev pub DoesSomething : Reply → Type 0
+DoesSomething (Booted table report permanent) = TakesNone report → ⊥
+DoesSomething (Reverted mask) = Unit {0}
+DoesSomething (TrialAgain set left) = Unit {0}
+DoesSomething (Refused fault) = ⊥
+DoesSomething Done = ⊥
+DoesSomething Cut = ⊥
+
+-- One of so many boots that are cut had finished what it did: it had taken an image, gone back, or begun another boot
+-- of a trial, and power failed when its last write counted already, so that the cut left the state after a complete
+-- boot.
 pub record HasFinished (setup : Setup) (m mid : Machine) (times : ℕ) : Type 0 where
   pub earlier : ℕ
   pub later : ℕ
@@ -106,4 +117,5 @@ pub record HasFinished (setup : Setup) (m mid : Machine) (times : ℕ) : Type 0 
   pub reply : Reply
   pub next : DeviceState
   pub boots : Boots setup.boots before.kept reply next
+  pub did : DoesSomething reply
   pub goes_on : AreCut setup (asleep next) later mid

@@ -35,8 +35,9 @@ pub fn each_boot_that_answers_starts_the_greatest_set()
 {}
 
 /// However often a boot was cut on the way, the one that answers a report starts the greatest set of all combinations
-/// of the images that ran and were requested before the first of them; unless one that was cut had finished, so that
-/// the device had come to the state after a complete boot.
+/// of the images that ran and were requested before the first of them; unless one that was cut had finished what it
+/// did: it had taken an image, gone back, or begun another boot of a trial, so that the device had come to the state
+/// after a complete boot. A boot that was cut and had nothing to take is no such boot.
 ///
 /// It does nothing: its contract is the theorem.
 pub fn boots_that_were_cut_start_the_same_set()
