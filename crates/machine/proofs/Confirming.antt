@@ -72,6 +72,7 @@ confirm_done map old new s trial i keeps written was = record {
   opened = record {
     trial = refl;
     images = (view_kept map _ _ _ keeps).images ∙ was.opened.images;
+    permanent = was.opened.permanent;
     log = (view_kept map _ _ _ keeps).log refl ∙ was.opened.log;
     within = was.opened.within;
     tried = λ j member.
@@ -115,6 +116,7 @@ confirm_none map old new s trial i keeps at was = record {
   opened = record {
     trial = was.opened.trial;
     images = (view_kept map _ _ _ keeps).images ∙ was.opened.images;
+    permanent = was.opened.permanent;
     log = (view_kept map _ _ _ keeps).log refl ∙ was.opened.log;
     within = was.opened.within;
     tried = λ j member. tried_same map old new s trial j ((view_kept map _ _ _ keeps).slots j Primary refl)
@@ -135,7 +137,7 @@ pub on_trial : (map : SectorMap) (w : Chip) (s : DeviceState) (trial : Trial) (s
     → is_member state.mask i ≡ true → IsOnTrial s i trial
 on_trial map w s trial state i read was lt member =
     let mask = ap (λ (st : State). st.mask)
-    (same_state map w state (logged log.Trial trial.set false trial.left s) read was.opened.log) in
+    (same_state map w state (logged log.Trial trial.set was.opened.permanent trial.left s) read was.opened.log) in
     (was.opened.trial, subst (λ n. i < n) was.opened.images lt, ap (λ m. is_member m i) (sym mask) ∙ member)
 
 one_trial : (a b : Trial) (o : Option Trial) → o ≡ Some a → o ≡ Some b → a ≡ b
@@ -150,7 +152,7 @@ pub not_on_trial : (map : SectorMap) (w : Chip) (s : DeviceState) (trial : Trial
     → (other : Trial) → IsOnTrial s i other → ⊥
 not_on_trial map w s trial state i read was why other on =
     let mask = ap (λ (st : State). st.mask)
-    (same_state map w state (logged log.Trial trial.set false trial.left s) read was.opened.log) in
+    (same_state map w state (logged log.Trial trial.set was.opened.permanent trial.left s) read was.opened.log) in
     let same = one_trial other trial s.trial on.0 was.opened.trial in
     ⊎_elim (λ (le : (view map w).images ≤ i). let lt : i < (view map w).images = subst (λ n. i < n)
     (sym was.opened.images) on.1 in absurd (omega arith))
@@ -236,7 +238,7 @@ steady_not map w s i was trial on = let e : None ≡ Some trial = sym was.trial 
 pub trial_kind : (map : SectorMap) (w : Chip) (s : DeviceState) (trial : Trial) (state : State)
     → (view map w).log ≡ Some state → IsTrialAt (view map w) s trial → state.kind ≡ log.Trial
 trial_kind map w s trial state read was = ap (λ (st : State). st.kind)
-    (same_state map w state (logged log.Trial trial.set false trial.left s) read was.opened.log)
+    (same_state map w state (logged log.Trial trial.set was.opened.permanent trial.left s) read was.opened.log)
 
 pub steady_kind : (map : SectorMap) (w : Chip) (s : DeviceState) (state : State) → (view map w).log ≡ Some state
     → IsSteadyAt (view map w) s → state.kind ≡ log.Steady
@@ -258,7 +260,8 @@ pub not_logged : (map : SectorMap) (old mid : Chip) (i : ℕ) → mid ≡ old �
 not_logged map old mid i same none s rest = ⊎_elim
     (λ (was : IsSteadyAt (view map old) s). absurd (none_record (logged log.Steady 0 false 0 s) (sym none ∙ was.log)))
     (λ (tried : (trial : Trial) × IsTrialAt (view map old) s trial). absurd
-    (none_record (logged log.Trial tried.0.set false tried.0.left s) (sym none ∙ tried.1.opened.log)))
+    (none_record (logged log.Trial tried.0.set tried.1.opened.permanent tried.0.left s)
+    (sym none ∙ tried.1.opened.log)))
     rest where
       none_record : (state : State) → None ≡ Some state → ⊥
       none_record state e = cc

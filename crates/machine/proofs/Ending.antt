@@ -62,6 +62,7 @@ trial_begins map old new s table mask left keeps recorded was settled =
       opened = record {
         trial = refl;
         images = (view_kept map _ _ _ keeps).images ∙ was.images;
+        permanent = false;
         log = recorded;
         within = was.decision.within;
         tried = λ i member.

@@ -1,5 +1,5 @@
 -- Going back is settled, and ends.
-use Rattle.std.proofs.Common.{◌≡◌, ◌⊎◌, ℕ, ◌<◌, true, false, Option, Some, None}
+use Rattle.std.proofs.Common.{◌≡◌, ◌⊎◌, ℕ, ◌<◌, Bool, true, false, Option, Some, None}
 use Rattle.std.proofs.Common.{refl, sym, ◌∙◌, ap, subst, inl, inr, ⊎_elim}
 use Rattle.swap_scratch.proofs.Staying.{stays}
 use Rattle.flash_model.specs.Chip.{Chip}
@@ -35,6 +35,7 @@ module _ (map : SectorMap) (old new : Chip) (s : DeviceState) (trial : Trial)
     record {
       goes = was.goes;
       images = kept.images ∙ was.images;
+      permanent = was.permanent;
       log = same ∙ was.log;
       within = was.within;
       place = stays map Secondary trial.set (only Log) old new x y laid keeps (swap_off_log trial.set Secondary)
@@ -45,11 +46,13 @@ module _ (map : SectorMap) (old new : Chip) (s : DeviceState) (trial : Trial)
   )
 
   -- .. and says another kind
-  pub swapped_logged : (from to : Kind) → (view map new).log ≡ Some (logged to trial.set false 0 s)
+  pub swapped_logged : (from to : Kind) (permanent : Bool)
+      → (view map new).log ≡ Some (logged to trial.set permanent 0 s)
       → IsSwappedBack (view map old) s trial from → IsSwappedBack (view map new) s trial to
-  swapped_logged from to recorded was = record {
+  swapped_logged from to permanent recorded was = record {
     goes = was.goes;
     images = kept.images ∙ was.images;
+    permanent = permanent;
     log = recorded;
     within = was.within;
     old = λ i member. subst (λ l. IsFront l (Some (trial.old i))) (sym (kept.slots i Primary refl)) (was.old i member);
@@ -106,6 +109,7 @@ returning_kept map old new mask s trial kind is keeps was =
     record {
       goes = was.goes;
       images = kept.images ∙ was.images;
+      permanent = was.permanent;
       log = kept.log refl ∙ was.log;
       within = was.within;
       old = λ i member. subst (λ l. IsFront l (Some (trial.old i))) (sym (kept.slots i Primary refl))
@@ -115,24 +119,26 @@ returning_kept map old new mask s trial kind is keeps was =
     }
 
 kind_record : (map : SectorMap) (w : Chip) (state : State) (s : DeviceState) (trial : Trial) (a b : Kind)
-    → (view map w).log ≡ Some state → (view map w).log ≡ Some (logged a trial.set false 0 s)
-    → record state { kind = b } ≡ logged b trial.set false 0 s
-kind_record map w state s trial a b read is = ap (λ (st : State). record st { kind = b })
-    (same_state map w state (logged a trial.set false 0 s) read is)
+    (permanent : Bool) → (view map w).log ≡ Some state
+    → (view map w).log ≡ Some (logged a trial.set permanent 0 s)
+    → record state { kind = b } ≡ logged b trial.set permanent 0 s
+kind_record map w state s trial a b permanent read is = ap (λ (st : State). record st { kind = b })
+    (same_state map w state (logged a trial.set permanent 0 s) read is)
 
-steady_record : (map : SectorMap) (w : Chip) (state : State) (s : DeviceState) (trial : Trial)
-    → (view map w).log ≡ Some state → (view map w).log ≡ Some (logged log.BackSettle trial.set false 0 s)
+steady_record : (map : SectorMap) (w : Chip) (state : State) (s : DeviceState) (trial : Trial) (permanent : Bool)
+    → (view map w).log ≡ Some state → (view map w).log ≡ Some (logged log.BackSettle trial.set permanent 0 s)
     → rests_with state state.floors ≡ logged log.Steady 0 false 0 s
-steady_record map w state s trial read is = ap (λ (st : State). rests_with st st.floors)
-    (same_state map w state (logged log.BackSettle trial.set false 0 s) read is)
+steady_record map w state s trial permanent read is = ap (λ (st : State). rests_with st st.floors)
+    (same_state map w state (logged log.BackSettle trial.set permanent 0 s) read is)
 
 module _ (map : SectorMap) (old new : Chip) (state : State) (read : (view map old).log ≡ Some state)
     (keeps : Keeps map (only Log) old new) where
   pub back_settle_ok : (view map new).log ≡ Some (record state { kind = log.BackSettle })
       → (s : DeviceState) (trial : Trial) → IsSwappedBack (view map old) s trial log.Back
       → IsSwappedBack (view map new) s trial log.BackSettle
-  back_settle_ok recorded s trial was = swapped_logged map old new s trial keeps log.Back log.BackSettle
-      (recorded ∙ ap (λ st. Some st) (kind_record map old state s trial log.Back log.BackSettle read was.log)) was
+  back_settle_ok recorded s trial was = swapped_logged map old new s trial keeps log.Back log.BackSettle was.permanent
+      (recorded ∙ ap (λ st. Some st) (kind_record map old state s trial log.Back log.BackSettle was.permanent read
+      was.log)) was
 
   pub back_settle_either : (laid : IsLaidOut map old)
       → ((view map new).log ≡ (view map old).log)
@@ -150,7 +156,7 @@ module _ (map : SectorMap) (old new : Chip) (state : State) (read : (view map ol
       → (s : DeviceState) (trial : Trial) → IsSwappedBack (view map old) s trial log.BackSettle
       → AreSettled (view map old) trial.set true → IsSteadyAt (view map new) (reverted s trial)
   return_ok recorded s trial was settled = returned map old new s trial keeps
-      (recorded ∙ ap (λ st. Some st) (steady_record map old state s trial read was.log)) was settled
+      (recorded ∙ ap (λ st. Some st) (steady_record map old state s trial was.permanent read was.log)) was settled
 
   pub return_either : ((view map new).log ≡ (view map old).log)
       ⊎ ((view map new).log ≡ Some (rests_with state state.floors))
@@ -159,7 +165,7 @@ module _ (map : SectorMap) (old new : Chip) (state : State) (read : (view map ol
       → IsSwappedBack (view map new) s trial log.BackSettle ⊎ IsSteadyAt (view map new) (reverted s trial)
   return_either either s trial was settled = ⊎_elim
       (λ (same : (view map new).log ≡ (view map old).log). inl
-      (swapped_logged map old new s trial keeps log.BackSettle log.BackSettle (same ∙ was.log) was))
+      (swapped_logged map old new s trial keeps log.BackSettle log.BackSettle was.permanent (same ∙ was.log) was))
       (λ (recorded : (view map new).log ≡ Some (rests_with state state.floors)). inr
       (return_ok recorded s trial was settled))
       either

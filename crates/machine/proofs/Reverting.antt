@@ -51,6 +51,7 @@ pub open_kept : (map : SectorMap) (old new : Chip) (s : DeviceState) (trial : Tr
 open_kept map old new s trial keeps was = record {
   trial = was.trial;
   images = (view_kept map _ _ _ keeps).images ∙ was.images;
+  permanent = was.permanent;
   log = (view_kept map _ _ _ keeps).log refl ∙ was.log;
   within = was.within;
   tried = λ i member. tried_same map old new s trial i ((view_kept map _ _ _ keeps).slots i Primary refl)
@@ -68,6 +69,7 @@ pub open_logged : (map : SectorMap) (old new : Chip) (s : DeviceState) (trial : 
 open_logged map old new s trial keeps same was = record {
   trial = was.trial;
   images = (view_kept map _ _ _ keeps).images ∙ was.images;
+  permanent = was.permanent;
   log = same ∙ was.log;
   within = was.within;
   tried = λ i member. tried_same map old new s trial i ((view_kept map _ _ _ keeps).slots i Primary refl)
@@ -81,12 +83,12 @@ open_logged map old new s trial keeps same was = record {
 
 -- with the record Back the set is at a place of the swap back
 pub back_begins : (map : SectorMap) (old new : Chip) (laid : IsLaidOut map old) (s : DeviceState)
-    (trial : Trial) → GoesBack s trial → IsTrialOpen (view map old) s trial
+    (trial : Trial) (permanent : Bool) → GoesBack s trial → IsTrialOpen (view map old) s trial
     → ((i : ℕ) → i < (view map old).images → is_member trial.set i ≡ true
     → IsPrepared (view map old) Secondary i) → Keeps map (only Log) old new
-    → (view map new).log ≡ Some (logged log.Back trial.set false 0 s)
+    → (view map new).log ≡ Some (logged log.Back trial.set permanent 0 s)
     → IsSwappingBackSome map new s trial
-back_begins map old new laid s trial goes was prepared keeps recorded =
+back_begins map old new laid s trial permanent goes was prepared keeps recorded =
     let within : (i : ℕ) → is_member trial.set i ≡ true
     → i < (view map old).images = λ i member. subst (λ n. i < n) (sym was.images) (was.within i member) in
     let trailer : (i : ℕ) → (view map new).trailer i Secondary ≡ (view map old).trailer i Secondary = λ i.
@@ -96,6 +98,7 @@ back_begins map old new laid s trial goes was prepared keeps recorded =
       record {
         goes = goes;
         images = (view_kept map _ _ _ keeps).images ∙ was.images;
+        permanent = permanent;
         log = recorded;
         within = was.within;
         place = begins map new Secondary trial.set (laid_out_kept map _ _ _ laid keeps) within
@@ -115,24 +118,24 @@ back_begins map old new laid s trial goes was prepared keeps recorded =
       },
     )
 
-back_record : (map : SectorMap) (w : Chip) (state : State) (s : DeviceState) (trial : Trial)
-    → (view map w).log ≡ Some state → (view map w).log ≡ Some (logged log.Trial trial.set false trial.left s)
-    → record state { kind = log.Back; left = 0 } ≡ logged log.Back trial.set false 0 s
-back_record map w state s trial read is = ap (λ (st : State). record st { kind = log.Back; left = 0 })
-    (same_state map w state (logged log.Trial trial.set false trial.left s) read is)
+back_record : (map : SectorMap) (w : Chip) (state : State) (s : DeviceState) (trial : Trial) (permanent : Bool)
+    → (view map w).log ≡ Some state → (view map w).log ≡ Some (logged log.Trial trial.set permanent trial.left s)
+    → record state { kind = log.Back; left = 0 } ≡ logged log.Back trial.set permanent 0 s
+back_record map w state s trial permanent read is = ap (λ (st : State). record st { kind = log.Back; left = 0 })
+    (same_state map w state (logged log.Trial trial.set permanent trial.left s) read is)
 
-same_mask : (map : SectorMap) (w : Chip) (state : State) (s : DeviceState) (trial : Trial)
-    → (view map w).log ≡ Some state → (view map w).log ≡ Some (logged log.Trial trial.set false trial.left s)
+same_mask : (map : SectorMap) (w : Chip) (state : State) (s : DeviceState) (trial : Trial) (permanent : Bool)
+    → (view map w).log ≡ Some state → (view map w).log ≡ Some (logged log.Trial trial.set permanent trial.left s)
     → state.mask ≡ trial.set
-same_mask map w state s trial read is = ap (λ (st : State). st.mask)
-    (same_state map w state (logged log.Trial trial.set false trial.left s) read is)
+same_mask map w state s trial permanent read is = ap (λ (st : State). st.mask)
+    (same_state map w state (logged log.Trial trial.set permanent trial.left s) read is)
 
 pub back_kept : (map : SectorMap) (old mid : Chip) (state : State) → (view map old).log ≡ Some state
     → Keeps map (trailers_on state.mask Secondary) old mid
     → (s : DeviceState) (trial : Trial) → IsTrialOpen (view map old) s trial → IsTrialOpen (view map mid) s trial
 back_kept map old mid state read keeps s trial was = open_kept map old mid s trial
     (subst (λ m. Keeps map (trailers_on m Secondary) old mid)
-    (same_mask map old state s trial read was.log) keeps) was
+    (same_mask map old state s trial was.permanent read was.log) keeps) was
 
 pub back_ok : (map : SectorMap) (old mid new : Chip) (laid : IsLaidOut map old) (state : State)
     → (view map old).log ≡ Some state → Keeps map (trailers_on state.mask Secondary) old mid
@@ -142,12 +145,12 @@ pub back_ok : (map : SectorMap) (old mid new : Chip) (laid : IsLaidOut map old) 
     → (s : DeviceState) (trial : Trial) → GoesBack s trial → IsTrialOpen (view map old) s trial
     → IsSwappingBackSome map new s trial
 back_ok map old mid new laid state read first prepared keeps recorded s trial goes was =
-    let mask = same_mask map old state s trial read was.log in
-    back_begins map mid new (laid_out_kept map _ _ _ laid first) s trial goes
+    let mask = same_mask map old state s trial was.permanent read was.log in
+    back_begins map mid new (laid_out_kept map _ _ _ laid first) s trial was.permanent goes
     (back_kept map old mid state read first s trial was)
     (λ i lt member. prepared i (subst (λ n. i < n) (view_kept map _ _ _ first).images lt)
     (ap (λ m. is_member m i) mask ∙ member)) keeps
-    (recorded ∙ ap (λ st. Some st) (back_record map old state s trial read was.log))
+    (recorded ∙ ap (λ st. Some st) (back_record map old state s trial was.permanent read was.log))
 
 pub back_either : (map : SectorMap) (old mid new : Chip) (laid : IsLaidOut map old) (state : State)
     → (view map old).log ≡ Some state → Keeps map (trailers_on state.mask Secondary) old mid
@@ -175,6 +178,7 @@ back_resumes map old new mask keeps resumes s trial is (x, y, was) =
       record {
         goes = was.goes;
         images = (view_kept map _ _ _ keeps).images ∙ was.images;
+        permanent = was.permanent;
         log = (view_kept map _ _ _ keeps).log refl ∙ was.log;
         within = was.within;
         place = subst (λ m. IsSwapAt map new Secondary m x y) is
@@ -194,6 +198,7 @@ back_done map old new mask keeps swapped s trial is (x, y, was) =
     record {
       goes = was.goes;
       images = (view_kept map _ _ _ keeps).images ∙ was.images;
+      permanent = was.permanent;
       log = (view_kept map _ _ _ keeps).log refl ∙ was.log;
       within = was.within;
       old = λ i member.

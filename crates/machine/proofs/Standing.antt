@@ -47,19 +47,20 @@ pub stands_as : (map : SectorMap) (w : Chip) (s : DeviceState) (state : State)
 stands_as map w s state read (Rests was) =
     as_read map w s (logged log.Steady 0 false 0 s) state was.log read was
 stands_as map w s state read (Tries trial was) =
-    as_read map w s (logged log.Trial trial.set false trial.left s) state was.opened.log read
+    as_read map w s (logged log.Trial trial.set was.opened.permanent trial.left s) state was.opened.log read
     (trial, refl, inl was)
 stands_as map w s state read (Swaps table mask permanent x y was) =
     as_read map w s (logged log.Swap mask permanent 0 s) state was.log read (table, (x, y, was))
 stands_as map w s state read (Settles table mask permanent was) =
     as_read map w s (logged log.Settle mask permanent 0 s) state was.log read (table, was)
 stands_as map w s state read (Opens trial goes was) =
-    as_read map w s (logged log.Trial trial.set false trial.left s) state was.log read
+    as_read map w s (logged log.Trial trial.set was.permanent trial.left s) state was.log read
     (trial, refl, inr (goes, was))
 stands_as map w s state read (SwapsBack trial x y was) =
-    as_read map w s (logged log.Back trial.set false 0 s) state was.log read (trial, refl, (x, y, was))
+    as_read map w s (logged log.Back trial.set was.permanent 0 s) state was.log read
+    (trial, refl, (x, y, was))
 stands_as map w s state read (SettlesBack trial was) =
-    as_read map w s (logged log.BackSettle trial.set false 0 s) state was.log read (trial, refl, was)
+    as_read map w s (logged log.BackSettle trial.set was.permanent 0 s) state was.log read (trial, refl, was)
 
 module _ (map : SectorMap) (w : Chip) (s : DeviceState) (state : State) (read : (view map w).log ≡ Some state) where
   of_kind : (kind : Kind) → state.kind ≡ kind → Stands map w s → StandsAs map w s state kind

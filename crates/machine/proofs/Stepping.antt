@@ -57,7 +57,7 @@ stands_logged map old new s laid keeps same (SwapsBack trial x y was) =
     let after = back_logged map old new s trial keeps laid same (x, y, was) in
     SwapsBack trial after.0 after.1 after.2
 stands_logged map old new s laid keeps same (SettlesBack trial was) = SettlesBack trial
-    (swapped_logged map old new s trial keeps log.BackSettle log.BackSettle (same ∙ was.log) was)
+    (swapped_logged map old new s trial keeps log.BackSettle log.BackSettle was.permanent (same ∙ was.log) was)
 
 keeps_powered : (map : SectorMap) (touched : Part → Bool) (old new : Chip) → new ≡ record old { is_on = true }
     → Keeps map touched old new

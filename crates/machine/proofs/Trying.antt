@@ -140,8 +140,8 @@ open_of map w s trial either = ⊎_elim
 
 module _ (map : SectorMap) (w : Chip) (s : DeviceState) (trial : Trial) (state : State)
     (read : (view map w).log ≡ Some state) (was : IsTrialOpen (view map w) s trial) where
-  trial_record : state ≡ logged log.Trial trial.set false trial.left s
-  trial_record = same_state map w state (logged log.Trial trial.set false trial.left s) read was.log
+  trial_record : state ≡ logged log.Trial trial.set was.permanent trial.left s
+  trial_record = same_state map w state (logged log.Trial trial.set was.permanent trial.left s) read was.log
 
   trial_mask : state.mask ≡ trial.set
   trial_mask = ap (λ (st : State). st.mask) trial_record
@@ -302,13 +302,15 @@ module _ (map : SectorMap) (old new : Chip) (s : DeviceState) (trial : Trial)
       (kept.slots i Secondary refl) (kept.trailers i Secondary refl) was in
       record { running = at.running; request = at.request }
 
-  pub again_at : (left : ℕ) → (view map new).log ≡ Some (logged log.Trial trial.set false left s)
+  pub again_at : (left : ℕ) (permanent : Bool)
+      → (view map new).log ≡ Some (logged log.Trial trial.set permanent left s)
       → IsTrialAt (view map old) s trial
       → IsTrialAt (view map new) (tried_again s trial left) (record trial { left = left })
-  again_at left recorded was = record {
+  again_at left permanent recorded was = record {
     opened = record {
       trial = refl;
       images = kept.images ∙ was.opened.images;
+      permanent = permanent;
       log = recorded;
       within = was.opened.within;
       tried = λ i member. tried_as left i (was.opened.tried i member);
@@ -330,7 +332,7 @@ module _ (map : SectorMap) (old new : Chip) (state : State) (left : ℕ) (read :
   again_ok : (view map new).log ≡ Some (record state { left = left }) → (s : DeviceState) (trial : Trial)
       → IsTrialAt (view map old) s trial
       → IsTrialAt (view map new) (tried_again s trial left) (record trial { left = left })
-  again_ok recorded s trial was = again_at map old new s trial keeps left
+  again_ok recorded s trial was = again_at map old new s trial keeps left was.opened.permanent
       (recorded ∙ ap (λ (st : State). Some (record st { left = left }))
       (trial_record map old s trial state read was.opened)) was
 

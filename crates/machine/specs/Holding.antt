@@ -32,7 +32,9 @@ pub record IsTriedAt (w : View) (s : DeviceState) (trial : Trial) (i : ℕ) : Ty
 pub record IsTrialOpen (w : View) (s : DeviceState) (t : Trial) : Type 0 where
   pub trial : s.trial ≡ Some t
   pub images : w.images ≡ s.images
-  pub log : w.log ≡ Some (logged log.Trial t.set false t.left s)
+  -- Permanence means nothing in the record of a trial: it may say either.
+  pub permanent : Bool
+  pub log : w.log ≡ Some (logged log.Trial t.set permanent t.left s)
   pub within : (i : ℕ) → is_member t.set i ≡ true → i < s.images
   pub tried : (i : ℕ) → is_member t.set i ≡ true → IsTriedAt w s t i
   -- What was requested for the set is gone.
@@ -92,7 +94,9 @@ pub record IsSwappingBack (map : SectorMap) (chip : Chip) (s : DeviceState) (tri
     (x y : ℕ → List ℕ) : Type 0 where
   pub goes : GoesBack s trial
   pub images : (view map chip).images ≡ s.images
-  pub log : (view map chip).log ≡ Some (logged log.Back trial.set false 0 s)
+  -- Permanence means nothing in this record: it may say either.
+  pub permanent : Bool
+  pub log : (view map chip).log ≡ Some (logged log.Back trial.set permanent 0 s)
   pub within : (i : ℕ) → is_member trial.set i ≡ true → i < s.images
   pub place : IsSwapAt map chip Secondary trial.set x y
   pub old : (i : ℕ) → is_member trial.set i ≡ true → IsFront (y i) (Some (trial.old i))
@@ -104,7 +108,9 @@ pub record IsSwappedBack (w : View) (s : DeviceState) (trial : Trial) (kind : Ki
     : Type 0 where
   pub goes : GoesBack s trial
   pub images : w.images ≡ s.images
-  pub log : w.log ≡ Some (logged kind trial.set false 0 s)
+  -- Permanence means nothing in these records: they may say either.
+  pub permanent : Bool
+  pub log : w.log ≡ Some (logged kind trial.set permanent 0 s)
   pub within : (i : ℕ) → is_member trial.set i ≡ true → i < s.images
   pub old : (i : ℕ) → is_member trial.set i ≡ true
       → IsFront (w.slot i Primary) (Some (trial.old i))
