@@ -14,10 +14,10 @@ use Rattle.swap_scratch.specs.Used.{sectors_for, used_of}
 use Rattle.swap_scratch.specs.Swap.{share, steps_in_all, sum_over}
 use Rattle.upload.specs.View.{View, view}
 use Rattle.upload.proofs.Views.{view_kept}
-use Rattle.machine.specs.Wear.{members, IsResumed, IsSetOf}
+use Rattle.machine.specs.Wear.{members, IsResumed}
 use Rattle.machine.specs.declared.reply.Reply.{Reply}
 use Rattle.boot_core.specs.SwapSize.{IsReady, IsSwapSize, IsUsed}
-use Rattle.boot_core.specs.Wear.{AreMeasured, IsAfresh, IsFreshWear, sectors_moved}
+use Rattle.boot_core.specs.Wear.{AreMeasured, IsAfresh, IsFreshWear, sectors_moved, IsSetMoved}
 use Rattle.boot_core.proofs.SwapSizes.{moves_kept}
 
 -- ---- there is one size
@@ -108,11 +108,11 @@ fresh_wear map old first mid new side mask same begun says carried =
     omega arith)
 
 pub fresh_of : (map : SectorMap) (old new : Chip) (mask : ℕ) (reply : Reply)
-    → IsSetOf mask reply → IsFreshWear map old new mask 3 → IsAfresh map old new 3 reply
+    → IsSetMoved mask reply → IsFreshWear map old new mask 3 → IsAfresh map old new 3 reply
 fresh_of map old new mask reply is wear = (mask, is, wear)
 
 pub fresh_more : (map : SectorMap) (old new : Chip) (mask : ℕ) (reply : Reply)
-    → IsSetOf mask reply → IsFreshWear map old new mask 3 → IsAfresh map old new 4 reply
+    → IsSetMoved mask reply → IsFreshWear map old new mask 3 → IsAfresh map old new 4 reply
 fresh_more map old new mask reply is wear = (mask, is, λ sizes moves. let few = wear sizes moves in omega arith)
 
 pub fresh_same : (map : SectorMap) (old first new : Chip) (more : ℕ) (reply : Reply) → first ≡ old
@@ -121,7 +121,7 @@ fresh_same map old first new more reply same wear = subst (λ chip. IsAfresh map
 
 -- nothing was erased
 pub fresh_none : (map : SectorMap) (old new : Chip) (mask : ℕ) (reply : Reply) → new ≡ old
-    → IsSetOf mask reply → IsAfresh map old new 3 reply
+    → IsSetMoved mask reply → IsAfresh map old new 3 reply
 fresh_none map old new mask reply same is = (
   mask,
   is,
@@ -129,7 +129,7 @@ fresh_none map old new mask reply same is = (
 )
 
 -- a record is all that is written
-pub fresh_one : (map : SectorMap) (old new : Chip) (mask : ℕ) (reply : Reply) → IsSetOf mask reply
+pub fresh_one : (map : SectorMap) (old new : Chip) (mask : ℕ) (reply : Reply) → IsSetMoved mask reply
     → new.erases ≤ old.erases + 1 → IsAfresh map old new 4 reply
 fresh_one map old new mask reply is one = (mask, is, λ sizes moves. omega arith)
 

@@ -100,3 +100,8 @@ IsBootReply (Refused (no.Manifest error)) = ⊥
 IsBootReply (Refused (no.Upload error)) = ⊥
 IsBootReply Done = ⊥
 IsBootReply Cut = ⊥
+
+-- A call of a device that isn't up: it is refused, and changes nothing.
+pub record IsNotBooted (result : Result Unit Fault) (old new : DeviceView) : Type 0 where
+  pub is : result ≡ Err no.NotBooted
+  pub same : new ≡ old

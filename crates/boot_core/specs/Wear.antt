@@ -11,8 +11,10 @@ use Rattle.set_log.specs.declared.state.Kind.TheVariants as log
 use Rattle.swap_scratch.specs.Used.{sectors_for}
 use Rattle.swap_scratch.specs.Swap.{sum_over}
 use Rattle.upload.specs.View.{View, view}
-use Rattle.machine.specs.Wear.{members, IsResumed, IsSetOf, IsSettling}
+use Rattle.machine.specs.Headline.{TakesNone}
+use Rattle.machine.specs.Wear.{members, IsResumed, IsSetIn, IsSetOf, IsSettling}
 use Rattle.machine.specs.declared.reply.Reply.{Reply}
+use Rattle.machine.specs.declared.reply.Reply.TheVariants.{Done, Booted, Reverted, TrialAgain, Refused, Cut}
 use Rattle.boot_core.specs.SwapSize.{IsSwapSize}
 
 -- How many sectors of each slot of an image a swap moves, by the bytes that it moves.
@@ -31,10 +33,28 @@ IsFreshWear map old new mask more = (sizes : ℕ → ℕ)
     → new.erases ≤ old.erases + 3 * sum_over mask (sectors_moved map sizes) map.images
     + 3 * members map mask + more
 
+-- A mask is the set that was moved for a reply: for a refusal none was.
+abbrev pub IsSetMoved : ℕ → Reply → Type 0
+IsSetMoved mask (Booted table report permanent) = IsSetIn mask report
+IsSetMoved mask (Reverted set) = mask ≡ set
+IsSetMoved mask (TrialAgain set left) = mask ≡ 0
+IsSetMoved mask (Refused fault) = mask ≡ 0
+IsSetMoved mask Done = mask ≡ 0
+IsSetMoved mask Cut = mask ≡ 0
+
 -- A swap of the set of a reply that is begun.
 abbrev pub IsAfresh : SectorMap → Chip → Chip → ℕ → Reply → Type 0
 IsAfresh map old new more reply =
-    (mask : ℕ) × IsSetOf mask reply × IsFreshWear map old new mask more
+    (mask : ℕ) × IsSetMoved mask reply × IsFreshWear map old new mask more
+
+-- A boot reports that it takes no image.
+abbrev pub TakesNothing : Reply → Type 0
+TakesNothing (Booted table report permanent) = TakesNone report
+TakesNothing (Reverted set) = ⊥
+TakesNothing (TrialAgain set left) = ⊥
+TakesNothing (Refused fault) = ⊥
+TakesNothing Done = ⊥
+TakesNothing Cut = ⊥
 
 -- The wear of a boot that isn't cut, by the record that stood.
 abbrev pub IsWorn : SectorMap → Kind → ℕ → Chip → Chip → Reply → Type 0
@@ -44,6 +64,6 @@ IsWorn map log.Swap mask old new reply =
 IsWorn map log.Settle mask old new reply = IsSettling map old new mask × IsSetOf mask reply
 IsWorn map log.Trial mask old new reply = IsAfresh map old new 4 reply
 IsWorn map log.Back mask old new reply =
-    IsResumed map old new Secondary mask × IsSetOf mask reply
+    IsResumed map old new Secondary mask × IsSetMoved mask reply
 IsWorn map log.BackSettle mask old new reply =
-    IsSettling map old new mask × IsSetOf mask reply
+    IsSettling map old new mask × IsSetMoved mask reply

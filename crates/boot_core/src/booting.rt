@@ -2,7 +2,8 @@
 
 ghost use Rattle.std.specs.Prelude.{◌≡◌, ◌+◌, ◌<◌, ◌≤◌, ℕ, Bool, Some, IfOk};
 ghost use Rattle.boot_core.specs.Answers.{IsBootReply};
-ghost use Rattle.boot_core.specs.Wear.{IsAfresh};
+ghost use Rattle.boot_core.specs.Wear.{IsAfresh, IsSetMoved, TakesNothing};
+ghost use Rattle.machine.specs.Reading.{IsFoundAgain};
 ghost use Rattle.certificate.specs.declared.table.Table.{Table};
 ghost use Rattle.flash_model.specs.Chip.{Chip, Ends};
 ghost use Rattle.machine.specs.Boots.{GoesBack, GoesOn, IsChosen};
@@ -34,6 +35,10 @@ use set_log::{Kind, State, append};
 fn answer(finding: Finding, permanent: bool) -> Reply
     ensures is { result ≡ reply_of finding permanent }
     ensures set { (mask : ℕ) → IsSetFound mask finding → IsSetOf mask result }
+    ensures moved { (s : DeviceState) (mask : ℕ) → IsFoundAgain s mask finding
+        → IsSetFound mask finding → IsSetMoved mask result }
+    ensures some { (mask : ℕ) → IsSetFound mask finding → (mask ≡ 0 → ⊥)
+        → TakesNothing result → ⊥ }
     ensures told { IsBootReply result }
 {
     match finding {
@@ -70,6 +75,7 @@ fn upgrade<F: Flash>(
     ensures erases { IfOk result (λ reply. (s : DeviceState) (table : Table)
         → IsSteadyAt (view map.now (F.chip flash.old)) s → IsChosen s table mask
         → IsAfresh map.now (F.chip flash.old) (F.chip flash.new) 3 reply) }
+    ensures some { IfOk result (λ reply. TakesNothing reply → ⊥) }
     ensures told { IfOk result IsBootReply }
     ensures ends { Ends result (F.chip flash.old) (F.chip flash.new) }
 {
@@ -105,6 +111,8 @@ pub(crate) fn boot_from_steady<F: Flash>(
     ensures erases { IfOk result (λ reply. (s : DeviceState)
         → IsSteadyAt (view map.now (F.chip flash.old)) s
         → IsAfresh map.now (F.chip flash.old) (F.chip flash.new) 3 reply) }
+    ensures idle { IfOk result (λ reply. TakesNothing reply
+        → F.chip flash.new ≡ F.chip flash.old) }
     ensures told { IfOk result IsBootReply }
     ensures ends { Ends result (F.chip flash.old) (F.chip flash.new) }
 {
@@ -202,7 +210,7 @@ pub(crate) fn boot_from_back<F: Flash>(
         → EndsBoot map.now boots (F.chip flash.new) s reply) }
     ensures erases { IfOk result (λ reply. (s : DeviceState) → Stands map.now (F.chip flash.old) s
         → IsResumed map.now (F.chip flash.old) (F.chip flash.new) Secondary state.now.mask
-        × IsSetOf state.now.mask reply) }
+        × IsSetMoved state.now.mask reply) }
     ensures told { IfOk result IsBootReply }
     ensures ends { Ends result (F.chip flash.old) (F.chip flash.new) }
 {
@@ -227,7 +235,7 @@ pub(crate) fn boot_from_back_settle<F: Flash>(
         → EndsBoot map.now boots (F.chip flash.new) s reply) }
     ensures erases { IfOk result (λ reply.
         IsSettling map.now (F.chip flash.old) (F.chip flash.new) state.now.mask
-        × IsSetOf state.now.mask reply) }
+        × IsSetMoved state.now.mask reply) }
     ensures told { IfOk result IsBootReply }
     ensures ends { Ends result (F.chip flash.old) (F.chip flash.new) }
 {

@@ -4,7 +4,7 @@ ghost use Rattle.std.specs.Prelude.{◌≡◌, ◌⊎◌, ◌+◌, ◌≤◌, Bo
 ghost use Rattle.boot_core.specs.Answers.{EndsCall, IsBootReply, is_stopped, reply_of_boot};
 ghost use Rattle.boot_core.specs.Device.{made, seen};
 ghost use Rattle.boot_core.specs.Found.{IsStopped};
-ghost use Rattle.boot_core.specs.Wear.{IsWorn};
+ghost use Rattle.boot_core.specs.Wear.{IsWorn, TakesNothing};
 ghost use Rattle.flash_model.specs.Chip.{Chip, Ends};
 ghost use Rattle.machine.specs.Boots.{IsReadSound, is_answer};
 ghost use Rattle.machine.specs.Holding.{Stands};
@@ -17,6 +17,7 @@ ghost use Rattle.machine.specs.declared.reply.Reply.TheVariants.{Refused};
 ghost use Rattle.manifest.specs.declared.identity.Identity.{Identity};
 ghost use Rattle.sector_map.specs.Map.{IsLaidOut};
 ghost use Rattle.set_log.specs.Log.{state_of};
+ghost use Rattle.set_log.specs.declared.state.Kind.{Kind};
 ghost use Rattle.set_log.specs.declared.state.State.{State as LogState};
 ghost use Rattle.upload.specs.Device.{DeviceState};
 ghost use Rattle.upload.specs.Sessions.{AllClosed, AllOpenAt};
@@ -53,6 +54,8 @@ fn boot_from<F: Flash>(
     ensures stops { IfOk result (λ reply. (finding : Finding) (permanent : Bool)
         → reply ≡ reply_of finding permanent
         → IsStopped map.now state.now (F.chip flash.old) (F.chip flash.new) finding) }
+    ensures idle { state.now.kind ≡ Kind.Steady → IfOk result (λ reply. TakesNothing reply
+        → F.chip flash.new ≡ F.chip flash.old) }
     ensures told { IfOk result IsBootReply }
     ensures ends { Ends result (F.chip flash.old) (F.chip flash.new) }
 {
@@ -91,6 +94,9 @@ pub(crate) fn boot<F: Flash>(flash: &mut F, map: &SectorMap, left: u8) -> Result
     ensures stops { IfOk result (λ reply. (state : LogState) (finding : Finding) (permanent : Bool)
         → state_of map.now (F.chip flash.old) ≡ Some state → reply ≡ reply_of finding permanent
         → IsStopped map.now state (F.chip flash.old) (F.chip flash.new) finding) }
+    ensures idle { IfOk result (λ reply. (state : LogState)
+        → state_of map.now (F.chip flash.old) ≡ Some state → state.kind ≡ Kind.Steady
+        → TakesNothing reply → F.chip flash.new ≡ F.chip flash.old) }
     ensures told { IfOk result IsBootReply }
     ensures ends { Ends result (F.chip flash.old) (F.chip flash.new) }
 {
@@ -174,6 +180,9 @@ pub(crate) fn boot_device<F: Flash>(
         → state_of map.now (F.chip flash.old) ≡ Some state
         → reply_of_boot result ≡ reply_of finding permanent
         → IsStopped map.now state (F.chip flash.old) (F.chip flash.new) finding }
+    ensures idle { (state : LogState) → state_of map.now (F.chip flash.old) ≡ Some state
+        → state.kind ≡ Kind.Steady → TakesNothing (reply_of_boot result)
+        → F.chip flash.new ≡ F.chip flash.old }
     ensures ends { EndsCall (reply_of_boot result)
         (seen (F.chip flash.old) uploads.old.sessions is_up.old)
         (seen (F.chip flash.new) uploads.new.sessions is_up.new) }

@@ -1,7 +1,7 @@
 //! Confirming an image on trial.
 
-ghost use Rattle.std.specs.Prelude.{◌≡◌, ◌⊎◌, ◌≤◌, ℕ, true, false, Some, IfOk, IsErrOf};
-ghost use Rattle.boot_core.specs.Answers.{EndsCall, reply_of_result};
+ghost use Rattle.std.specs.Prelude.{◌≡◌, ◌⊎◌, ◌≤◌, ℕ, true, false, Some, IfErr, IfOk, IsErrOf};
+ghost use Rattle.boot_core.specs.Answers.{EndsCall, IsNotBooted, is_stop, reply_of_result};
 ghost use Rattle.boot_core.specs.Device.{made, seen};
 ghost use Rattle.flash_model.specs.Chip.{Chip, Ends};
 ghost use Rattle.flash_model.specs.declared.error.FlashError.{FlashError};
@@ -53,6 +53,7 @@ fn confirm_image<F: Flash>(
         × ((other : Trial) → IsOnTrial s image other → ⊥)) }
     ensures tried { IsErrOf result FlashError.Cut → (s : DeviceState) (trial : Trial)
         → IsTrialAt (view map.now (F.chip flash.old)) s trial → IsOnTrial s image trial }
+    ensures same { IfOk result (λ yes. yes ≡ false → F.chip flash.new ≡ F.chip flash.old) }
     ensures ends { Ends result (F.chip flash.old) (F.chip flash.new) }
 {
     if image >= map.images {
@@ -95,6 +96,7 @@ pub(crate) fn confirm<F: Flash>(
     ensures ok { IfOk result (λ yes. (s : DeviceState)
         → IsAtRest (view map.now (F.chip flash.old)) s
         → EndsConfirm (view map.now (F.chip flash.new)) s image yes) }
+    ensures same { IfOk result (λ yes. yes ≡ false → F.chip flash.new ≡ F.chip flash.old) }
     ensures ends { Ends result (F.chip flash.old) (F.chip flash.new) }
 {
     match read_state(flash, map) {
@@ -128,6 +130,13 @@ pub(crate) fn confirm_on<F: Flash>(
         (seen (F.chip flash.old) uploads.old.sessions is_up.old)
         (seen (F.chip flash.new) uploads.new.sessions is_up.new)
         (event.Confirm image) (reply_of_result result) }
+    ensures outside { Keeps map.now (only (TrailerOf image Primary))
+        (F.chip flash.old) (F.chip flash.new) }
+    ensures down { is_up.old ≡ false → IsNotBooted result
+        (seen (F.chip flash.old) uploads.old.sessions is_up.old)
+        (seen (F.chip flash.new) uploads.new.sessions is_up.new) }
+    ensures refused { IfErr result (λ fault. is_stop fault ≡ false
+        → F.chip flash.new ≡ F.chip flash.old) }
     ensures ends { EndsCall (reply_of_result result)
         (seen (F.chip flash.old) uploads.old.sessions is_up.old)
         (seen (F.chip flash.new) uploads.new.sessions is_up.new) }

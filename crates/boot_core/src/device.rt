@@ -1,13 +1,13 @@
 //! The device that programs and bootloaders hold.
 
-ghost use Rattle.std.specs.Prelude.{◌≡◌, ◌⊎◌, ◌+◌, ◌≤◌, Bool, true, false, None, Some, Err, IfOk};
-ghost use Rattle.boot_core.specs.Answers.{EndsCall, IsBootReply, is_stopped};
+ghost use Rattle.std.specs.Prelude.{◌≡◌, ◌⊎◌, ◌+◌, ◌≤◌, Bool, true, false, None, Some, Err, IfErr, IfOk};
+ghost use Rattle.boot_core.specs.Answers.{EndsCall, IsBootReply, IsNotBooted, is_stop, is_stopped};
 ghost use Rattle.boot_core.specs.Answers.{reply_of_boot, reply_of_result};
 ghost use Rattle.boot_core.specs.Found.{IsStopped};
 ghost use Rattle.machine.specs.Passing.{reply_of};
 ghost use Rattle.machine.specs.declared.finding.Finding.{Finding};
 ghost use Rattle.boot_core.specs.Device.{made};
-ghost use Rattle.boot_core.specs.Wear.{IsWorn};
+ghost use Rattle.boot_core.specs.Wear.{IsWorn, TakesNothing};
 ghost use Rattle.machine.specs.Boots.{IsReadSound, is_answer};
 ghost use Rattle.machine.specs.Holding.{Holds, Stands};
 ghost use Rattle.machine.specs.Passing.{StepsTo};
@@ -15,8 +15,11 @@ ghost use Rattle.machine.specs.States.{asleep};
 ghost use Rattle.machine.specs.Steps.{cut_of};
 ghost use Rattle.machine.specs.declared.error.Fault.TheVariants.{NotProvisioned};
 ghost use Rattle.machine.specs.declared.event.Event.TheVariants as event;
-ghost use Rattle.sector_map.specs.Map.{IsLaidOut};
+ghost use Rattle.sector_map.specs.Map.{IsLaidOut, Keeps};
+ghost use Rattle.sector_map.specs.Part.{Slot, TrailerOf, any_part, incoming_of, only};
+ghost use Rattle.sector_map.specs.declared.layout.Side.TheVariants.{Primary, Secondary};
 ghost use Rattle.set_log.specs.Log.{state_of};
+ghost use Rattle.set_log.specs.declared.state.Kind.{Kind};
 ghost use Rattle.set_log.specs.declared.state.State.{State as LogState};
 ghost use Rattle.upload.specs.Device.{DeviceState, Machine};
 ghost use Rattle.upload.specs.Sessions.{AllClosed};
@@ -152,6 +155,11 @@ impl<F: Flash> Device<F> {
             → Stands self.old.setup.map self.old.here.flash s
             → IsWorn self.old.setup.map state.kind state.mask self.old.here.flash
             self.new.here.flash (reply_of_boot result) }
+        // On any flash: a boot that was at rest and takes nothing writes nothing.
+        ensures idle { (state : LogState)
+            → state_of self.old.setup.map self.old.here.flash ≡ Some state
+            → state.kind ≡ Kind.Steady → TakesNothing (reply_of_boot result)
+            → self.new.here.flash ≡ self.old.here.flash }
         // On any flash: what a refusal tells of an upgrade that was begun, and that nothing more was written.
         ensures stops { (state : LogState) (finding : Finding) (permanent : Bool)
             → state_of self.old.setup.map self.old.here.flash ≡ Some state
@@ -182,6 +190,13 @@ impl<F: Flash> Device<F> {
         ensures setup { self.new.setup ≡ self.old.setup }
         ensures steps { self.old.here.flash.is_on ≡ true → StepsTo self.old.setup self.old.here
             self.new.here (event.Accept text.entry) (reply_of_result result) }
+        // On any flash: what is touched. Nothing is where the device isn't up, or where a refusal is not of the flash.
+        ensures outside { Keeps self.old.setup.map any_part
+            self.old.here.flash self.new.here.flash }
+        ensures down { self.old.here.up ≡ false
+            → IsNotBooted result self.old.here self.new.here }
+        ensures refused { IfErr result (λ fault. is_stop fault ≡ false
+            → self.new.here.flash ≡ self.old.here.flash) }
         ensures ends { EndsCall (reply_of_result result) self.old.here self.new.here }
     {
         accept(
@@ -206,6 +221,13 @@ impl<F: Flash> Device<F> {
         ensures setup { self.new.setup ≡ self.old.setup }
         ensures steps { self.old.here.flash.is_on ≡ true → StepsTo self.old.setup self.old.here
             self.new.here (event.Piece image more.entry) (reply_of_result result) }
+        // On any flash: what is touched. Nothing is where the device isn't up, or where a refusal is not of the flash.
+        ensures outside { Keeps self.old.setup.map (only (Slot image Secondary))
+            self.old.here.flash self.new.here.flash }
+        ensures down { self.old.here.up ≡ false
+            → IsNotBooted result self.old.here self.new.here }
+        ensures refused { IfErr result (λ fault. is_stop fault ≡ false
+            → self.new.here.flash ≡ self.old.here.flash) }
         ensures ends { EndsCall (reply_of_result result) self.old.here self.new.here }
     {
         piece(
@@ -230,6 +252,11 @@ impl<F: Flash> Device<F> {
         ensures setup { self.new.setup ≡ self.old.setup }
         ensures steps { self.old.here.flash.is_on ≡ true → StepsTo self.old.setup self.old.here
             self.new.here (event.Finish image) (reply_of_result result) }
+        // On any flash: what is touched. Nothing is where the device isn't up.
+        ensures outside { Keeps self.old.setup.map (incoming_of image)
+            self.old.here.flash self.new.here.flash }
+        ensures down { self.old.here.up ≡ false
+            → IsNotBooted result self.old.here self.new.here }
         ensures ends { EndsCall (reply_of_result result) self.old.here self.new.here }
     {
         finish(
@@ -251,6 +278,13 @@ impl<F: Flash> Device<F> {
         ensures setup { self.new.setup ≡ self.old.setup }
         ensures steps { self.old.here.flash.is_on ≡ true → StepsTo self.old.setup self.old.here
             self.new.here (event.Withdraw image) (reply_of_result result) }
+        // On any flash: what is touched. Nothing is where the device isn't up, or where a refusal is not of the flash.
+        ensures outside { Keeps self.old.setup.map (incoming_of image)
+            self.old.here.flash self.new.here.flash }
+        ensures down { self.old.here.up ≡ false
+            → IsNotBooted result self.old.here self.new.here }
+        ensures refused { IfErr result (λ fault. is_stop fault ≡ false
+            → self.new.here.flash ≡ self.old.here.flash) }
         ensures ends { EndsCall (reply_of_result result) self.old.here self.new.here }
     {
         withdraw(
@@ -273,6 +307,13 @@ impl<F: Flash> Device<F> {
         ensures setup { self.new.setup ≡ self.old.setup }
         ensures steps { self.old.here.flash.is_on ≡ true → StepsTo self.old.setup self.old.here
             self.new.here (event.Confirm image) (reply_of_result result) }
+        // On any flash: what is touched. Nothing is where the device isn't up, or where a refusal is not of the flash.
+        ensures outside { Keeps self.old.setup.map (only (TrailerOf image Primary))
+            self.old.here.flash self.new.here.flash }
+        ensures down { self.old.here.up ≡ false
+            → IsNotBooted result self.old.here self.new.here }
+        ensures refused { IfErr result (λ fault. is_stop fault ≡ false
+            → self.new.here.flash ≡ self.old.here.flash) }
         ensures ends { EndsCall (reply_of_result result) self.old.here self.new.here }
     {
         confirm_on(

@@ -1,7 +1,7 @@
 //! Uploads: what the device asks before it passes a call on, and what it does where the flash stops one.
 
 ghost use Rattle.std.specs.Prelude.{◌≡◌, ◌≤◌, ℕ, true, false, IfErr, IfOk};
-ghost use Rattle.boot_core.specs.Answers.{EndsCall, is_stop, reply_of_result};
+ghost use Rattle.boot_core.specs.Answers.{EndsCall, IsNotBooted, is_stop, reply_of_result};
 ghost use Rattle.boot_core.specs.Device.{made, seen};
 ghost use Rattle.boot_core.specs.Ready.{IsReadiness, RefusesText, text_fault};
 ghost use Rattle.flash_model.specs.Chip.{Chip};
@@ -9,7 +9,9 @@ ghost use Rattle.machine.specs.Passing.{StepsTo};
 ghost use Rattle.machine.specs.declared.event.Event.TheVariants as event;
 ghost use Rattle.manifest.specs.Fault.{IsManifest};
 ghost use Rattle.manifest.specs.declared.identity.Identity.{Identity};
-ghost use Rattle.sector_map.specs.Map.{IsLaidOut};
+ghost use Rattle.sector_map.specs.Map.{IsLaidOut, Keeps};
+ghost use Rattle.sector_map.specs.Part.{Slot, any_part, incoming_of, only};
+ghost use Rattle.sector_map.specs.declared.layout.Side.TheVariants.{Secondary};
 ghost use Rattle.set_log.specs.Log.{state_of};
 ghost use Rattle.upload.specs.Sessions.{AllClosed, AllOpenAt};
 ghost use Rattle.upload.specs.View.{view};
@@ -140,6 +142,13 @@ pub(crate) fn accept<F: Flash>(
         (seen (F.chip flash.old) uploads.old.sessions is_up.old)
         (seen (F.chip flash.new) uploads.new.sessions is_up.new)
         (event.Accept text.entry) (reply_of_result result) }
+    ensures outside { Keeps map.now any_part
+        (F.chip flash.old) (F.chip flash.new) }
+    ensures down { is_up.old ≡ false → IsNotBooted result
+        (seen (F.chip flash.old) uploads.old.sessions is_up.old)
+        (seen (F.chip flash.new) uploads.new.sessions is_up.new) }
+    ensures refused { IfErr result (λ fault. is_stop fault ≡ false
+        → F.chip flash.new ≡ F.chip flash.old) }
     ensures ends { EndsCall (reply_of_result result)
         (seen (F.chip flash.old) uploads.old.sessions is_up.old)
         (seen (F.chip flash.new) uploads.new.sessions is_up.new) }
@@ -176,6 +185,13 @@ pub(crate) fn piece<F: Flash>(
         (seen (F.chip flash.old) uploads.old.sessions is_up.old)
         (seen (F.chip flash.new) uploads.new.sessions is_up.new)
         (event.Piece image more.entry) (reply_of_result result) }
+    ensures outside { Keeps map.now (only (Slot image Secondary))
+        (F.chip flash.old) (F.chip flash.new) }
+    ensures down { is_up.old ≡ false → IsNotBooted result
+        (seen (F.chip flash.old) uploads.old.sessions is_up.old)
+        (seen (F.chip flash.new) uploads.new.sessions is_up.new) }
+    ensures refused { IfErr result (λ fault. is_stop fault ≡ false
+        → F.chip flash.new ≡ F.chip flash.old) }
     ensures ends { EndsCall (reply_of_result result)
         (seen (F.chip flash.old) uploads.old.sessions is_up.old)
         (seen (F.chip flash.new) uploads.new.sessions is_up.new) }
@@ -207,6 +223,11 @@ pub(crate) fn finish<F: Flash>(
         (seen (F.chip flash.old) uploads.old.sessions is_up.old)
         (seen (F.chip flash.new) uploads.new.sessions is_up.new)
         (event.Finish image) (reply_of_result result) }
+    ensures outside { Keeps map.now (incoming_of image)
+        (F.chip flash.old) (F.chip flash.new) }
+    ensures down { is_up.old ≡ false → IsNotBooted result
+        (seen (F.chip flash.old) uploads.old.sessions is_up.old)
+        (seen (F.chip flash.new) uploads.new.sessions is_up.new) }
     ensures ends { EndsCall (reply_of_result result)
         (seen (F.chip flash.old) uploads.old.sessions is_up.old)
         (seen (F.chip flash.new) uploads.new.sessions is_up.new) }
@@ -238,6 +259,13 @@ pub(crate) fn withdraw<F: Flash>(
         (seen (F.chip flash.old) uploads.old.sessions is_up.old)
         (seen (F.chip flash.new) uploads.new.sessions is_up.new)
         (event.Withdraw image) (reply_of_result result) }
+    ensures outside { Keeps map.now (incoming_of image)
+        (F.chip flash.old) (F.chip flash.new) }
+    ensures down { is_up.old ≡ false → IsNotBooted result
+        (seen (F.chip flash.old) uploads.old.sessions is_up.old)
+        (seen (F.chip flash.new) uploads.new.sessions is_up.new) }
+    ensures refused { IfErr result (λ fault. is_stop fault ≡ false
+        → F.chip flash.new ≡ F.chip flash.old) }
     ensures ends { EndsCall (reply_of_result result)
         (seen (F.chip flash.old) uploads.old.sessions is_up.old)
         (seen (F.chip flash.new) uploads.new.sessions is_up.new) }

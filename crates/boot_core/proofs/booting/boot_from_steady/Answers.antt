@@ -1,4 +1,4 @@
-use Rattle.std.proofs.Common.{◌+◌, false}
+use Rattle.std.proofs.Common.{◌+◌, false, refl}
 use Rattle.std.proofs.lemmas.Result.{IfOk-weaker}
 use Rattle.machine.proofs.Steadying.{chosen_here, ends_damaged, ends_invalid, ends_plain}
 use Rattle.machine.proofs.Upgrading.{steady_cut}
@@ -70,9 +70,9 @@ returns-then-mask-eq0-clause-erases g c = λ s was.
 pub returns-in-Damaged-clause-erases : goal.returns-in-Damaged-clause-erases
 returns-in-Damaged-clause-erases g c = λ s was.
     fresh_none c.args.map.now (g.F.Flash.chip c.args.flash.now) (g.F.Flash.chip c.find.new.flash) 0
-    (Refused (RunningDamaged c.in-Damaged.image)) c.find.ensures.same (tt {0})
+    (Refused (RunningDamaged c.in-Damaged.image)) c.find.ensures.same refl
 
 pub returns-in-Invalid-clause-erases : goal.returns-in-Invalid-clause-erases
 returns-in-Invalid-clause-erases g c = λ s was.
     fresh_none c.args.map.now (g.F.Flash.chip c.args.flash.now) (g.F.Flash.chip c.find.new.flash) 0
-    (Refused InvalidSet) c.find.ensures.same (tt {0})
+    (Refused InvalidSet) c.find.ensures.same refl

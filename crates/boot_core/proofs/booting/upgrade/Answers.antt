@@ -55,10 +55,15 @@ returns-clause-erases g c = λ s table was chosen.
     let decision = chosen_decision c.args.map.now _ _ c.args.mask _ c.asks_for_good.ensures.same
     c.in_ok-permanent.ensures.ok s table was chosen in
     fresh_of c.args.map.now (g.F.Flash.chip c.args.flash.now) (g.F.Flash.chip c.finish_swap.new.flash) c.args.mask
-    c.answer.result (c.answer.ensures.set _ c.in_ok-finding.ensures.set)
+    c.answer.result (c.answer.ensures.moved s _ (c.in_ok-finding.ensures.ok s table (c.in_ok-begin_swap.ensures.ok s
+    table (steady_here c.args.map.now _ _ c.args.mask _ c.asks_for_good.ensures.same c.in_ok-permanent.ensures.ok s was)
+    decision)).0 c.in_ok-finding.ensures.set)
     (fresh_wear c.args.map.now (g.F.Flash.chip c.args.flash.now) (g.F.Flash.chip c.asks_for_good.new.flash)
     (g.F.Flash.chip c.begin_swap.new.flash) (g.F.Flash.chip c.finish_swap.new.flash) Primary c.args.mask
     c.asks_for_good.ensures.same c.in_ok-begin_swap.ensures.erases c.in_ok-begin_swap.ensures.moves
     (c.in_ok-finding.ensures.erases s table _ (c.in_ok-begin_swap.ensures.ok s table
     (steady_here c.args.map.now _ _ c.args.mask _ c.asks_for_good.ensures.same c.in_ok-permanent.ensures.ok s was)
     decision)))
+
+pub returns-clause-some : goal.returns-clause-some
+returns-clause-some g c = c.answer.ensures.some _ c.in_ok-finding.ensures.set c.requires.some
