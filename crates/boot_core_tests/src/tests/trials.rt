@@ -1,7 +1,9 @@
 //! Trials: what stays, and what goes back.
 
 use super::images::{FIRST, FIRST_DIGEST, PLAIN, PLAIN_DIGEST, RUNNING, SECOND, SECOND_DIGEST};
-use super::playing::{expect, manifest, outcome_of, provisioned, two_images};
+use super::playing::{
+    Cut, Left, Outcome, expect, manifest, outcome_of, provisioned, put, two_images,
+};
 use machine::Event;
 use std::process::Abort;
 use std::test::Fail;
@@ -258,5 +260,109 @@ fn a_trial_of_three_boots_is_recorded_with_two_left(rt: HostRuntime) -> Result<(
     record[56..].copy_from_slice(&[0x01, 0xff, 0xff, 0xff, 0xff, 0xff, 0xff, 0xff]);
     assert_eq!(rt; outcome.bytes.len(), 8192);
     assert_eq!(rt; &outcome.bytes[6912..6976], record.as_slice());
+    Ok(())
+}
+
+/// What comes of a trial of two images of so many boots and of the boots after it, where these writes are cut.
+fn tried(
+    rt: &(impl Abort + AllocGlobal),
+    boots: u8,
+    cuts: &[Cut],
+    after: &[Event],
+) -> Result<Outcome, Fail> {
+    let text = pair(rt.alloc())?;
+    let mut events = Vec::from_slice(
+        rt.alloc(),
+        &[
+            Event::Boot,
+            Event::Accept(text.as_bytes()),
+            Event::Piece(0, &FIRST),
+            Event::Piece(1, &SECOND),
+            Event::Finish(1),
+            Event::Finish(0),
+            Event::Boot,
+        ],
+    )?;
+    events.extend_from_slice(after)?;
+    outcome_of(rt, &[2, 2], boots, two_images(rt)?, cuts, events.as_slice())
+}
+
+/// The same flash, but each record of a trial and of its way back says permanent.
+fn with_permanent(rt: &(impl Abort + AllocGlobal), outcome: &Outcome) -> Result<Vec<u8>, Fail> {
+    let mut bytes = outcome.bytes.clone()?;
+    for at in [6912, 6976, 7040] {
+        assert!(rt; at < bytes.len());
+        if 4 <= bytes[at] && bytes[at] <= 6 {
+            put(rt, &mut bytes, at + 2, &[1]);
+        }
+    }
+    Ok(bytes)
+}
+
+const WENT_BACK: &str = "1 reverted 0 1
+2 plain
+run 0 1.0.0+0
+run 1 1.0.0+0
+";
+
+#[test]
+fn a_trial_whose_record_says_permanent_goes_back(rt: HostRuntime) -> Result<(), Fail> {
+    let trial = tried(&rt, 1, &[], &[])?;
+    let bytes = with_permanent(&rt, &trial)?;
+    assert_eq!(rt; bytes.len(), 8192);
+    assert_eq!(rt; bytes[6914], 1);
+    let outcome = outcome_of(&rt, &[2, 2], 1, bytes, &[], &[Event::Boot, Event::Boot])?;
+    assert_eq!(rt; outcome.told.as_str(), WENT_BACK);
+    // The way back copies the byte, and the device at rest has 0 there again.
+    assert_eq!(rt; outcome.bytes.len(), 8192);
+    for (at, kind, permanent) in [(6976, 5, 1), (7040, 6, 1), (7168, 1, 0)] {
+        assert_eq!(rt; outcome.bytes[at], kind);
+        assert_eq!(rt; outcome.bytes[at + 2], permanent);
+    }
+    Ok(())
+}
+
+#[test]
+fn a_trial_whose_record_says_permanent_is_tried_again_and_may_stay(
+    rt: HostRuntime,
+) -> Result<(), Fail> {
+    let trial = tried(&rt, 3, &[], &[])?;
+    let events = [
+        Event::Boot,
+        Event::Confirm(0),
+        Event::Confirm(1),
+        Event::Boot,
+    ];
+    let bytes = with_permanent(&rt, &trial)?;
+    let outcome = outcome_of(&rt, &[2, 2], 3, bytes, &[], &events)?;
+    let told = "1 trial-again 0 1 left 1
+2 done
+3 done
+4 plain
+run 0 2.0.0+0
+run 1 2.0.0+0
+";
+    assert_eq!(rt; outcome.told.as_str(), told);
+    Ok(())
+}
+
+#[test]
+fn a_way_back_that_is_cut_is_ended_where_its_record_says_permanent(
+    rt: HostRuntime,
+) -> Result<(), Fail> {
+    let begin = tried(&rt, 1, &[], &[])?.writes;
+    let end = tried(&rt, 1, &[], &[Event::Boot])?.writes;
+    assert!(rt; begin < 1000 && end < 1000);
+    assert!(rt; begin + 20 < end);
+    for write in begin + 1..=end {
+        let cut = tried(&rt, 1, &[(write, Left::Keep)], &[Event::Boot])?;
+        let bytes = with_permanent(&rt, &cut)?;
+        let outcome = outcome_of(&rt, &[2, 2], 1, bytes, &[], &[Event::Boot, Event::Boot])?;
+        assert!(rt;
+            outcome.told.as_str() == WENT_BACK,
+            "{write} {}",
+            outcome.told.as_str()
+        );
+    }
     Ok(())
 }
