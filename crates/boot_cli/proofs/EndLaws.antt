@@ -3,6 +3,7 @@ use Rattle.std.proofs.Common.{◌≡◌, ℕ, List, [], ◌∷◌, Option, ap, a
 use Rattle.std.specs.Borrow.{Bor}
 use Rattle.reading_commands.specs.declared.answer.Answer.{Answer}
 use Rattle.reading_commands.specs.declared.answer.Answer.TheVariants.{Done, Refused, Cut}
+use Rattle.flash_model.specs.declared.torn.Armed.{Armed}
 use Rattle.boot_cli.specs.declared.commands.provision.Made.{Made}
 use Rattle.boot_cli.specs.declared.commands.provision.Made.TheVariants as made
 use Rattle.answers.specs.declared.device.DeviceFile.{DeviceFile}
@@ -71,17 +72,18 @@ AnswersRun-runs Cut device flash script input file old new runs = runs
 pub AnswersRun-read : (answer : Answer) (device : Source) (flash : Bor (List ℕ)) (script : Source)
     (input second_input third_input fourth_input : Option (List ℕ))
     (file second_file third_file fourth_file : FileBytes)
-    (old mid new : Option (List ℕ)) (bytes text : List ℕ) (came : List Came) (of_device : DeviceFile)
+    (old mid new : Option (List ℕ)) (bytes text : List ℕ) (cuts : List Armed) (came : List Came)
+    (of_device : DeviceFile)
     → GivesDevice device input file of_device → KeepsOthers device input file second_input second_file
     → Gives (source.File flash) second_input second_file bytes
     → KeepsOthers (source.File flash) second_input second_file third_input third_file
     → Gives script third_input third_file text
     → KeepsOthers script third_input third_file fourth_input fourth_file
-    → ((known : Known) → StaysKnown known fourth_input fourth_file → IsScript text known came)
-    → IsFlashOf of_device.map bytes → mid ≡ old → Plays answer of_device bytes came mid new
+    → ((known : Known) → StaysKnown known fourth_input fourth_file → IsScript text known cuts came)
+    → IsFlashOf of_device.map bytes → mid ≡ old → Plays answer of_device bytes cuts came mid new
     → AnswersRun answer device (source.File flash) script input file old new
 AnswersRun-read answer device flash script input second_input third_input fourth_input file second_file third_file
-    fourth_file old mid new bytes text came of_device given kept flash_given flash_kept script_given script_kept says
+    fourth_file old mid new bytes text cuts came of_device given kept flash_given flash_kept script_given script_kept says
     whole same plays =
     let first : Known = record { input = input; files = file } in
     let second = known_after device first in
@@ -92,6 +94,7 @@ AnswersRun-read answer device flash script input second_input third_input fourth
       of_device = of_device;
       bytes = bytes;
       text = text;
+      cuts = cuts;
       came = came;
       given = GiveEach-read device (source.File flash ∷ script ∷ []) input second_input file second_file given.0
           (bytes ∷ text ∷ []) given.1 kept
@@ -101,5 +104,5 @@ AnswersRun-read answer device flash script input second_input third_input fourth
       whole = whole;
       script = says (known_after script second)
           (StaysKnown-read script second third_input fourth_input third_file fourth_file still script_kept);
-      plays = subst (λ o. Plays answer of_device bytes came o new) same plays;
+      plays = subst (λ o. Plays answer of_device bytes cuts came o new) same plays;
     })

@@ -51,6 +51,7 @@ AnswersRun-kept device flash script input file old mid new answered kept = recor
   of_device = answered.of_device;
   bytes = answered.bytes;
   text = answered.text;
+  cuts = answered.cuts;
   came = answered.came;
   given = answered.given;
   is_device = answered.is_device;

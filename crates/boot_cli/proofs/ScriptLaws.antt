@@ -4,17 +4,19 @@ use Rattle.std.proofs.lemmas.List.{append-nil, map-append}
 use Rattle.std.specs.Io.KnownBytes.{Keeps}
 use Rattle.std.specs.List.{AllZip}
 use Rattle.common.specs.Lines.{lines_of}
+use Rattle.flash_model.specs.declared.torn.Armed.{Armed}
 use Rattle.script.specs.declared.reading.Reading.{Reading}
 use Rattle.script.specs.InOrder.{AreEvents, AreInOrder, CanFollow}
 use Rattle.script.specs.LineText.{IsLineText}
-use Rattle.script.specs.Said.{Said, SaidEvent}
+use Rattle.script.specs.Said.{Said, SaidEvent, SaidTorn}
 use Rattle.script.specs.Said as said
 use Rattle.reading_commands.specs.declared.source.Source.{Source}
 use Rattle.reading_commands.specs.declared.source.Source.TheVariants.{StandardInput, File}
 use Rattle.reading_commands.specs.Input.{FileBytes, Gives, IsNamed, KeepsOthers}
+use Rattle.boot_cli.specs.declared.loading.Cut.{Cut}
 use Rattle.boot_cli.specs.declared.loading.Step.{Step}
-use Rattle.boot_cli.specs.Loading.{Adds, Passes, came_in, came_of}
-use Rattle.boot_cli.specs.Script.{AllCome, Came, Comes, IsRead, IsScript, Known, StaysKnown, known_after}
+use Rattle.boot_cli.specs.Loading.{Adds, Passes, armed_in, armed_of, came_in, came_of}
+use Rattle.boot_cli.specs.Script.{AllCome, AllCut, Came, Comes, IsCutBy, IsRead, IsScript, Known, StaysKnown, known_after}
 use Rattle.reading_commands.proofs.AnswerLaws.{Gives-kept}
 
 -- what is known, and was kept twice
@@ -65,67 +67,88 @@ IsRead-read name source input new_input files new_files bytes named given kept =
 )
 
 -- a step more is the last that comes, and what is known passes as by its line
-pub Adds-step : {A : Type 0} (event : SaidEvent) (old new : List (Step A)) (step : Step A)
+pub Adds-step : {A : Type 0} (event : SaidEvent) (cuts : List Cut) (old new : List (Step A)) (step : Step A)
     (input new_input : Option (List ℕ)) (files new_files : FileBytes) → new ≡ old ++ step ∷ []
     → Passes (λ known after. Comes event known (came_of step) after) input files new_input new_files
-    → Passes (Adds (said.Event event) (came_in old) (came_in new)) input files new_input new_files
-Adds-step event old new step input new_input files new_files added comes = λ known stays.
+    → Passes (Adds (said.Event event) (armed_in cuts) (armed_in cuts) (came_in old) (came_in new)) input files
+    new_input new_files
+Adds-step event cuts old new step input new_input files new_files added comes = λ known stays.
     let came = comes known stays in (
       came.0,
-      (came_of step, came.1, ap (λ steps. came_in steps) added ∙ map-append came_of old (step ∷ [])),
+      (came_of step, came.1, ap (λ steps. came_in steps) added ∙ map-append came_of old (step ∷ []), refl),
       came.2,
     )
 
+-- a cut more is of the last write that is to be cut, and all that is known stays known
+pub Adds-cut : {A : Type 0} (write : ℕ) (torn : SaidTorn) (old new : List Cut) (cut : Cut) (steps : List (Step A))
+    (input : Option (List ℕ)) (files : FileBytes) → new ≡ old ++ cut ∷ [] → IsCutBy write torn (armed_of cut)
+    → Passes (Adds (said.Cut write torn) (armed_in old) (armed_in new) (came_in steps) (came_in steps)) input files
+    input files
+Adds-cut write torn old new cut steps input files added is = λ known stays. (
+  known,
+  (armed_of cut, is, ap (λ cuts. armed_in cuts) added ∙ map-append armed_of old (cut ∷ []), refl, refl),
+  stays,
+)
+
 -- The text was read up to what is left of it, from a host that was at one state and is at another now: whatever
--- follows, this and what comes by the rest come by the whole text.
+-- follows, these writes and those of the rest are to be cut by the whole text, and this and what comes by the rest
+-- come by it.
 abbrev pub AreLoaded : List ℕ → List ℕ → Reading → Option (List ℕ) → FileBytes
-    → Option (List ℕ) → FileBytes → List Came → Type 0
-AreLoaded text rest reading old_input old_files input files came =
-    Passes (λ known now. (lines : List Said) (more : List Came) → CanFollow reading lines
-    → AllZip IsLineText (lines_of rest) lines → AllCome lines now more → IsScript text known (came ++ more))
+    → Option (List ℕ) → FileBytes → List Armed → List Came → Type 0
+AreLoaded text rest reading old_input old_files input files cuts came =
+    Passes (λ known now. (lines : List Said) (others : List Armed) (more : List Came) → CanFollow reading lines
+    → AllZip IsLineText (lines_of rest) lines → AllCut lines others → AllCome lines now more
+    → IsScript text known (cuts ++ others) (came ++ more))
     old_input old_files input files
 
 -- nothing was read
 pub AreLoaded-none : (text : List ℕ) (reading : Reading) (input : Option (List ℕ)) (files : FileBytes)
     → ((lines : List Said) → CanFollow reading lines ↔ AreInOrder 0 lines)
-    → AreLoaded text text reading input files input files []
+    → AreLoaded text text reading input files input files [] []
 AreLoaded-none text reading input files new = λ known stays. (
   known,
-  (λ lines more follows say come.
-      record { lines = lines; say = say; order = (new lines).0 follows; come = come }),
+  (λ lines others more follows say cut come.
+      record { lines = lines; say = say; order = (new lines).0 follows; cut = cut; come = come }),
   stays,
 )
 
--- what comes by a line comes by it and all behind it
-come_more : (one : Said) (old new more : List Came) (lines : List Said) (text : List ℕ) (known now after : Known)
-    → Adds one old new now after → AllCome lines after more
-    → ((some : List Came) → AllCome (one ∷ lines) now some → IsScript text known (old ++ some))
-    → IsScript text known (new ++ more)
-come_more (said.Cut write torn) old new more lines text known now after adds come then =
-    subst (λ came. IsScript text known (came ++ more)) (sym adds.0)
-    (then more (subst (λ k. AllCome lines k more) adds.1 come))
-come_more (said.Event event) old new more lines text known now after adds come then =
-    subst (λ came. IsScript text known (came ++ more)) (sym adds.2)
-    (subst (λ all. IsScript text known all) (sym (append_assoc old (adds.0 ∷ []) more))
-    (then (adds.0 ∷ more) (adds.0, after, more, adds.1, come, refl)))
+-- what a line adds is of it and all behind it
+come_more : (one : Said) (old_cuts new_cuts others : List Armed) (old new more : List Came) (lines : List Said)
+    (text : List ℕ) (known now after : Known) → Adds one old_cuts new_cuts old new now after
+    → AllCut lines others → AllCome lines after more
+    → ((armed : List Armed) (some : List Came) → AllCut (one ∷ lines) armed → AllCome (one ∷ lines) now some
+    → IsScript text known (old_cuts ++ armed) (old ++ some))
+    → IsScript text known (new_cuts ++ others) (new ++ more)
+come_more (said.Cut write torn) old_cuts new_cuts others old new more lines text known now after adds cut come then =
+    subst (λ came. IsScript text known (new_cuts ++ others) (came ++ more)) (sym adds.3)
+    (subst (λ cuts. IsScript text known (cuts ++ others) (old ++ more)) (sym adds.2)
+    (subst (λ all. IsScript text known all (old ++ more)) (sym (append_assoc old_cuts (adds.0 ∷ []) others))
+    (then (adds.0 ∷ others) more (adds.0, others, adds.1, cut, refl)
+    (subst (λ k. AllCome lines k more) adds.4 come))))
+come_more (said.Event event) old_cuts new_cuts others old new more lines text known now after adds cut come then =
+    subst (λ cuts. IsScript text known (cuts ++ others) (new ++ more)) (sym adds.3)
+    (subst (λ came. IsScript text known (old_cuts ++ others) (came ++ more)) (sym adds.2)
+    (subst (λ all. IsScript text known (old_cuts ++ others) all) (sym (append_assoc old (adds.0 ∷ []) more))
+    (then others (adds.0 ∷ more) cut (adds.0, after, more, adds.1, come, refl))))
 
 -- one line more was read
 pub AreLoaded-more : (text rest after_rest line : List ℕ) (reading new_reading : Reading) (one : Said)
-    (old_input input new_input : Option (List ℕ)) (old_files files new_files : FileBytes) (came new_came : List Came)
+    (old_input input new_input : Option (List ℕ)) (old_files files new_files : FileBytes)
+    (cuts new_cuts : List Armed) (came new_came : List Came)
     → lines_of rest ≡ line ∷ lines_of after_rest → IsLineText line one
     → ((lines : List Said) → CanFollow new_reading lines ↔ CanFollow reading (one ∷ lines))
-    → Passes (Adds one came new_came) input files new_input new_files
-    → AreLoaded text rest reading old_input old_files input files came
-    → AreLoaded text after_rest new_reading old_input old_files new_input new_files new_came
+    → Passes (Adds one cuts new_cuts came new_came) input files new_input new_files
+    → AreLoaded text rest reading old_input old_files input files cuts came
+    → AreLoaded text after_rest new_reading old_input old_files new_input new_files new_cuts new_came
 AreLoaded-more text rest after_rest line reading new_reading one old_input input new_input old_files files new_files
-    came new_came parts is takes adds before = λ known stays.
+    cuts new_cuts came new_came parts is takes adds before = λ known stays.
     let loaded = before known stays in
     let added = adds loaded.0 loaded.2 in (
       added.0,
-      (λ lines more follows say come.
-          come_more one came new_came more lines text known loaded.0 added.0 added.1 come
-          (λ some all. loaded.1 (one ∷ lines) some ((takes lines).0 follows)
-          (subst (λ all_lines. AllZip IsLineText all_lines (one ∷ lines)) (sym parts) (is, say)) all)),
+      (λ lines others more follows say cut come.
+          come_more one cuts new_cuts others came new_came more lines text known loaded.0 added.0 added.1 cut come
+          (λ armed some all_cut all. loaded.1 (one ∷ lines) armed some ((takes lines).0 follows)
+          (subst (λ all_lines. AllZip IsLineText all_lines (one ∷ lines)) (sym parts) (is, say)) all_cut all)),
       added.2,
     )
 
@@ -136,11 +159,12 @@ nothing_follows false last = tt
 
 -- all was read
 pub AreLoaded-all : (text rest : List ℕ) (reading : Reading) (old_input input : Option (List ℕ))
-    (old_files files : FileBytes) (came : List Came) → length rest ≡ 0
-    → AreLoaded text rest reading old_input old_files input files came
-    → (known : Known) → StaysKnown known old_input old_files → IsScript text known came
-AreLoaded-all text [] reading old_input input old_files files came none loaded known stays =
-    subst (λ all. IsScript text known all) (append-nil came)
-    ((loaded known stays).1 [] [] (nothing_follows reading.has_event reading.last_cut) tt refl)
-AreLoaded-all text (b ∷ rest) reading old_input input old_files files came none loaded known stays =
+    (old_files files : FileBytes) (cuts : List Armed) (came : List Came) → length rest ≡ 0
+    → AreLoaded text rest reading old_input old_files input files cuts came
+    → (known : Known) → StaysKnown known old_input old_files → IsScript text known cuts came
+AreLoaded-all text [] reading old_input input old_files files cuts came none loaded known stays =
+    subst (λ all. IsScript text known all came) (append-nil cuts)
+    (subst (λ all. IsScript text known (cuts ++ []) all) (append-nil came)
+    ((loaded known stays).1 [] [] [] (nothing_follows reading.has_event reading.last_cut) tt refl refl))
+AreLoaded-all text (b ∷ rest) reading old_input input old_files files cuts came none loaded known stays =
     absurd (omega (arith, none))

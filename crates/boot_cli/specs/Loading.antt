@@ -1,11 +1,13 @@
 -- What reading a script leaves, line by line: for the private contracts of its readers.
 use Rattle.std.specs.Prelude.{◌≡◌, ℕ, List, [], ◌∷◌, ◌++◌, Option, map}
+use Rattle.flash_model.specs.declared.torn.Armed.{Armed}
 use Rattle.script.specs.Said.{Said}
 use Rattle.script.specs.Said as said
+use Rattle.boot_cli.specs.declared.loading.Cut.{Cut}
 use Rattle.boot_cli.specs.declared.loading.Step.{Step}
 use Rattle.boot_cli.specs.declared.loading.Step.TheVariants as step
 use Rattle.reading_commands.specs.Input.{FileBytes}
-use Rattle.boot_cli.specs.Script.{Accept, Boot, Came, Comes, Confirm, Finish, Known, Piece, Reset, StaysKnown, Withdraw}
+use Rattle.boot_cli.specs.Script.{Accept, Boot, Came, Comes, Confirm, Finish, IsCutBy, Known, Piece, Reset, StaysKnown, Withdraw}
 
 -- What comes to the device by a step.
 abbrev pub came_of : {A : Type 0} → Step A → Came
@@ -21,6 +23,14 @@ came_of step.Reset = Reset
 abbrev pub came_in : {A : Type 0} → List (Step A) → List Came
 came_in steps = map came_of steps
 
+-- The write that a cut of a script has cut.
+abbrev pub armed_of : Cut → Armed
+armed_of cut = record { at = cut.write; torn = cut.torn }
+
+-- The writes that cuts of a script have cut, in order.
+abbrev pub armed_in : List Cut → List Armed
+armed_in cuts = map armed_of cuts
+
 -- What is known of a host passes from one of its states to another, and this is said of it.
 abbrev pub Passes : (Known → Known → Type 0) → Option (List ℕ) → FileBytes
     → Option (List ℕ) → FileBytes → Type 0
@@ -28,8 +38,11 @@ Passes Says old_input old_files new_input new_files =
     (known : Known) → StaysKnown known old_input old_files
     → (after : Known) × Says known after × StaysKnown after new_input new_files
 
--- What a line adds to what comes.
-abbrev pub Adds : Said → List Came → List Came → Known → Known → Type 0
-Adds (said.Cut write torn) old new known after = (new ≡ old) × (after ≡ known)
-Adds (said.Event event) old new known after =
+-- What a line adds to the writes that are to be cut, and to what comes.
+abbrev pub Adds : Said → List Armed → List Armed → List Came → List Came → Known → Known → Type 0
+Adds (said.Cut write torn) old_cuts new_cuts old new known after =
+    (cut : Armed) × IsCutBy write torn cut × (new_cuts ≡ old_cuts ++ cut ∷ [])
+    × (new ≡ old) × (after ≡ known)
+Adds (said.Event event) old_cuts new_cuts old new known after =
     (came : Came) × Comes event known came after × (new ≡ old ++ came ∷ [])
+    × (new_cuts ≡ old_cuts)

@@ -1,6 +1,9 @@
 -- What a run of a device comes to.
 use Rattle.std.specs.Prelude.{◌≡◌, ◌⊎◌, ℕ, ◌-◌, false, List, [], ◌∷◌, length, Option, None, Some, map, slice_get}
 use Rattle.std.specs.Io.KnownBytes.{Appends}
+use Rattle.file_flash.specs.FileFlash.{OverFile, new_over}
+use Rattle.flash_model.specs.declared.torn.Armed.{Armed}
+use Rattle.flash_model.specs.Memory.{Memory}
 use Rattle.sector_map.specs.declared.layout.SectorMap.{SectorMap}
 use Rattle.upload.specs.Sessions.{AllClosed}
 use Rattle.machine.specs.Holding.{DeviceView}
@@ -26,19 +29,29 @@ use Rattle.boot_cli.specs.Script.{Came, IsScript, Known, came_by, known_after}
 abbrev pub setup_of : DeviceFile → Setup
 setup_of device = made device.map device.identity device.trial_boots
 
--- A device that was just made, with these bytes on its flash: it isn't up, and no upload is open.
-pub record IsMadeOf (map : SectorMap) (bytes : List ℕ) (here : DeviceView) : Type 0 where
+-- The flash in memory that has these bytes. It took no write yet, and these are to be cut, as counted from now.
+abbrev pub armed_flash : SectorMap → List ℕ → List Armed → Memory
+armed_flash map bytes cuts = record { chip = flash_of map bytes; writes = 0; armed = cuts }
+
+-- A device that was just made, over a file with these bytes of whose writes these are to be cut: it isn't up, and
+-- no upload is open.
+pub record IsMadeOf (map : SectorMap) (bytes : List ℕ) (cuts : List Armed) (here : DeviceView)
+    : Type 0 where
+  pub over : OverFile
+  pub armed : over ≡ new_over (armed_flash map bytes cuts)
+  pub chip : here.flash ≡ over.chip
   pub flash : here.flash ≡ flash_of map bytes
   pub down : here.up ≡ false
   pub closed : AllClosed here.sessions
 
--- These are replies to the events, one to each, of a device of this file with these bytes on its flash: from
--- every state that it holds they are a run of the machine of whole images, to a state that it holds then.
-pub record IsPlayed (device : DeviceFile) (bytes : List ℕ) (events : List Event)
-    (replies : List Reply) : Type 0 where
+-- These are replies to the events, one to each, of a device of this file with these bytes on its flash, of whose
+-- writes these are to be cut: from every state that it holds they are a run of the machine of whole images, to a
+-- state that it holds then.
+pub record IsPlayed (device : DeviceFile) (bytes : List ℕ) (cuts : List Armed)
+    (events : List Event) (replies : List Reply) : Type 0 where
   pub old : DeviceView
   pub new : DeviceView
-  pub made : IsMadeOf device.map bytes old
+  pub made : IsMadeOf device.map bytes cuts old
   pub runs : RunsTo (setup_of device) old new events replies
   pub each : length replies ≡ length events
 
@@ -55,14 +68,14 @@ answer_after (Some reply.Cut) = Cut
 abbrev pub answer_of : List Reply → Answer
 answer_of replies = answer_after (slice_get replies (length replies - 1))
 
--- What is answered of a device of this file with these bytes on its flash, to which this comes, and what a writer
--- took: the replies.
-pub record Plays (answer : Answer) (device : DeviceFile) (bytes : List ℕ) (came : List Came)
-    (old new : Option (List ℕ)) : Type 0 where
+-- What is answered of a device of this file with these bytes on its flash, of whose writes these are to be cut, and
+-- to which this comes; and what a writer took: the replies.
+pub record Plays (answer : Answer) (device : DeviceFile) (bytes : List ℕ) (cuts : List Armed)
+    (came : List Came) (old new : Option (List ℕ)) : Type 0 where
   pub events : List Event
   pub replies : List Reply
   pub come : map came_by events ≡ came
-  pub played : IsPlayed device bytes events replies
+  pub played : IsPlayed device bytes cuts events replies
   pub answered : answer ≡ answer_of replies
   pub written : Appends old new (replies_text 1 replies)
 
@@ -72,19 +85,21 @@ known_after_each [] known = known
 known_after_each (source ∷ rest) known = known_after_each rest (known_after source known)
 
 -- `run` read the bytes of a device file, of its flash and of a script with the files that it names, and wrote the
--- replies of the device to what comes by the script ..
+-- replies of the device to what comes by the script, with the writes of its flash cut that the script names ..
 pub record RunsDevice (answer : Answer) (sources : List Source) (input : Option (List ℕ))
     (files : FileBytes) (old new : Option (List ℕ)) : Type 0 where
   pub device_bytes : List ℕ
   pub of_device : DeviceFile
   pub bytes : List ℕ
   pub text : List ℕ
+  pub cuts : List Armed
   pub came : List Came
   pub given : GiveEach sources input files (device_bytes ∷ bytes ∷ text ∷ [])
   pub is_device : IsDeviceFile device_bytes of_device
   pub whole : IsFlashOf of_device.map bytes
-  pub script : IsScript text (known_after_each sources (record { input = input; files = files })) came
-  pub plays : Plays answer of_device bytes came old new
+  pub script : IsScript text (known_after_each sources (record { input = input; files = files }))
+      cuts came
+  pub plays : Plays answer of_device bytes cuts came old new
 
 -- .. or why the sizes of the device file make no map, and then nothing else counts.
 abbrev pub AnswersRun : Answer → Source → Source → Source → Option (List ℕ) → FileBytes

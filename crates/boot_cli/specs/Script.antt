@@ -3,12 +3,14 @@ use Rattle.std.specs.Prelude.{◌≡◌, ℕ, List, [], ◌∷◌, Option, None,
 use Rattle.std.specs.Io.KnownBytes.{Keeps}
 use Rattle.std.specs.List.{AllZip}
 use Rattle.common.specs.Lines.{lines_of}
+use Rattle.flash_model.specs.declared.torn.Armed.{Armed}
 use Rattle.machine.specs.declared.event.Event.{Event}
 use Rattle.machine.specs.declared.event.Event.TheVariants as event
+use Rattle.script.specs.Cuts.{Leaves}
 use Rattle.script.specs.InOrder.{AreInOrder}
 use Rattle.script.specs.LineText.{IsLineText}
 use Rattle.script.specs.Part.{IsPart}
-use Rattle.script.specs.Said.{PartWords, Said, SaidEvent}
+use Rattle.script.specs.Said.{PartWords, Said, SaidEvent, SaidTorn}
 use Rattle.script.specs.Said as said
 use Rattle.reading_commands.specs.declared.source.Source.{Source}
 use Rattle.reading_commands.specs.declared.source.Source.TheVariants.{StandardInput, File}
@@ -82,10 +84,25 @@ AllCome (said.Event event ∷ lines) known came =
     (first : Came) × (after : Known) × (more : List Came) × Comes event known first after
     × AllCome lines after more × (came ≡ first ∷ more)
 
--- A text is a script by which this comes to the device: each of its lines says something, cuts stand before
--- events and their numbers rise.
-pub record IsScript (text : List ℕ) (known : Known) (came : List Came) : Type 0 where
+-- A write is to be cut as a line says: the write of that number, with what it leaves.
+pub record IsCutBy (write : ℕ) (torn : SaidTorn) (cut : Armed) : Type 0 where
+  pub number : cut.at ≡ write
+  pub leaves : Leaves torn cut.torn
+
+-- The writes that are to be cut by lines, one after the other.
+abbrev pub AllCut : List Said → List Armed → Type 0
+AllCut [] cuts = cuts ≡ []
+AllCut (said.Cut write torn ∷ lines) cuts =
+    (first : Armed) × (more : List Armed) × IsCutBy write torn first × AllCut lines more
+    × (cuts ≡ first ∷ more)
+AllCut (said.Event event ∷ lines) cuts = AllCut lines cuts
+
+-- A text is a script by which these writes are to be cut and this comes to the device: each of its lines says
+-- something, cuts stand before events and their numbers rise.
+pub record IsScript (text : List ℕ) (known : Known) (cuts : List Armed) (came : List Came)
+    : Type 0 where
   pub lines : List Said
   pub say : AllZip IsLineText (lines_of text) lines
   pub order : AreInOrder 0 lines
+  pub cut : AllCut lines cuts
   pub come : AllCome lines known came

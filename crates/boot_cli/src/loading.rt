@@ -1,9 +1,9 @@
 //! Scripts, with the files that their lines name.
 ghost use Rattle.std.specs.Prelude.{◌≡◌, ◌∷◌, ◌++◌, [], IfOk, map};
 ghost use Rattle.std.specs.Option.{option_map};
-ghost use Rattle.script.specs.Said.{part_words, said, said_event};
-ghost use Rattle.boot_cli.specs.Loading.{Adds, Passes, came_in, came_of};
-ghost use Rattle.boot_cli.specs.Script.{Comes, IsPieceOf, IsRead, IsScript, Known, StaysKnown, came_by};
+ghost use Rattle.script.specs.Said.{part_words, said, said_event, said_torn};
+ghost use Rattle.boot_cli.specs.Loading.{Adds, Passes, armed_in, armed_of, came_in, came_of};
+ghost use Rattle.boot_cli.specs.Script.{Comes, IsCutBy, IsPieceOf, IsRead, IsScript, Known, StaysKnown, came_by};
 
 use common::lines::first_line;
 use flash_model::Torn;
@@ -109,7 +109,7 @@ pub fn load<'a, 'h, A: Allocator, H: Host>(
 ) -> Result<Script<&'h A>, Refusal<'a>>
     ensures { IfOk result (λ script. (known : Known)
         → StaysKnown known (H.input host.old) (H.file host.old)
-        → IsScript text.now known (came_in script.steps.items)) }
+        → IsScript text.now known (armed_in script.cuts.items) (came_in script.steps.items)) }
 {
     let mut script = Script {
         cuts: Vec::new(alloc),
@@ -147,12 +147,16 @@ fn take_line<'a, 'h, A: Allocator, H: Host>(
     line: Line<'a>,
 ) -> Result<(), Refusal<'a>>
     ensures { IfOk result (λ _. Passes
-        (Adds (said line.entry) (came_in script.old.steps.items) (came_in script.new.steps.items))
+        (Adds (said line.entry) (armed_in script.old.cuts.items) (armed_in script.new.cuts.items)
+        (came_in script.old.steps.items) (came_in script.new.steps.items))
         (H.input reader.old.host.now) (H.file reader.old.host.now)
         (H.input reader.new.host.now) (H.file reader.new.host.now)) }
 {
     match line {
-        Line::Cut { write, torn } => take_cut(alloc, &mut script.cuts, write, torn),
+        Line::Cut { write, torn } => {
+            let cut = cut_of(alloc, write, torn)?;
+            take_cut(&mut script.cuts, cut)
+        }
         Line::Event(instruction) => {
             let step = step_of(reader, number, instruction)?;
             take_step(&mut script.steps, step)
@@ -160,17 +164,21 @@ fn take_line<'a, 'h, A: Allocator, H: Host>(
     }
 }
 
-/// Adds the cut that a line says.
-fn take_cut<'a>(
-    alloc: Global,
-    cuts: &mut Vec<Cut>,
-    write: u32,
-    torn: TornText<'_>,
-) -> Result<(), Refusal<'a>> {
-    let Ok(torn) = torn.torn(alloc) else {
-        return Err(Refusal::NoMemory);
-    };
-    match cuts.push(Cut { write, torn }) {
+/// The cut that a line says.
+fn cut_of<'a>(alloc: Global, write: u32, torn: TornText<'_>) -> Result<Cut, Refusal<'a>>
+    ensures { IfOk result (λ cut. IsCutBy write (said_torn torn.entry) (armed_of cut)) }
+{
+    match torn.torn(alloc) {
+        Ok(torn) => Ok(Cut { write, torn }),
+        Err(_) => Err(Refusal::NoMemory),
+    }
+}
+
+/// Adds a cut to those before.
+fn take_cut<'a>(cuts: &mut Vec<Cut>, cut: Cut) -> Result<(), Refusal<'a>>
+    ensures { IfOk result (λ _. cuts.new.items ≡ cuts.old.items ++ cut ∷ []) }
+{
+    match cuts.push(cut) {
         Ok(()) => Ok(()),
         Err(_) => Err(Refusal::NoMemory),
     }

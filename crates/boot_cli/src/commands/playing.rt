@@ -1,14 +1,14 @@
 //! `bootswap run`: what a device answers to the events of a script.
-ghost use Rattle.std.specs.Prelude.{◌≡◌, IfOk, false};
+ghost use Rattle.std.specs.Prelude.{◌≡◌, ◌++◌, IfOk, OnOk, false};
 ghost use Rattle.std.specs.Io.KnownBytes.{Appends};
 ghost use Rattle.std.specs.Option.{ForSome};
-ghost use Rattle.flash_model.specs.Memory.{chip_of};
+ghost use Rattle.flash_model.specs.Memory.{chip_of, memory_of};
 ghost use Rattle.sector_map.specs.Map.{IsLaidOut};
 ghost use Rattle.upload.specs.Sessions.{AllClosed};
 ghost use Rattle.answers.specs.DeviceFile.{IsOfFile};
 ghost use Rattle.answers.specs.FlashOf.{IsFlashOf};
 ghost use Rattle.answers.specs.ReplyText.{replies_text};
-ghost use Rattle.boot_cli.specs.Loading.{came_in};
+ghost use Rattle.boot_cli.specs.Loading.{armed_in, came_in};
 ghost use Rattle.boot_cli.specs.RunEnd.{AnswersRun, IsPlayed, Plays, answer_of, setup_of};
 ghost use Rattle.reading_commands.specs.declared.source.Source.TheVariants as source;
 
@@ -79,8 +79,8 @@ fn play_script<'a, 'h, A: Allocator, F: FlashFile + Drop, O: Write>(
     requires whole { IsFlashOf device.now.map bytes.items }
     requires held { ForSome (F.contents file) (λ all. all ≡ bytes.items) }
     ensures { IfOk result (λ answer.
-        Plays answer device.now bytes.items (came_in script.entry.steps.items)
-        (O.contents out.old) (O.contents out.new)) }
+        Plays answer device.now bytes.items (armed_in script.entry.cuts.items)
+        (came_in script.entry.steps.items) (O.contents out.old) (O.contents out.new)) }
 {
     let Script { cuts, steps } = script;
     let Ok(events) = events_of(heap, &steps) else {
@@ -127,7 +127,7 @@ fn play<L: Ledger, M: Ledger, F: FlashFile + Drop>(
     requires whole { IsFlashOf device.now.map bytes.items }
     requires held { ForSome (F.contents file) (λ all. all ≡ bytes.items) }
     ensures { IfOk result (λ played.
-        IsPlayed device.now bytes.items events.now played.replies.items) }
+        IsPlayed device.now bytes.items (armed_in cuts.items) events.now played.replies.items) }
 {
     let mut memory = flash_of::<M>(alloc, memory_blank, &device.map, bytes);
     arm_all(&mut memory, cuts)?;
@@ -141,9 +141,12 @@ fn play<L: Ledger, M: Ledger, F: FlashFile + Drop>(
     })
 }
 
-/// Has these writes of a flash cut.
+/// Has these writes of a flash cut too, behind those that are to be cut already.
 fn arm_all<M: Ledger>(memory: &mut MemFlash<M>, cuts: Vec<Cut>) -> Result<(), AllocError>
-    ensures { chip_of memory.new ≡ chip_of memory.old }
+    ensures chip { chip_of memory.new ≡ chip_of memory.old }
+    ensures writes { (memory_of memory.new).writes ≡ (memory_of memory.old).writes }
+    ensures armed { OnOk result ((memory_of memory.new).armed
+        ≡ (memory_of memory.old).armed ++ armed_in cuts.items) }
 {
     for cut in cuts {
         memory.arm(u64::from(cut.write), cut.torn)?;
