@@ -2,6 +2,7 @@
 ghost use Rattle.std.specs.Prelude.{◌≡◌, ◌++◌, IfOk, OnOk, false};
 ghost use Rattle.std.specs.Io.KnownBytes.{Appends};
 ghost use Rattle.std.specs.Option.{ForSome};
+ghost use Rattle.file_flash.specs.FileFlash.{chip_of as over_chip, new_over, over_file};
 ghost use Rattle.flash_model.specs.Memory.{chip_of, memory_of};
 ghost use Rattle.sector_map.specs.Map.{IsLaidOut};
 ghost use Rattle.upload.specs.Sessions.{AllClosed};
@@ -9,7 +10,7 @@ ghost use Rattle.answers.specs.DeviceFile.{IsOfFile};
 ghost use Rattle.answers.specs.FlashOf.{IsFlashOf};
 ghost use Rattle.answers.specs.ReplyText.{replies_text};
 ghost use Rattle.boot_cli.specs.Loading.{armed_in, came_in};
-ghost use Rattle.boot_cli.specs.RunEnd.{AnswersRun, IsPlayed, Plays, answer_of, setup_of};
+ghost use Rattle.boot_cli.specs.RunEnd.{AnswersRun, IsPlayed, Plays, answer_of, armed_flash, setup_of};
 ghost use Rattle.reading_commands.specs.declared.source.Source.TheVariants as source;
 
 use crate::host::HostFile;
@@ -20,6 +21,7 @@ use file_flash::{FileFlash, FlashFile};
 use flash_model::{Flash, MemFlash};
 use machine::{Event, Reply};
 use reading_commands::{Answer, Host, Refusal, Source, read_device, read_flash};
+use sector_map::SectorMap;
 use std::alloc::{AllocError, Allocator, Global};
 use std::io::Write;
 use std::marker::Brand;
@@ -129,9 +131,8 @@ fn play<L: Ledger, M: Ledger, F: FlashFile + Drop>(
     ensures { IfOk result (λ played.
         IsPlayed device.now bytes.items (armed_in cuts.items) events.now played.replies.items) }
 {
-    let mut memory = flash_of::<M>(alloc, memory_blank, &device.map, bytes);
-    arm_all(&mut memory, cuts)?;
-    let flash = FileFlash::<F, L, M>::over(memory, blank, file);
+    let map = &device.map;
+    let flash = armed_flash::<L, M, F>(alloc, blank, memory_blank, map, bytes, cuts, file)?;
     let mut device = device_over(flash, device);
     let replies = run(alloc, &mut device, events)?;
     let has_failed = device.flash().has_failed();
@@ -139,6 +140,34 @@ fn play<L: Ledger, M: Ledger, F: FlashFile + Drop>(
         replies,
         has_failed,
     })
+}
+
+/// A flash that has these bytes, of which these writes are cut, and that writes what changes through to its file, which
+/// holds the bytes.
+fn armed_flash<L: Ledger, M: Ledger, F: FlashFile + Drop>(
+    alloc: Global,
+    blank: Blank,
+    memory_blank: Blank,
+    map: &SectorMap,
+    bytes: Vec<u8>,
+    cuts: Vec<Cut>,
+    file: F,
+) -> Result<FileFlash<F, L, M>, AllocError>
+    requires name { blank.name ≡ L.name }
+    requires parts { blank.parts ≡ L.parts }
+    requires two { L.parts ≡ 2 }
+    requires memory_name { memory_blank.name ≡ M.name }
+    requires memory_parts { memory_blank.parts ≡ M.parts }
+    requires memory_two { M.parts ≡ 2 }
+    requires whole { IsFlashOf map.now bytes.items }
+    requires held { ForSome (F.contents file) (λ all. all ≡ bytes.items) }
+    ensures armed { IfOk result (λ flash. over_file flash
+        ≡ new_over (armed_flash map.now bytes.items (armed_in cuts.items))) }
+    ensures laid_out { IfOk result (λ flash. IsLaidOut map.now (over_chip flash)) }
+{
+    let mut memory = flash_of::<M>(alloc, memory_blank, map, bytes);
+    arm_all(&mut memory, cuts)?;
+    Ok(FileFlash::over(memory, blank, file))
 }
 
 /// Has these writes of a flash cut too, behind those that are to be cut already.
