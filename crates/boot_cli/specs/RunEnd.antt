@@ -33,8 +33,8 @@ setup_of device = made device.map device.identity device.trial_boots
 abbrev pub armed_flash : SectorMap → List ℕ → List Armed → Memory
 armed_flash map bytes cuts = record { chip = flash_of map bytes; writes = 0; armed = cuts }
 
--- A device that was just made, over a file with these bytes of whose writes these are to be cut: it isn't up, and
--- no upload is open.
+-- A device that was just made, over a flash with these bytes of whose writes these are to be cut: the device shows
+-- of it what every flash has. It isn't up, and no upload is open.
 pub record IsMadeOf (map : SectorMap) (bytes : List ℕ) (cuts : List Armed) (here : DeviceView)
     : Type 0 where
   pub over : OverFile
