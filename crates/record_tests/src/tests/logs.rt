@@ -5,7 +5,7 @@
 ghost use Rattle.std.specs.Prelude.{◌≡◌, ◌+◌, ◌<◌, ◌≤◌};
 
 use crate::tests::same::same;
-use flash_model::{FLAG, Flash, FlashError, MemFlash, Torn};
+use flash_model::{Flash, FlashError, MemFlash, Torn};
 use sector_map::SectorMap;
 use set_log::{
     Kind, LogError, State, a_log_that_is_left_keeps_its_state, append, one_sector_is_active,
@@ -17,15 +17,18 @@ use std::process::Abort;
 use std::sync::ledger::{Blank, Ledger};
 use std::test::Fail;
 
+/// A gate or a closing unit, as each is written.
+pub(super) const FLAG: [u8; 8] = [0x01, 0xff, 0xff, 0xff, 0xff, 0xff, 0xff, 0xff];
+
 /// Two images of two sectors of 512 bytes each.
-fn two_images(rt: &impl Abort) -> Result<SectorMap, Fail> {
+pub(super) fn two_images(rt: &impl Abort) -> Result<SectorMap, Fail> {
     let map = SectorMap::new(512, &[2, 2])?;
     assert!(rt; map.images == 2);
     Ok(map)
 }
 
 /// A device in the midst of nothing, whose second image may not have a counter below 5.
-fn steady(sequence: u32) -> State {
+pub(super) fn steady(sequence: u32) -> State {
     State {
         kind: Kind::Steady,
         mask: 0,
@@ -43,7 +46,7 @@ fn state_in<F: Flash>(rt: &impl Abort, flash: &mut F, map: &SectorMap) -> Result
 }
 
 /// Begins a log with a state, which is read then.
-fn begin<F: Flash>(
+pub(super) fn begin<F: Flash>(
     rt: &impl Abort,
     flash: &mut F,
     map: &SectorMap,
@@ -74,7 +77,7 @@ fn begun<L: Ledger>(
 }
 
 /// Appends a state to a log that has one.
-fn append_to<F: Flash>(
+pub(super) fn append_to<F: Flash>(
     rt: &impl Abort,
     flash: &mut F,
     map: &SectorMap,
@@ -135,6 +138,14 @@ fn fifty_appends<L: Ledger>(rt: &impl Abort, alloc: Global, blank: Blank) -> Res
             assert!(rt; bytes_at(rt, &flash, 7224, &FLAG));
             assert!(rt; bytes_at(rt, &flash, 7160, &FLAG));
             assert!(rt; bytes_at(rt, &flash, 7672, &[0xff; 8]));
+        }
+        if sequence == 14 {
+            // Sector 15, which was closed at the beginning, is erased and has a record.
+            same(rt, "the erases", &flash.erases(), &5);
+            assert!(rt; bytes_at(rt, &flash, 7680, &[1, 0, 0, 0, 14, 0, 0, 0]));
+            assert!(rt; bytes_at(rt, &flash, 7736, &FLAG));
+            assert!(rt; bytes_at(rt, &flash, 7744, &[0xff; 448]));
+            assert!(rt; bytes_at(rt, &flash, 7672, &FLAG));
         }
     }
     Ok(())
@@ -233,7 +244,7 @@ fn the_seventh_append_erases_writes_gates_and_closes(rt: HostRuntime) -> Result<
 }
 
 /// The bytes of a place with a gated record of a sequence below 256.
-fn gated_place(sequence: u8) -> [u8; 64] {
+pub(super) fn gated_place(sequence: u8) -> [u8; 64] {
     let mut place = [0; 64];
     place[0] = 1;
     place[4] = sequence;

@@ -591,3 +591,43 @@ fn ended_at_no_place<L: Ledger>(rt: &impl Abort, alloc: Global, blank: Blank) ->
 fn a_unit_that_is_set_behind_an_erased_one_is_not_written(rt: HostRuntime) -> Result<(), Fail> {
     ended_at_no_place::<Brand>(&rt, rt.alloc(), Blank::new(2))
 }
+
+/// The bytes of a flash that stands so, and of three sectors more, which the map doesn't have.
+fn longer(alloc: Global, standing: &Standing) -> Result<Vec<u8>, Fail> {
+    let mut bytes = bytes_of(alloc, 512, standing)?;
+    for offset in 0..1536u16 {
+        bytes.push((offset % 251) as u8)?;
+    }
+    Ok(bytes)
+}
+
+/// Swaps both images on a flash that is longer than its map.
+fn swapped_on_a_longer_flash<L: Ledger>(
+    rt: &impl Abort,
+    alloc: Global,
+    blank: Blank,
+) -> Result<(), Fail>
+    requires name { blank.name ≡ L.name }
+    requires parts { blank.parts ≡ L.parts }
+    requires two { L.parts ≡ 2 }
+{
+    let map = SectorMap::new(512, &[2, 2])?;
+    let bytes = longer(alloc, &after_steps([0, 0], 2, 0))?;
+    let wanted = Standing {
+        sources: [6, 7, 2, 9, 10, 5, 0, 1, 8, 3, 4, 11, 9, 13, 14, 15],
+        counts: [6, 6],
+        swap_size: 0,
+    };
+    let wanted = longer(alloc, &wanted)?;
+    assert!(rt; bytes.len() == 9728);
+    let mut flash = MemFlash::<L>::from_bytes(alloc, blank, 512, bytes);
+    swap(rt, &mut flash, &map, 0b11, Side::Primary)?;
+    same(rt, "the erases", &flash.erases(), &12);
+    assert!(rt; flash.bytes() == wanted.as_slice());
+    Ok(())
+}
+
+#[test]
+fn sectors_behind_those_of_the_map_stay(rt: HostRuntime) -> Result<(), Fail> {
+    swapped_on_a_longer_flash::<Brand>(&rt, rt.alloc(), Blank::new(2))
+}

@@ -6,7 +6,7 @@ ghost use Rattle.std.specs.Prelude.{◌≡◌, ◌<◌};
 ghost use Rattle.sector_map.specs.Map.{IsLaidOut};
 
 use crate::tests::same::same;
-use flash_model::{FLAG, Flash, FlashError, MemFlash, Torn};
+use flash_model::{Flash, FlashError, MemFlash, Torn};
 use sector_map::{SectorMap, Side};
 use std::alloc::Global;
 use std::marker::Brand;
@@ -18,18 +18,21 @@ use trailer::{
     set_ok, settle, standing, status_count, swap_type, withdraw, write_size,
 };
 
+/// A flag, a status unit, or the withdrawn unit, as each is written.
+pub(super) const FLAG: [u8; 8] = [0x01, 0xff, 0xff, 0xff, 0xff, 0xff, 0xff, 0xff];
+
 /// The magic of MCUboot's trailers, as its design document has it.
-const MAGIC: [u8; 16] = [
+pub(super) const MAGIC: [u8; 16] = [
     0x77, 0xc2, 0x95, 0xf3, 0x60, 0xd2, 0xef, 0x7f, 0x35, 0x52, 0x50, 0x0f, 0x2c, 0xb6, 0x79, 0x80,
 ];
 
-const DONE: Result<(), FlashError> = Ok(());
+pub(super) const DONE: Result<(), FlashError> = Ok(());
 
-const CUT: Result<(), FlashError> = Err(FlashError::Cut);
+pub(super) const CUT: Result<(), FlashError> = Err(FlashError::Cut);
 
 /// A call on the trailers of image 0, or on the flash.
 #[derive(Clone, Copy)]
-enum Step {
+pub(super) enum Step {
     /// Clears the secondary trailer.
     Clear,
     /// Clears the secondary trailer and requests the image.
@@ -45,12 +48,12 @@ enum Step {
 }
 
 /// Steps, and what each has to answer.
-type Steps<'a> = &'a [(Step, Result<(), FlashError>)];
+pub(super) type Steps<'a> = &'a [(Step, Result<(), FlashError>)];
 
 /// What is seen in the end.
 #[derive(Drop)]
-struct Seen {
-    bytes: Vec<u8>,
+pub(super) struct Seen {
+    pub(super) bytes: Vec<u8>,
     writes: u64,
     erases: u64,
     primary: Trailer,
@@ -171,12 +174,12 @@ fn look<L: Ledger>(
     })
 }
 
-/// What is seen after steps on a flash that is erased but for the first byte of image 0's secondary slot. The write
-/// of number `cut.0` is cut and leaves `cut.1`.
+/// What is seen after steps on a flash of these bytes. The write of number `cut.0` is cut and leaves `cut.1`.
 fn played<L: Ledger>(
     rt: &impl Abort,
     alloc: Global,
     blank: Blank,
+    bytes: Vec<u8>,
     cut: (u64, Torn),
     steps: Steps,
 ) -> Result<Seen, Fail>
@@ -185,8 +188,7 @@ fn played<L: Ledger>(
     requires two { L.parts ≡ 2 }
 {
     let map = two_images(rt)?;
-    let mut bytes = vec![in alloc; 0xff; 8192]?;
-    bytes[3072] = 0x3d;
+    assert!(rt; bytes.len() % 512 == 0 && bytes.len() < 65536);
     let mut flash = MemFlash::<L>::from_bytes(alloc, blank, 512, bytes);
     let (write, torn) = cut;
     assert!(rt; write < 100);
@@ -196,12 +198,25 @@ fn played<L: Ledger>(
 }
 
 /// `played` with the ledger of a test.
+pub(super) fn after_on(
+    rt: &impl Abort,
+    alloc: Global,
+    bytes: Vec<u8>,
+    cut: (u64, Torn),
+    steps: Steps,
+) -> Result<Seen, Fail> {
+    played::<Brand>(rt, alloc, Blank::new(2), bytes, cut, steps)
+}
+
+/// The same on a flash that is erased but for the first byte of image 0's secondary slot.
 fn after(rt: &impl Abort, alloc: Global, cut: (u64, Torn), steps: Steps) -> Result<Seen, Fail> {
-    played::<Brand>(rt, alloc, Blank::new(2), cut, steps)
+    let mut bytes = vec![in alloc; 0xff; 8192]?;
+    bytes[3072] = 0x3d;
+    after_on(rt, alloc, bytes, cut, steps)
 }
 
 /// No write is cut.
-const UNCUT: (u64, Torn) = (0, Torn::Keep);
+pub(super) const UNCUT: (u64, Torn) = (0, Torn::Keep);
 
 /// What a cut leaves: the range as it was, as if done, all 0x00, all 0xff, or a copy of a trailer with a good magic.
 fn torn(alloc: Global, which: u8) -> Result<Torn, Fail> {
@@ -351,7 +366,7 @@ fn status_units_are_counted(rt: HostRuntime) -> Result<(), Fail> {
 }
 
 /// A withdrawal in which power fails.
-const WITHDRAWAL_CUT: [(Step, Result<(), FlashError>); 3] = [
+pub(super) const WITHDRAWAL_CUT: [(Step, Result<(), FlashError>); 3] = [
     (Step::Request(Kind::Permanent), DONE),
     (Step::Withdraw, CUT),
     (Step::Restart, DONE),
