@@ -29,6 +29,13 @@ const FULL_DIGEST: [u8; 32] = [
     0xa3, 0x24, 0x99, 0xba, 0x9e, 0x8c, 0x94, 0x57, 0x1b, 0x9c, 0x84, 0x7a, 0xec, 0x83, 0x17, 0x92,
 ];
 
+/// The digest of version 1.0.0+0 with the body ABCD that needs each of the images 0 to 15 at 2.0.0+0, as `sha256sum`
+/// gives it.
+const SIXTEEN_DIGEST: [u8; 32] = [
+    0x42, 0xd0, 0xdc, 0xc7, 0xde, 0xe9, 0x43, 0x29, 0xc0, 0x7f, 0x7f, 0x11, 0xe4, 0x09, 0xee, 0xaf,
+    0x2d, 0x45, 0x59, 0x93, 0xc8, 0x1c, 0xca, 0x12, 0x3b, 0xea, 0x2b, 0xe1, 0x7a, 0xbc, 0xd3, 0x90,
+];
+
 /// Version 1.2.1027+134678021, load address 0x12345678, flags 0x111, and the body 2a.
 const EVERY_FIELD: [u8; 73] = [
     0x3d, 0xb8, 0xf3, 0x96, 0x78, 0x56, 0x34, 0x12, 0x20, 0x00, 0x00, 0x00, 0x01, 0x00, 0x00, 0x00,
@@ -66,6 +73,26 @@ fn an_image_with_counter_and_dependency_is_made(rt: HostRuntime) -> Result<(), F
     };
     let bytes = make_image(rt.alloc(), &asked)?;
     same(&rt, "the image", &bytes.as_slice(), &COUNTED.as_slice());
+    Ok(())
+}
+
+#[test]
+fn an_image_of_sixteen_dependencies_has_336_bytes(rt: HostRuntime) -> Result<(), Fail> {
+    let mut dependencies = [dependency(); 16];
+    for image in 0..16u8 {
+        dependencies[usize::from(image)].image = image;
+    }
+    let bytes = make_image(rt.alloc(), &spec(&dependencies))?;
+    same(&rt, "the length", &bytes.len(), &336);
+    let description = describe(bytes.as_slice())?;
+    expect_numbers(&rt, &description, 0, 0, 336);
+    same(
+        &rt,
+        "the dependencies",
+        &description.dependencies.as_slice(),
+        &dependencies.as_slice(),
+    );
+    same(&rt, "the digest", &description.digest, &SIXTEEN_DIGEST);
     Ok(())
 }
 
