@@ -3,8 +3,11 @@
 
 mod cuts;
 mod damaged_sets;
+mod erases;
 mod images;
+mod longer_flashes;
 mod manifests;
+mod older_records;
 mod playing;
 mod printing;
 mod provisioned;

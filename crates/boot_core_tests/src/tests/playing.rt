@@ -55,12 +55,14 @@ pub(super) const EACH_LEFT: [Left; 4] = [
 /// A write that is cut, counted from 1, and what the cut leaves.
 pub(super) type Cut = (u64, Left);
 
-/// What came of events: the replies, as a program prints them, the bytes of the flash, and how many writes there were.
+/// What came of events: the replies, as a program prints them, the bytes of the flash, and how many writes there were
+/// and how many erases that were not cut.
 #[derive(Drop)]
 pub(super) struct Outcome {
     pub(super) told: String,
     pub(super) bytes: Vec<u8>,
     pub(super) writes: u64,
+    pub(super) erases: u64,
 }
 
 /// Writes a part of bytes.
@@ -150,6 +152,7 @@ fn play<L: Ledger>(
         told: told(rt.alloc(), answered?.as_slice())?,
         bytes: Vec::from_slice(rt.alloc(), flash.bytes())?,
         writes: flash.writes(),
+        erases: flash.erases(),
     })
 }
 

@@ -23,7 +23,7 @@ fn made<L: Ledger>(
     requires two { L.parts ≡ 2 }
 {
     let map = SectorMap::new(512, &[2, 2])?;
-    assert!(rt; bytes.len() == 8192);
+    assert!(rt; bytes.len() % 512 == 0 && bytes.len() < 65536);
     let mut flash = MemFlash::<L>::from_bytes(rt.alloc(), blank, 512, bytes);
     assert!(rt; map.fits(&flash));
     let answer = provision(&mut flash, &map);
@@ -31,7 +31,7 @@ fn made<L: Ledger>(
 }
 
 /// What is answered where a flash of these bytes is made that of a device of two images, and its bytes then.
-fn made_of(
+pub(super) fn made_of(
     rt: &(impl Abort + AllocGlobal),
     bytes: Vec<u8>,
 ) -> Result<(Result<(), Fault>, Vec<u8>), Fail> {
