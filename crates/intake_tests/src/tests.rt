@@ -2,6 +2,7 @@
 //! where memory suffices, uploads on a flash in memory, and the texts of errors.
 mod errors;
 mod generated;
+mod longer_flashes;
 mod making;
 mod manifests;
 mod reads;

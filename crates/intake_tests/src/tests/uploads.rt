@@ -24,7 +24,7 @@ use trailer::{Kind, standing};
 use upload::{UploadError, Uploads};
 
 /// Version 2.0.0+0 for image 1, which needs image 0 at 2.0.0+0.
-const SECOND: [u8; 96] = [
+pub(super) const SECOND: [u8; 96] = [
     0x3d, 0xb8, 0xf3, 0x96, 0x00, 0x00, 0x00, 0x00, 0x20, 0x00, 0x14, 0x00, 0x04, 0x00, 0x00, 0x00,
     0x00, 0x00, 0x00, 0x00, 0x02, 0x00, 0x00, 0x00, 0x00, 0x00, 0x00, 0x00, 0x00, 0x00, 0x00, 0x00,
     0x41, 0x42, 0x43, 0x44, 0x08, 0x69, 0x14, 0x00, 0x40, 0x00, 0x0c, 0x00, 0x00, 0x00, 0x00, 0x00,
@@ -34,13 +34,13 @@ const SECOND: [u8; 96] = [
 ];
 
 /// SHA-256 of FIRST.
-const FIRST_DIGEST: [u8; 32] = [
+pub(super) const FIRST_DIGEST: [u8; 32] = [
     0xfe, 0x88, 0xef, 0x28, 0x57, 0x2e, 0xca, 0xa2, 0x69, 0x1d, 0x61, 0x45, 0x8e, 0x39, 0x3e, 0xdb,
     0x88, 0x0b, 0xdc, 0xa5, 0x83, 0x11, 0x97, 0xba, 0xb8, 0x67, 0x30, 0x82, 0x92, 0x0c, 0x0a, 0x99,
 ];
 
 /// SHA-256 of SECOND.
-const SECOND_DIGEST: [u8; 32] = [
+pub(super) const SECOND_DIGEST: [u8; 32] = [
     0xae, 0xc6, 0xe4, 0x5d, 0x3a, 0xa1, 0xb9, 0x28, 0xf9, 0x3c, 0xa8, 0x9f, 0x4c, 0x48, 0x35, 0xda,
     0x6b, 0x26, 0x1f, 0xfe, 0xa3, 0xde, 0x90, 0xc9, 0x32, 0x42, 0xca, 0x94, 0xc1, 0x88, 0xcc, 0x4f,
 ];
@@ -52,7 +52,7 @@ const RUNNING_DIGEST: [u8; 32] = [
 ];
 
 /// Two images of two sectors of 512 bytes each.
-fn two_images(rt: &impl Abort) -> Result<SectorMap, Fail> {
+pub(super) fn two_images(rt: &impl Abort) -> Result<SectorMap, Fail> {
     let map = SectorMap::new(512, &[2, 2])?;
     assert!(rt; map.images == 2);
     Ok(map)
@@ -69,9 +69,31 @@ fn begun<L: Ledger>(
     requires parts { blank.parts ≡ L.parts }
     requires two { L.parts ≡ 2 }
 {
-    let mut bytes = vec![in alloc; 0xff; 8192]?;
-    bytes[..76].copy_from_slice(&RUNNING);
-    bytes[1536..1612].copy_from_slice(&RUNNING);
+    begun_on::<L>(rt, alloc, blank, map, vec![in alloc; 0xff; 8192]?)
+}
+
+/// Writes a part of bytes.
+fn put(rt: &impl Abort, bytes: &mut Vec<u8>, at: usize, part: &[u8]) {
+    assert!(rt; at <= bytes.len() && part.len() <= bytes.len() - at);
+    bytes[at..at + part.len()].copy_from_slice(part);
+}
+
+/// The same on a flash of these bytes.
+pub(super) fn begun_on<L: Ledger>(
+    rt: &impl Abort,
+    alloc: Global,
+    blank: Blank,
+    map: &SectorMap,
+    bytes: Vec<u8>,
+) -> Result<MemFlash<L>, Fail>
+    requires name { blank.name ≡ L.name }
+    requires parts { blank.parts ≡ L.parts }
+    requires two { L.parts ≡ 2 }
+{
+    let mut bytes = bytes;
+    put(rt, &mut bytes, 0, &RUNNING);
+    put(rt, &mut bytes, 1536, &RUNNING);
+    assert!(rt; bytes.len() % 512 == 0 && bytes.len() < 65536);
     let mut flash = MemFlash::<L>::from_bytes(alloc, blank, 512, bytes);
     let state = State {
         kind: Doing::Steady,
@@ -88,7 +110,7 @@ fn begun<L: Ledger>(
 }
 
 /// A manifest of one component.
-fn one_component(sequence: u32, component: Component) -> Result<Manifest, Fail> {
+pub(super) fn one_component(sequence: u32, component: Component) -> Result<Manifest, Fail> {
     let mut components = ArrayVec::new();
     components.try_push(component)?;
     Ok(Manifest {
@@ -98,7 +120,11 @@ fn one_component(sequence: u32, component: Component) -> Result<Manifest, Fail> 
 }
 
 /// A manifest of two components.
-fn two_components(sequence: u32, first: Component, second: Component) -> Result<Manifest, Fail> {
+pub(super) fn two_components(
+    sequence: u32,
+    first: Component,
+    second: Component,
+) -> Result<Manifest, Fail> {
     let mut components = ArrayVec::new();
     components.try_push(first)?;
     components.try_push(second)?;
@@ -109,7 +135,7 @@ fn two_components(sequence: u32, first: Component, second: Component) -> Result<
 }
 
 /// A component that is requested for a test.
-fn component(image: u8, size: u32, digest: [u8; 32]) -> Component {
+pub(super) fn component(image: u8, size: u32, digest: [u8; 32]) -> Component {
     Component {
         image,
         permanent: false,
@@ -133,7 +159,7 @@ fn are_there(map: &SectorMap, components: &[Component]) -> bool
 
 /// What is asked of uploads.
 #[derive(Clone, Copy)]
-enum Step<'a> {
+pub(super) enum Step<'a> {
     Accept(&'a Manifest),
     Piece(u8, &'a [u8]),
     Finish(u8),
@@ -164,10 +190,10 @@ fn take<F: Flash>(
     }
 }
 
-const DONE: Result<(), UploadError> = Ok(());
+pub(super) const DONE: Result<(), UploadError> = Ok(());
 
 /// Does steps, each of which has to answer what stands beside it.
-fn play<F: Flash>(
+pub(super) fn play<F: Flash>(
     rt: &impl Abort,
     uploads: &mut Uploads,
     flash: &mut F,
@@ -213,7 +239,12 @@ fn request_of<F: Flash>(
 }
 
 /// Asserts that these bytes stand there on a flash.
-fn expect_bytes<L: Ledger>(rt: &impl Abort, flash: &MemFlash<L>, at: usize, bytes: &[u8]) {
+pub(super) fn expect_bytes<L: Ledger>(
+    rt: &impl Abort,
+    flash: &MemFlash<L>,
+    at: usize,
+    bytes: &[u8],
+) {
     assert!(rt; at <= flash.bytes().len());
     assert!(rt; flash.bytes()[at..].starts_with(bytes));
 }
