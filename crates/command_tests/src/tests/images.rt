@@ -137,7 +137,7 @@ fn expect_changed(
 }
 
 /// Bytes of an image that are changed: the image, the place, the new bytes, and what is told.
-const CHANGES: [(&[u8], usize, &[u8], &str); 9] = [
+const CHANGES: [(&[u8], usize, &[u8], &str); 15] = [
     (&RUNNING, 0, b"\x00", "refused 2 BadMagic\n"),
     (&RUNNING, 8, b"\x1f", "refused 3 BadHeaderSize\n"),
     (&RUNNING, 16, b"\x20", "refused 4 UnsupportedFlags\n"),
@@ -147,6 +147,13 @@ const CHANGES: [(&[u8], usize, &[u8], &str); 9] = [
     (&RUNNING, 40, b"\x11", "refused 8 NoDigest\n"),
     (&RUNNING, 75, b"\x8d", "refused 10 BadDigest\n"),
     (&FIRST, 38, b"\x18", "refused 7 BadTlvSize\n"),
+    // The sizes of the header, the body, the protected area, the other area and its entry, each at a limit of it.
+    (&RUNNING, 8, b"\xff\xff", "refused 5 Truncated\n"),
+    (&RUNNING, 12, b"\xff\xff\xff\xff", "refused 5 Truncated\n"),
+    (&RUNNING, 10, b"\x03\x00", "refused 6 BadTlvMagic\n"),
+    (&RUNNING, 38, b"\x29\x00", "refused 5 Truncated\n"),
+    (&RUNNING, 38, b"\x27\x00", "refused 7 BadTlvSize\n"),
+    (&RUNNING, 42, b"\xff\xff", "refused 7 BadTlvSize\n"),
 ];
 
 #[test]
@@ -155,4 +162,18 @@ fn a_changed_image_is_refused_by_the_first_check_that_fails(rt: HostRuntime) -> 
         expect_changed(&rt, image, place, change, out)?;
     }
     Ok(())
+}
+
+#[test]
+fn each_front_of_an_image_is_short_or_truncated(rt: HostRuntime) {
+    for image in [RUNNING.as_slice(), FIRST.as_slice(), NEEDY.as_slice()] {
+        for length in 0..image.len() {
+            let out = if length < 32 {
+                "refused 1 Short\n"
+            } else {
+                "refused 5 Truncated\n"
+            };
+            expect_image(&rt, &image[..length], 1, out);
+        }
+    }
 }
