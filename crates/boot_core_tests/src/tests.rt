@@ -2,6 +2,7 @@
 //! images and the bytes of a provisioned flash are written out; digests were taken by another program.
 
 mod cuts;
+mod damaged_flashes;
 mod damaged_sets;
 mod erases;
 mod images;
