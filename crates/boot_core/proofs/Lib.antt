@@ -11,5 +11,6 @@ pub mod Stopping
 pub mod Texts
 pub mod Steps
 mod Afresh
+mod OnMap
 pub mod Measured
 pub mod Wears

@@ -13,7 +13,8 @@ ghost use Rattle.machine.specs.States.{IsConfirmed};
 ghost use Rattle.boot_core.specs.Found.{IsKeptFor, IsSwapAloneFor, IsToldAgain};
 ghost use Rattle.machine.specs.declared.finding.Finding.{Finding};
 ghost use Rattle.machine.specs.Wear.{IsResumed, IsSetFound, IsSetOf, IsSettling};
-ghost use Rattle.sector_map.specs.Map.{IsLaidOut, IsWithin};
+ghost use Rattle.sector_map.specs.Map.{IsLaidOut, IsWithin, Keeps};
+ghost use Rattle.sector_map.specs.Part.{any_part};
 ghost use Rattle.sector_map.specs.declared.layout.Side.TheVariants.{Primary, Secondary};
 ghost use Rattle.set_log.specs.Log.{state_of};
 ghost use Rattle.set_log.specs.declared.state.Kind.{Kind};
@@ -66,6 +67,8 @@ fn upgrade<F: Flash>(
     requires within { IsWithin map.now mask }
     requires few { left ≤ 6 }
     ensures laid { IsLaidOut map.now (F.chip flash.new) }
+    ensures on_map { (start : Chip) → Keeps map.now any_part start (F.chip flash.old)
+        → Keeps map.now any_part start (F.chip flash.new) }
     ensures stands { (s : DeviceState) (table : Table)
         → IsSteadyAt (view map.now (F.chip flash.old)) s → IsChosen s table mask
         → CutsBoot map.now (left + 1) (F.chip flash.new) s }
@@ -103,6 +106,8 @@ pub(crate) fn boot_from_steady<F: Flash>(
     requires read { state_of map.now (F.chip flash.old) ≡ Some state.now }
     requires few { left ≤ 6 }
     ensures laid { IsLaidOut map.now (F.chip flash.new) }
+    ensures on_map { (start : Chip) → Keeps map.now any_part start (F.chip flash.old)
+        → Keeps map.now any_part start (F.chip flash.new) }
     ensures stands { (s : DeviceState) → IsSteadyAt (view map.now (F.chip flash.old)) s
         → CutsBoot map.now (left + 1) (F.chip flash.new) s }
     ensures ok { IfOk result (λ reply. (s : DeviceState)
@@ -145,6 +150,8 @@ pub(crate) fn boot_from_swap<F: Flash>(
     requires kind { state.now.kind ≡ Kind.Swap }
     requires few { left ≤ 6 }
     ensures laid { IsLaidOut map.now (F.chip flash.new) }
+    ensures on_map { (start : Chip) → Keeps map.now any_part start (F.chip flash.old)
+        → Keeps map.now any_part start (F.chip flash.new) }
     ensures stands { (s : DeviceState) → Stands map.now (F.chip flash.old) s
         → CutsBoot map.now (left + 1) (F.chip flash.new) s }
     ensures ok { IfOk result (λ reply. (s : DeviceState) → Stands map.now (F.chip flash.old) s
@@ -175,6 +182,8 @@ pub(crate) fn boot_from_settle<F: Flash>(
     requires kind { state.now.kind ≡ Kind.Settle }
     requires few { left ≤ 6 }
     ensures laid { IsLaidOut map.now (F.chip flash.new) }
+    ensures on_map { (start : Chip) → Keeps map.now any_part start (F.chip flash.old)
+        → Keeps map.now any_part start (F.chip flash.new) }
     ensures stands { (s : DeviceState) → Stands map.now (F.chip flash.old) s
         → CutsBoot map.now (left + 1) (F.chip flash.new) s }
     ensures ok { IfOk result (λ reply. (s : DeviceState) → Stands map.now (F.chip flash.old) s
@@ -203,6 +212,8 @@ pub(crate) fn boot_from_back<F: Flash>(
     requires read { state_of map.now (F.chip flash.old) ≡ Some state.now }
     requires kind { state.now.kind ≡ Kind.Back }
     ensures laid { IsLaidOut map.now (F.chip flash.new) }
+    ensures on_map { (start : Chip) → Keeps map.now any_part start (F.chip flash.old)
+        → Keeps map.now any_part start (F.chip flash.new) }
     ensures stands { (boots : ℕ) (s : DeviceState) → Stands map.now (F.chip flash.old) s
         → CutsBoot map.now boots (F.chip flash.new) s }
     ensures ok { IfOk result (λ reply. (boots : ℕ) (s : DeviceState)
@@ -228,6 +239,8 @@ pub(crate) fn boot_from_back_settle<F: Flash>(
     requires read { state_of map.now (F.chip flash.old) ≡ Some state.now }
     requires kind { state.now.kind ≡ Kind.BackSettle }
     ensures laid { IsLaidOut map.now (F.chip flash.new) }
+    ensures on_map { (start : Chip) → Keeps map.now any_part start (F.chip flash.old)
+        → Keeps map.now any_part start (F.chip flash.new) }
     ensures stands { (boots : ℕ) (s : DeviceState) → Stands map.now (F.chip flash.old) s
         → CutsBoot map.now boots (F.chip flash.new) s }
     ensures ok { IfOk result (λ reply. (boots : ℕ) (s : DeviceState)
@@ -254,6 +267,8 @@ fn boot_over<F: Flash>(
     requires read { state_of map.now (F.chip flash.old) ≡ Some state.now }
     requires few { left ≤ 6 }
     ensures laid { IsLaidOut map.now (F.chip flash.new) }
+    ensures on_map { (start : Chip) → Keeps map.now any_part start (F.chip flash.old)
+        → Keeps map.now any_part start (F.chip flash.new) }
     ensures stands { (s : DeviceState) (trial : Trial) → IsConfirmed s trial
         → IsOpenOrAt (view map.now (F.chip flash.old)) s trial
         → CutsBoot map.now (left + 1) (F.chip flash.new) s }
@@ -286,6 +301,8 @@ fn boot_again<F: Flash>(flash: &mut F, map: &SectorMap, state: &State) -> Result
     requires kind { state.now.kind ≡ Kind.Trial }
     requires more { 0 < state.now.left }
     ensures laid { IsLaidOut map.now (F.chip flash.new) }
+    ensures on_map { (start : Chip) → Keeps map.now any_part start (F.chip flash.old)
+        → Keeps map.now any_part start (F.chip flash.new) }
     ensures stands { (boots : ℕ) (s : DeviceState) (trial : Trial) → GoesOn s trial
         → IsOpenOrAt (view map.now (F.chip flash.old)) s trial
         → CutsBoot map.now boots (F.chip flash.new) s }
@@ -311,6 +328,8 @@ fn boot_back<F: Flash>(flash: &mut F, map: &SectorMap, state: &State) -> Result<
     requires read { state_of map.now (F.chip flash.old) ≡ Some state.now }
     requires kind { state.now.kind ≡ Kind.Trial }
     ensures laid { IsLaidOut map.now (F.chip flash.new) }
+    ensures on_map { (start : Chip) → Keeps map.now any_part start (F.chip flash.old)
+        → Keeps map.now any_part start (F.chip flash.new) }
     ensures stands { (boots : ℕ) (s : DeviceState) (trial : Trial) → GoesBack s trial
         → IsOpenOrAt (view map.now (F.chip flash.old)) s trial
         → CutsBoot map.now boots (F.chip flash.new) s }
@@ -344,6 +363,8 @@ pub(crate) fn boot_from_trial<F: Flash>(
     requires kind { state.now.kind ≡ Kind.Trial }
     requires few { left ≤ 6 }
     ensures laid { IsLaidOut map.now (F.chip flash.new) }
+    ensures on_map { (start : Chip) → Keeps map.now any_part start (F.chip flash.old)
+        → Keeps map.now any_part start (F.chip flash.new) }
     ensures stands { (s : DeviceState) → Stands map.now (F.chip flash.old) s
         → CutsBoot map.now (left + 1) (F.chip flash.new) s }
     ensures ok { IfOk result (λ reply. (s : DeviceState) → Stands map.now (F.chip flash.old) s

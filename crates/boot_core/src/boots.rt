@@ -15,7 +15,8 @@ ghost use Rattle.machine.specs.declared.event.Event.TheVariants as event;
 ghost use Rattle.machine.specs.declared.finding.Finding.{Finding};
 ghost use Rattle.machine.specs.declared.reply.Reply.TheVariants.{Refused};
 ghost use Rattle.manifest.specs.declared.identity.Identity.{Identity};
-ghost use Rattle.sector_map.specs.Map.{IsLaidOut};
+ghost use Rattle.sector_map.specs.Map.{IsLaidOut, Keeps};
+ghost use Rattle.sector_map.specs.Part.{any_part};
 ghost use Rattle.set_log.specs.Log.{state_of};
 ghost use Rattle.set_log.specs.declared.state.Kind.{Kind};
 ghost use Rattle.set_log.specs.declared.state.State.{State as LogState};
@@ -44,6 +45,8 @@ fn boot_from<F: Flash>(
     requires read { state_of map.now (F.chip flash.old) ≡ Some state.now }
     requires few { left ≤ 6 }
     ensures laid { IsLaidOut map.now (F.chip flash.new) }
+    ensures on_map { (start : Chip) → Keeps map.now any_part start (F.chip flash.old)
+        → Keeps map.now any_part start (F.chip flash.new) }
     ensures stands { (s : DeviceState) → Stands map.now (F.chip flash.old) s
         → CutsBoot map.now (left + 1) (F.chip flash.new) s }
     ensures ok { IfOk result (λ reply. (s : DeviceState) → Stands map.now (F.chip flash.old) s
@@ -75,6 +78,8 @@ pub(crate) fn boot<F: Flash>(flash: &mut F, map: &SectorMap, left: u8) -> Result
     requires laid_out { IsLaidOut map.now (F.chip flash.old) }
     requires few { left ≤ 6 }
     ensures laid { IsLaidOut map.now (F.chip flash.new) }
+    ensures on_map { (start : Chip) → Keeps map.now any_part start (F.chip flash.old)
+        → Keeps map.now any_part start (F.chip flash.new) }
     ensures stands { (s : DeviceState) → Stands map.now (F.chip flash.old) s
         → CutsBoot map.now (left + 1) (F.chip flash.new) s }
     ensures ok { IfOk result (λ reply. (s : DeviceState) → Stands map.now (F.chip flash.old) s
@@ -155,6 +160,8 @@ pub(crate) fn boot_device<F: Flash>(
     requires laid_out { IsLaidOut map.now (F.chip flash.old) }
     requires few { left ≤ 6 }
     ensures laid { IsLaidOut map.now (F.chip flash.new) }
+    ensures on_map { (start : Chip) → Keeps map.now any_part start (F.chip flash.old)
+        → Keeps map.now any_part start (F.chip flash.new) }
     ensures opens { AllOpenAt (view map.now (F.chip flash.new)) uploads.new.sessions }
     ensures closed { AllClosed uploads.new.sessions }
     ensures steps { (identity : Identity) → (F.chip flash.old).is_on ≡ true

@@ -155,6 +155,9 @@ impl<F: Flash> Device<F> {
             → Stands self.old.setup.map self.old.here.flash s
             → IsWorn self.old.setup.map state.kind state.mask self.old.here.flash
             self.new.here.flash (reply_of_boot result) }
+        // On any flash: parts of the map are touched, and nothing behind it.
+        ensures outside { Keeps self.old.setup.map any_part
+            self.old.here.flash self.new.here.flash }
         // On any flash: a boot that was at rest and takes nothing writes nothing.
         ensures idle { (state : LogState)
             → state_of self.old.setup.map self.old.here.flash ≡ Some state

@@ -9,7 +9,8 @@ ghost use Rattle.machine.specs.Passing.{IsSwappingSome, IsUpgraded, IsUpgrading}
 ghost use Rattle.machine.specs.Boots.{IsDecision};
 ghost use Rattle.machine.specs.Reading.{CanRead, IsFoundAgain};
 ghost use Rattle.machine.specs.Wear.{IsResumed, IsSetFound, IsSettling};
-ghost use Rattle.sector_map.specs.Map.{IsLaidOut};
+ghost use Rattle.sector_map.specs.Map.{IsLaidOut, Keeps};
+ghost use Rattle.sector_map.specs.Part.{any_part};
 ghost use Rattle.sector_map.specs.declared.layout.Side.TheVariants.{Primary};
 ghost use Rattle.set_log.specs.Log.{state_of};
 ghost use Rattle.set_log.specs.declared.state.Kind.{Kind};
@@ -42,6 +43,8 @@ fn settle_found<F: Flash>(
         → IsFoundAgain s state.now.mask finding }
     requires rows { HasTable map.now.images finding }
     ensures laid { IsLaidOut map.now (F.chip flash.new) }
+    ensures on_map { (start : Chip) → Keeps map.now any_part start (F.chip flash.old)
+        → Keeps map.now any_part start (F.chip flash.new) }
     ensures stands { let mask = state.now.mask in let permanent = state.now.permanent in
         (s : DeviceState) (table : Table)
         → IsSwapped (view map.now (F.chip flash.old)) s table Kind.Settle mask permanent
@@ -82,6 +85,8 @@ pub(crate) fn finish_settle<F: Flash>(
     requires kind { state.now.kind ≡ Kind.Settle }
     requires few { left ≤ 6 }
     ensures laid { IsLaidOut map.now (F.chip flash.new) }
+    ensures on_map { (start : Chip) → Keeps map.now any_part start (F.chip flash.old)
+        → Keeps map.now any_part start (F.chip flash.new) }
     ensures stands { let mask = state.now.mask in let permanent = state.now.permanent in
         (s : DeviceState) (table : Table)
         → IsSwapped (view map.now (F.chip flash.old)) s table Kind.Settle mask permanent
@@ -117,6 +122,8 @@ pub(crate) fn finish_swap<F: Flash>(
     requires kind { state.now.kind ≡ Kind.Swap }
     requires few { left ≤ 6 }
     ensures laid { IsLaidOut map.now (F.chip flash.new) }
+    ensures on_map { (start : Chip) → Keeps map.now any_part start (F.chip flash.old)
+        → Keeps map.now any_part start (F.chip flash.new) }
     ensures stands { let mask = state.now.mask in let permanent = state.now.permanent in
         (s : DeviceState) (table : Table)
         → IsSwappingSome map.now (F.chip flash.old) s table mask permanent

@@ -9,7 +9,7 @@ ghost use Rattle.machine.specs.Passing.{IsGoingBack, IsSwappingBackSome};
 ghost use Rattle.machine.specs.States.{reverted};
 ghost use Rattle.machine.specs.Wear.{IsResumed, IsSettling, members};
 ghost use Rattle.sector_map.specs.Map.{IsLaidOut, IsWithin, Keeps};
-ghost use Rattle.sector_map.specs.Part.{Log, only, swap_of};
+ghost use Rattle.sector_map.specs.Part.{Log, any_part, only, swap_of};
 ghost use Rattle.sector_map.specs.declared.layout.Side.TheVariants.{Secondary};
 ghost use Rattle.set_log.specs.Log.{state_of};
 ghost use Rattle.set_log.specs.declared.state.Kind.{Kind};
@@ -37,6 +37,8 @@ pub(crate) fn begin_back<F: Flash>(
     requires read { state_of map.now (F.chip flash.old) ≡ Some state.now }
     requires kind { state.now.kind ≡ Kind.Trial }
     ensures laid { IsLaidOut map.now (F.chip flash.new) }
+    ensures on_map { (start : Chip) → Keeps map.now any_part start (F.chip flash.old)
+        → Keeps map.now any_part start (F.chip flash.new) }
     ensures stands { (s : DeviceState) (trial : Trial) → GoesBack s trial
         → IsTrialOpen (view map.now (F.chip flash.old)) s trial
         → IsTrialOpen (view map.now (F.chip flash.new)) s trial
@@ -155,6 +157,8 @@ pub(crate) fn conclude_back<F: Flash>(
     requires laid_out { IsLaidOut map.now (F.chip flash.old) }
     requires read { state_of map.now (F.chip flash.old) ≡ Some state.now }
     ensures laid { IsLaidOut map.now (F.chip flash.new) }
+    ensures on_map { (start : Chip) → Keeps map.now any_part start (F.chip flash.old)
+        → Keeps map.now any_part start (F.chip flash.new) }
     ensures stands { (s : DeviceState) (trial : Trial) → state.now.mask ≡ trial.set
         → IsSwappedBack (view map.now (F.chip flash.old)) s trial Kind.BackSettle
         → IsSwappedBack (view map.now (F.chip flash.new)) s trial Kind.BackSettle
@@ -180,6 +184,8 @@ pub(crate) fn finish_back<F: Flash>(
     requires read { state_of map.now (F.chip flash.old) ≡ Some state.now }
     requires kind { state.now.kind ≡ Kind.Back }
     ensures laid { IsLaidOut map.now (F.chip flash.new) }
+    ensures on_map { (start : Chip) → Keeps map.now any_part start (F.chip flash.old)
+        → Keeps map.now any_part start (F.chip flash.new) }
     ensures stands { (s : DeviceState) (trial : Trial) → state.now.mask ≡ trial.set
         → IsSwappingBackSome map.now (F.chip flash.old) s trial
         → IsGoingBack map.now (F.chip flash.new) s trial

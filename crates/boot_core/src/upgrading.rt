@@ -11,7 +11,7 @@ ghost use Rattle.machine.specs.Passing.{IsSwappingSome, IsTakenAt};
 ghost use Rattle.machine.specs.States.{new_trial, taken_for_good, taken_on_trial};
 ghost use Rattle.machine.specs.Wear.{IsSettling, members};
 ghost use Rattle.sector_map.specs.Map.{IsLaidOut, IsWithin, Keeps};
-ghost use Rattle.sector_map.specs.Part.{Log, is_member, only, swap_of, trailers_in};
+ghost use Rattle.sector_map.specs.Part.{Log, any_part, is_member, only, swap_of, trailers_in};
 ghost use Rattle.sector_map.specs.declared.layout.Side.TheVariants.{Primary};
 ghost use Rattle.set_log.specs.Log.{state_of};
 ghost use Rattle.set_log.specs.declared.state.Kind.{Kind};
@@ -43,6 +43,8 @@ pub(crate) fn begin_swap<F: Flash>(
     requires some { mask ≢ 0 }
     requires within { IsWithin map.now mask }
     ensures laid { IsLaidOut map.now (F.chip flash.new) }
+    ensures on_map { (start : Chip) → Keeps map.now any_part start (F.chip flash.old)
+        → Keeps map.now any_part start (F.chip flash.new) }
     ensures stands { (s : DeviceState) (table : Table)
         → IsSteadyAt (view map.now (F.chip flash.old)) s → IsDecision s table mask permanent
         → IsSteadyAt (view map.now (F.chip flash.new)) s
@@ -271,6 +273,8 @@ pub(crate) fn conclude<F: Flash>(
     requires rest { (i : ℕ) → map.now.images ≤ i
         → slice_index floors i ≡ slice_index state.now.floors i }
     ensures laid { IsLaidOut map.now (F.chip flash.new) }
+    ensures on_map { (start : Chip) → Keeps map.now any_part start (F.chip flash.old)
+        → Keeps map.now any_part start (F.chip flash.new) }
     ensures stands { let mask = state.now.mask in let permanent = state.now.permanent in
         (s : DeviceState) (table : Table)
         → IsSwapped (view map.now (F.chip flash.old)) s table Kind.Settle mask permanent

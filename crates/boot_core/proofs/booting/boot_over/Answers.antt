@@ -3,6 +3,7 @@ use Rattle.std.proofs.lemmas.Result.{IfOk-weaker}
 use Rattle.set_log.specs.Log.{state_of}
 use Rattle.machine.proofs.Trying.{over_cut, over_ends, over_recorded, stands_open, trial_cut}
 use Rattle.boot_core.proofs.Wears.{over_worn}
+use Rattle.boot_core.proofs.OnMap.{on_more}
 use Rattle.boot_core.proofs.booting.boot_over.Goals as goal
 
 pub record_over-requires-clause-read : goal.record_over-requires-clause-read
@@ -35,3 +36,11 @@ returns-clause-erases g c = IfOk-weaker c.boot_from_steady.result _ _ (λ reply 
     c.raise_running.ensures.same c.in_ok-record_over.ensures.erases
     c.record_over.ensures.outside
     c.in_ok-record_over.ensures.ok worn) c.boot_from_steady.ensures.erases
+
+pub returns-in_err-record_over-clause-on_map : goal.returns-in_err-record_over-clause-on_map
+returns-in_err-record_over-clause-on_map g c = λ start was.
+    on_more _ _ start _ _ c.record_over.ensures.outside (rw c.raise_running.ensures.same was)
+
+pub returns-clause-on_map : goal.returns-clause-on_map
+returns-clause-on_map g c = λ start was.
+    c.boot_from_steady.ensures.on_map start (on_more _ _ start _ _ c.record_over.ensures.outside (rw c.raise_running.ensures.same was))

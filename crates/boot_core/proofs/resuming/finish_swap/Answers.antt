@@ -12,6 +12,7 @@ use Rattle.boot_core.specs.Found.{HasTable}
 use Rattle.boot_core.proofs.Readable.{can_read_before, decided_alone, decided_told, told_here}
 use Rattle.machine.proofs.Resuming.{never_swapped, swap_finishes, swap_records, swap_settles}
 use Rattle.boot_core.proofs.Records.{stands_within}
+use Rattle.boot_core.proofs.OnMap.{on_more}
 use Rattle.boot_core.proofs.resuming.finish_swap.Goals as goal
 
 pub carry_swap-requires-clause-within : goal.carry_swap-requires-clause-within
@@ -126,3 +127,23 @@ pub returns-in-Invalid-clause-alone : goal.returns-in-Invalid-clause-alone
 returns-in-Invalid-clause-alone g c = subst
     (λ chip. Keeps c.args.map.now (swap_of c.args.state.now.mask Primary) (g.F.Flash.chip c.args.flash.now) chip)
     (sym c.find_again.ensures.same) c.carry_swap.ensures.outside
+
+pub returns-in_err-carry_swap-clause-on_map : goal.returns-in_err-carry_swap-clause-on_map
+returns-in_err-carry_swap-clause-on_map g c = λ start was.
+    on_more _ _ start _ _ c.carry_swap.ensures.outside was
+
+pub returns-in-Damaged-clause-on_map : goal.returns-in-Damaged-clause-on_map
+returns-in-Damaged-clause-on_map g c = λ start was.
+    rw c.find_again.ensures.same (on_more _ _ start _ _ c.carry_swap.ensures.outside was)
+
+pub returns-in-Invalid-clause-on_map : goal.returns-in-Invalid-clause-on_map
+returns-in-Invalid-clause-on_map g c = λ start was.
+    rw c.find_again.ensures.same (on_more _ _ start _ _ c.carry_swap.ensures.outside was)
+
+pub returns-in_err-record_settle-in-Decided-clause-on_map : goal.returns-in_err-record_settle-in-Decided-clause-on_map
+returns-in_err-record_settle-in-Decided-clause-on_map g c = λ start was.
+    on_more _ _ start _ _ c.record_settle.ensures.outside (rw c.find_again.ensures.same (on_more _ _ start _ _ c.carry_swap.ensures.outside was))
+
+pub returns-in_ok-record_settle-in-Decided-clause-on_map : goal.returns-in_ok-record_settle-in-Decided-clause-on_map
+returns-in_ok-record_settle-in-Decided-clause-on_map g c = λ start was.
+    c.settle_found.ensures.on_map start (on_more _ _ start _ _ c.record_settle.ensures.outside (rw c.find_again.ensures.same (on_more _ _ start _ _ c.carry_swap.ensures.outside was)))

@@ -2,6 +2,7 @@ use Rattle.std.proofs.Common.{arith, inl, ◌∙◌}
 use Rattle.std.proofs.lemmas.Result.{on_ok_weaker}
 use Rattle.machine.proofs.Returning.{back_finishes}
 use Rattle.boot_core.proofs.Records.{stands_within}
+use Rattle.boot_core.proofs.OnMap.{on_more}
 use Rattle.boot_core.proofs.reverting.finish_back.Goals as goal
 
 pub carry_back-requires-clause-within : goal.carry_back-requires-clause-within
@@ -39,3 +40,15 @@ returns-clause-erases g c = on_ok_weaker c.conclude_back.result
       settled,
     ))
     c.conclude_back.ensures.erases
+
+pub returns-in_err-carry_back-clause-on_map : goal.returns-in_err-carry_back-clause-on_map
+returns-in_err-carry_back-clause-on_map g c = λ start was.
+    on_more _ _ start _ _ c.carry_back.ensures.outside was
+
+pub returns-in_err-record_back_settle-clause-on_map : goal.returns-in_err-record_back_settle-clause-on_map
+returns-in_err-record_back_settle-clause-on_map g c = λ start was.
+    on_more _ _ start _ _ c.record_back_settle.ensures.outside (on_more _ _ start _ _ c.carry_back.ensures.outside was)
+
+pub returns-clause-on_map : goal.returns-clause-on_map
+returns-clause-on_map g c = λ start was.
+    c.conclude_back.ensures.on_map start (on_more _ _ start _ _ c.record_back_settle.ensures.outside (on_more _ _ start _ _ c.carry_back.ensures.outside was))

@@ -5,6 +5,7 @@ use Rattle.machine.proofs.Beginning.{begin_either, begin_ok}
 use Rattle.boot_core.proofs.Measured.{measured}
 use Rattle.sector_map.specs.declared.layout.Side.TheVariants.{Primary}
 use Rattle.boot_core.proofs.Records.{fits_swap, has_state, read_kept}
+use Rattle.boot_core.proofs.OnMap.{on_more}
 use Rattle.boot_core.proofs.upgrading.begin_swap.Goals as goal
 
 pub append-requires-clause-has_state : goal.append-requires-clause-has_state
@@ -35,3 +36,11 @@ pub returns-clause-moves : goal.returns-clause-moves
 returns-clause-moves g c = on_ok_weaker c.append.result
     (λ recorded. measured c.args.map.now _ _ _ Primary c.args.mask c.prepare_set.ensures.outside
     c.in_ok-prepare_set.ensures.ready c.append.ensures.outside) c.append.ensures.ok
+
+pub returns-in_err-prepare_set-clause-on_map : goal.returns-in_err-prepare_set-clause-on_map
+returns-in_err-prepare_set-clause-on_map g c = λ start was.
+    on_more _ _ start _ _ c.prepare_set.ensures.outside was
+
+pub returns-clause-on_map : goal.returns-clause-on_map
+returns-clause-on_map g c = λ start was.
+    on_more _ _ start _ _ c.append.ensures.outside (on_more _ _ start _ _ c.prepare_set.ensures.outside was)

@@ -4,6 +4,7 @@ use Rattle.machine.proofs.Swapping.{settling_kept}
 use Rattle.machine.proofs.Ending.{conclude_good, conclude_trial}
 use Rattle.boot_core.proofs.Records.{read_kept}
 use Rattle.boot_core.proofs.Concluding.{good_ends, settled_as, trial_ends}
+use Rattle.boot_core.proofs.OnMap.{on_more}
 use Rattle.boot_core.proofs.upgrading.conclude.Goals as goal
 
 pub record_taken-requires-clause-read : goal.record_taken-requires-clause-read
@@ -43,3 +44,15 @@ returns-else-state-clause-ok g c = on_ok_weaker c.record_trial.result
     c.settle_set.ensures.outside
     (settled_as c.args.map.now _ _ _ _ c.settling_for.ensures c.in_ok-settle_set.ensures.ok) ends)
     c.record_trial.ensures.ok
+
+pub returns-in_err-settle_set-clause-on_map : goal.returns-in_err-settle_set-clause-on_map
+returns-in_err-settle_set-clause-on_map g c = λ start was.
+    on_more _ _ start _ _ c.settle_set.ensures.outside was
+
+pub returns-then-state-clause-on_map : goal.returns-then-state-clause-on_map
+returns-then-state-clause-on_map g c = λ start was.
+    on_more _ _ start _ _ c.record_taken.ensures.outside (on_more _ _ start _ _ c.settle_set.ensures.outside was)
+
+pub returns-else-state-clause-on_map : goal.returns-else-state-clause-on_map
+returns-else-state-clause-on_map g c = λ start was.
+    on_more _ _ start _ _ c.record_trial.ensures.outside (on_more _ _ start _ _ c.settle_set.ensures.outside was)

@@ -13,6 +13,9 @@ use Rattle.boot_core.specs.Device.{Whole, seen}
 use Rattle.boot_core.specs.Found.{IsStopped}
 use Rattle.machine.specs.Passing.{reply_of}
 use Rattle.machine.specs.declared.finding.Finding.{Finding}
+use Rattle.sector_map.specs.Part.{any_part}
+use Rattle.sector_map.specs.Map.{Keeps}
+use Rattle.sector_map.proofs.Parts.{keeps_refl}
 use Rattle.boot_core.proofs.device.Device.boot.Goals as goal
 
 pub returns-clause-steps : goal.returns-clause-steps
@@ -44,3 +47,8 @@ returns-clause-stops g c = subst
     → reply_of_boot c.boot_device.result ≡ reply_of finding permanent
     → IsStopped whole.setup.map state whole.here.flash (g.F.Flash.chip c.boot_device.new.flash) finding)
     c.self.view_is c.boot_device.ensures.stops
+
+pub returns-clause-outside : goal.returns-clause-outside
+returns-clause-outside g c = subst
+    (λ (whole : Whole). Keeps whole.setup.map any_part whole.here.flash (g.F.Flash.chip c.boot_device.new.flash))
+    c.self.view_is (c.boot_device.ensures.on_map _ (keeps_refl _ any_part _))
