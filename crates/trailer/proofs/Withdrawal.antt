@@ -1,18 +1,21 @@
 -- What each step of a withdrawal leaves of the request.
-use Rattle.std.proofs.Common.{◌≡◌, ◌⊎◌, ℕ, ◌+◌, ◌*◌, ◌<◌, Bool, true, false, not, arith, sym, ◌∙◌, ap, refl, inl, inr, ⊎_elim, List, Some, None, if◌then◌else◌}
-use Rattle.flash_model.specs.Chip.{Chip, IsErased}
+use Rattle.std.proofs.Common.{◌≡◌, ◌⊎◌, ℕ, ◌+◌, ◌*◌, ◌<◌, ◌≤◌, Bool, true, false, not, arith, sym, ◌∙◌, ap, subst, refl, slice_index, inl, inr, ⊎_elim, List, Some, None, if◌then◌else◌}
+use Rattle.std.proofs.lemmas.Bool.{cases_lt}
+use Rattle.std.proofs.lemmas.List.{get_or_past}
+use Rattle.flash_model.specs.Chip.{Chip, IsErased, SameOutside}
 use Rattle.sector_map.specs.declared.layout.SectorMap.{SectorMap}
 use Rattle.sector_map.specs.declared.layout.Side.{Side}
 use Rattle.sector_map.specs.declared.layout.Side.TheVariants.{Secondary}
 use Rattle.sector_map.specs.Part.{Slot, TrailerOf, only, incoming_of}
-use Rattle.sector_map.specs.Map.{first_of, start_of, Keeps, IsLaidOut, part_of}
+use Rattle.sector_map.specs.Map.{first_of, length_of, start_of, Keeps, IsLaidOut, part_of}
+use Rattle.sector_map.proofs.PartBytes.{length_part, part_kept_at}
 use Rattle.sector_map.proofs.Parts.{keeps_trans, keeps_wider, laid_out_kept}
 use Rattle.sector_map.proofs.Touched.{slot_of_incoming, trailer_of_incoming}
 use Rattle.trailer.specs.declared.kinds.Magic.TheVariants.{Unset}
 use Rattle.trailer.specs.declared.kinds.Kind.{Kind}
 use Rattle.trailer.specs.Fields.{Fields, are_erased, fields_at, trailer_of, trailer_bytes}
-use Rattle.trailer.specs.Standing.{is_good, first_is_set, standing_kind, standing_of, incoming_slot}
-use Rattle.trailer.proofs.Places.{some_slot, sector_of_part}
+use Rattle.trailer.specs.Standing.{KeepsBehindFirst, is_good, first_is_set, standing_kind, standing_of, incoming_slot}
+use Rattle.trailer.proofs.Places.{some_slot, sector_of_part, slot_alone}
 use Rattle.trailer.proofs.Erased.{range_erased, erased_fields_at}
 use Rattle.trailer.proofs.OwnFields.{fields_kept}
 use Rattle.trailer.proofs.FieldUnits.{either_withdrawn}
@@ -121,6 +124,58 @@ incoming_then_trailer map old mid new image a b = keeps_trans map (incoming_of i
 pub trailer_of_withdrawal : (map : SectorMap) (old new : Chip) (image : ℕ)
     → Keeps map (only (TrailerOf image Secondary)) old new → Keeps map (incoming_of image) old new
 trailer_of_withdrawal map old new image a = keeps_wider map _ (incoming_of image) old new (trailer_of_incoming image) a
+
+-- what lies behind the first sector of a slot, where that is erased ..
+pub rest_of_erase : (map : SectorMap) (old new : Chip) (image sector : ℕ) (side : Side)
+    → SameOutside (sector * old.sector_size) old.sector_size old new → IsLaidOut map old → image < map.images
+    → sector ≡ first_of map (Slot image side) → KeepsBehindFirst map image side old new
+rest_of_erase map old new image sector side same laid lt is = record {
+  each = λ k high. ⊎_elim
+      (λ (within : k < length_of map (Slot image side)). part_kept_at map (Slot image side) _ _ k old new there within
+      (inr (omega arith)))
+      (λ (past : length_of map (Slot image side) ≤ k).
+      get_or_past (part_of map new (Slot image side)) k 0
+      (omega (arith, past, length_part map new (Slot image side) still))
+      ∙ sym (get_or_past (part_of map old (Slot image side)) k 0
+      (omega (arith, past, length_part map old (Slot image side) laid))))
+      (cases_lt k (length_of map (Slot image side)));
+}
+  where
+    there : SameOutside (start_of map (Slot image side)) map.sector_size old new
+    there = subst (λ e. SameOutside (first_of map (Slot image side) * e) e old new) laid.sector_size
+        (subst (λ s. SameOutside (s * old.sector_size) old.sector_size old new) is same)
+
+    still : IsLaidOut map new
+    still = laid_out_kept map _ old new laid (slot_alone map old new image sector side same laid lt is)
+
+-- .. or nothing of the slot is touched ..
+pub rest_refl : (map : SectorMap) (image : ℕ) (side : Side) (chip : Chip) → KeepsBehindFirst map image side chip chip
+rest_refl map image side chip = record { each = λ k high. refl }
+
+pub rest_of_trailer : (map : SectorMap) (old new : Chip) (image : ℕ)
+    → Keeps map (only (TrailerOf image Secondary)) old new → KeepsBehindFirst map image Secondary old new
+rest_of_trailer map old new image keeps = record {
+  each = λ k high. ap (λ (bytes : List ℕ). slice_index bytes k) (keeps.parts (Slot image Secondary) refl);
+}
+
+-- .. in turn.
+pub rest_trans : (map : SectorMap) (image : ℕ) (side : Side) (old mid new : Chip)
+    → KeepsBehindFirst map image side old mid → KeepsBehindFirst map image side mid new
+    → KeepsBehindFirst map image side old new
+rest_trans map image side old mid new a b = record { each = λ k high. b.each k high ∙ a.each k high }
+
+-- a withdrawal where nothing is left to do
+pub nothing_left : (map : SectorMap) (old first second new : Chip) (image : ℕ)
+    → (standing_of map old image ≡ None → first ≡ old)
+    → (first_is_set (incoming_slot map first image) ≡ false → second ≡ first)
+    → (are_erased (trailer_bytes map second image Secondary) ≡ true → new ≡ second)
+    → first_is_set (incoming_slot map old image) ≡ false → are_erased (trailer_bytes map old image Secondary) ≡ true
+    → new ≡ old
+nothing_left map old first second new image one two three front erased =
+    let a = one (gone_without_front map old image front) in
+    let b = two (ap (λ chip. first_is_set (incoming_slot map chip image)) a ∙ front) in
+    let c = three (ap (λ chip. are_erased (trailer_bytes map chip image Secondary)) (b ∙ a) ∙ erased) in
+    c ∙ b ∙ a
 
 -- the erases of a withdrawal
 pub erases_of : (map : SectorMap) (old first second new : Chip) (image : ℕ)

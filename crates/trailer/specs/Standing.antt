@@ -1,7 +1,9 @@
 -- The request that stands for an image.
-use Rattle.std.specs.Prelude.{ℕ, ◌&&◌, Bool, true, false, not, List, slice_range, Option, Some, None, if◌then◌else◌}
+use Rattle.std.specs.Prelude.{◌≡◌, ℕ, ◌&&◌, ◌≤◌, Bool, true, false, not, List, slice_index, slice_range}
+use Rattle.std.specs.Prelude.{Option, Some, None, if◌then◌else◌}
 use Rattle.flash_model.specs.Chip.{Chip}
 use Rattle.sector_map.specs.declared.layout.SectorMap.{SectorMap}
+use Rattle.sector_map.specs.declared.layout.Side.{Side}
 use Rattle.sector_map.specs.declared.layout.Side.TheVariants.{Secondary}
 use Rattle.sector_map.specs.Part.{Slot}
 use Rattle.sector_map.specs.Map.{part_of}
@@ -48,3 +50,8 @@ standing_of map chip image =
 -- The fields of the trailer of a request.
 abbrev pub requested_fields : Kind → Fields
 requested_fields kind = record erased_fields { magic = Good; image_ok = is_permanent kind }
+
+-- The bytes of a slot behind its first sector are as they were.
+pub record KeepsBehindFirst (map : SectorMap) (image : ℕ) (side : Side) (old new : Chip) : Type 0 where
+  pub each : (k : ℕ) → map.sector_size ≤ k
+      → slice_index (part_of map new (Slot image side)) k ≡ slice_index (part_of map old (Slot image side)) k

@@ -6,7 +6,7 @@ ghost use Rattle.sector_map.specs.Map.{IsLaidOut, Keeps, part_of};
 ghost use Rattle.sector_map.specs.Part.{Slot, TrailerOf, incoming_of, only};
 ghost use Rattle.sector_map.specs.declared.layout.Side.TheVariants.{Secondary};
 ghost use Rattle.trailer.specs.Fields.{are_erased, erased_fields, fields_at, trailer_bytes};
-ghost use Rattle.trailer.specs.Standing.{first_is_set, incoming_slot, standing_of};
+ghost use Rattle.trailer.specs.Standing.{KeepsBehindFirst, first_is_set, incoming_slot, standing_of};
 
 use crate::clearing::clear;
 use crate::fields::set_withdrawn;
@@ -24,6 +24,8 @@ fn take_back<F: Flash>(flash: &mut F, map: &SectorMap, image: u8) -> Result<(), 
         ≡ fields_at map.now (F.chip flash.old) image Secondary)
         ⊎ (standing_of map.now (F.chip flash.new) image ≡ None) }
     ensures ok { OnOk result (standing_of map.now (F.chip flash.new) image ≡ None) }
+    ensures idle { standing_of map.now (F.chip flash.old) image ≡ None
+        → F.chip flash.new ≡ F.chip flash.old }
     // It is no erase, and a trailer that tells of a request isn't erased.
     ensures erased { OnOk result
         (are_erased (trailer_bytes map.now (F.chip flash.new) image Secondary)
@@ -53,6 +55,7 @@ fn erase_front<F: Flash>(
     ensures outside { Keeps map.now (only (Slot image side)) (F.chip flash.old) (F.chip flash.new) }
     ensures idle { first_is_set (part_of map.now (F.chip flash.old) (Slot image side)) ≡ false
         → F.chip flash.new ≡ F.chip flash.old }
+    ensures rest { KeepsBehindFirst map.now image side (F.chip flash.old) (F.chip flash.new) }
     ensures ok { OnOk result
         (first_is_set (part_of map.now (F.chip flash.new) (Slot image side)) ≡ false) }
     ensures erases { OnOk result ((F.chip flash.new).erases ≡ (F.chip flash.old).erases
@@ -79,6 +82,13 @@ pub fn withdraw<F: Flash>(flash: &mut F, map: &SectorMap, image: u8) -> Result<(
     requires laid_out { IsLaidOut map.now (F.chip flash.old) }
     requires there { image < map.now.images }
     ensures outside { Keeps map.now (incoming_of image) (F.chip flash.old) (F.chip flash.new) }
+    // Of the slot the first sector alone is touched ..
+    ensures rest { KeepsBehindFirst map.now image Secondary (F.chip flash.old)
+        (F.chip flash.new) }
+    // .. and nothing where the slot doesn't begin with a unit that is set and the trailer is erased.
+    ensures idle { first_is_set (incoming_slot map.now (F.chip flash.old) image) ≡ false
+        → are_erased (trailer_bytes map.now (F.chip flash.old) image Secondary) ≡ true
+        → F.chip flash.new ≡ F.chip flash.old }
     // Whatever happened, slot and trailer are as they were, or no request stands: the magic isn't good, the
     // withdrawn unit is set, or the slot's first unit is erased.
     ensures either { ((incoming_slot map.now (F.chip flash.new) image
