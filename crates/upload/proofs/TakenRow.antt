@@ -3,7 +3,8 @@ use Rattle.std.proofs.Common.{◌≡◌, ℕ, ◌<◌, ◌≤◌, false, List, l
 use Rattle.std.specs.Prelude.{All, slice_index_or}
 use Rattle.sector_map.specs.declared.layout.SectorMap.{SectorMap}
 use Rattle.sector_map.specs.declared.layout.Side.TheVariants.{Primary, Secondary}
-use Rattle.sector_map.specs.Part.{Slot}
+use Rattle.sector_map.specs.Part.{Slot, Log}
+use Rattle.set_log.specs.Log.{state_of}
 use Rattle.sector_map.specs.Map.{IsLaidOut, length_of, part_of}
 use Rattle.sector_map.proofs.PartBytes.{length_part}
 use Rattle.flash_model.specs.Chip.{Chip}
@@ -12,7 +13,7 @@ use Rattle.flash_model.specs.declared.error.FlashError.TheVariants as flash
 use Rattle.set_log.specs.declared.state.State.{State}
 use Rattle.set_log.specs.declared.state.Kind.TheVariants.{Steady}
 use Rattle.manifest.specs.declared.manifest.Component.{Component}
-use Rattle.upload.specs.View.{View}
+use Rattle.upload.specs.View.{View, view}
 use Rattle.upload.specs.Device.{DeviceState, Machine, closed}
 use Rattle.upload.specs.Steady.{IsFront, IsSteadyAt, logged}
 use Rattle.upload.specs.Sessions.{AllOpenAt, IsUpAt}
@@ -174,6 +175,14 @@ module _ (map : SectorMap) (old new : View) (told tmid tnew : List (Option Uploa
   accept_ends (Err (no.NotAnImage code)) ends after = absurd ends
   accept_ends (Err no.NothingRequested) ends after = absurd ends
   accept_ends (Err no.NoMemory) ends after = absurd ends
+
+-- an equal sequence number takes no record
+pub equal_log : (map : SectorMap) (old mid new : Chip) (state found : State) (q : ℕ) → mid ≡ old
+    → state_of map old ≡ Some state → (view map old).log ≡ Some found → state.sequence ≡ q
+    → (found.sequence ≡ q → part_of map new Log ≡ part_of map mid Log) → part_of map new Log ≡ part_of map old Log
+equal_log map old mid new state found q same read is equal kept =
+    let one = same_state (view map old) state found read is in
+    kept (ap (λ (st : State). st.sequence) (sym one) ∙ equal) ∙ ap (λ chip. part_of map chip Log) same
 
 -- what the checks refuse
 pub refuses : (map : SectorMap) (w : View) (sessions : List (Option Upload)) (q : ℕ) (cs : List Component)

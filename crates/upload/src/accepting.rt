@@ -2,10 +2,11 @@
 
 ghost use Rattle.std.specs.Prelude.{◌≡◌, ◌≢◌, ◌⊎◌, ◌+◌, ◌≤◌, ◌<◌, ℕ, false, true, Err, IfErr, OnOk, Some, None};
 ghost use Rattle.flash_model.specs.Chip.{Chip, Ends};
-ghost use Rattle.sector_map.specs.Map.{IsLaidOut, Keeps};
+ghost use Rattle.sector_map.specs.Map.{IsLaidOut, Keeps, part_of};
 ghost use Rattle.sector_map.specs.Part.{Log, only};
 ghost use Rattle.set_log.specs.Log.{state_of};
 ghost use Rattle.set_log.specs.Record.{fits};
+ghost use Rattle.set_log.specs.declared.state.State.{State as LogState};
 ghost use Rattle.upload.specs.View.{view};
 ghost use Rattle.upload.specs.Device.{DeviceState, Machine};
 ghost use Rattle.upload.specs.Steady.{IsSteadyAt};
@@ -75,6 +76,8 @@ fn write_manifest<F: Flash>(
     ensures ok { OnOk result (IsTaken (view map.now (F.chip flash.old))
         (view map.now (F.chip flash.new)) uploads.old.sessions uploads.new.sessions
         sequence components.now) }
+    ensures equal { state.now.sequence ≡ sequence
+        → part_of map.now (F.chip flash.new) Log ≡ part_of map.now (F.chip flash.old) Log }
     ensures ends { Ends result (F.chip flash.old) (F.chip flash.new) }
 {
     record_sequence(flash, map, state, sequence)?;
@@ -98,6 +101,9 @@ fn take_manifest<F: Flash>(
         manifest.now.sequence manifest.now.components.items result }
     ensures nothing { IfErr result (λ error. is_flash {T = Unit} (Err error) ≡ false
         → F.chip flash.new ≡ F.chip flash.old) }
+    ensures equal { (state : LogState) → state_of map.now (F.chip flash.old) ≡ Some state
+        → state.sequence ≡ manifest.now.sequence
+        → part_of map.now (F.chip flash.new) Log ≡ part_of map.now (F.chip flash.old) Log }
     ensures ends { EndsUpload result (F.chip flash.old) (F.chip flash.new) }
 {
     let state = match judge_manifest(flash, map, manifest) {
@@ -145,6 +151,10 @@ impl Uploads {
             manifest.now.sequence manifest.now.components.items result }
         ensures nothing { IfErr result (λ error. is_flash {T = Unit} (Err error) ≡ false
             → F.chip flash.new ≡ F.chip flash.old) }
+        // An equal sequence number takes no record.
+        ensures equal { (state : LogState) → state_of map.now (F.chip flash.old) ≡ Some state
+            → state.sequence ≡ manifest.now.sequence
+            → part_of map.now (F.chip flash.new) Log ≡ part_of map.now (F.chip flash.old) Log }
         ensures closed { is_flash result ≡ true → AllClosed self.new.sessions }
         // On a flash that holds a state: the step of a machine that knows whole images.
         ensures row { (m : Machine)

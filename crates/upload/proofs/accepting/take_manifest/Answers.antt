@@ -2,7 +2,7 @@ use Rattle.std.proofs.Common.{◌∙◌, ap, subst}
 use Rattle.upload.specs.View.{view}
 use Rattle.upload.specs.Taking.{CutsAccept, IsTaken, LeavesAccept}
 use Rattle.upload.proofs.Ends.{same_off}
-use Rattle.upload.proofs.TakenRow.{stopped}
+use Rattle.upload.proofs.TakenRow.{equal_log, stopped}
 use Rattle.upload.proofs.accepting.take_manifest.Goals as goal
 
 pub returns-in-Ok-write_manifest-clause-accepts : goal.returns-in-Ok-write_manifest-clause-accepts
@@ -33,3 +33,15 @@ returns-in-Err-write_manifest-clause-accepts g c =
     (subst (λ w. CutsAccept w new sequence c.as_slice-components.result.now) same c.write_manifest.ensures.cut))
     (λ is. ap (λ chip. view c.args.map.now chip) (same_off c.in-Err-write_manifest.error _ _
     c.in-Err-write_manifest.ensures.ends is) ∙ same)
+
+pub returns-in-Ok-write_manifest-clause-equal : goal.returns-in-Ok-write_manifest-clause-equal
+returns-in-Ok-write_manifest-clause-equal g c = λ state read equal.
+    equal_log c.args.map.now (g.F.Flash.chip c.args.flash.now) (g.F.Flash.chip c.judge_manifest.new.flash) _ state
+    c.in-Ok.state c.args.manifest.now.sequence c.judge_manifest.ensures.same read c.in-Ok.ensures.ok.newer.read equal
+    c.write_manifest.ensures.equal
+
+pub returns-in-Err-write_manifest-clause-equal : goal.returns-in-Err-write_manifest-clause-equal
+returns-in-Err-write_manifest-clause-equal g c = λ state read equal.
+    equal_log c.args.map.now (g.F.Flash.chip c.args.flash.now) (g.F.Flash.chip c.judge_manifest.new.flash) _ state
+    c.in-Ok.state c.args.manifest.now.sequence c.judge_manifest.ensures.same read c.in-Ok.ensures.ok.newer.read equal
+    c.write_manifest.ensures.equal

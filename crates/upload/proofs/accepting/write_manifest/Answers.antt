@@ -1,4 +1,6 @@
-use Rattle.std.proofs.Common.{refl, ◌∙◌}
+use Rattle.std.proofs.Common.{refl, ◌∙◌, ap}
+use Rattle.sector_map.specs.Part.{Log}
+use Rattle.sector_map.specs.Map.{part_of}
 use Rattle.std.proofs.lemmas.Result.{on_ok_weaker}
 use Rattle.sector_map.proofs.Parts.{keeps_trans, keeps_wider, laid_out_kept}
 use Rattle.upload.specs.View.{view}
@@ -58,3 +60,12 @@ returns-clause-ok g c =
       steps = accept_done _ _ _ c.args.components.now _ _ kept fit all _ _ c.requires.read
           c.in_ok-record_sequence.ensures.ok;
     }) c.open_all.ensures.opened
+
+pub returns-clause-equal : goal.returns-clause-equal
+returns-clause-equal g c = λ equal.
+    c.open_all.ensures.outside.parts Log refl
+    ∙ ap (λ chip. part_of c.args.map.now chip Log) (c.record_sequence.ensures.idle equal)
+
+pub returns-in_err-record_sequence-clause-equal : goal.returns-in_err-record_sequence-clause-equal
+returns-in_err-record_sequence-clause-equal g c = λ equal.
+    ap (λ chip. part_of c.args.map.now chip Log) (c.record_sequence.ensures.idle equal)
