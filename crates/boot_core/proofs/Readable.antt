@@ -1,5 +1,5 @@
 -- Which images can be read, row by row, and that a record in the log changes nothing of it.
-use Rattle.std.proofs.Common.{rules, ◌≡◌, ◌⊎◌, ℕ, ◌+◌, ◌<◌, ◌≤◌, Bool, true, false, nat_le, List, Option, Some, None, arith, refl, sym, ◌∙◌, subst, ⊎_elim}
+use Rattle.std.proofs.Common.{rules, ◌≡◌, ℕ, ◌+◌, ◌<◌, ◌≤◌, Bool, true, false, nat_le, List, Option, Some, None, arith, refl, sym, subst, ⊎_elim}
 use Rattle.std.proofs.lemmas.Bool.Decides.{leb_tells}
 use Rattle.flash_model.specs.Chip.{Chip}
 use Rattle.sector_map.specs.declared.layout.SectorMap.{SectorMap}
@@ -9,12 +9,12 @@ use Rattle.sector_map.specs.Part.{Log, is_member, only}
 use Rattle.certificate.specs.declared.table.Image.{Image}
 use Rattle.upload.specs.View.{view}
 use Rattle.upload.specs.Device.{DeviceState}
-use Rattle.upload.specs.Steady.{IsFront, IsImageAt, IsRequested}
+use Rattle.upload.specs.Steady.{IsFront, IsRequested}
 use Rattle.upload.proofs.Views.{view_kept}
 use Rattle.machine.specs.States.{wanted_bytes}
 use Rattle.certificate.specs.declared.table.Table.{Table}
 use Rattle.machine.specs.Boots.{IsTableOf}
-use Rattle.machine.specs.Reading.{CanRead, CanReadAt, IsReading, IsSwappedAt}
+use Rattle.machine.specs.Reading.{CanRead, CanReadAt, IsReading}
 use Rattle.certificate.specs.declared.report.Report.{Report}
 use Rattle.set_log.specs.declared.state.State.{State}
 use Rattle.machine.specs.declared.finding.Finding.{Finding}

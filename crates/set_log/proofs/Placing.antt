@@ -1,16 +1,16 @@
 -- Where a record is written, and what stays written.
-use Rattle.std.proofs.Common.{◌≡◌, ◌⊎◌, ℕ, ◌+◌, ◌-◌, ◌*◌, ◌<◌, ◌≤◌, true, false, List, Option, Some, None, MatchOption, length, slice_index, arith, refl, sym, ◌∙◌, ap, subst, inl, inr, ⊎_elim}
+use Rattle.std.proofs.Common.{◌≡◌, ◌⊎◌, ℕ, ◌+◌, ◌-◌, ◌*◌, ◌<◌, ◌≤◌, true, false, List, Option, Some, None, MatchOption, length, arith, sym, ◌∙◌, ap, subst, inl, inr, ⊎_elim}
 use Rattle.std.proofs.lemmas.Bool.{cases_lt}
 use Rattle.flash_model.specs.Chip.{Chip, IsErased, Reads, SameOutside}
 use Rattle.flash_model.specs.declared.unit.TheConstants.{FLAG}
 use Rattle.flash_model.proofs.Frame.{products_apart, reads_kept}
 use Rattle.sector_map.specs.declared.layout.SectorMap.{SectorMap}
-use Rattle.set_log.specs.Ring.{has_room, is_closed, next_of, places_in, previous_of, reads_erased, IsActive, IsFree}
+use Rattle.set_log.specs.Ring.{has_room, is_closed, next_of, places_in, previous_of, reads_erased, IsActive}
 use Rattle.set_log.specs.Log.{is_place_free, log_bytes, log_of}
 use Rattle.set_log.specs.Written.{HasClosingFlag, IsBesideNext, IsFirstFree, IsMovedOn, IsWritten}
 use Rattle.set_log.proofs.Blank.{reads_erased_of}
 use Rattle.set_log.proofs.Turns.{HasPlaces, active_is, closed_same, erased_open, free_is, turn}
-use Rattle.set_log.proofs.Moves.{Moved, moved_within, room_of_free, sector_blank}
+use Rattle.set_log.proofs.Moves.{room_of_free, sector_blank}
 
 -- A record that stands beside a write still stands.
 pub stays_written : (e sector place at n : ℕ) (bytes : List ℕ) (old new : Chip)

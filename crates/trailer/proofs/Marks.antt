@@ -9,7 +9,7 @@ use Rattle.flash_model.proofs.Frame.{same_outside_trans, same_outside_wider}
 use Rattle.sector_map.specs.declared.layout.SectorMap.{SectorMap}
 use Rattle.sector_map.specs.declared.layout.Side.{Side}
 use Rattle.sector_map.specs.declared.layout.Side.TheVariants.{Primary, Secondary}
-use Rattle.sector_map.specs.Part.{Part, TrailerOf, only, trailers_of}
+use Rattle.sector_map.specs.Part.{TrailerOf, only, trailers_of}
 use Rattle.sector_map.specs.Map.{IsMap, IsLaidOut, Keeps}
 use Rattle.sector_map.proofs.Parts.{keeps_trans, keeps_wider, laid_out_kept}
 use Rattle.sector_map.proofs.Touched.{trailer_of_both}
