@@ -71,7 +71,7 @@ pub(crate) fn find<F: Flash>(
 }
 
 /// The decision of a record, found again where the slots of its set are swapped, with these floors. `Damaged` tells
-/// the lowest image of which what ran, or what is of the set, isn't intact; `Invalid` that the table which is read isn't
+/// the lowest image of which what ran, or what is of the set, isn't intact; `Invalid` that the table that is read isn't
 /// valid, or has another greatest set. Neither is so of a decision.
 ///
 /// # Errors
