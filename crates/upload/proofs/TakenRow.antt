@@ -18,7 +18,7 @@ use Rattle.upload.specs.Device.{DeviceState, Machine, closed}
 use Rattle.upload.specs.Steady.{IsFront, IsSteadyAt, logged}
 use Rattle.upload.specs.Sessions.{AllOpenAt, IsUpAt}
 use Rattle.upload.specs.Ending.{IsClosedAfter}
-use Rattle.upload.specs.Accepted.{Accepts, AllFit, AreThere, MayAccept, latest, AllFollow, AllFollowAt, FrontHasDigest, HasDigest, IsPrecursor, accepted}
+use Rattle.upload.specs.Accepted.{Accepts, AreBlank, AllFit, AreThere, MayAccept, latest, AllFollow, AllFollowAt, FrontHasDigest, HasDigest, IsPrecursor, accepted}
 use Rattle.upload.specs.Taking.{CutsAccept, EndsAccept, IsNewer, IsTaken, IsUnchanged, LeavesAccept, MayTake, Refuses}
 use Rattle.upload.specs.declared.sessions.Upload.{Upload}
 use Rattle.upload.specs.declared.error.UploadError.{UploadError}
@@ -183,6 +183,15 @@ pub equal_log : (map : SectorMap) (old mid new : Chip) (state found : State) (q 
 equal_log map old mid new state found q same read is equal kept =
     let one = same_state (view map old) state found read is in
     kept (ap (λ (st : State). st.sequence) (sym one) ∙ equal) ∙ ap (λ chip. part_of map chip Log) same
+
+-- .. and where nothing came in nothing is written
+pub equal_blank : (map : SectorMap) (old mid new : Chip) (state found : State) (q : ℕ) (named cs : List Component)
+    → mid ≡ old → named ≡ cs → state_of map old ≡ Some state → (view map old).log ≡ Some found → state.sequence ≡ q
+    → AreBlank map old cs → (found.sequence ≡ q → AreBlank map mid named → new ≡ mid) → new ≡ old
+equal_blank map old mid new state found q named cs same are read is equal blank kept =
+    let one = same_state (view map old) state found read is in
+    kept (ap (λ (st : State). st.sequence) (sym one) ∙ equal)
+    (subst (λ chip. AreBlank map chip named) (sym same) (subst (λ xs. AreBlank map old xs) (sym are) blank)) ∙ same
 
 -- what the checks refuse
 pub refuses : (map : SectorMap) (w : View) (sessions : List (Option Upload)) (q : ℕ) (cs : List Component)

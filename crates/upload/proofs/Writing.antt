@@ -1,5 +1,5 @@
 -- Writing and erasing a secondary slot.
-use Rattle.std.proofs.Common.{◌≡◌, ℕ, zero, suc, ◌+◌, ◌-◌, ◌*◌, ◌/◌, ◌%◌, ◌<◌, ◌≤◌, List, [], ◌∷◌, ◌++◌, length, take, drop, replicate, slice_index, arith, refl, sym, ◌∙◌, ap, subst, append_assoc, length-append, inl}
+use Rattle.std.proofs.Common.{◌≡◌, ℕ, zero, suc, ◌+◌, ◌-◌, ◌*◌, ◌/◌, ◌%◌, ◌<◌, ◌≤◌, List, [], ◌∷◌, ◌++◌, length, take, drop, replicate, slice_index, arith, refl, sym, ◌∙◌, ap, subst, append_assoc, length-append, inl, false, not}
 use Rattle.std.proofs.lemmas.List.{append-nil, length-replicate, get_or-replicate, get_or-append_right, drop-replicate, take-replicate, nil_from_length}
 use Rattle.std.proofs.Math.Seq.{take-append_seam, drop-append_seam}
 use Rattle.std.proofs.lemmas.List.{drop-drop}
@@ -11,7 +11,12 @@ use Rattle.sector_map.specs.declared.layout.Side.TheVariants.{Secondary}
 use Rattle.sector_map.specs.Part.{Slot}
 use Rattle.sector_map.specs.Map.{IsIn, IsLaidOut, IsMap, first_of, length_of, part_of, sectors_of, slot_sectors, start_of}
 use Rattle.sector_map.proofs.Places.{units_of, within}
-use Rattle.sector_map.proofs.PartBytes.{length_part, part_at}
+use Rattle.sector_map.proofs.PartBytes.{end_of, length_part, part_at}
+use Rattle.sector_map.proofs.Products.{mul_le}
+use Rattle.flash_model.proofs.Frame.{product_le}
+use Rattle.trailer.specs.Standing.{first_is_set}
+use Rattle.trailer.proofs.Erased.{range_erased}
+use Rattle.trailer.proofs.Places.{sector_of_part, some_slot}
 use Rattle.sector_map.proofs.PartLists.{part_written, part_erased}
 use Rattle.upload.specs.Sessions.{IsWritten}
 
@@ -158,3 +163,26 @@ written_less slot front bytes all n is was = record {
 
 pub take_filler : (k n : ℕ) → k ≤ n → take k (filler n) ≡ filler k
 take_filler k n le = take-replicate k n 0xff le
+
+-- a sector of an erased slot is erased
+pub sector_erased_too : (map : SectorMap) (chip : Chip) (image index : ℕ) → index < slot_sectors map image
+    → IsErased chip (start_of map (Slot image Secondary)) (length_of map (Slot image Secondary))
+    → IsErased chip ((first_of map (Slot image Secondary) + index) * map.sector_size) map.sector_size
+sector_erased_too map chip image index lt blank =
+    let first = first_of map (Slot image Secondary) in
+    let low = mul_le first (first + index) map.sector_size (omega arith) in
+    let high = product_le (first + index) (first + slot_sectors map image) map.sector_size (omega arith) in
+    record {
+      each = λ k above below. blank.each k (omega (arith, above, low))
+          (omega (arith, below, high, end_of map (Slot image Secondary)));
+    }
+
+-- the first unit of an erased slot isn't set
+pub front_blank : (map : SectorMap) (chip : Chip) (image : ℕ) → IsLaidOut map chip → image < map.images
+    → IsErased chip (start_of map (Slot image Secondary)) (length_of map (Slot image Secondary))
+    → first_is_set (slot_of map chip image) ≡ false
+front_blank map chip image laid lt blank =
+    let part = Slot image Secondary in
+    let long = sector_of_part map part (some_slot map image Secondary laid.is_map lt) in
+    let room : 8 ≤ length_of map part = omega (arith, long, laid.is_map.sector.least) in
+    ap not (range_erased map chip part _ _ 0 8 blank laid room (omega arith) (omega (arith, room)))

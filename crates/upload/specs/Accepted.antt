@@ -4,8 +4,9 @@ use Rattle.flash_model.specs.declared.error.FlashError.TheVariants as flash
 use Rattle.sector_map.specs.declared.layout.SectorMap.{SectorMap}
 use Rattle.sector_map.specs.declared.layout.Side.TheVariants.{Primary, Secondary}
 use Rattle.sector_map.specs.Part.{Part, Slot, TrailerOf, Scratch, Log, same_side}
-use Rattle.sector_map.specs.Map.{length_of}
-use Rattle.trailer.specs.Fields.{erased_fields}
+use Rattle.flash_model.specs.Chip.{Chip, IsErased}
+use Rattle.sector_map.specs.Map.{length_of, start_of}
+use Rattle.trailer.specs.Fields.{are_erased, erased_fields, trailer_bytes}
 use Rattle.trailer.specs.Standing.{kind_of}
 use Rattle.tlv.specs.declared.desc.Desc.{Desc}
 use Rattle.tlv.specs.Image.{IsIntact}
@@ -92,6 +93,15 @@ FrontHasDigest slot (Some digest) =
 
 abbrev pub AllFollowAt : View → List Component → Type 0
 AllFollowAt w cs = All (λ c. FrontHasDigest (w.slot c.image Primary) c.precursor) cs
+
+-- Nothing came in for an image: its secondary slot and the trailer of it are erased.
+pub record IsBlank (map : SectorMap) (chip : Chip) (i : ℕ) : Type 0 where
+  pub slot : IsErased chip (start_of map (Slot i Secondary)) (length_of map (Slot i Secondary))
+  pub trailer : are_erased (trailer_bytes map chip i Secondary) ≡ true
+
+-- Nothing came in for any image that is named.
+abbrev pub AreBlank : SectorMap → Chip → List Component → Type 0
+AreBlank map chip cs = All (λ c. IsBlank map chip c.image) cs
 
 -- ---- the step
 

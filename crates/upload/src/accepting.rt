@@ -12,7 +12,7 @@ ghost use Rattle.upload.specs.Device.{DeviceState, Machine};
 ghost use Rattle.upload.specs.Steady.{IsSteadyAt};
 ghost use Rattle.upload.specs.Sessions.{AllClosed, AllOpenAt, IsUpAt};
 ghost use Rattle.upload.specs.Ending.{EndsUpload, is_flash};
-ghost use Rattle.upload.specs.Accepted.{Accepts, AreThere, AllFit, IsAcceptCut, accepted_parts};
+ghost use Rattle.upload.specs.Accepted.{Accepts, AreBlank, AreThere, AllFit, IsAcceptCut, accepted_parts};
 ghost use Rattle.upload.specs.Taking.{EndsAccept, IsTaken, LeavesAccept};
 
 use crate::error::UploadError;
@@ -78,6 +78,9 @@ fn write_manifest<F: Flash>(
         sequence components.now) }
     ensures equal { state.now.sequence ≡ sequence
         → part_of map.now (F.chip flash.new) Log ≡ part_of map.now (F.chip flash.old) Log }
+    ensures idle { state.now.sequence ≡ sequence
+        → AreBlank map.now (F.chip flash.old) components.now
+        → F.chip flash.new ≡ F.chip flash.old }
     ensures ends { Ends result (F.chip flash.old) (F.chip flash.new) }
 {
     record_sequence(flash, map, state, sequence)?;
@@ -104,6 +107,10 @@ fn take_manifest<F: Flash>(
     ensures equal { (state : LogState) → state_of map.now (F.chip flash.old) ≡ Some state
         → state.sequence ≡ manifest.now.sequence
         → part_of map.now (F.chip flash.new) Log ≡ part_of map.now (F.chip flash.old) Log }
+    ensures idle { (state : LogState) → state_of map.now (F.chip flash.old) ≡ Some state
+        → state.sequence ≡ manifest.now.sequence
+        → AreBlank map.now (F.chip flash.old) manifest.now.components.items
+        → F.chip flash.new ≡ F.chip flash.old }
     ensures ends { EndsUpload result (F.chip flash.old) (F.chip flash.new) }
 {
     let state = match judge_manifest(flash, map, manifest) {
@@ -155,6 +162,11 @@ impl Uploads {
         ensures equal { (state : LogState) → state_of map.now (F.chip flash.old) ≡ Some state
             → state.sequence ≡ manifest.now.sequence
             → part_of map.now (F.chip flash.new) Log ≡ part_of map.now (F.chip flash.old) Log }
+        // Nor is a sector erased that is erased: where nothing came in yet nothing is written.
+        ensures idle { (state : LogState) → state_of map.now (F.chip flash.old) ≡ Some state
+            → state.sequence ≡ manifest.now.sequence
+            → AreBlank map.now (F.chip flash.old) manifest.now.components.items
+            → F.chip flash.new ≡ F.chip flash.old }
         ensures closed { is_flash result ≡ true → AllClosed self.new.sessions }
         // On a flash that holds a state: the step of a machine that knows whole images.
         ensures row { (m : Machine)

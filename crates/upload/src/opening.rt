@@ -10,7 +10,7 @@ ghost use Rattle.trailer.specs.Standing.{incoming_slot, kind_of};
 ghost use Rattle.upload.specs.View.{view};
 ghost use Rattle.upload.specs.Sessions.{IsWith, IsWritten};
 ghost use Rattle.upload.specs.Withdrawal.{IsKeptOrGone};
-ghost use Rattle.upload.specs.Accepted.{AreThere, IsFresh, IsOpened, IsOpening, latest, named_parts};
+ghost use Rattle.upload.specs.Accepted.{AreBlank, AreThere, IsBlank, IsFresh, IsOpened, IsOpening, latest, named_parts};
 ghost use Rattle.upload.specs.declared.sessions.Upload.{Upload};
 
 use crate::sessions::{Upload, Uploads};
@@ -31,6 +31,8 @@ fn open_slot<F: Flash>(flash: &mut F, map: &SectorMap, image: u8) -> Result<(), 
     ensures trailer { OnOk result
         (fields_at map.now (F.chip flash.new) image Secondary ≡ erased_fields) }
     ensures slot { OnOk result (IsWritten (incoming_slot map.now (F.chip flash.new) image) []) }
+    ensures idle { IsBlank map.now (F.chip flash.old) image
+        → F.chip flash.new ≡ F.chip flash.old }
     ensures ends { Ends result (F.chip flash.old) (F.chip flash.new) }
 {
     withdraw(flash, map, image)?;
@@ -80,6 +82,8 @@ fn open_one<F: Flash>(
         (IsWritten (incoming_slot map.now (F.chip flash.new) component.now.image) []) }
     ensures table { OnOk result ((u : Upload) × IsFresh component.now u
         × IsWith component.now.image (Some u) uploads.old.sessions uploads.new.sessions) }
+    ensures idle { IsBlank map.now (F.chip flash.old) component.now.image
+        → F.chip flash.new ≡ F.chip flash.old }
     ensures ends { Ends result (F.chip flash.old) (F.chip flash.new) }
 {
     open_slot(flash, map, component.image)?;
@@ -103,6 +107,8 @@ pub(crate) fn open_all<F: Flash>(
     ensures opened { OnOk result (IsOpened (view map.now (F.chip flash.old))
         (view map.now (F.chip flash.new)) uploads.old.sessions uploads.new.sessions
         (latest components.now)) }
+    ensures idle { AreBlank map.now (F.chip flash.old) components.now
+        → F.chip flash.new ≡ F.chip flash.old }
     ensures ends { Ends result (F.chip flash.old) (F.chip flash.new) }
 {
     for component in components {

@@ -2,7 +2,7 @@
 
 ghost use Rattle.std.specs.Prelude.{◌≡◌, ℕ, ◌+◌, ◌*◌, ◌≤◌, ◌<◌, ◌++◌, List, [], length, OnOk};
 ghost use Rattle.flash_model.specs.Chip.{Chip, Ends, IsErased, SameOutside};
-ghost use Rattle.sector_map.specs.Map.{IsLaidOut, Keeps, first_of, length_of, slot_sectors};
+ghost use Rattle.sector_map.specs.Map.{IsLaidOut, Keeps, first_of, length_of, slot_sectors, start_of};
 ghost use Rattle.sector_map.specs.Part.{Slot, only};
 ghost use Rattle.sector_map.specs.declared.layout.Side.TheVariants.{Secondary};
 ghost use Rattle.trailer.specs.Standing.{incoming_slot};
@@ -58,6 +58,9 @@ fn erase_sector<F: Flash>(
     ensures ok { OnOk result (IsErased (F.chip flash.new)
         ((first_of map.now (Slot image Secondary) + index) * map.now.sector_size)
         map.now.sector_size) }
+    ensures idle { IsErased (F.chip flash.old)
+        ((first_of map.now (Slot image Secondary) + index) * map.now.sector_size)
+        map.now.sector_size → F.chip flash.new ≡ F.chip flash.old }
     ensures erases { OnOk result
         ((F.chip flash.new).erases ≤ (F.chip flash.old).erases + 1) }
     ensures ends { Ends result (F.chip flash.old) (F.chip flash.new) }
@@ -80,6 +83,8 @@ pub(crate) fn erase_slot<F: Flash>(
     ensures outside { Keeps map.now (only (Slot image Secondary))
         (F.chip flash.old) (F.chip flash.new) }
     ensures ok { OnOk result (IsWritten (incoming_slot map.now (F.chip flash.new) image) []) }
+    ensures idle { IsErased (F.chip flash.old) (start_of map.now (Slot image Secondary))
+        (length_of map.now (Slot image Secondary)) → F.chip flash.new ≡ F.chip flash.old }
     ensures erases { OnOk result ((F.chip flash.new).erases
         ≤ (F.chip flash.old).erases + slot_sectors map.now image) }
     ensures ends { Ends result (F.chip flash.old) (F.chip flash.new) }

@@ -2,7 +2,7 @@ use Rattle.std.proofs.Common.{◌∙◌, ap, subst}
 use Rattle.upload.specs.View.{view}
 use Rattle.upload.specs.Taking.{CutsAccept, IsTaken, LeavesAccept}
 use Rattle.upload.proofs.Ends.{same_off}
-use Rattle.upload.proofs.TakenRow.{equal_log, stopped}
+use Rattle.upload.proofs.TakenRow.{equal_blank, equal_log, stopped}
 use Rattle.upload.proofs.accepting.take_manifest.Goals as goal
 
 pub returns-in-Ok-write_manifest-clause-accepts : goal.returns-in-Ok-write_manifest-clause-accepts
@@ -45,3 +45,17 @@ returns-in-Err-write_manifest-clause-equal g c = λ state read equal.
     equal_log c.args.map.now (g.F.Flash.chip c.args.flash.now) (g.F.Flash.chip c.judge_manifest.new.flash) _ state
     c.in-Ok.state c.args.manifest.now.sequence c.judge_manifest.ensures.same read c.in-Ok.ensures.ok.newer.read equal
     c.write_manifest.ensures.equal
+
+pub returns-in-Ok-write_manifest-clause-idle : goal.returns-in-Ok-write_manifest-clause-idle
+returns-in-Ok-write_manifest-clause-idle g c = λ state read equal blank.
+    equal_blank c.args.map.now (g.F.Flash.chip c.args.flash.now) (g.F.Flash.chip c.judge_manifest.new.flash) _ state
+    c.in-Ok.state c.args.manifest.now.sequence c.as_slice-components.result.now
+    c.args.manifest.now.components.items c.judge_manifest.ensures.same c.as_slice-components.ensures.value read
+    c.in-Ok.ensures.ok.newer.read equal blank c.write_manifest.ensures.idle
+
+pub returns-in-Err-write_manifest-clause-idle : goal.returns-in-Err-write_manifest-clause-idle
+returns-in-Err-write_manifest-clause-idle g c = λ state read equal blank.
+    equal_blank c.args.map.now (g.F.Flash.chip c.args.flash.now) (g.F.Flash.chip c.judge_manifest.new.flash) _ state
+    c.in-Ok.state c.args.manifest.now.sequence c.as_slice-components.result.now
+    c.args.manifest.now.components.items c.judge_manifest.ensures.same c.as_slice-components.ensures.value read
+    c.in-Ok.ensures.ok.newer.read equal blank c.write_manifest.ensures.idle

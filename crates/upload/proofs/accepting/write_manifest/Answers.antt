@@ -1,10 +1,10 @@
-use Rattle.std.proofs.Common.{refl, ◌∙◌, ap}
+use Rattle.std.proofs.Common.{refl, ◌∙◌, ap, subst, sym}
 use Rattle.sector_map.specs.Part.{Log}
 use Rattle.sector_map.specs.Map.{part_of}
 use Rattle.std.proofs.lemmas.Result.{on_ok_weaker}
 use Rattle.sector_map.proofs.Parts.{keeps_trans, keeps_wider, laid_out_kept}
 use Rattle.upload.specs.View.{view}
-use Rattle.upload.specs.Accepted.{accepted_parts}
+use Rattle.upload.specs.Accepted.{AreBlank, accepted_parts}
 use Rattle.upload.proofs.Views.{view_kept}
 use Rattle.upload.proofs.Opened.{log_of_accepted, parts_and_log}
 use Rattle.upload.proofs.AcceptRow.{sequenced, sequence_cut, cut_after, accept_done, opens_all, leaves_early, leaves_late, same_record}
@@ -69,3 +69,11 @@ returns-clause-equal g c = λ equal.
 pub returns-in_err-record_sequence-clause-equal : goal.returns-in_err-record_sequence-clause-equal
 returns-in_err-record_sequence-clause-equal g c = λ equal.
     ap (λ chip. part_of c.args.map.now chip Log) (c.record_sequence.ensures.idle equal)
+
+pub returns-in_err-record_sequence-clause-idle : goal.returns-in_err-record_sequence-clause-idle
+returns-in_err-record_sequence-clause-idle g c = λ equal blank. c.record_sequence.ensures.idle equal
+
+pub returns-clause-idle : goal.returns-clause-idle
+returns-clause-idle g c = λ equal blank.
+    let same = c.record_sequence.ensures.idle equal in
+    c.open_all.ensures.idle (subst (λ chip. AreBlank c.args.map.now chip c.args.components.now) (sym same) blank) ∙ same

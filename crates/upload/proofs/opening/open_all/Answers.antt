@@ -1,7 +1,7 @@
-use Rattle.std.proofs.Common.{rules, ◌+◌, false, take, get_or, None, []}
+use Rattle.std.proofs.Common.{rules, ◌+◌, ◌∙◌, false, take, get_or, None, [], refl, subst, sym}
 use Rattle.sector_map.proofs.Parts.{keeps_wider, laid_out_kept}
 use Rattle.manifest.specs.declared.manifest.Component.{Component}
-use Rattle.upload.specs.Accepted.{latest, named_parts}
+use Rattle.upload.specs.Accepted.{IsBlank, latest, named_parts}
 use Rattle.upload.proofs.Views.{view_kept, view_long}
 use Rattle.upload.proofs.Opened.{first_parts, keeps_more, latest_at, latest_less, opening_more, opening_wider, opened_more, opened_none}
 use Rattle.upload.proofs.opening.open_all.Goals as goal
@@ -13,6 +13,7 @@ pub loop-component-init : goal.loop-component-init
 loop-component-init g c = record {
   outside = search rules;
   opened = opened_none _ _ c.args.components.now;
+  idle = λ still. refl;
   uncut = search rules;
   asleep = search rules;
 }
@@ -55,6 +56,18 @@ loop-component-preserved g c =
           c.open_one.ensures.either _ _ _
           c.in_ok-open_one.ensures.trailer c.in_ok-open_one.ensures.slot c.in_ok-open_one.ensures.table.0
           c.in_ok-open_one.ensures.table.1 c.in_ok-open_one.ensures.table.2 c.loop-component.invariant.opened;
+      idle = λ still.
+          let same = c.loop-component.invariant.idle still in
+          c.open_one.ensures.idle (subst (λ chip. IsBlank c.args.map.now chip
+          (get_or c.args.components.now c.loop-component.component-index blank).image) (sym same)
+          (still c.loop-component.component-index blank c.loop-component-test.true)) ∙ same;
       uncut = search rules;
       asleep = search rules;
     }
+
+pub returns-in_err-open_one-clause-idle : goal.returns-in_err-open_one-clause-idle
+returns-in_err-open_one-clause-idle g c = λ still.
+    let same = c.loop-component.invariant.idle still in
+    c.open_one.ensures.idle (subst (λ chip. IsBlank c.args.map.now chip
+    (get_or c.args.components.now c.loop-component.component-index blank).image) (sym same)
+    (still c.loop-component.component-index blank c.loop-component-test.true)) ∙ same

@@ -2,7 +2,7 @@ use Rattle.std.proofs.Common.{◌≡◌, false, take}
 use Rattle.flash_model.specs.Chip.{IsUncut}
 use Rattle.sector_map.specs.Map.{Keeps}
 use Rattle.upload.specs.View.{view}
-use Rattle.upload.specs.Accepted.{IsOpened, latest, named_parts}
+use Rattle.upload.specs.Accepted.{AreBlank, IsOpened, latest, named_parts}
 use Rattle.upload.proofs.opening.open_all.Given as goal
 
 abbrev pub invariant-loop-component : goal.invariant-loop-component
@@ -11,6 +11,8 @@ invariant-loop-component g l = record {
       (g.F.Flash.chip l.flash);
   opened : IsOpened (view l.map (g.F.Flash.chip l.initial.flash)) (view l.map (g.F.Flash.chip l.flash))
       l.initial.uploads.sessions l.uploads.sessions (latest (take l.component-index l.components));
+  idle : AreBlank l.map (g.F.Flash.chip l.initial.flash) l.components
+      → g.F.Flash.chip l.flash ≡ g.F.Flash.chip l.initial.flash;
   uncut : IsUncut (g.F.Flash.chip l.initial.flash) (g.F.Flash.chip l.flash);
   asleep : (g.F.Flash.chip l.initial.flash).is_on ≡ false → g.F.Flash.chip l.flash ≡ g.F.Flash.chip l.initial.flash;
 }

@@ -1,8 +1,12 @@
-use Rattle.std.proofs.Common.{◌∙◌, refl, inr}
+use Rattle.std.proofs.Common.{◌∙◌, refl, inr, subst, sym}
 use Rattle.std.proofs.lemmas.Result.{on_ok_weaker}
 use Rattle.sector_map.specs.declared.layout.Side.TheVariants.{Secondary}
 use Rattle.upload.specs.View.{view}
 use Rattle.upload.proofs.Views.{view_kept}
+use Rattle.flash_model.specs.Chip.{IsErased}
+use Rattle.sector_map.specs.Part.{Slot}
+use Rattle.sector_map.specs.Map.{length_of, start_of}
+use Rattle.upload.proofs.Writing.{front_blank}
 use Rattle.upload.proofs.Frames.{erased_stands}
 use Rattle.upload.proofs.opening.open_slot.Goals as goal
 
@@ -17,3 +21,15 @@ pub returns-clause-trailer : goal.returns-clause-trailer
 returns-clause-trailer g c = on_ok_weaker c.erase_slot.result (λ done.
     (view_kept c.args.map.now _ _ _ c.erase_slot.ensures.outside).trailers c.args.image Secondary refl
     ∙ c.in_ok-withdraw.ensures.ok) c.erase_slot.ensures.ok
+
+pub returns-in_err-withdraw-clause-idle : goal.returns-in_err-withdraw-clause-idle
+returns-in_err-withdraw-clause-idle g c = λ blank. c.withdraw.ensures.idle
+    (front_blank c.args.map.now _ c.args.image c.requires.laid_out c.requires.there blank.slot) blank.trailer
+
+pub returns-clause-idle : goal.returns-clause-idle
+returns-clause-idle g c = λ blank.
+    let map = c.args.map.now in
+    let same = c.withdraw.ensures.idle
+    (front_blank map _ c.args.image c.requires.laid_out c.requires.there blank.slot) blank.trailer in
+    c.erase_slot.ensures.idle (subst (λ chip. IsErased chip (start_of map (Slot c.args.image Secondary))
+    (length_of map (Slot c.args.image Secondary))) (sym same) blank.slot) ∙ same
