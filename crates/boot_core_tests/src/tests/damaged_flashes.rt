@@ -17,6 +17,9 @@ const IMAGES: [&[u8]; 8] = [
     &RUNNING, &RUNNING, &RUNNING, &RUNNING, &RUNNING, &RUNNING, &RUNNING, &RUNNING,
 ];
 
+/// In how many ways a flash is damaged.
+const WAYS: u32 = 2;
+
 /// The first image and one more, both for a test.
 const TWO: [Named<'static>; 2] = [(0, false, PLAIN_DIGEST, 76), (1, false, PLAIN_DIGEST, 76)];
 
@@ -101,6 +104,23 @@ fn asked<'a>(text: &'a str) -> [Event<'a>; 14] {
     ]
 }
 
+/// Damages a flash of these bytes in some ways, one after the other, and asks the device each time.
+fn expect_damaged(
+    rt: &(impl Abort + AllocGlobal),
+    random: &mut Random,
+    images: usize,
+    from: &[u8],
+    text: &str,
+) -> Result<(), Fail> {
+    let mut bytes = Vec::from_slice(rt.alloc(), from)?;
+    for _ in 0..WAYS {
+        damage(random, bytes.as_mut_slice());
+        let damaged = Vec::from_slice(rt.alloc(), bytes.as_slice())?;
+        expect_answers(rt, images, damaged, &asked(text))?;
+    }
+    Ok(())
+}
+
 /// Cuts the last of these events at each of its writes, damages what is left, and asks the device.
 fn expect_after_cuts(
     rt: &(impl Abort + AllocGlobal),
@@ -116,12 +136,8 @@ fn expect_after_cuts(
     for write in before + 1..=last {
         let left = EACH_LEFT[usize::from(random.below(4))];
         let cut = played(rt, images, &[(write, left)], events)?;
-        let mut bytes = cut.bytes;
-        for _ in 0..random.below(4) {
-            damage(random, bytes.as_mut_slice());
-        }
-        expect_answers(rt, images, bytes, &asked(text))?;
-        flashes = flashes.saturating_add(1);
+        expect_damaged(rt, random, images, cut.bytes.as_slice(), text)?;
+        flashes = flashes.saturating_add(WAYS);
     }
     Ok(flashes)
 }
@@ -174,9 +190,9 @@ fn events_on_damaged_flashes_are_answered_from_wherever_power_failed(
         let made = expect_of_images(&rt, &mut random, images)?;
         // The upgrade and its way back have three steps for an image, each with an erase, two pieces of 256 bytes and a
         // status unit; the rest are those of records, of trailers and of the upload.
-        assert!(&rt; made > 2 * 12, "{images}: {made}");
+        assert!(&rt; made > WAYS * 2 * 12, "{images}: {made}");
         flashes = flashes.saturating_add(made);
     }
-    assert!(&rt; flashes > 600, "{flashes}");
+    assert!(&rt; flashes > 1200, "{flashes}");
     Ok(())
 }

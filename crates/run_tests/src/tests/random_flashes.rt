@@ -1,6 +1,6 @@
 //! Flashes whose bytes were made at random, or changed at random: the program comes to an end on each.
 use memory_host::samples::TRIED;
-use memory_host::{Device, Fresh, Target};
+use memory_host::{Device, Fresh, Left, Target};
 use random_numbers::Random;
 use std::alloc::Global;
 use std::process::Abort;
@@ -76,17 +76,19 @@ fn changed(alloc: Global, random: &mut Random, from: &[u8]) -> Result<Vec<u8>, F
     Ok(bytes)
 }
 
-/// Asserts that `run` of the script answers each event, and that `show` ends.
+/// Asserts that `show` ends and changes nothing, and that `run` of the script answers each event.
 fn expect_end(
     rt: &(impl Abort + AllocGlobal),
     target: &mut Target,
     seen: &mut Seen,
 ) -> Result<(), Fail> {
+    let before = Vec::from_slice(rt.alloc(), target.flash.bytes.as_slice())?;
     let shown = target.show(rt.alloc());
     assert!(rt;
         shown.status <= 1 && shown.err.taken.is_empty(),
         "{shown:?}"
     );
+    assert!(rt; target.flash.bytes == before);
     let outcome = target.run(rt.alloc(), SCRIPT);
     assert!(rt;
         outcome.status <= 1 && outcome.err.taken.is_empty(),
@@ -119,6 +121,46 @@ fn events_on_a_thousand_flashes_at_random_are_answered(rt: HostRuntime) -> Resul
     assert!(rt; seen.plain >= 50 && seen.reverted >= 50, "{seen:?}");
     assert!(rt;
         seen.damaged >= 20 && seen.not_provisioned >= 20,
+        "{seen:?}"
+    );
+    Ok(())
+}
+
+/// An upgrade for a test and its way back: each record of the log stands at some write of it.
+const STORY: &str = "boot
+accept pair.json
+piece 0 first.img
+piece 1 second.img
+finish 1
+finish 0
+boot
+boot
+";
+
+#[test]
+fn events_on_flashes_changed_wherever_a_write_failed_are_answered(
+    rt: HostRuntime,
+) -> Result<(), Fail> {
+    let mut random = Random::new(88172645);
+    let mut seen = Seen::default();
+    let mut fresh = Fresh::new(rt.alloc(), Device::TwoImages)?;
+    let writes = fresh.writes_of(rt.alloc(), STORY)?;
+    assert!(&rt; 60 < writes && writes < 200, "{writes}");
+    for write in 1..=writes {
+        let left = if write % 2 == 0 {
+            Left::Half
+        } else {
+            Left::Old
+        };
+        let outcome = fresh.run_failing(rt.alloc(), STORY, (write, left))?;
+        assert!(&rt; outcome.status == 4, "{outcome:?}");
+        let stopped = Vec::from_slice(rt.alloc(), fresh.target.flash.bytes.as_slice())?;
+        let bytes = changed(rt.alloc(), &mut random, stopped.as_slice())?;
+        fresh.target.put_flash(bytes.as_slice())?;
+        expect_end(&rt, &mut fresh.target, &mut seen)?;
+    }
+    assert!(&rt;
+        seen.plain > 0 && seen.reverted > 0 && seen.damaged > 0 && seen.not_provisioned > 0,
         "{seen:?}"
     );
     Ok(())
