@@ -40,8 +40,8 @@ IsVerdict table_text report_text verdict =
     (AreRight table_text report_text × (verdict ≡ yes_text))
     ⊎ (AreWrong table_text report_text × (verdict ≡ no_text))
 
--- What a writer took, by how the check of these texts ended: the verdict, a beginning of it where a write
--- failed, and else nothing.
+-- What a writer took, by how the check of these texts ended: the verdict, a beginning of it where a
+-- write failed, and else nothing.
 abbrev pub Judges :
     CheckEnd → List ℕ → List ℕ → Option (List ℕ) → Option (List ℕ) → Type 0
 Judges Yes table report old new = AreRight table report × Appends old new yes_text

@@ -12,8 +12,8 @@ use Rattle.certificate.specs.ReportText.{report_text, IsReportText}
 use Rattle.answers.specs.declared.choose.ChooseEnd.{ChooseEnd}
 use Rattle.answers.specs.declared.choose.ChooseEnd.TheVariants.{Done, BadLine, NotValid, NoMemory, ReadFailed, WriteFailed}
 
--- The bytes spell a table whose running images fit each other, and the report is right for it, with its
--- refusals in standard order. What is printed of the report is a text of it.
+-- The bytes spell a table whose running images fit each other, and the report is right for it, with
+-- its refusals in standard order. What is printed of the report is a text of it.
 pub record IsChoice (bytes : List ℕ) (table : Table) (report : Report) : Type 0 where
   pub spelled : IsTableText bytes table
   pub valid : IsValid table running_set
@@ -30,7 +30,8 @@ IsUnfitTable bytes =
 abbrev pub GivesAll : Option (List ℕ) → Option (List ℕ) → List ℕ → Type 0
 GivesAll old new bytes = Consumes old new bytes × IsAtEnd new
 
--- What a reader gave, by how the choice ended: these bytes, and they are all unless memory or a read failed.
+-- What a reader gave, by how the choice ended: these bytes, and they are all unless memory or a
+-- read failed.
 abbrev pub Reads : ChooseEnd → Option (List ℕ) → Option (List ℕ) → List ℕ → Type 0
 Reads NoMemory old new bytes = Consumes old new bytes
 Reads ReadFailed old new bytes = Consumes old new bytes
@@ -39,8 +40,8 @@ Reads (BadLine n) old new bytes = GivesAll old new bytes
 Reads NotValid old new bytes = GivesAll old new bytes
 Reads WriteFailed old new bytes = GivesAll old new bytes
 
--- What a writer took, by how the choice over these bytes ended: the report, a beginning of it where a write
--- failed, and else nothing.
+-- What a writer took, by how the choice over these bytes ended: the report, a beginning of it where
+-- a write failed, and else nothing.
 abbrev pub Writes : ChooseEnd → List ℕ → Option (List ℕ) → Option (List ℕ) → Type 0
 Writes Done bytes old new =
     (table : Table) × (report : Report) × IsChoice bytes table report

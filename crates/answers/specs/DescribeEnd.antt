@@ -19,8 +19,8 @@ abbrev pub IsRefusal : List ℕ → List ℕ → Type 0
 IsRefusal bytes text =
     (fault : ImageError) × IsFirstFault bytes fault × (text ≡ refusal_text fault)
 
--- What a writer took, by how the description of these bytes ended: the text, a beginning of it where a write
--- failed, and nothing where memory ran out.
+-- What a writer took, by how the description of these bytes ended: the text, a beginning of it
+-- where a write failed, and nothing where memory ran out.
 abbrev pub Tells : DescribeEnd → List ℕ → Option (List ℕ) → Option (List ℕ) → Type 0
 Tells Done bytes old new = (text : List ℕ) × IsDescription bytes text × Appends old new text
 Tells Refused bytes old new = (text : List ℕ) × IsRefusal bytes text × Appends old new text

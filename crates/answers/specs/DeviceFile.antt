@@ -77,8 +77,8 @@ abbrev pub IsDeviceFile : List ℕ → DeviceFile → Type 0
 IsDeviceFile bytes device =
     (fields : DeviceFields) × IsDeviceText bytes fields × IsDeviceOf fields device
 
--- Bytes are no device file: they say nothing of a device, or sizes that make no map, of which this is
--- the first check that fails. That memory runs out is no property of bytes.
+-- Bytes are no device file: they say nothing of a device, or sizes that make no map, of which this
+-- is the first check that fails. That memory runs out is no property of bytes.
 abbrev pub IsDeviceFault : List ℕ → DeviceFault → Type 0
 IsDeviceFault bytes Malformed = (fields : DeviceFields) × IsDeviceText bytes fields → ⊥
 IsDeviceFault bytes (Map fault) = (fields : DeviceFields) × IsDeviceText bytes fields

@@ -19,8 +19,8 @@ abbrev pub IsRefusalTold : Identity → List ℕ → List ℕ → Type 0
 IsRefusalTold identity bytes text =
     (fault : ManifestError) × IsRefusal identity bytes fault × (text ≡ refusal_text fault)
 
--- What a writer took, by how it ended with these bytes for a device: the text, a beginning of it where a write
--- failed, and nothing where memory ran out.
+-- What a writer took, by how it ended with these bytes for a device: the text, a beginning of it
+-- where a write failed, and nothing where memory ran out.
 abbrev pub TellsManifest :
     ManifestEnd → Identity → List ℕ → Option (List ℕ) → Option (List ℕ) → Type 0
 TellsManifest Done identity bytes old new =

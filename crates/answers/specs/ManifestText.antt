@@ -14,8 +14,8 @@ abbrev pub precursor_text : Option (List ℕ) → List ℕ
 precursor_text None = []
 precursor_text (Some digest) = codes " precursor " ++ encode_lower digest
 
--- A component: its image, the length of the file, the kind of the request, and the digest of the file in
--- lower case digits.
+-- A component: its image, the length of the file, the kind of the request, and the digest of the
+-- file in lower case digits.
 abbrev pub component_text : Component → List ℕ
 component_text component =
     codes "component" ␣ decimal component.image ␣ decimal component.size

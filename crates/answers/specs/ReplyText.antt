@@ -56,7 +56,8 @@ refused_fault_text fault = line_text (codes "refused") (fault_text fault)
 abbrev pub is_some_taken : List ReportedImage → Bool
 is_some_taken images = list_any (λ image. image.is_taken) images
 
--- What a boot did that answers a report: it took nothing, or what it took is on trial, or is to stay.
+-- What a boot did that answers a report: it took nothing, or what it took is on trial, or is to
+-- stay.
 abbrev pub decision_text : Report → Bool → List ℕ
 decision_text report permanent =
     if is_some_taken report.images.items

@@ -30,8 +30,8 @@ stand_text map chip (Some state) = state_text map.images state (swap_type_in map
 abbrev pub shown_text : SectorMap → Chip → List ℕ
 shown_text map chip = stand_text map chip (state_of map chip)
 
--- What a writer took, by how it ended with this flash: the text, a beginning of it where a write failed, and
--- nothing where memory ran out.
+-- What a writer took, by how it ended with this flash: the text, a beginning of it where a write
+-- failed, and nothing where memory ran out.
 abbrev pub Shows : ShowEnd → SectorMap → Chip → Option (List ℕ) → Option (List ℕ) → Type 0
 Shows Done map chip old new = IsSome (state_of map chip) × Appends old new (shown_text map chip)
 Shows Refused map chip old new = (state_of map chip ≡ None) × Appends old new (shown_text map chip)

@@ -12,17 +12,19 @@ pub enum CheckEnd {
     Yes,
     /// The report isn't right for the table, and `no` is written.
     No,
-    /// The text of the table is none. The number, from 1, is that of the first line that no table goes on from.
+    /// The text of the table is none. The number, from 1, is that of the first line that no table
+    /// goes on from.
     BadTable(usize),
-    /// The text of the report is none, and that of the table is one. The number, from 1, is that of the first
-    /// line that no report goes on from.
+    /// The text of the report is none, and that of the table is one. The number, from 1, is that of
+    /// the first line that no report goes on from.
     BadReport(usize),
     /// The verdict could not be written: the writer has taken a beginning of it.
     WriteFailed,
 }
 
-/// Writes to `out` whether the report that the second text spells is right for the table that the first one
-/// spells: `yes` or `no`, and nothing where one of them is no such text. The table is judged first.
+/// Writes to `out` whether the report that the second text spells is right for the table that the
+/// first one spells: `yes` or `no`, and nothing where one of them is no such text. The table is
+/// judged first.
 ///
 /// It does not allocate.
 pub fn check_over<W: Write>(table: &[u8], report: &[u8], out: &mut W) -> CheckEnd

@@ -14,7 +14,8 @@ use std::io::{Read, Write};
 pub enum ChooseEnd {
     /// The report is written.
     Done,
-    /// The input is no table. The number, from 1, is that of the first line that no table goes on from.
+    /// The input is no table. The number, from 1, is that of the first line that no table goes on
+    /// from.
     BadLine(usize),
     /// The input is a table whose running images don't fit each other.
     NotValid,
@@ -28,8 +29,8 @@ pub enum ChooseEnd {
 
 /// Reads a table from `input`, to its end, and writes to `out` the report of the choice over it.
 ///
-/// The input and the report are held in memory of `alloc`. Nothing is written but the report, and unless the
-/// end is `Done` or `WriteFailed` nothing at all.
+/// The input and the report are held in memory of `alloc`. Nothing is written but the report, and
+/// unless the end is `Done` or `WriteFailed` nothing at all.
 pub fn choose_over<A: Allocator, R: Read, W: Write>(
     alloc: &A,
     input: &mut R,
@@ -47,7 +48,8 @@ pub fn choose_over<A: Allocator, R: Read, W: Write>(
     write_choice(alloc, &bytes, out)
 }
 
-/// Writes to `out` the report of the choice over the table that `bytes` spell, made in memory of `alloc`.
+/// Writes to `out` the report of the choice over the table that `bytes` spell, made in memory of
+/// `alloc`.
 fn write_choice<A: Allocator, W: Write>(alloc: &A, bytes: &[u8], out: &mut W) -> ChooseEnd
     ensures written { Writes result bytes.now (W.contents out.old) (W.contents out.new) }
     ensures not_reading { result ≢ ChooseEnd.ReadFailed }

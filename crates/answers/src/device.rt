@@ -61,7 +61,8 @@ pub struct DeviceFile {
 /// Why bytes are no device file.
 #[derive(Clone, Copy, Debug, PartialEq, Eq, Error)]
 pub enum DeviceFault {
-    /// They aren't the JSON text of an object with exactly the keys of a device file and with what has to stand there.
+    /// They aren't the JSON text of an object with exactly the keys of a device file and with what
+    /// has to stand there.
     #[error("no device file")]
     Malformed,
     /// They are, and its sizes make no map.
@@ -75,12 +76,13 @@ pub enum DeviceFault {
 impl DeviceFile {
     /// The device of a file.
     ///
-    /// `bytes` are the whole file, of any length: a JSON text (RFC 8259) of one object with exactly the keys that
-    /// docs/FORMATS.md lists. What is read stands in memory of `alloc` meanwhile; the answer doesn't allocate.
+    /// `bytes` are the whole file, of any length: a JSON text (RFC 8259) of one object with exactly
+    /// the keys that docs/FORMATS.md lists. What is read stands in memory of `alloc` meanwhile; the
+    /// answer doesn't allocate.
     ///
     /// # Errors
-    /// `Malformed` where the value of the text isn't such an object; `Map`, with the first check that fails, where it
-    /// is and its sizes make no map; `NoMemory` where memory is refused.
+    /// `Malformed` where the value of the text isn't such an object; `Map`, with the first check
+    /// that fails, where it is and its sizes make no map; `NoMemory` where memory is refused.
     pub fn read(alloc: Global, bytes: &[u8]) -> Result<DeviceFile, DeviceFault>
         ensures read { IfOk result (IsDeviceFile bytes.now) }
         ensures fault { IfErr result (IsDeviceFault bytes.now) }
@@ -177,7 +179,8 @@ fn numbers_of(alloc: Global, values: &[Value]) -> Result<Vec<u32>, DeviceFault>
     Ok(numbers)
 }
 
-/// How many boots a trial has; none where what is said of it is no number from 1 to [`MOST_TRIAL_BOOTS`].
+/// How many boots a trial has; none where what is said of it is no number from 1 to
+/// [`MOST_TRIAL_BOOTS`].
 fn trial_boots(value: &Value) -> Option<u8>
     ensures found { IfSome result (IsTrialBoots (view value.now)) }
     ensures other { IfNone result ((boots : ℕ) → IsTrialBoots (view value.now) boots → ⊥) }

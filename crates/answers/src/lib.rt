@@ -1,10 +1,10 @@
-//! What the commands of `bootswap` write, from the bytes that they read: the report of a choice, a verdict, what an
-//! image says of itself, what a manifest says to a device, what stands on a flash, the replies of a device. And device
-//! files, read.
+//! What the commands of `bootswap` write, from the bytes that they read: the report of a choice, a
+//! verdict, what an image says of itself, what a manifest says to a device, what stands on a flash,
+//! the replies of a device. And device files, read.
 //!
-//! Promises: what is written is exactly the text of what the bytes say, or why they say nothing; where a write fails
-//! a beginning of it stands. Nothing here knows a file or the words of a command: `boot_cli` reads what they name, and
-//! calls it.
+//! Promises: what is written is exactly the text of what the bytes say, or why they say nothing;
+//! where a write fails a beginning of it stands. Nothing here knows a file or the words of a
+//! command: `boot_cli` reads what they name, and calls it.
 #![tactic(auto)]
 
 mod check;

@@ -23,11 +23,11 @@ pub enum ManifestEnd {
     WriteFailed,
 }
 
-/// Writes to `out` what the manifest says that `bytes` are to a device of this identity, or the lowest refusal that
-/// applies.
+/// Writes to `out` what the manifest says that `bytes` are to a device of this identity, or the
+/// lowest refusal that applies.
 ///
-/// The JSON value stands in memory of `alloc`. The text is made in memory of `heap` before it is written: where one of
-/// them runs out, nothing is.
+/// The JSON value stands in memory of `alloc`. The text is made in memory of `heap` before it is
+/// written: where one of them runs out, nothing is.
 pub fn tell_over<A: Allocator, W: Write>(
     alloc: Global,
     heap: &A,
@@ -105,8 +105,8 @@ fn precursor_text<A: Allocator>(
     }
 }
 
-/// The lowest refusal that applies, by its number and its name. There is no text where memory ran out, for that says
-/// nothing of the manifest.
+/// The lowest refusal that applies, by its number and its name. There is no text where memory ran
+/// out, for that says nothing of the manifest.
 fn refusal_text<A: Allocator>(heap: &A, fault: ManifestError) -> Result<String<&A>, AllocError>
     ensures { IfOk result (λ text. (fault ≢ ManifestError.NoMemory)
         × (string_bytes text ≡ refusal_text fault)) }

@@ -16,7 +16,8 @@ pub fn refused_text<'a, A: Allocator>(
     format!(in alloc; "refused {code} {name}\n")
 }
 
-/// The text `refused GROUP CODE NAME`: what a layer below refused, by the layer's word, the number and the name.
+/// The text `refused GROUP CODE NAME`: what a layer below refused, by the layer's word, the number
+/// and the name.
 pub fn refused_group_text<'a, A: Allocator>(
     alloc: &'a A,
     group: &str,
@@ -29,8 +30,8 @@ pub fn refused_group_text<'a, A: Allocator>(
     format!(in alloc; "refused {group} {code} {name}\n")
 }
 
-/// The line `refused map CODE NAME`: the first check of the sizes of a device file that fails, by its number and its
-/// name, as text in memory of `heap`.
+/// The line `refused map CODE NAME`: the first check of the sizes of a device file that fails, by
+/// its number and its name, as text in memory of `heap`.
 ///
 /// # Errors
 /// `AllocError` where that memory is refused.

@@ -12,8 +12,8 @@ use std::alloc::{AllocError, Allocator};
 use std::fmt;
 use upload::UploadError;
 
-/// What `run` prints of the replies of a device, one to each event, the events numbered from 1: text in memory of
-/// `alloc`.
+/// What `run` prints of the replies of a device, one to each event, the events numbered from 1:
+/// text in memory of `alloc`.
 ///
 /// # Errors
 /// `AllocError` where that memory is refused.
@@ -65,7 +65,8 @@ fn reply_text<'a, A: Allocator>(
     }
 }
 
-/// What a boot did that answers a report: it took nothing, or what it took is on trial, or is to stay.
+/// What a boot did that answers a report: it took nothing, or what it took is on trial, or is to
+/// stay.
 fn decision_text(report: &Report, permanent: bool) -> &'static str
     ensures { result.now ≡ decision_text report.now permanent }
 {
@@ -109,8 +110,8 @@ fn write_members<W: fmt::Write>(f: &mut fmt::Formatter<W>, set: u8) -> fmt::Resu
     Ok(())
 }
 
-/// The line `refused GROUP CODE NAME` of a device that refuses a call, with the image after `RunningDamaged` and the
-/// check after `NotAnImage`: text in memory of `alloc`.
+/// The line `refused GROUP CODE NAME` of a device that refuses a call, with the image after
+/// `RunningDamaged` and the check after `NotAnImage`: text in memory of `alloc`.
 ///
 /// # Errors
 /// `AllocError` where that memory is refused.
@@ -121,7 +122,8 @@ pub fn refused_fault_text<A: Allocator>(alloc: &A, fault: Fault) -> Result<Strin
     format!(in alloc; "refused {reason}\n")
 }
 
-/// Why a call of a device is refused, to print. The image that is damaged stands behind `RunningDamaged`.
+/// Why a call of a device is refused, to print. The image that is damaged stands behind
+/// `RunningDamaged`.
 #[derive(Drop)]
 struct Reason(Fault);
 
@@ -141,7 +143,8 @@ impl fmt::Display for Reason {
     }
 }
 
-/// Writes why an upload is refused. The number of the check that the bytes fail stands behind `NotAnImage`.
+/// Writes why an upload is refused. The number of the check that the bytes fail stands behind
+/// `NotAnImage`.
 fn write_upload<W: fmt::Write>(f: &mut fmt::Formatter<W>, error: UploadError) -> fmt::Result
     ensures { WritesOnOk W.write_str_gives f.old result (upload_text error) f.new }
 {

@@ -36,8 +36,8 @@ pub enum ShowEnd {
 
 /// Writes to `out` what stands on the flash of these bytes.
 ///
-/// The text is made in memory of `heap` before it is written: where that runs out, nothing is. The ledger's token has
-/// two parts, as `Blank::new(2)` makes it.
+/// The text is made in memory of `heap` before it is written: where that runs out, nothing is. The
+/// ledger's token has two parts, as `Blank::new(2)` makes it.
 pub fn show_over<L: Ledger, A: Allocator, W: Write>(
     alloc: Global,
     heap: &A,
@@ -182,7 +182,8 @@ fn write_floors<A: Allocator>(
     Ok(())
 }
 
-/// Adds to a text what the trailers of each image ask of a boot, as a line, on a flash that has power.
+/// Adds to a text what the trailers of each image ask of a boot, as a line, on a flash that has
+/// power.
 fn write_swaps<A: Allocator, F: Flash>(
     text: &mut String<A>,
     flash: &mut F,

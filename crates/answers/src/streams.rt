@@ -12,7 +12,8 @@ use std::io::{ErrorKind, Read, Write};
 /// A read that a signal interrupts is tried again.
 ///
 /// # Errors
-/// `NoMemory` where memory is refused, and `Failed` where a read fails. What was read so far is lost then.
+/// `NoMemory` where memory is refused, and `Failed` where a read fails. What was read so far is
+/// lost then.
 pub fn read_all<A: Allocator, R: Read>(alloc: A, input: &mut R) -> Result<Vec<u8, A>, ReadError>
     ensures bytes { IfOk result (λ bytes.
         Consumes (R.remaining input.old) (R.remaining input.new) bytes.items) }
@@ -30,8 +31,8 @@ pub fn read_all<A: Allocator, R: Read>(alloc: A, input: &mut R) -> Result<Vec<u8
 
 /// Writes all of `bytes` to `out`.
 ///
-/// A write that a signal interrupts is tried again. One that takes no byte is an error, as is any other that
-/// fails: then `out` has taken a beginning of `bytes`.
+/// A write that a signal interrupts is tried again. One that takes no byte is an error, as is any
+/// other that fails: then `out` has taken a beginning of `bytes`.
 pub fn write_all<W: Write>(out: &mut W, bytes: &[u8]) -> io::Result<()>
     ensures ok { OnOk result (Appends (W.contents out.old) (W.contents out.new) bytes.now) }
     ensures err { OnErr result ((count : ℕ)

@@ -14,7 +14,8 @@ use Rattle.certificate.specs.StandardOrder.{IsInStandardOrder}
 use Rattle.certificate.specs.TableText.{IsTableText, IsSomeTable}
 use Rattle.certificate.specs.ReportText.{IsReportText}
 
--- What the answer to bytes says: the length of the intact image that they are, or the first check that fails.
+-- What the answer to bytes says: the length of the intact image that they are, or the first check
+-- that fails.
 pub data IsDescribeAnswer (bytes : List ℕ) (answer : ℕ) : Type 0 where
   intact : (description : Desc) → IsIntact bytes description
       → answer ≡ description.length → answer < 2 ^ 63 → IsDescribeAnswer bytes answer
@@ -29,7 +30,8 @@ flash_of bytes = bytes ++ replicate (3145728 - length bytes) 0xff
 abbrev pub slot_of : List ℕ → List ℕ
 slot_of bytes = take 1179648 (flash_of bytes)
 
--- What the answer to a slot says: the length of the intact image that it begins with, or the first check that fails.
+-- What the answer to a slot says: the length of the intact image that it begins with, or the first
+-- check that fails.
 pub data IsFrontAnswer (slot : List ℕ) (answer : ℕ) : Type 0 where
   intact : (description : Desc) → BeginsIntact slot description
       → answer ≡ description.length → answer < 2 ^ 63 → IsFrontAnswer slot answer
@@ -50,8 +52,8 @@ taken_mask (image ∷ images) = once_if image.is_taken + 2 * taken_mask images
 abbrev pub report_number : Report → ℕ
 report_number report = taken_mask report.images.items + 256 * length report.refusals.items
 
--- What the answer to a text says: the right report for the table that it spells, that it spells none, or that
--- the running images of the table don't fit each other.
+-- What the answer to a text says: the right report for the table that it spells, that it spells
+-- none, or that the running images of the table don't fit each other.
 pub data IsChooseAnswer (text : List ℕ) (answer : ℕ) : Type 0 where
   chosen : (table : Table) (report : Report) → IsTableText text table → IsValid table running_set
       → IsRight table report → IsInStandardOrder table report.refusals.items

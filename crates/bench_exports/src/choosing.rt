@@ -13,9 +13,10 @@ const NO_TABLE: u64 = 1 << 63;
 /// The answer to a table whose running images don't fit each other.
 const NOT_VALID: u64 = (1 << 63) + 1;
 
-/// The choice among the requests of the table that a text spells: in the lowest eight bits, from the lowest on,
-/// which images' requests are taken, and above them the number of refusals; below 2^12. It is 2^63 where the
-/// text spells no table, and 2^63 + 1 where the running images don't fit each other. Does not allocate.
+/// The choice among the requests of the table that a text spells: in the lowest eight bits, from
+/// the lowest on, which images' requests are taken, and above them the number of refusals; below
+/// 2^12. It is 2^63 where the text spells no table, and 2^63 + 1 where the running images don't fit
+/// each other. Does not allocate.
 #[unsafe(no_mangle)]
 pub extern "C" fn bench_choose(text: &[u8]) -> u64
     ensures { IsChooseAnswer text.now result }
@@ -32,8 +33,8 @@ pub extern "C" fn bench_choose(text: &[u8]) -> u64
     taken_mask(&report.images) + 256 * report.refusals.len() as u64
 }
 
-/// Whether the texts spell a table and a report that is right for it; no also where either spells nothing.
-/// Does not allocate.
+/// Whether the texts spell a table and a report that is right for it; no also where either spells
+/// nothing. Does not allocate.
 #[unsafe(no_mangle)]
 pub extern "C" fn bench_check(table: &[u8], report: &[u8]) -> bool
     ensures { IsTrue result ↔ IsRightText table.now report.now }

@@ -1,4 +1,5 @@
-//! Slots: what an image in a slot of a flash in memory is described by, and how many bytes are read for it.
+//! Slots: what an image in a slot of a flash in memory is described by, and how many bytes are read
+//! for it.
 
 ghost use Rattle.std.specs.Prelude.{◌≡◌, ◌≤◌, length, vec_len, IfOk, IfSome, true};
 ghost use Rattle.flash_model.specs.Memory.{chip_of};
@@ -24,7 +25,8 @@ const SLOT_SECTORS: u32 = 9;
 /// The length of the slot in bytes.
 const SLOT_LENGTH: usize = 1_179_648;
 
-/// The length of the flash in bytes: two slots, each with a trailer, scratch, and three sectors of the log.
+/// The length of the flash in bytes: two slots, each with a trailer, scratch, and three sectors of
+/// the log.
 const FLASH_LENGTH: usize = 3_145_728;
 
 /// The answer where no slot was described.
@@ -33,12 +35,13 @@ const NO_SLOT: u64 = 1 << 63;
 /// The answer above which a refusal has the number of its check.
 const REFUSED: u64 = 1 << 63;
 
-/// What a slot of 1179648 bytes is described by that begins with these bytes and is erased behind them: the length
-/// of the image that it begins with, which is below 2^63, or 2^63 and the number of the first check that fails. It
-/// is 2^63 where the bytes don't fit the slot, or where memory for the flash, twice 3 MiB at most, is refused.
+/// What a slot of 1179648 bytes is described by that begins with these bytes and is erased behind
+/// them: the length of the image that it begins with, which is below 2^63, or 2^63 and the number
+/// of the first check that fails. It is 2^63 where the bytes don't fit the slot, or where memory
+/// for the flash, twice 3 MiB at most, is refused.
 ///
-/// The flash is made once, and the slot is described `again` times more, so that a time without the flash's making
-/// is that of some calls less that of none more.
+/// The flash is made once, and the slot is described `again` times more, so that a time without the
+/// flash's making is that of some calls less that of none more.
 #[unsafe(no_mangle)]
 pub extern "C" fn bench_describe_slot(alloc: Global, bytes: &[u8], again: u32) -> u64
     ensures { IsSlotAnswer bytes.now result }
@@ -46,8 +49,9 @@ pub extern "C" fn bench_describe_slot(alloc: Global, bytes: &[u8], again: u32) -
     slot_answer::<Brand>(alloc, Blank::new(2), bytes, again)
 }
 
-/// How many bytes of the flash are read to describe that slot once; 2^63 where no slot was described. What it
-/// answers is tested: a contract of `describe_slot` speaks of what is answered, and not of how often it reads.
+/// How many bytes of the flash are read to describe that slot once; 2^63 where no slot was
+/// described. What it answers is tested: a contract of `describe_slot` speaks of what is answered,
+/// and not of how often it reads.
 #[unsafe(no_mangle)]
 pub extern "C" fn bench_slot_reads(alloc: Global, bytes: &[u8]) -> u64 {
     bytes_read::<Brand>(alloc, Blank::new(2), bytes)
@@ -78,8 +82,8 @@ fn bytes_read<L: Ledger>(alloc: Global, blank: Blank, bytes: &[u8]) -> u64
     counted.read
 }
 
-// A flash whose first slot begins with these bytes, and which is erased behind them; none where they don't fit the
-// slot or memory is refused.
+// A flash whose first slot begins with these bytes, and which is erased behind them; none where
+// they don't fit the slot or memory is refused.
 fn device<L: Ledger>(alloc: Global, blank: Blank, bytes: &[u8]) -> Option<(SectorMap, MemFlash<L>)>
     requires name { blank.name ≡ L.name }
     requires parts { blank.parts ≡ L.parts }

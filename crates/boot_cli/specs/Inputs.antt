@@ -9,8 +9,8 @@ use Rattle.reading_commands.specs.Input.{FileBytes, Gives}
 abbrev pub names_of : List (Bor (List ℕ)) → List (List ℕ)
 names_of words = map (λ word. word.now) words
 
--- These are the bytes of sources that are read one after the other. What a file holds once standard input was
--- read is not said.
+-- These are the bytes of sources that are read one after the other. What a file holds once standard
+-- input was read is not said.
 abbrev pub GiveEach : List Source → Option (List ℕ) → FileBytes → List (List ℕ) → Type 0
 GiveEach [] input file [] = Unit {0}
 GiveEach [] input file (bytes ∷ more) = ⊥

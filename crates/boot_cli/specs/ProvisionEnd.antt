@@ -28,7 +28,8 @@ with_files map image [] bytes = bytes
 with_files map image (file ∷ files) bytes =
     with_files map (image + 1) files (replaced (start_of map (Slot image Primary)) file bytes)
 
--- The bytes of a new flash: each file stands at the front of its primary slot, and all else is erased.
+-- The bytes of a new flash: each file stands at the front of its primary slot, and all else is
+-- erased.
 abbrev pub new_flash : SectorMap → List (List ℕ) → List ℕ
 new_flash map files = with_files map 0 files (replicate (sectors_of map * map.sector_size) 0xff)
 
@@ -38,8 +39,8 @@ pub record FitSlots (map : SectorMap) (files : List (List ℕ)) : Type 0 where
   pub each : (i : ℕ) (file : List ℕ) → slice_get files i ≡ Some file
       → length file ≤ length_of map (Slot i Primary)
 
--- What came of making the flash of these bytes a device's: it is one, or why it isn't. Of a flash whose file
--- failed nothing is said.
+-- What came of making the flash of these bytes a device's: it is one, or why it isn't. Of a flash
+-- whose file failed nothing is said.
 abbrev pub EndsMade : Made → SectorMap → List ℕ → Type 0
 EndsMade made.Done map bytes = (new : Chip) × IsProvisioned map (flash_of map bytes) new
 EndsMade (made.Refused fault) map bytes =
@@ -64,8 +65,8 @@ ReadsImages map names input files bytes =
     × GiveEach sources input files contents × FitSlots map contents
     × (bytes ≡ new_flash map contents)
 
--- `provision` read the bytes of a device file and of the images that these words name, made their flash a
--- device's, or found why it can't be, and wrote which ..
+-- `provision` read the bytes of a device file and of the images that these words name, made their
+-- flash a device's, or found why it can't be, and wrote which ..
 pub record MakesDevice (answer : Answer) (device : Source) (names : List (List ℕ))
     (input : Option (List ℕ)) (files : FileBytes) (old new : Option (List ℕ)) : Type 0 where
   pub device_bytes : List ℕ

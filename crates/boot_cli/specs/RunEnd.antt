@@ -29,12 +29,13 @@ use Rattle.boot_cli.specs.Script.{Came, IsScript, Known, came_by, known_after}
 abbrev pub setup_of : DeviceFile → Setup
 setup_of device = made device.map device.identity device.trial_boots
 
--- The flash in memory that has these bytes. It took no write yet, and these are to be cut, as counted from now.
+-- The flash in memory that has these bytes. It took no write yet, and these are to be cut, as
+-- counted from now.
 abbrev pub armed_flash : SectorMap → List ℕ → List Armed → Memory
 armed_flash map bytes cuts = record { chip = flash_of map bytes; writes = 0; armed = cuts }
 
--- A device that was just made, over a flash with these bytes of whose writes these are to be cut: the device shows
--- of it what every flash has. It isn't up, and no upload is open.
+-- A device that was just made, over a flash with these bytes of whose writes these are to be cut:
+-- the device shows of it what every flash has. It isn't up, and no upload is open.
 pub record IsMadeOf (map : SectorMap) (bytes : List ℕ) (cuts : List Armed) (here : DeviceView)
     : Type 0 where
   pub over : OverFile
@@ -44,9 +45,9 @@ pub record IsMadeOf (map : SectorMap) (bytes : List ℕ) (cuts : List Armed) (he
   pub down : here.up ≡ false
   pub closed : AllClosed here.sessions
 
--- These are replies to the events, one to each, of a device of this file with these bytes on its flash, of whose
--- writes these are to be cut: from every state that it holds they are a run of the machine of whole images, to a
--- state that it holds then.
+-- These are replies to the events, one to each, of a device of this file with these bytes on its
+-- flash, of whose writes these are to be cut: from every state that it holds they are a run of the
+-- machine of whole images, to a state that it holds then.
 pub record IsPlayed (device : DeviceFile) (bytes : List ℕ) (cuts : List Armed)
     (events : List Event) (replies : List Reply) : Type 0 where
   pub old : DeviceView
@@ -68,8 +69,8 @@ answer_after (Some reply.Cut) = Cut
 abbrev pub answer_of : List Reply → Answer
 answer_of replies = answer_after (slice_get replies (length replies - 1))
 
--- What is answered of a device of this file with these bytes on its flash, of whose writes these are to be cut, and
--- to which this comes; and what a writer took: the replies.
+-- What is answered of a device of this file with these bytes on its flash, of whose writes these
+-- are to be cut, and to which this comes; and what a writer took: the replies.
 pub record Plays (answer : Answer) (device : DeviceFile) (bytes : List ℕ) (cuts : List Armed)
     (came : List Came) (old new : Option (List ℕ)) : Type 0 where
   pub events : List Event
@@ -84,8 +85,9 @@ abbrev pub known_after_each : List Source → Known → Known
 known_after_each [] known = known
 known_after_each (source ∷ rest) known = known_after_each rest (known_after source known)
 
--- `run` read the bytes of a device file, of its flash and of a script with the files that it names, and wrote the
--- replies of the device to what comes by the script, with the writes of its flash cut that the script names ..
+-- `run` read the bytes of a device file, of its flash and of a script with the files that it names,
+-- and wrote the replies of the device to what comes by the script, with the writes of its flash cut
+-- that the script names ..
 pub record RunsDevice (answer : Answer) (sources : List Source) (input : Option (List ℕ))
     (files : FileBytes) (old new : Option (List ℕ)) : Type 0 where
   pub device_bytes : List ℕ

@@ -45,8 +45,8 @@ pub record StaysKnown (known : Known) (input : Option (List ℕ)) (files : FileB
   pub input_kept : Keeps known.input input
   pub files_kept : KeepsFiles known.files files
 
--- What is known after a source was read: all that was, where it is a file. What a file holds once standard
--- input was read is not said.
+-- What is known after a source was read: all that was, where it is a file. What a file holds once
+-- standard input was read is not said.
 abbrev pub known_after : Source → Known → Known
 known_after StandardInput known = record { input = None; files = λ name. None }
 known_after (File name) known = known
@@ -97,8 +97,8 @@ AllCut (said.Cut write torn ∷ lines) cuts =
     × (cuts ≡ first ∷ more)
 AllCut (said.Event event ∷ lines) cuts = AllCut lines cuts
 
--- A text is a script by which these writes are to be cut and this comes to the device: each of its lines says
--- something, cuts stand before events and their numbers rise.
+-- A text is a script by which these writes are to be cut and this comes to the device: each of its
+-- lines says something, cuts stand before events and their numbers rise.
 pub record IsScript (text : List ℕ) (known : Known) (cuts : List Armed) (came : List Came)
     : Type 0 where
   pub lines : List Said

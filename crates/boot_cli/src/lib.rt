@@ -1,10 +1,11 @@
-//! The program `bootswap` but for its `main`: its words, and what they ask for. The commands that write no flash stand in
-//! `reading_commands`; here are those of a device itself, on a file, that boots, takes uploads and survives power cuts.
+//! The program `bootswap` but for its `main`: its words, and what they ask for. The commands that
+//! write no flash stand in `reading_commands`; here are those of a device itself, on a file, that
+//! boots, takes uploads and survives power cuts.
 //!
-//! Promises: status 0 comes only where what the words ask for was done, for what the files that they name hold; and
-//! what `run` writes are the replies of a device to its script, with the cuts of the script armed on the flash that is
-//! made for it. The program gives the commands its words, the system's files and its standard input and outputs; a test
-//! gives them others.
+//! Promises: status 0 comes only where what the words ask for was done, for what the files that
+//! they name hold; and what `run` writes are the replies of a device to its script, with the cuts
+//! of the script armed on the flash that is made for it. The program gives the commands its words,
+//! the system's files and its standard input and outputs; a test gives them others.
 #![tactic(auto)]
 
 mod commands;

@@ -91,15 +91,16 @@ struct Reader<'h, 'r, A, H> {
     is_input_read: bool,
 }
 
-/// Reads a script from its text, and each file that its lines name from `host`, in memory of `heap`. What cuts leave
-/// stands in memory of `alloc`. Standard input may have been read before: then no line may name it.
+/// Reads a script from its text, and each file that its lines name from `host`, in memory of
+/// `heap`. What cuts leave stands in memory of `alloc`. Standard input may have been read before:
+/// then no line may name it.
 ///
 /// The lines are read in order, and the file of a line before the next one.
 ///
 /// # Errors
-/// Of the first line at which something is wrong: `ScriptLine` where the line is none of a script, stands where it may
-/// not, names standard input again, or a part that its file doesn't have; `CannotRead` where its file can't be read.
-/// `NoMemory` where memory ran out.
+/// Of the first line at which something is wrong: `ScriptLine` where the line is none of a script,
+/// stands where it may not, names standard input again, or a part that its file doesn't have;
+/// `CannotRead` where its file can't be read. `NoMemory` where memory ran out.
 pub fn load<'a, 'h, A: Allocator, H: Host>(
     alloc: Global,
     heap: &'h A,

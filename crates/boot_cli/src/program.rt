@@ -19,14 +19,15 @@ const HELPED: u8 = 0;
 /// The words are none that the program knows.
 const USAGE: u8 = 2;
 
-/// Does what `words` ask for, and returns the exit status: 0 done, 1 refused, 2 usage, 3 the power failed last, 4 the
-/// flash file failed.
+/// Does what `words` ask for, and returns the exit status: 0 done, 1 refused, 2 usage, 3 the power
+/// failed last, 4 the flash file failed.
 ///
-/// The first word is the program's own name, and without another one the choice is made over standard input. The words
-/// and JSON texts are parsed in memory of `alloc`, where flashes and what runs on them stand too, and all else stands
-/// in memory of `heap`. Input comes from `host`, which keeps the file of a flash. Answers go to `out`, error lines and
-/// the words on a wrong usage to `err`, and both are flushed. After a write that failed nothing more is written, and
-/// the status is 1.
+/// The first word is the program's own name, and without another one the choice is made over
+/// standard input. The words and JSON texts are parsed in memory of `alloc`, where flashes and what
+/// runs on them stand too, and all else stands in memory of `heap`. Input comes from `host`, which
+/// keeps the file of a flash. Answers go to `out`, error lines and the words on a wrong usage to
+/// `err`, and both are flushed. After a write that failed nothing more is written, and the status
+/// is 1.
 pub fn cli<S: AsStr, A: Allocator, H: Host, O: Write, E: Write>(
     alloc: Global,
     heap: &A,
@@ -58,7 +59,8 @@ fn order_in<'a, S: AsStr>(alloc: Global, words: &'a [S]) -> Result<Order<'a>, Or
     order(alloc, words)
 }
 
-/// Runs the command of an order to its exit status: 0 only where the whole answer is written, and is a yes.
+/// Runs the command of an order to its exit status: 0 only where the whole answer is written, and
+/// is a yes.
 pub fn run_order<A: Allocator, H: Host, O: Write, E: Write>(
     alloc: Global,
     heap: &A,
@@ -121,8 +123,8 @@ fn perform<'a, 'h, A: Allocator, H: Host, O: Write>(
     }
 }
 
-/// Tells that the words could not be had, and returns the exit status: 1 for want of memory, and 2 where they
-/// are no text. The text to print stands in memory of `alloc`.
+/// Tells that the words could not be had, and returns the exit status: 1 for want of memory, and 2
+/// where they are no text. The text to print stands in memory of `alloc`.
 pub fn refuse_words<E: Write>(alloc: Global, error: &io::Error, err: &mut E) -> u8 {
     match error.kind() {
         ErrorKind::OutOfMemory => refuse(Refusal::NoMemory, err),

@@ -73,8 +73,9 @@ is_stopped (TrialAgain set left) = false
 is_stopped (Refused fault) = is_stop fault
 is_stopped Cut = true
 
--- How a call of a device ends, by its reply. Cut is answered where a write was cut and nowhere else; else the power is
--- as it was. That the flash is off is answered where it was. After either no upload is open, and the device isn't up.
+-- How a call of a device ends, by its reply. Cut is answered where a write was cut and nowhere
+-- else; else the power is as it was. That the flash is off is answered where it was. After either
+-- no upload is open, and the device isn't up.
 pub record EndsCall (reply : Reply) (old new : DeviceView) : Type 0 where
   pub cuts : new.flash.cuts ≡ old.flash.cuts + cut_of reply
   pub power : cut_of reply ≡ 0 → new.flash.is_on ≡ old.flash.is_on
@@ -82,8 +83,8 @@ pub record EndsCall (reply : Reply) (old new : DeviceView) : Type 0 where
   pub down : is_stopped reply ≡ true → new.up ≡ false
   pub closed : is_stopped reply ≡ true → AllClosed new.sessions
 
--- What a boot replies that isn't cut: a report, that a set is tried or reverted, or why it stops. No other refusal is
--- among them.
+-- What a boot replies that isn't cut: a report, that a set is tried or reverted, or why it stops.
+-- No other refusal is among them.
 abbrev pub IsBootReply : Reply → Type 0
 IsBootReply (Booted table report permanent) = Unit
 IsBootReply (Reverted mask) = Unit

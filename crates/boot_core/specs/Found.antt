@@ -34,7 +34,8 @@ abbrev pub IsEntryAt : List ℕ → Option Entry → Type 0
 IsEntryAt slot (Some entry) = IsFront slot None → ⊥
 IsEntryAt slot None = IsFront slot None
 
--- What runs of an image isn't intact or, where its slots are swapped, that or what was requested of it isn't.
+-- What runs of an image isn't intact or, where its slots are swapped, that or what was requested of
+-- it isn't.
 abbrev pub IsDamagedAt : View → Bool → ℕ → Type 0
 IsDamagedAt w false i = IsFront (w.slot i Primary) None
 IsDamagedAt w true i = IsFront (w.slot i Secondary) None ⊎ IsFront (w.slot i Primary) None
@@ -44,7 +45,8 @@ abbrev pub IsRowAt : View → Bool → ℕ → Option Image → Type 0
 IsRowAt w is_swapped i (Some row) = IsDamagedAt w is_swapped i → ⊥
 IsRowAt w is_swapped i None = IsDamagedAt w is_swapped i
 
--- The images below this number can all be read, where the slots of the images of a mask are swapped.
+-- The images below this number can all be read, where the slots of the images of a mask are
+-- swapped.
 abbrev pub AreReadable : View → ℕ → ℕ → Type 0
 AreReadable w mask n = (k : ℕ) → k < n → IsDamagedAt w (is_member mask k) k → ⊥
 
@@ -66,8 +68,8 @@ abbrev pub IsMistaken : DeviceState → ℕ → Type 0
 IsMistaken s mask = (table : Table) × IsTableOf s table
     × (IsValid table running_set → IsGreatest table (is_member mask) → ⊥)
 
--- `Damaged` tells the lowest image that can't be read. `Invalid` tells that each can be, and that what they say isn't
--- the decision of the record.
+-- `Damaged` tells the lowest image that can't be read. `Invalid` tells that each can be, and that
+-- what they say isn't the decision of the record.
 abbrev pub IsToldAgain : View → ℕ → List ℕ → Finding → Type 0
 IsToldAgain w mask floors (Decided table report) = Unit {0}
 IsToldAgain w mask floors (Damaged i) = IsLowestAt w mask i
@@ -88,7 +90,8 @@ IsSwapAloneFor map mask old new Invalid = Keeps map (swap_of mask Primary) old n
 
 -- ---- how a boot stops in an upgrade that was begun
 
--- What a boot tells of the upgrade that the record was in the midst of, and what it wrote, where it finds no decision.
+-- What a boot tells of the upgrade that the record was in the midst of, and what it wrote, where it
+-- finds no decision.
 pub record IsStopped (map : SectorMap) (state : State) (old new : Chip) (finding : Finding)
     : Type 0 where
   pub swap : state.kind ≡ log.Swap → IsToldAgain (view map new) state.mask state.floors finding

@@ -82,8 +82,8 @@ IsValidThere map chip =
 
 -- ---- what is left
 
--- A device's state runs what the primary slots begin with, has no request and no trial, and the counters of
--- what runs as its floors, 0 past the last image.
+-- A device's state runs what the primary slots begin with, has no request and no trial, and the
+-- counters of what runs as its floors, 0 past the last image.
 pub record IsFirstState (map : SectorMap) (chip : Chip) (s : DeviceState) : Type 0 where
   pub images : s.images ≡ map.images
   pub running : (i : ℕ) → i < map.images → (bytes : List ℕ) × (s.running i ≡ Some bytes)
@@ -96,7 +96,8 @@ pub record IsFirstState (map : SectorMap) (chip : Chip) (s : DeviceState) : Type
       → slice_index s.floors i ≡ description.counter
   pub rest : (i : ℕ) → map.images ≤ i → slice_index s.floors i ≡ 0
 
--- The flash is a device's: it rests at the first state of what ran of the old one, and that is sound.
+-- The flash is a device's: it rests at the first state of what ran of the old one, and that is
+-- sound.
 abbrev pub IsProvisioned : SectorMap → Chip → Chip → Type 0
 IsProvisioned map old new = (s : DeviceState) × IsFirstState map old s
     × IsSteadyAt (view map new) s × IsSound s × IsAllSound s

@@ -19,8 +19,8 @@ abbrev pub LogsNoTrial : Option State → Type 0
 LogsNoTrial recorded =
     (state : State) × (recorded ≡ Some state) × (state.kind ≡ log.Trial → ⊥)
 
--- Whether uploads are taken, by the first check that fails: the device is up, the log has a state, and no set is on
--- trial.
+-- Whether uploads are taken, by the first check that fails: the device is up, the log has a state,
+-- and no set is on trial.
 abbrev pub IsReadiness : Result Unit Fault → Bool → Option State → Bool → Type 0
 IsReadiness (Ok done) up recorded on = (up ≡ true) × LogsNoTrial recorded
 IsReadiness (Err no.NotBooted) up recorded on = up ≡ false

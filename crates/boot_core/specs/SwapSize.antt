@@ -7,8 +7,8 @@ use Rattle.tlv.specs.Image.{BeginsIntact}
 use Rattle.upload.specs.View.{View}
 use Rattle.machine.specs.Prepared.{IsPrepared}
 
--- How many bytes are used of a slot: those of the intact image that it begins with, or all where it begins with
--- none.
+-- How many bytes are used of a slot: those of the intact image that it begins with, or all where it
+-- begins with none.
 pub record IsUsed (slot : List ℕ) (n : ℕ) : Type 0 where
   pub intact : (description : Desc) → BeginsIntact slot description → n ≡ description.length
   pub damaged : ((description : Desc) → BeginsIntact slot description → ⊥) → n ≡ length slot

@@ -26,7 +26,8 @@ abbrev pub AreMeasured : View → View → Side → ℕ → Type 0
 AreMeasured old new side mask = (i : ℕ) → i < old.images → is_member mask i ≡ true
     → (size : ℕ) × ((new.trailer i side).size ≡ Some size) × IsSwapSize old i size
 
--- A swap of a set that is begun: three erases for each sector that it moves, three for each image, and some more.
+-- A swap of a set that is begun: three erases for each sector that it moves, three for each image,
+-- and some more.
 abbrev pub IsFreshWear : SectorMap → Chip → Chip → ℕ → ℕ → Type 0
 IsFreshWear map old new mask more = (sizes : ℕ → ℕ)
     → ((i : ℕ) → is_member mask i ≡ true → IsSwapSize (view map old) i (sizes i))

@@ -256,7 +256,8 @@ pub(crate) fn boot_from_back_settle<F: Flash>(
     Ok(Reply::Reverted(state.mask))
 }
 
-/// From a trial that is wholly confirmed: the set runs on, with raised floors, and the decision is made.
+/// From a trial that is wholly confirmed: the set runs on, with raised floors, and the decision is
+/// made.
 fn boot_over<F: Flash>(
     flash: &mut F,
     map: &SectorMap,

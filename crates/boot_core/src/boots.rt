@@ -72,8 +72,8 @@ fn boot_from<F: Flash>(
     }
 }
 
-/// Boots: what was interrupted is finished, or the images that run are decided. A trial that begins has so many boots
-/// after this one.
+/// Boots: what was interrupted is finished, or the images that run are decided. A trial that begins
+/// has so many boots after this one.
 pub(crate) fn boot<F: Flash>(flash: &mut F, map: &SectorMap, left: u8) -> Result<Reply, FlashError>
     requires laid_out { IsLaidOut map.now (F.chip flash.old) }
     requires few { left ≤ 6 }

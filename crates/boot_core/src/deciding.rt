@@ -70,9 +70,10 @@ pub(crate) fn find<F: Flash>(
     }
 }
 
-/// The decision of a record, found again where the slots of its set are swapped, with these floors. `Damaged` tells
-/// the lowest image of which what ran, or what is of the set, isn't intact; `Invalid` that the table that is read isn't
-/// valid, or has another greatest set. Neither is so of a decision.
+/// The decision of a record, found again where the slots of its set are swapped, with these floors.
+/// `Damaged` tells the lowest image of which what ran, or what is of the set, isn't intact;
+/// `Invalid` that the table that is read isn't valid, or has another greatest set. Neither is so of
+/// a decision.
 ///
 /// # Errors
 /// `Off` where the flash was off. Nothing changes in any case.
@@ -133,7 +134,8 @@ fn raised(images: &[Image], mask: u8, floors: &[u32; MOST_IMAGES]) -> [u32; MOST
     raised
 }
 
-/// Floors raised to the security counters of what runs once a set of a table is taken. No floor falls.
+/// Floors raised to the security counters of what runs once a set of a table is taken. No floor
+/// falls.
 pub(crate) fn raised_floors(
     table: &Table,
     mask: u8,

@@ -35,12 +35,13 @@ use std::alloc::Global;
 use std::marker::Model;
 use upload::Uploads;
 
-/// A device: its flash and what it holds besides. Contracts see what it was made with (`setup`), and what there is of
-/// it now (`here`): the flash, the uploads that are open, and whether it is up, which it is from a boot that answers
-/// until the power fails or it is reset.
+/// A device: its flash and what it holds besides. Contracts see what it was made with (`setup`),
+/// and what there is of it now (`here`): the flash, the uploads that are open, and whether it is
+/// up, which it is from a boot that answers until the power fails or it is reset.
 ///
-/// No call has a condition. On a flash that holds a state each is a step of the machine of whole images (`machine`);
-/// on any other it returns too, and its answer is one of the faults that it lists.
+/// No call has a condition. On a flash that holds a state each is a step of the machine of whole
+/// images (`machine`); on any other it returns too, and its answer is one of the faults that it
+/// lists.
 #[derive(Drop)]
 pub struct Device<F: Flash> {
     flash: F,
@@ -66,10 +67,11 @@ impl<F: Flash> Model for Device<F> {
 }
 
 impl<F: Flash> Device<F> {
-    /// A device whose trials have one boot: a set on trial that isn't confirmed until the next boot goes back.
+    /// A device whose trials have one boot: a set on trial that isn't confirmed until the next boot
+    /// goes back.
     ///
-    /// The map is laid out on the flash, of which its `fits` is the test, and has as many images as the identity says.
-    /// The device isn't up. Does not allocate.
+    /// The map is laid out on the flash, of which its `fits` is the test, and has as many images as
+    /// the identity says. The device isn't up. Does not allocate.
     pub fn new(flash: F, map: SectorMap, identity: Identity) -> Self
         requires laid_out { IsLaidOut map (F.chip flash) }
         requires images { identity.images ≡ map.images }
@@ -91,11 +93,11 @@ impl<F: Flash> Device<F> {
         }
     }
 
-    /// A device whose trials have so many boots, 1 to 7: a set on trial that isn't confirmed goes back at the boot
-    /// after the last of them.
+    /// A device whose trials have so many boots, 1 to 7: a set on trial that isn't confirmed goes
+    /// back at the boot after the last of them.
     ///
-    /// The map is laid out on the flash, of which its `fits` is the test, and has as many images as the identity says.
-    /// The device isn't up. Does not allocate.
+    /// The map is laid out on the flash, of which its `fits` is the test, and has as many images as
+    /// the identity says. The device isn't up. Does not allocate.
     pub fn with_trial(flash: F, map: SectorMap, identity: Identity, boots: u8) -> Self
         requires laid_out { IsLaidOut map (F.chip flash) }
         requires images { identity.images ≡ map.images }
@@ -119,24 +121,25 @@ impl<F: Flash> Device<F> {
         }
     }
 
-    /// Boots: what was interrupted is finished, or the images that run next are decided. All uploads end. The answer
-    /// is what the boot did: `Booted` with the table and the report of its decision, `Reverted`, or `TrialAgain`; the
-    /// device is up then. Does not allocate.
+    /// Boots: what was interrupted is finished, or the images that run next are decided. All
+    /// uploads end. The answer is what the boot did: `Booted` with the table and the report of its
+    /// decision, `Reverted`, or `TrialAgain`; the device is up then. Does not allocate.
     ///
     /// # Errors
-    /// The device isn't up. `NotProvisioned` where the log has no state: nothing changed. `RunningDamaged` and
-    /// `InvalidSet` where the images that run are damaged or don't meet their dependencies, which comes of no state
-    /// that a device was provisioned to; in the midst of an upgrade `RunningDamaged` names the lowest image of which
-    /// what ran, or what is of the set, is damaged, and nothing is written once the swap is done. `Flash` with `Cut`
-    /// where power failed: the state is the one before the boot, that state as it is read, or the one after it; with
-    /// `Off` where the flash was off.
+    /// The device isn't up. `NotProvisioned` where the log has no state: nothing changed.
+    /// `RunningDamaged` and `InvalidSet` where the images that run are damaged or don't meet their
+    /// dependencies, which comes of no state that a device was provisioned to; in the midst of an
+    /// upgrade `RunningDamaged` names the lowest image of which what ran, or what is of the set, is
+    /// damaged, and nothing is written once the swap is done. `Flash` with `Cut` where power
+    /// failed: the state is the one before the boot, that state as it is read, or the one after it;
+    /// with `Off` where the flash was off.
     pub fn boot(&mut self) -> Result<Reply, Fault>
         ensures setup { self.new.setup ≡ self.old.setup }
         ensures steps { self.old.here.flash.is_on ≡ true → StepsTo self.old.setup self.old.here
             self.new.here event.Boot (reply_of_boot result) }
         ensures ok { IfOk result (λ reply. is_answer reply ≡ true) }
-        // On any flash: the device is up exactly where the boot answered, and no other call's refusal is told, unless
-        // the flash stopped it.
+        // On any flash: the device is up exactly where the boot answered, and no other call's
+        // refusal is told, unless the flash stopped it.
         ensures up { self.new.here.up ≡ is_answer (reply_of_boot result) }
         ensures told { IsBootReply (reply_of_boot result)
             ⊎ (is_stopped (reply_of_boot result) ≡ true) }
@@ -164,7 +167,8 @@ impl<F: Flash> Device<F> {
             → state_of self.old.setup.map self.old.here.flash ≡ Some state
             → state.kind ≡ Kind.Steady → TakesNothing (reply_of_boot result)
             → self.new.here.flash ≡ self.old.here.flash }
-        // On any flash: what a refusal tells of an upgrade that was begun, and that nothing more was written.
+        // On any flash: what a refusal tells of an upgrade that was begun, and that nothing more
+        // was written.
         ensures stops { (state : LogState) (finding : Finding) (permanent : Bool)
             → state_of self.old.setup.map self.old.here.flash ≡ Some state
             → reply_of_boot result ≡ reply_of finding permanent
@@ -181,20 +185,22 @@ impl<F: Flash> Device<F> {
         )
     }
 
-    /// Takes a manifest, given by the bytes of its JSON text: an upload is opened for each image that it names, and
-    /// what was requested for these is gone. Allocates while the text is read.
+    /// Takes a manifest, given by the bytes of its JSON text: an upload is opened for each image
+    /// that it names, and what was requested for these is gone. Allocates while the text is read.
     ///
     /// # Errors
-    /// The first of: `NotBooted`; `OnTrial`; `NotProvisioned` where the log has no state; `Manifest` with the lowest
-    /// refusal that applies, or `NoMemory` while the text is read; `Upload` with `OldSequence`, `TooBig` or
-    /// `WrongPrecursor`. Nothing changed then. `Upload` with `Flash` where power failed or the flash was off: the
-    /// device isn't up and no upload is open; after a cut the old sequence number stands and each request as it was,
-    /// or the new one and each request of a named image as it was or gone.
+    /// The first of: `NotBooted`; `OnTrial`; `NotProvisioned` where the log has no state;
+    /// `Manifest` with the lowest refusal that applies, or `NoMemory` while the text is read;
+    /// `Upload` with `OldSequence`, `TooBig` or `WrongPrecursor`. Nothing changed then. `Upload`
+    /// with `Flash` where power failed or the flash was off: the device isn't up and no upload is
+    /// open; after a cut the old sequence number stands and each request as it was, or the new one
+    /// and each request of a named image as it was or gone.
     pub fn accept(&mut self, alloc: Global, text: &[u8]) -> Result<(), Fault>
         ensures setup { self.new.setup ≡ self.old.setup }
         ensures steps { self.old.here.flash.is_on ≡ true → StepsTo self.old.setup self.old.here
             self.new.here (event.Accept text.entry) (reply_of_result result) }
-        // On any flash: what is touched. Nothing is where the device isn't up, or where a refusal is not of the flash.
+        // On any flash: what is touched. Nothing is where the device isn't up, or where a refusal
+        // is not of the flash.
         ensures outside { Keeps self.old.setup.map any_part
             self.old.here.flash self.new.here.flash }
         ensures down { self.old.here.up ≡ false
@@ -214,18 +220,20 @@ impl<F: Flash> Device<F> {
         )
     }
 
-    /// Takes a piece of the upload of an image, told by its number from 0: the bytes that follow those before. Does
-    /// not allocate.
+    /// Takes a piece of the upload of an image, told by its number from 0: the bytes that follow
+    /// those before. Does not allocate.
     ///
     /// # Errors
-    /// The first of: `NotBooted`; `OnTrial`; `NotProvisioned` where the log has no state; `Upload` with `NoSession`:
-    /// nothing changed. `Upload` with `TooMuch`: this upload is closed. `Upload` with `Flash` where power failed or
-    /// the flash was off: the device isn't up, and no upload is open.
+    /// The first of: `NotBooted`; `OnTrial`; `NotProvisioned` where the log has no state; `Upload`
+    /// with `NoSession`: nothing changed. `Upload` with `TooMuch`: this upload is closed. `Upload`
+    /// with `Flash` where power failed or the flash was off: the device isn't up, and no upload is
+    /// open.
     pub fn piece(&mut self, image: u8, more: &[u8]) -> Result<(), Fault>
         ensures setup { self.new.setup ≡ self.old.setup }
         ensures steps { self.old.here.flash.is_on ≡ true → StepsTo self.old.setup self.old.here
             self.new.here (event.Piece image more.entry) (reply_of_result result) }
-        // On any flash: what is touched. Nothing is where the device isn't up, or where a refusal is not of the flash.
+        // On any flash: what is touched. Nothing is where the device isn't up, or where a refusal
+        // is not of the flash.
         ensures outside { Keeps self.old.setup.map (only (Slot image Secondary))
             self.old.here.flash self.new.here.flash }
         ensures down { self.old.here.up ≡ false
@@ -244,14 +252,15 @@ impl<F: Flash> Device<F> {
         )
     }
 
-    /// Finishes the upload of an image, told by its number from 0: where it is whole, of the digest that the manifest
-    /// names, and an intact image, it is requested. Does not allocate.
+    /// Finishes the upload of an image, told by its number from 0: where it is whole, of the digest
+    /// that the manifest names, and an intact image, it is requested. Does not allocate.
     ///
     /// # Errors
-    /// The first of: `NotBooted`; `OnTrial`; `NotProvisioned` where the log has no state; `Upload` with `NoSession`:
-    /// nothing changed. `Upload` with `SizeWrong`, `DigestWrong` or `NotAnImage`: this upload is closed, and nothing
-    /// is requested. `Upload` with `Flash` where power failed or the flash was off: the device isn't up, no upload is
-    /// open, and after a cut the image is requested whole or not at all.
+    /// The first of: `NotBooted`; `OnTrial`; `NotProvisioned` where the log has no state; `Upload`
+    /// with `NoSession`: nothing changed. `Upload` with `SizeWrong`, `DigestWrong` or `NotAnImage`:
+    /// this upload is closed, and nothing is requested. `Upload` with `Flash` where power failed or
+    /// the flash was off: the device isn't up, no upload is open, and after a cut the image is
+    /// requested whole or not at all.
     pub fn finish(&mut self, image: u8) -> Result<(), Fault>
         ensures setup { self.new.setup ≡ self.old.setup }
         ensures steps { self.old.here.flash.is_on ≡ true → StepsTo self.old.setup self.old.here
@@ -275,14 +284,16 @@ impl<F: Flash> Device<F> {
     /// Takes the request of an image back, told by its number from 0. Does not allocate.
     ///
     /// # Errors
-    /// The first of: `NotBooted`; `OnTrial`; `NotProvisioned` where the log has no state; `Upload` with
-    /// `NothingRequested`: nothing changed. `Upload` with `Flash` where power failed or the flash was off: the device
-    /// isn't up, no upload is open, and after a cut the request stands as before or not at all.
+    /// The first of: `NotBooted`; `OnTrial`; `NotProvisioned` where the log has no state; `Upload`
+    /// with `NothingRequested`: nothing changed. `Upload` with `Flash` where power failed or the
+    /// flash was off: the device isn't up, no upload is open, and after a cut the request stands as
+    /// before or not at all.
     pub fn withdraw(&mut self, image: u8) -> Result<(), Fault>
         ensures setup { self.new.setup ≡ self.old.setup }
         ensures steps { self.old.here.flash.is_on ≡ true → StepsTo self.old.setup self.old.here
             self.new.here (event.Withdraw image) (reply_of_result result) }
-        // On any flash: what is touched. Nothing is where the device isn't up, or where a refusal is not of the flash.
+        // On any flash: what is touched. Nothing is where the device isn't up, or where a refusal
+        // is not of the flash.
         ensures outside { Keeps self.old.setup.map (incoming_of image)
             self.old.here.flash self.new.here.flash }
         ensures down { self.old.here.up ≡ false
@@ -300,18 +311,19 @@ impl<F: Flash> Device<F> {
         )
     }
 
-    /// Confirms an image of the set on trial, told by its number from 0. Confirming it again is no fault. Does not
-    /// allocate.
+    /// Confirms an image of the set on trial, told by its number from 0. Confirming it again is no
+    /// fault. Does not allocate.
     ///
     /// # Errors
-    /// `NotBooted`, then `NotOnTrial` where no set is on trial that has the image: nothing changed. `Flash` where
-    /// power failed or the flash was off: the device isn't up and no upload is open; after a cut the image is
-    /// confirmed or as it was.
+    /// `NotBooted`, then `NotOnTrial` where no set is on trial that has the image: nothing changed.
+    /// `Flash` where power failed or the flash was off: the device isn't up and no upload is open;
+    /// after a cut the image is confirmed or as it was.
     pub fn confirm(&mut self, image: u8) -> Result<(), Fault>
         ensures setup { self.new.setup ≡ self.old.setup }
         ensures steps { self.old.here.flash.is_on ≡ true → StepsTo self.old.setup self.old.here
             self.new.here (event.Confirm image) (reply_of_result result) }
-        // On any flash: what is touched. Nothing is where the device isn't up, or where a refusal is not of the flash.
+        // On any flash: what is touched. Nothing is where the device isn't up, or where a refusal
+        // is not of the flash.
         ensures outside { Keeps self.old.setup.map (only (TrailerOf image Primary))
             self.old.here.flash self.new.here.flash }
         ensures down { self.old.here.up ≡ false
@@ -329,8 +341,8 @@ impl<F: Flash> Device<F> {
         )
     }
 
-    /// Resets the device: all uploads end, it isn't up, and its flash has power again. No byte of the flash changes.
-    /// Does not allocate.
+    /// Resets the device: all uploads end, it isn't up, and its flash has power again. No byte of
+    /// the flash changes. Does not allocate.
     pub fn reset(&mut self)
         ensures setup { self.new.setup ≡ self.old.setup }
         ensures flash { self.new.here.flash ≡ record (self.old.here.flash) { is_on = true } }

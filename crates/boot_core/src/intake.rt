@@ -1,4 +1,5 @@
-//! Uploads: what the device asks before it passes a call on, and what it does where the flash stops one.
+//! Uploads: what the device asks before it passes a call on, and what it does where the flash stops
+//! one.
 
 ghost use Rattle.std.specs.Prelude.{◌≡◌, ◌≤◌, ℕ, true, false, IfErr, IfOk};
 ghost use Rattle.boot_core.specs.Answers.{EndsCall, IsNotBooted, is_stop, reply_of_result};
@@ -79,7 +80,8 @@ fn is_stop(fault: Fault) -> bool
     }
 }
 
-/// Passes a refusal on. Where the call stopped at the flash all uploads are closed, and the device isn't up.
+/// Passes a refusal on. Where the call stopped at the flash all uploads are closed, and the device
+/// isn't up.
 pub(crate) fn stop(uploads: &mut Uploads, is_up: &mut bool, fault: Fault) -> Fault
     ensures is { result ≡ fault }
     ensures down { is_stop fault ≡ true → is_up.new ≡ false }

@@ -1,10 +1,12 @@
-//! The device: what it does at each boot, and with each upload, confirmation and withdrawal, over one flash.
+//! The device: what it does at each boot, and with each upload, confirmation and withdrawal, over
+//! one flash.
 //!
-//! Promises: each call is a step of a machine that knows whole images only (`machine`), and leaves the flash at the state
-//! that the step comes to, or at that of a cut step where power failed; so for every list of events the replies of a run
-//! are the machine's, the flash holds the machine's state at its end, and a boot that answers a report starts exactly
-//! the greatest valid set of images. Nothing but `accept`, `run` and the making of a table of replies allocates. Programs
-//! and bootloaders call it.
+//! Promises: each call is a step of a machine that knows whole images only (`machine`), and leaves
+//! the flash at the state that the step comes to, or at that of a cut step where power failed; so
+//! for every list of events the replies of a run are the machine's, the flash holds the machine's
+//! state at its end, and a boot that answers a report starts exactly the greatest valid set of
+//! images. Nothing but `accept`, `run` and the making of a table of replies allocates. Programs and
+//! bootloaders call it.
 #![tactic(auto)]
 
 mod booting;

@@ -16,8 +16,8 @@ use sector_map::{SectorMap, Side, is_member};
 use tlv::{SlotError, describe_slot};
 use trailer::{clear, write_size};
 
-/// How many bytes of a slot a swap has to move: those of the image that it begins with, or all of them where it
-/// begins with none.
+/// How many bytes of a slot a swap has to move: those of the image that it begins with, or all of
+/// them where it begins with none.
 fn used_length<F: Flash>(
     flash: &mut F,
     map: &SectorMap,
@@ -55,7 +55,8 @@ fn swap_length<F: Flash>(flash: &mut F, map: &SectorMap, image: u8) -> Result<u3
     Ok(running.max(asked))
 }
 
-/// Makes a trailer ready to keep the progress of a swap: erases it, and writes the size of the swap.
+/// Makes a trailer ready to keep the progress of a swap: erases it, and writes the size of the
+/// swap.
 fn prepare_image<F: Flash>(
     flash: &mut F,
     map: &SectorMap,
@@ -103,12 +104,12 @@ fn prepare_member<F: Flash>(
     Ok(())
 }
 
-/// Makes the trailers of one side of a set ready to keep the progress of a swap, each before the next: no status unit
-/// is set in them, and their size has room for both images, and no more.
+/// Makes the trailers of one side of a set ready to keep the progress of a swap, each before the
+/// next: no status unit is set in them, and their size has room for both images, and no more.
 ///
 /// # Errors
-/// `Cut` where power failed: these trailers hold any bytes, and all else is as it was. `Off` where the flash was off
-/// before: nothing changed.
+/// `Cut` where power failed: these trailers hold any bytes, and all else is as it was. `Off` where
+/// the flash was off before: nothing changed.
 pub(crate) fn prepare_set<F: Flash>(
     flash: &mut F,
     map: &SectorMap,

@@ -24,7 +24,8 @@ use set_log::{Kind, State, start};
 use tlv::{Desc, SlotError, describe_slot};
 use trailer::clear;
 
-/// The row of an image that runs, by its description: nothing is requested, and its own counter is the floor.
+/// The row of an image that runs, by its description: nothing is requested, and its own counter is
+/// the floor.
 fn running_image(description: Desc) -> Image
     ensures { (whole : List ℕ) → BeginsIntact whole description → IsRunningRow whole result }
 {
@@ -165,17 +166,19 @@ fn make_device<F: Flash>(flash: &mut F, map: &SectorMap) -> Result<(), Fault>
     }
 }
 
-/// Makes a flash a device's: the images that the primary slots begin with run, nothing is requested, no set is on
-/// trial, the sequence number is 0, and the floors are the security counters of what runs. The secondary slots may
-/// hold anything.
+/// Makes a flash a device's: the images that the primary slots begin with run, nothing is
+/// requested, no set is on trial, the sequence number is 0, and the floors are the security
+/// counters of what runs. The secondary slots may hold anything.
 ///
-/// The map is laid out on the flash, of which its `fits` is the test, and the primary slots hold images. These are
-/// read and judged first; then the trailers of all images are erased, and a new log is begun. Does not allocate.
+/// The map is laid out on the flash, of which its `fits` is the test, and the primary slots hold
+/// images. These are read and judged first; then the trailers of all images are erased, and a new
+/// log is begun. Does not allocate.
 ///
 /// # Errors
-/// `RunningDamaged` with the lowest image whose primary slot begins with no intact image; else `InvalidSet` where the
-/// images don't meet their dependencies: nothing changed. `Flash(Cut)` where power failed: trailers and log hold any
-/// bytes, and all else is as it was; the call may be made again. `Flash(Off)` where the flash was off: nothing changed.
+/// `RunningDamaged` with the lowest image whose primary slot begins with no intact image; else
+/// `InvalidSet` where the images don't meet their dependencies: nothing changed. `Flash(Cut)` where
+/// power failed: trailers and log hold any bytes, and all else is as it was; the call may be made
+/// again. `Flash(Off)` where the flash was off: nothing changed.
 pub fn provision<F: Flash>(flash: &mut F, map: &SectorMap) -> Result<(), Fault>
     requires laid_out { IsLaidOut map.now (F.chip flash.old) }
     // Slots and scratch are as they were, whatever happened.

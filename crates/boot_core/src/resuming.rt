@@ -24,8 +24,8 @@ use machine::Finding;
 use sector_map::SectorMap;
 use set_log::{Kind, State};
 
-/// From Settle on, where this was found of the decision: the set is on trial, of so many boots more, or taken for good;
-/// where it wasn't found nothing is done.
+/// From Settle on, where this was found of the decision: the set is on trial, of so many boots
+/// more, or taken for good; where it wasn't found nothing is done.
 fn settle_found<F: Flash>(
     flash: &mut F,
     map: &SectorMap,
@@ -72,8 +72,8 @@ fn settle_found<F: Flash>(
     }
 }
 
-/// From Settle on: the decision is found again, and the set is on trial, of so many boots more, or taken for good.
-/// Where it isn't found nothing is written.
+/// From Settle on: the decision is found again, and the set is on trial, of so many boots more, or
+/// taken for good. Where it isn't found nothing is written.
 pub(crate) fn finish_settle<F: Flash>(
     flash: &mut F,
     map: &SectorMap,
@@ -109,8 +109,9 @@ pub(crate) fn finish_settle<F: Flash>(
     settle_found(flash, map, state, left, finding)
 }
 
-/// From Swap on: the swap is done, from wherever it stands, the decision is found again, and the set is on trial, of
-/// so many boots more, or taken for good. Where it isn't found nothing but the swap is written.
+/// From Swap on: the swap is done, from wherever it stands, the decision is found again, and the
+/// set is on trial, of so many boots more, or taken for good. Where it isn't found nothing but the
+/// swap is written.
 pub(crate) fn finish_swap<F: Flash>(
     flash: &mut F,
     map: &SectorMap,

@@ -26,8 +26,8 @@ use set_log::{Kind, State, append};
 use swap_scratch::swap_set;
 use trailer::Settling;
 
-/// From Trial to Back: the secondary trailers of the set are made ready to count the swap back, and then going back is
-/// recorded. The primary ones stay, which say that it is a trial.
+/// From Trial to Back: the secondary trailers of the set are made ready to count the swap back, and
+/// then going back is recorded. The primary ones stay, which say that it is a trial.
 pub(crate) fn begin_back<F: Flash>(
     flash: &mut F,
     map: &SectorMap,

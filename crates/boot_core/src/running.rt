@@ -78,15 +78,18 @@ fn step<F: Flash>(alloc: Global, device: &mut Device<F>, event: &Event) -> Reply
     }
 }
 
-/// Runs events on a device, in order, and gives the reply to each. After a cut the device is reset, which gives its
-/// flash power again, so that what follows is refused with `NotBooted` until it boots.
+/// Runs events on a device, in order, and gives the reply to each. After a cut the device is reset,
+/// which gives its flash power again, so that what follows is refused with `NotBooted` until it
+/// boots.
 ///
-/// For every list of events and wherever power fails in it: where the device holds a state of the machine of whole
-/// images, the events with these replies are a run of that machine to a state which the device holds then, and as
-/// many replies are `Cut` as writes were cut. The flash has power as the run begins, and when it ends.
+/// For every list of events and wherever power fails in it: where the device holds a state of the
+/// machine of whole images, the events with these replies are a run of that machine to a state
+/// which the device holds then, and as many replies are `Cut` as writes were cut. The flash has
+/// power as the run begins, and when it ends.
 ///
 /// # Errors
-/// `AllocError` where there is no memory for the replies, which are reserved first: nothing was done.
+/// `AllocError` where there is no memory for the replies, which are reserved first: nothing was
+/// done.
 pub fn run<F: Flash>(
     alloc: Global,
     device: &mut Device<F>,

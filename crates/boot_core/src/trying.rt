@@ -1,4 +1,5 @@
-//! What a boot decides of a trial, by the trailers and the slots, and the record of a trial that is over.
+//! What a boot decides of a trial, by the trailers and the slots, and the record of a trial that is
+//! over.
 
 ghost use Rattle.std.specs.Prelude.{◌≡◌, ◌⊎◌, ◌+◌, ◌<◌, ◌≤◌, ℕ, false, List, Option, Some, OnOk, IfOk, slice_index};
 ghost use Rattle.flash_model.specs.Chip.{Chip, Ends};
@@ -135,8 +136,8 @@ pub(crate) fn raise_running<F: Flash>(
     Ok(raised)
 }
 
-/// How a boot goes on from a trial: it is over where each image of the set is confirmed; else the set goes back where
-/// no boot is left or a running image is damaged; else it is tried again.
+/// How a boot goes on from a trial: it is over where each image of the set is confirmed; else the
+/// set goes back where no boot is left or a running image is damaged; else it is tried again.
 pub(crate) fn decide_trial<F: Flash>(
     flash: &mut F,
     map: &SectorMap,
@@ -165,7 +166,8 @@ pub(crate) fn decide_trial<F: Flash>(
     }
 }
 
-/// From Trial to Steady: the trial is over, with these floors, which are those of the record past the last image.
+/// From Trial to Steady: the trial is over, with these floors, which are those of the record past
+/// the last image.
 pub(crate) fn record_over<F: Flash>(
     flash: &mut F,
     map: &SectorMap,

@@ -1,5 +1,5 @@
-//! An upgrade, from one record of the log to the next. Each passage is a function of its own: its contract says what
-//! stands on the flash however it ends, and what it has come to at `Ok`.
+//! An upgrade, from one record of the log to the next. Each passage is a function of its own: its
+//! contract says what stands on the flash however it ends, and what it has come to at `Ok`.
 
 ghost use Rattle.std.specs.Prelude.{◌≡◌, ◌≢◌, ◌⊎◌, ◌+◌, ◌*◌, ◌<◌, ◌≤◌, ℕ, Bool, true, false, Some, OnOk, slice_index};
 ghost use Rattle.boot_core.specs.Wear.{AreMeasured};
@@ -29,8 +29,8 @@ use set_log::{Kind, State, append};
 use swap_scratch::swap_set;
 use trailer::{Settling, settle};
 
-/// From Steady to Swap: the trailers of the set are made ready to count the swap, and then the decision is recorded,
-/// so that no swap begins that no record tells of.
+/// From Steady to Swap: the trailers of the set are made ready to count the swap, and then the
+/// decision is recorded, so that no swap begins that no record tells of.
 pub(crate) fn begin_swap<F: Flash>(
     flash: &mut F,
     map: &SectorMap,
@@ -222,8 +222,8 @@ pub(crate) fn record_trial<F: Flash>(
     append(flash, map, &trial)
 }
 
-/// From Settle to Steady: the set is taken for good, with these floors, which are those of the record past the last
-/// image.
+/// From Settle to Steady: the set is taken for good, with these floors, which are those of the
+/// record past the last image.
 pub(crate) fn record_taken<F: Flash>(
     flash: &mut F,
     map: &SectorMap,

@@ -1,5 +1,6 @@
-//! Runs of a device on a flash in memory: events, and the replies as a program prints them. The expected texts, the
-//! images and the bytes of a provisioned flash are written out; digests were taken by another program.
+//! Runs of a device on a flash in memory: events, and the replies as a program prints them. The
+//! expected texts, the images and the bytes of a provisioned flash are written out; digests were
+//! taken by another program.
 
 mod cuts;
 mod damaged_flashes;

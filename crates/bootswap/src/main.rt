@@ -1,6 +1,6 @@
-//! `bootswap`: which of the images that a device is asked to boot may run together, decided from a table; what images
-//! say of themselves; what manifests say to a device; and a device itself, on a file, that boots, takes uploads and
-//! survives power cuts.
+//! `bootswap`: which of the images that a device is asked to boot may run together, decided from a
+//! table; what images say of themselves; what manifests say to a device; and a device itself, on a
+//! file, that boots, takes uploads and survives power cuts.
 #![tactic(auto)]
 
 use boot_cli::{SystemHost, cli, refuse_words};

@@ -55,7 +55,8 @@ pub fn bootswap<'a>(alloc: Global) -> Result<Command<'a>, AllocError>
     with_command(program, run(alloc)?)
 }
 
-/// The program without its subcommands. It asks for one; that it does without a word what `choose` does is its own.
+/// The program without its subcommands. It asks for one; that it does without a word what `choose`
+/// does is its own.
 fn program<'a>(alloc: Global) -> Result<Command<'a>, AllocError>
     ensures { IfOk result (λ command. app_of command ≡ program) }
 {

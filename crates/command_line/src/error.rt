@@ -11,8 +11,8 @@ use thiserror::Error;
 /// Why words give no order. The numbers are 1 and 2, in this order.
 #[derive(Debug, Drop, Error)]
 pub enum OrderError {
-    /// The words are none that the program knows, or they ask for help or the version: what `clap` answers, which
-    /// is never want of memory, with the text to print and the exit status.
+    /// The words are none that the program knows, or they ask for help or the version: what `clap`
+    /// answers, which is never want of memory, with the text to print and the exit status.
     #[error("{0}")]
     Usage(clap::Error),
     /// Memory ran out.

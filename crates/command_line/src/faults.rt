@@ -19,8 +19,8 @@ use clap::{Command, Error};
 use std::alloc::{AllocError, Global};
 use std::convert::AsStr;
 
-/// The fault of these words, as it is printed: it names them with their control characters escaped. `fault` is
-/// what `order` answered.
+/// The fault of these words, as it is printed: it names them with their control characters escaped.
+/// `fault` is what `order` answered.
 pub fn fault_of<S: AsStr>(alloc: Global, words: &[S], fault: Error) -> OrderError
     ensures { IsTold result }
 {

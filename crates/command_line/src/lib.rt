@@ -1,9 +1,10 @@
-//! The command line: what the words of a `bootswap` command ask for, and what the program says of itself.
+//! The command line: what the words of a `bootswap` command ask for, and what the program says of
+//! itself.
 //!
-//! Promises: an order has exactly the subcommand, and the names of files, that `clap`'s definition of the matches
-//! gives for the words, and names standard input once at most; each other answer is a fault in the words, a request
-//! for help or the version, or want of memory. Files are named here and not opened. Allocates to read the words and
-//! to make texts. The program calls it.
+//! Promises: an order has exactly the subcommand, and the names of files, that `clap`'s definition
+//! of the matches gives for the words, and names standard input once at most; each other answer is
+//! a fault in the words, a request for help or the version, or want of memory. Files are named here
+//! and not opened. Allocates to read the words and to make texts. The program calls it.
 #![tactic(auto)]
 
 mod commands;

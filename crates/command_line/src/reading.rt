@@ -17,8 +17,8 @@ use std::convert::AsStr;
 
 /// What `words` ask for, of which the first is the program's own name.
 ///
-/// Else they ask for help or the version, or are at fault: by `clap`, or because the order names standard input for
-/// two files, or for a flash file that is written to.
+/// Else they ask for help or the version, or are at fault: by `clap`, or because the order names
+/// standard input for two files, or for a flash file that is written to.
 pub fn order<'a, S: AsStr>(alloc: Global, words: &'a [S]) -> Result<Order<'a>, OrderError>
     ensures order { IfOk result (IsOrder (map S.text words.entry.now)) }
     ensures sound { IfOk result (λ order. misuse_of order ≡ None) }

@@ -1,5 +1,5 @@
-//! The program as one sees it that chooses, checks, and reads images and manifests: words, files and standard input go
-//! in, and texts and an exit status come out.
+//! The program as one sees it that chooses, checks, and reads images and manifests: words, files
+//! and standard input go in, and texts and an exit status come out.
 #![tactic(auto)]
 
 #[cfg(test)]

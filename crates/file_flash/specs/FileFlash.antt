@@ -7,8 +7,8 @@ use Rattle.flash_model.specs.Chip.{Chip}
 use Rattle.flash_model.specs.Memory.{Memory, memory_of, next_torn, torn}
 use Rattle.file_flash.specs.declared.flash.FileFlash.{FileFlash}
 
--- A flash over a file: the flash itself, the one in memory that has its bytes, and whether a write of the file
--- failed.
+-- A flash over a file: the flash itself, the one in memory that has its bytes, and whether a write
+-- of the file failed.
 pub record OverFile : Type 0 where
   pub chip : Chip
   pub memory : Memory
@@ -55,9 +55,9 @@ restarted old = record old {
   memory = record (old.memory) { chip = record (old.memory.chip) { is_on = true } };
 }
 
--- A write of these bytes, of a flash over a file. One that is off refuses it; one whose file failed before is cut,
--- and nothing changes. Else the flash in memory is written, or cut as it was armed, and the write is done exactly
--- where neither that was cut nor the file failed.
+-- A write of these bytes, of a flash over a file. One that is off refuses it; one whose file failed
+-- before is cut, and nothing changes. Else the flash in memory is written, or cut as it was armed,
+-- and the write is done exactly where neither that was cut nor the file failed.
 pub record WritesThrough (result : Result Unit FlashError) (at : ℕ) (range : List ℕ) (done : Memory)
     (old new : OverFile) : Type 0 where
   pub off : old.chip.is_on ≡ false → IsErrOf result Off × (new ≡ old)

@@ -8,13 +8,14 @@ use std::io;
 
 /// A file that a flash is written through to: as long as the flash, and open for writing.
 ///
-/// Where an implementation tells `contents`, contracts know what the file holds; else they say nothing of it.
+/// Where an implementation tells `contents`, contracts know what the file holds; else they say
+/// nothing of it.
 pub trait FlashFile {
     // What the file holds, where it is known.
     ghost contents: { Self → Option (List ℕ) } = { λ _. None };
 
-    /// Writes these bytes over those that the file has from `at` on. It has as many there, so that it stays as long
-    /// as it is.
+    /// Writes these bytes over those that the file has from `at` on. It has as many there, so that
+    /// it stays as long as it is.
     ///
     /// # Errors
     /// Where the write failed. The file may hold any bytes then, and isn't written again.

@@ -14,21 +14,24 @@ use std::sync::ledger::{Blank, Book, Ledger, Share};
 
 /// A flash in memory whose changed ranges are written through to a file at once.
 ///
-/// A write, that is a program or an erase, is made in memory first, done or cut as that flash was armed. Then the
-/// range that it may have changed goes to the file as it is in memory now, torn bytes too, by one `write_at`. The
-/// write is done where both are; where the flash in memory was cut or the file failed it answers `Cut`, which is
-/// counted once, and the flash is off until `restart`. Once a write of the file failed, each later write is cut,
-/// also after a restart, and changes nothing, in memory or in the file. Reading goes on.
+/// A write, that is a program or an erase, is made in memory first, done or cut as that flash was
+/// armed. Then the range that it may have changed goes to the file as it is in memory now, torn
+/// bytes too, by one `write_at`. The write is done where both are; where the flash in memory was
+/// cut or the file failed it answers `Cut`, which is counted once, and the flash is off until
+/// `restart`. Once a write of the file failed, each later write is cut, also after a restart, and
+/// changes nothing, in memory or in the file. Reading goes on.
 ///
-/// As long as no write of the file failed, what the file is known to hold (`contents` of `FlashFile`) is what the
-/// flash holds. That is kept in the type, whoever calls the flash, and told by `has_failed`.
+/// As long as no write of the file failed, what the file is known to hold (`contents` of
+/// `FlashFile`) is what the flash holds. That is kept in the type, whoever calls the flash, and
+/// told by `has_failed`.
 ///
 /// No call allocates.
 ///
-/// Contracts see it as an `OverFile` (`over_file`): the chip, the flash in memory, and whether a write of the file
-/// failed; and the file itself (`file_of`). The counts of cuts and of completed erases are tokens of a ledger of its
-/// own, `L`, since an erase that was completed in memory and didn't reach the file is a cut; those of the flash in
-/// memory, of the ledger `M`, count for nothing. So it is made in a function that is generic in both ledgers:
+/// Contracts see it as an `OverFile` (`over_file`): the chip, the flash in memory, and whether a
+/// write of the file failed; and the file itself (`file_of`). The counts of cuts and of completed
+/// erases are tokens of a ledger of its own, `L`, since an erase that was completed in memory and
+/// didn't reach the file is a cut; those of the flash in memory, of the ledger `M`, count for
+/// nothing. So it is made in a function that is generic in both ledgers:
 ///
 /// ```text
 /// fn helper<L: Ledger, M: Ledger>(alloc: Global, blanks: (Blank, Blank), ..) -> Result<(), AllocError>
@@ -47,8 +50,8 @@ use std::sync::ledger::{Blank, Book, Ledger, Share};
 /// helper::<Brand, Brand>(rt.alloc(), (Blank::new(2), Blank::new(2)), ..)?;
 /// ```
 ///
-/// and in `proofs/CALLER/Invariants.antt` of the function that calls `helper` (without `g` where the caller isn't
-/// generic):
+/// and in `proofs/CALLER/Invariants.antt` of the function that calls `helper` (without `g` where
+/// the caller isn't generic):
 ///
 /// ```text
 /// use Rattle.CRATE.proofs.CALLER.Given as goal
@@ -95,8 +98,8 @@ fn write_through<F: FlashFile, M: Ledger>(
 impl<F: FlashFile, L: Ledger, M: Ledger> FileFlash<F, L, M> {
     ghost use Rattle.file_flash.specs.FileFlash.{chip_of, cut_short, file_of, new_over, over_file};
 
-    /// A flash with the sectors and bytes of `memory`, which is on, over a file that holds these bytes already. It
-    /// is on, and what was armed stays armed.
+    /// A flash with the sectors and bytes of `memory`, which is on, over a file that holds these
+    /// bytes already. It is on, and what was armed stays armed.
     ///
     /// The ledger's token has two parts, as `Blank::new(2)` makes it.
     pub fn over(memory: MemFlash<M>, blank: Blank, file: F) -> Self
@@ -121,7 +124,8 @@ impl<F: FlashFile, L: Ledger, M: Ledger> FileFlash<F, L, M> {
         }
     }
 
-    /// Whether a write of the file failed. Until one has, what the file is known to hold is what the flash holds.
+    /// Whether a write of the file failed. Until one has, what the file is known to hold is what
+    /// the flash holds.
     pub fn has_failed(&self) -> bool
         ensures answer { result ≡ (over_file self.now).has_failed }
         ensures written { OnFalse result

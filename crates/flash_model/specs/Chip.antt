@@ -4,8 +4,8 @@ use Rattle.std.specs.Prelude.{slice_index, Result, OnOk, IsErrOf}
 use Rattle.flash_model.specs.declared.error.FlashError.{FlashError}
 use Rattle.flash_model.specs.declared.error.FlashError.TheVariants.{Cut, Off}
 
--- A flash: so many sectors of so many bytes each, the bytes in the order of their addresses, whether it has
--- power, how often a write of it was cut, and how many erases it completed.
+-- A flash: so many sectors of so many bytes each, the bytes in the order of their addresses,
+-- whether it has power, how often a write of it was cut, and how many erases it completed.
 pub record Chip : Type 0 where
   pub sector_size : ℕ
   pub sectors : ℕ
@@ -27,7 +27,8 @@ pub record Reads (chip : Chip) (at : ℕ) (bytes : List ℕ) : Type 0 where
 pub record IsErased (chip : Chip) (at n : ℕ) : Type 0 where
   pub each : (k : ℕ) → at ≤ k → k < at + n → slice_index chip.bytes k ≡ 0xff
 
--- The sectors are the same, and so is each byte outside a range. Of power and counts it says nothing.
+-- The sectors are the same, and so is each byte outside a range. Of power and counts it says
+-- nothing.
 pub record SameOutside (at n : ℕ) (old new : Chip) : Type 0 where
   pub sector_size : new.sector_size ≡ old.sector_size
   pub sectors : new.sectors ≡ old.sectors

@@ -9,8 +9,8 @@ use Rattle.flash_model.specs.declared.torn.Torn.{Torn}
 use Rattle.flash_model.specs.Chip.{Chip}
 use Rattle.flash_model.specs.Torn.{replaced, torn_at, torn_for}
 
--- A flash in memory: the flash itself, how many programs and erases it took (up to 2 ^ 64 - 1), and the writes
--- that are to be cut, in the order in which they were armed.
+-- A flash in memory: the flash itself, how many programs and erases it took (up to 2 ^ 64 - 1), and
+-- the writes that are to be cut, in the order in which they were armed.
 pub record Memory : Type 0 where
   pub chip : Chip
   pub writes : ℕ
@@ -81,8 +81,8 @@ torn at range left old = record {
   armed = old.armed;
 }
 
--- A write of these bytes ends as the flash was armed. A flash that is off refuses it, and doesn't count it; one
--- that isn't armed is done; one that is armed is cut, and leaves what was armed.
+-- A write of these bytes ends as the flash was armed. A flash that is off refuses it, and doesn't
+-- count it; one that isn't armed is done; one that is armed is cut, and leaves what was armed.
 pub record Writes (result : Result Unit FlashError) (at : ℕ) (range : List ℕ) (done old new : Memory)
     : Type 0 where
   pub off : old.chip.is_on ≡ false → IsErrOf result Off × (new ≡ old)

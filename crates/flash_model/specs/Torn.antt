@@ -6,8 +6,8 @@ use Rattle.flash_model.specs.declared.torn.Armed.{Armed}
 use Rattle.flash_model.specs.declared.torn.Torn.{Torn}
 use Rattle.flash_model.specs.declared.torn.Torn.TheVariants.{Keep, Done, Bytes}
 
--- So many bytes of a pattern that is repeated: each is the byte of the pattern at its place, counted in
--- lengths of the pattern.
+-- So many bytes of a pattern that is repeated: each is the byte of the pattern at its place,
+-- counted in lengths of the pattern.
 abbrev pub repeated : List ℕ → ℕ → List ℕ
 repeated pattern n = map (λ i. slice_index pattern (i % length pattern)) (range_with_len 0 n)
 
@@ -31,6 +31,7 @@ abbrev pub torn_at : ℕ → List ℕ → Torn → List ℕ → List ℕ
 torn_at at done torn bytes =
     replaced at (torn_bytes torn (slice_range bytes at (at + length done)) done) bytes
 
--- What the cut of the write of this number leaves, where it is to be cut: the first that was armed counts.
+-- What the cut of the write of this number leaves, where it is to be cut: the first that was armed
+-- counts.
 abbrev pub torn_for : ℕ → List Armed → Option Torn
 torn_for number armed = option_map (λ write. write.torn) (find (λ write. write.at == number) armed)

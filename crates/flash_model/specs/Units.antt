@@ -2,7 +2,7 @@
 use Rattle.std.specs.Prelude.{ℕ}
 use Rattle.flash_model.specs.Chip.{Chip, IsErased}
 
--- The unit at an address is set: not all of its bytes are 0xFF. Of which they are it says nothing, so a write
--- of the unit that was cut leaves it erased or set.
+-- The unit at an address is set: not all of its bytes are 0xFF. Of which they are it says nothing,
+-- so a write of the unit that was cut leaves it erased or set.
 pub record IsSet (chip : Chip) (at : ℕ) : Type 0 where
   pub not_erased : IsErased chip at 8 → ⊥

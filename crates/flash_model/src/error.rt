@@ -8,8 +8,8 @@ use thiserror::Error;
 /// Why a call on a flash didn't do its work. The numbers are 1 and 2, in this order.
 #[derive(Clone, Copy, Debug, PartialEq, Eq, Error)]
 pub enum FlashError {
-    /// Power failed in the midst of a write. Its range holds any bytes, all else is as it was, and the flash is
-    /// off.
+    /// Power failed in the midst of a write. Its range holds any bytes, all else is as it was, and
+    /// the flash is off.
     #[error("power failed in the midst of a write")]
     Cut,
     /// The flash was off already. Nothing changed.

@@ -5,19 +5,20 @@ ghost use Rattle.flash_model.specs.Chip.{Chip, size_of, Reads, IsErased, SameOut
 
 use crate::error::FlashError;
 
-/// A flash: sectors of the same size, which are erased whole, and units of 8 bytes, which are programmed
-/// after they were erased. It has 4294967295 bytes at most.
+/// A flash: sectors of the same size, which are erased whole, and units of 8 bytes, which are
+/// programmed after they were erased. It has 4294967295 bytes at most.
 ///
-/// What a call leaves is said of the chip that contracts see: its bytes, whether it has power, how many
-/// writes were cut, and how many erases were completed. A write that is cut leaves its range with any bytes
-/// and all else as it was.
+/// What a call leaves is said of the chip that contracts see: its bytes, whether it has power, how
+/// many writes were cut, and how many erases were completed. A write that is cut leaves its range
+/// with any bytes and all else as it was.
 ///
 /// What is asked of a driver, beyond the clauses of its calls:
-/// - A read fails only where the flash is off. Where the bus or the error correction of a part can fail
-///   otherwise, the driver tries again, or stops the device.
-/// - What is read doesn't drift: a unit reads the same until it is written, also one that a cut left half
-///   programmed. A unit that reads erased is erased, so that it may be programmed. A driver of a part whose torn
-///   units read one way now and another way later has to settle that, as by erased-page checks of the part.
+/// - A read fails only where the flash is off. Where the bus or the error correction of a part can
+///   fail otherwise, the driver tries again, or stops the device.
+/// - What is read doesn't drift: a unit reads the same until it is written, also one that a cut
+///   left half programmed. A unit that reads erased is erased, so that it may be programmed. A
+///   driver of a part whose torn units read one way now and another way later has to settle that,
+///   as by erased-page checks of the part.
 /// - `sector_size` and `sectors` never change.
 ///
 /// The counts of cuts and of erases are for contracts alone: a driver keeps no number for them.
@@ -44,12 +45,12 @@ pub trait Flash {
         ensures erases { OnOk result ((chip self.new).erases ≡ (chip self.old).erases) }
         ensures ends { Ends result (chip self.old) (chip self.new) };
 
-    /// Writes whole units, one at least, into a range that is erased throughout. Address and length, in bytes,
-    /// are multiples of 8.
+    /// Writes whole units, one at least, into a range that is erased throughout. Address and
+    /// length, in bytes, are multiples of 8.
     ///
     /// # Errors
-    /// `Cut` where power failed: the range holds any bytes, all else is as it was, and the flash is off. `Off`
-    /// where it was off before: nothing changed.
+    /// `Cut` where power failed: the range holds any bytes, all else is as it was, and the flash is
+    /// off. `Off` where it was off before: nothing changed.
     fn program(&mut self, at: u32, bytes: &[u8]) -> Result<(), FlashError>
         requires inside { at + length bytes.now ≤ size_of (chip self.old) }
         requires erased { IsErased (chip self.old) at (length bytes.now) }
@@ -65,9 +66,9 @@ pub trait Flash {
     /// Erases a sector, given by its number from 0: each of its bytes is 0xFF then.
     ///
     /// # Errors
-    /// `Cut` where power failed: the sector holds any bytes, all else is as it was, and the flash is off; such
-    /// an erase isn't completed, also where it left the sector erased. `Off` where it was off before: nothing
-    /// changed.
+    /// `Cut` where power failed: the sector holds any bytes, all else is as it was, and the flash
+    /// is off; such an erase isn't completed, also where it left the sector erased. `Off` where it
+    /// was off before: nothing changed.
     fn erase(&mut self, sector: u32) -> Result<(), FlashError>
         requires { sector < (chip self.old).sectors }
         ensures outside { SameOutside (sector * (chip self.old).sector_size)

@@ -1,17 +1,22 @@
-//! The medium: what a flash is, and what its calls leave, also where power fails in the midst of one.
+//! The medium: what a flash is, and what its calls leave, also where power fails in the midst of
+//! one.
 //!
-//! All layers above write to the device's flash through the trait `Flash` alone, and each of them proves what it
-//! promises from that trait's contracts, for every flash that keeps them. Contracts see a flash as a `Chip`: its
-//! bytes by address, whether it has power, how many writes were cut and how many erases were completed.
+//! All layers above write to the device's flash through the trait `Flash` alone, and each of them
+//! proves what it promises from that trait's contracts, for every flash that keeps them. Contracts
+//! see a flash as a `Chip`: its bytes by address, whether it has power, how many writes were cut
+//! and how many erases were completed.
 //!
 //! What the layer promises to those above, on any flash and with any bytes on it:
-//! - `is_erased` and `is_unit_erased` answer exactly whether a range, or a unit, is erased, and change nothing.
-//! - `set_unit` sets one unit, and nothing else changes; where power fails, that unit is erased or set.
-//! - `MemFlash` is a flash in memory that keeps the trait, and cuts exactly those writes that were armed, leaving
-//!   exactly the bytes that were asked for. Tests and the program run on it.
+//! - `is_erased` and `is_unit_erased` answer exactly whether a range, or a unit, is erased, and
+//!   change nothing.
+//! - `set_unit` sets one unit, and nothing else changes; where power fails, that unit is erased or
+//!   set.
+//! - `MemFlash` is a flash in memory that keeps the trait, and cuts exactly those writes that were
+//!   armed, leaving exactly the bytes that were asked for. Tests and the program run on it.
 //!
-//! Of a real flash its driver's author promises what the trait says: no proof can look at the hardware.
-//! `sector_map` says where the parts of a device lie on a flash; layers above it name parts, not addresses.
+//! Of a real flash its driver's author promises what the trait says: no proof can look at the
+//! hardware. `sector_map` says where the parts of a device lie on a flash; layers above it name
+//! parts, not addresses.
 #![tactic(auto)]
 
 mod error;

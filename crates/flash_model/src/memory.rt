@@ -11,17 +11,19 @@ use std::sync::ledger::{Blank, Book, Ledger, Share};
 
 /// A flash in memory, of which any write can be cut.
 ///
-/// A *write* is a program or an erase. The k-th one, counted from the making of the flash, from 1, is cut where
-/// `arm(k, ..)` was called before it: it answers `Cut`, leaves in its range exactly what was armed and all else
-/// as it was, and the flash is off until `restart`. No other write is cut. A write that a flash refuses since it
-/// is off isn't counted; a write that is cut is counted by `writes`, and never by `erases`.
+/// A *write* is a program or an erase. The k-th one, counted from the making of the flash, from 1,
+/// is cut where `arm(k, ..)` was called before it: it answers `Cut`, leaves in its range exactly
+/// what was armed and all else as it was, and the flash is off until `restart`. No other write is
+/// cut. A write that a flash refuses since it is off isn't counted; a write that is cut is counted
+/// by `writes`, and never by `erases`.
 ///
-/// Reading, writing and restarting don't allocate: the bytes are there from its making, and those that cuts
-/// leave from `arm`.
+/// Reading, writing and restarting don't allocate: the bytes are there from its making, and those
+/// that cuts leave from `arm`.
 ///
-/// Contracts see it as a `Memory` (`memory_of`): the chip, the number of writes, and the armed cuts in the order
-/// of their arming. The counts of cuts and of completed erases have no bound and take no bytes: they are tokens
-/// of the ledger `L`. So a flash is made in a function that is generic in `L`, whose caller picks the ledger:
+/// Contracts see it as a `Memory` (`memory_of`): the chip, the number of writes, and the armed cuts
+/// in the order of their arming. The counts of cuts and of completed erases have no bound and take
+/// no bytes: they are tokens of the ledger `L`. So a flash is made in a function that is generic in
+/// `L`, whose caller picks the ledger:
 ///
 /// ```text
 /// fn helper<L: Ledger>(alloc: Global, blank: Blank) -> Result<(), AllocError>
@@ -36,8 +38,9 @@ use std::sync::ledger::{Blank, Book, Ledger, Share};
 /// helper::<Brand>(rt.alloc(), Blank::new(2))?;
 /// ```
 ///
-/// with `std::sync::ledger::{Blank, Ledger}` and `std::marker::Brand`, and in `proofs/CALLER/Invariants.antt` of the
-/// function that calls `helper` (without `g` where the caller isn't generic):
+/// with `std::sync::ledger::{Blank, Ledger}` and `std::marker::Brand`, and in
+/// `proofs/CALLER/Invariants.antt` of the function that calls `helper` (without `g` where the
+/// caller isn't generic):
 ///
 /// ```text
 /// use Rattle.CRATE.proofs.CALLER.Given as goal
@@ -70,9 +73,11 @@ pub struct MemFlash<L: Ledger> {
 impl<L: Ledger> MemFlash<L> {
     ghost use Rattle.flash_model.specs.Memory.{chip_of, memory_of, new_chip};
 
-    /// A flash of so many sectors of `sector_size` bytes each, all erased, and on. Nothing is armed.
+    /// A flash of so many sectors of `sector_size` bytes each, all erased, and on. Nothing is
+    /// armed.
     ///
-    /// It has 4294967295 bytes at most. The ledger's token has two parts, as `Blank::new(2)` makes it.
+    /// It has 4294967295 bytes at most. The ledger's token has two parts, as `Blank::new(2)` makes
+    /// it.
     ///
     /// # Errors
     /// Where memory for the bytes is refused.
@@ -95,8 +100,9 @@ impl<L: Ledger> MemFlash<L> {
         Ok(Self::of_sectors(alloc, blank, sector_size, sectors, bytes))
     }
 
-    /// A flash of these bytes, which is on: whole sectors of `sector_size` bytes each, 4294967295 bytes at most.
-    /// Nothing is armed. Does not allocate; the allocator is the one that `arm` will ask.
+    /// A flash of these bytes, which is on: whole sectors of `sector_size` bytes each, 4294967295
+    /// bytes at most. Nothing is armed. Does not allocate; the allocator is the one that `arm` will
+    /// ask.
     ///
     /// The ledger's token has two parts, as `Blank::new(2)` makes it.
     pub fn from_bytes(alloc: Global, blank: Blank, sector_size: u32, bytes: Vec<u8>) -> Self
@@ -148,11 +154,11 @@ impl<L: Ledger> MemFlash<L> {
         }
     }
 
-    /// Has the k-th write cut, counted from the making of the flash, from 1, and leave what `torn` says. `k` is
-    /// below 2^64 - 1, where counting stops.
+    /// Has the k-th write cut, counted from the making of the flash, from 1, and leave what `torn`
+    /// says. `k` is below 2^64 - 1, where counting stops.
     ///
-    /// Calls add up; of several for the same `k` the first counts. A `k` of 0, or of a write that is over, does
-    /// nothing.
+    /// Calls add up; of several for the same `k` the first counts. A `k` of 0, or of a write that
+    /// is over, does nothing.
     ///
     /// # Errors
     /// Where memory for one more is refused: the flash is as it was.

@@ -30,11 +30,11 @@ fn is_piece_erased<F: Flash>(flash: &mut F, at: u32, piece: &mut [u8]) -> Result
     Ok(is_all_erased(piece))
 }
 
-/// Whether `len` bytes from address `at` on are erased, that is, 0xFF. The range lies in the flash; of no bytes
-/// the answer is yes.
+/// Whether `len` bytes from address `at` on are erased, that is, 0xFF. The range lies in the flash;
+/// of no bytes the answer is yes.
 ///
-/// The flash is read by pieces of at most 64 bytes, up to the first one that isn't erased. It doesn't change.
-/// Does not allocate.
+/// The flash is read by pieces of at most 64 bytes, up to the first one that isn't erased. It
+/// doesn't change. Does not allocate.
 ///
 /// # Errors
 /// `Off` where the flash is off and `len` isn't 0.

@@ -10,7 +10,8 @@ pub enum Torn {
     Keep,
     /// What the write was to leave.
     Done,
-    /// These bytes over the range, again and again from its first byte on. No bytes at all are `Keep`.
+    /// These bytes over the range, again and again from its first byte on. No bytes at all are
+    /// `Keep`.
     Bytes(Vec<u8>),
 }
 

@@ -11,12 +11,12 @@ use crate::reading::is_erased;
 /// The length of a unit in bytes.
 pub const UNIT: u32 = 8;
 
-/// What a unit holds that `set_unit` has written: 0x01, and 0xFF up to its end, as MCUboot writes a flag
-/// (`BOOT_FLAG_SET`).
+/// What a unit holds that `set_unit` has written: 0x01, and 0xFF up to its end, as MCUboot writes a
+/// flag (`BOOT_FLAG_SET`).
 pub const FLAG: [u8; 8] = [0x01, 0xff, 0xff, 0xff, 0xff, 0xff, 0xff, 0xff];
 
-/// Whether the unit at address `at` is erased; where it isn't, it is set. The flash doesn't change. Does not
-/// allocate.
+/// Whether the unit at address `at` is erased; where it isn't, it is set. The flash doesn't change.
+/// Does not allocate.
 ///
 /// # Errors
 /// `Off` where the flash is off.
@@ -32,11 +32,12 @@ pub fn is_unit_erased<F: Flash>(flash: &mut F, at: u32) -> Result<bool, FlashErr
     is_erased(flash, at, UNIT)
 }
 
-/// Sets the unit at address `at`, a multiple of 8, which is erased: writes `FLAG` to it. Does not allocate.
+/// Sets the unit at address `at`, a multiple of 8, which is erased: writes `FLAG` to it. Does not
+/// allocate.
 ///
 /// # Errors
-/// `Cut` where power failed: the unit holds any bytes, so it is erased or set; all else is as it was, and the
-/// flash is off. `Off` where it was off before: nothing changed.
+/// `Cut` where power failed: the unit holds any bytes, so it is erased or set; all else is as it
+/// was, and the flash is off. `Off` where it was off before: nothing changed.
 #[tactic(auto, using(crate::proofs::Units::set_of_reads))]
 pub fn set_unit<F: Flash>(flash: &mut F, at: u32) -> Result<(), FlashError>
     requires inside { at + 8 ≤ size_of (F.chip flash.old) }

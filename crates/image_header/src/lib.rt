@@ -1,8 +1,10 @@
-//! Images, first part: the header of MCUboot's image format (MCUboot, design document, "Image format").
+//! Images, first part: the header of MCUboot's image format (MCUboot, design document, "Image
+//! format").
 //!
-//! Promises: a header is read exactly where the bytes begin with one that is accepted, and each refusal is the
-//! first check that fails; each header is written as its bytes. So what is written is read back where the header
-//! is accepted: its flags are known and its header size is 32 or more. Does not allocate. `tlv` calls it.
+//! Promises: a header is read exactly where the bytes begin with one that is accepted, and each
+//! refusal is the first check that fails; each header is written as its bytes. So what is written
+//! is read back where the header is accepted: its flags are known and its header size is 32 or
+//! more. Does not allocate. `tlv` calls it.
 #![tactic(auto)]
 
 mod error;

@@ -35,7 +35,8 @@ fn fields(bytes: &[u8]) -> Header
 impl Header {
     /// Reads the header that bytes begin with; what follows its 32 bytes isn't looked at.
     ///
-    /// The checks are made in the order of [`HeaderError`]'s kinds, and the first that fails is the error.
+    /// The checks are made in the order of [`HeaderError`]'s kinds, and the first that fails is the
+    /// error.
     pub fn read(bytes: &[u8]) -> Result<Header, HeaderError>
         // What is read is accepted, and the bytes begin with it.
         ensures read { IfOk result (λ header. BeginsWith bytes.now header × IsAccepted header) }

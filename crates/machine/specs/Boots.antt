@@ -95,7 +95,8 @@ pub record IsLowestDamaged (s : DeviceState) (i : ℕ) : Type 0 where
 abbrev pub HasDamaged : DeviceState → Type 0
 HasDamaged s = (i : ℕ) × (i < s.images) × (s.running i ≡ None)
 
--- The old images of a trial come back: it isn't wholly confirmed, and has no boot more or a damaged image.
+-- The old images of a trial come back: it isn't wholly confirmed, and has no boot more or a damaged
+-- image.
 abbrev pub GoesBack : DeviceState → Trial → Type 0
 GoesBack s trial = (s.trial ≡ Some trial) × (IsConfirmed s trial → ⊥)
     × ((trial.left ≡ 0) ⊎ HasDamaged s)
@@ -209,7 +210,8 @@ IsSound s = (table : Table) × IsTableOf s table × IsValid table running_set
 pub record IsReadSound (s : DeviceState) : Type 0 where
   pub each : (read : DeviceState) → IsReadAs s read → IsSound read
 
--- What runs is intact and valid, and in a trial what ran before it is so too: whatever a boot comes to run.
+-- What runs is intact and valid, and in a trial what ran before it is so too: whatever a boot comes
+-- to run.
 pub record IsAllSound (s : DeviceState) : Type 0 where
   pub now : IsSound s
   pub before : (trial : Trial) → s.trial ≡ Some trial → IsSound (reverted s trial)

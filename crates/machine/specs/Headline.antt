@@ -18,7 +18,8 @@ use Rattle.machine.specs.declared.event.Event.TheVariants as event
 use Rattle.machine.specs.declared.reply.Reply.{Reply}
 use Rattle.machine.specs.declared.reply.Reply.TheVariants.{Done, Booted, Reverted, TrialAgain, Refused, Cut}
 
--- What an image runs where a report is followed: the requested bytes where it is taken, else what ran.
+-- What an image runs where a report is followed: the requested bytes where it is taken, else what
+-- ran.
 abbrev pub running_by : DeviceState → Report → ℕ → Option (List ℕ)
 running_by s report i = if taken_in report i then wanted_bytes (s.request i) else s.running i
 
@@ -36,16 +37,16 @@ pub record StaysForGood (s : DeviceState) (report : Report) : Type 0 where
   pub each : (i : ℕ) (wanted : Wanted) → taken_in report i ≡ true → s.request i ≡ Some wanted
       → wanted.kind ≡ Permanent
 
--- The set of a report is on trial: nothing of it is confirmed, what ran is kept, and the boot that begins the trial is
--- the first of so many.
+-- The set of a report is on trial: nothing of it is confirmed, what ran is kept, and the boot that
+-- begins the trial is the first of so many.
 pub record IsTriedBy (boots : ℕ) (s : DeviceState) (report : Report) (trial : Trial) : Type 0 where
   pub set : (i : ℕ) → is_member trial.set i ≡ taken_in report i
   pub confirmed : (i : ℕ) → trial.confirmed i ≡ false
   pub old : (i : ℕ) → taken_in report i ≡ true → s.running i ≡ Some (trial.old i)
   pub left : trial.left + 1 ≡ boots
 
--- A boot that finds one state and leaves the other starts the greatest set of all, and says so in its report. A trial
--- has so many boots.
+-- A boot that finds one state and leaves the other starts the greatest set of all, and says so in
+-- its report. A trial has so many boots.
 pub record StartsGreatest (boots : ℕ) (found : DeviceState) (table : Table) (report : Report)
     (permanent : Bool) (next : DeviceState) : Type 0 where
   -- The state as the boot reads it: a trial that was wholly confirmed is over.
@@ -76,8 +77,8 @@ pub record StartsGreatest (boots : ℕ) (found : DeviceState) (table : Table) (r
   pub tries : permanent ≡ false → (TakesNone report → ⊥)
       → (trial : Trial) × (next.trial ≡ Some trial) × IsTriedBy boots read report trial
 
--- At a place of a run, counted from 0, a boot answers this report: the run stood before it, the boot starts the
--- greatest set, the device is up, and the run goes on from there.
+-- At a place of a run, counted from 0, a boot answers this report: the run stood before it, the
+-- boot starts the greatest set, the device is up, and the run goes on from there.
 pub record IsBootedAt (setup : Setup) (m : Machine) (events : List Event) (replies : List Reply)
     (last : Machine) (place : ℕ) (table : Table) (report : Report) (permanent : Bool)
     : Type 0 where
@@ -95,8 +96,9 @@ abbrev pub AreCut : Setup → Machine → ℕ → Machine → Type 0
 AreCut setup m times last =
     IsRun setup m (replicate times event.Boot) (replicate times Cut) last
 
--- A complete boot with this reply did something: it took an image, went back to the old images of a trial, or began
--- another boot of one. One that takes nothing or is refused leaves the state as it is read.
+-- A complete boot with this reply did something: it took an image, went back to the old images of a
+-- trial, or began another boot of one. One that takes nothing or is refused leaves the state as it
+-- is read.
 abbrev pub DoesSomething : Reply → Type 0
 DoesSomething (Booted table report permanent) = TakesNone report → ⊥
 DoesSomething (Reverted mask) = Unit {0}
@@ -105,9 +107,9 @@ DoesSomething (Refused fault) = ⊥
 DoesSomething Done = ⊥
 DoesSomething Cut = ⊥
 
--- One of so many boots that are cut had finished what it did: it had taken an image, gone back, or begun another boot
--- of a trial, and power failed when its last write counted already, so that the cut left the state after a complete
--- boot.
+-- One of so many boots that are cut had finished what it did: it had taken an image, gone back, or
+-- begun another boot of a trial, and power failed when its last write counted already, so that the
+-- cut left the state after a complete boot.
 pub record HasFinished (setup : Setup) (m mid : Machine) (times : ℕ) : Type 0 where
   pub earlier : ℕ
   pub later : ℕ

@@ -53,8 +53,8 @@ IsAtRest w s = IsSteadyAt w s ⊎ ((trial : Trial) × IsTrialAt w s trial)
 
 -- ---- an upgrade
 
--- The decision is recorded, and its set is at a place of the swap: x stood in the primary slots, y in the secondary
--- ones.
+-- The decision is recorded, and its set is at a place of the swap: x stood in the primary slots, y
+-- in the secondary ones.
 pub record IsSwapping (map : SectorMap) (chip : Chip) (s : DeviceState) (table : Table)
     (mask : ℕ) (permanent : Bool) (x y : ℕ → List ℕ) : Type 0 where
   pub trial : s.trial ≡ None
@@ -89,7 +89,8 @@ pub record AreSettled (w : View) (mask : ℕ) (permanent : Bool) : Type 0 where
 
 -- ---- going back
 
--- Going back is recorded, and the set is at a place of the swap back: the old images are y, of the secondary slots.
+-- Going back is recorded, and the set is at a place of the swap back: the old images are y, of the
+-- secondary slots.
 pub record IsSwappingBack (map : SectorMap) (chip : Chip) (s : DeviceState) (trial : Trial)
     (x y : ℕ → List ℕ) : Type 0 where
   pub goes : GoesBack s trial
@@ -118,8 +119,8 @@ pub record IsSwappedBack (w : View) (s : DeviceState) (trial : Trial) (kind : Ki
 
 -- ---- what stands
 
--- What a flash holds while the device isn't up: a state at rest, or one of which the record that stands says how far
--- a boot came.
+-- What a flash holds while the device isn't up: a state at rest, or one of which the record that
+-- stands says how far a boot came.
 pub data Stands (map : SectorMap) (chip : Chip) (s : DeviceState) : Type 0 where
   Rests : IsSteadyAt (view map chip) s → Stands map chip s
   Tries : (trial : Trial) → IsTrialAt (view map chip) s trial → Stands map chip s
@@ -140,8 +141,8 @@ pub record DeviceView : Type 0 where
   pub sessions : List (Option Upload)
   pub up : Bool
 
--- A device holds a state: its flash stands for what is kept; while it is up the flash is at rest, and while it isn't
--- no upload is open.
+-- A device holds a state: its flash stands for what is kept; while it is up the flash is at rest,
+-- and while it isn't no upload is open.
 pub record Holds (map : SectorMap) (d : DeviceView) (m : Machine) : Type 0 where
   pub stands : Stands map d.flash m.kept
   pub is_up : m.is_up ≡ d.up

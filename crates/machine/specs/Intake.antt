@@ -15,8 +15,8 @@ use Rattle.machine.specs.declared.error.Fault.TheVariants as no
 use Rattle.machine.specs.declared.reply.Reply.{Reply}
 use Rattle.machine.specs.declared.reply.Reply.TheVariants.{Done, Booted, Reverted, TrialAgain, Refused, Cut}
 
--- What a device is made with: where the parts of its flash lie, what it is to those who send it updates, and how
--- many boots a trial has, 1 to 7.
+-- What a device is made with: where the parts of its flash lie, what it is to those who send it
+-- updates, and how many boots a trial has, 1 to 7.
 pub record Setup : Type 0 where
   pub map : SectorMap
   pub identity : Identity
@@ -68,8 +68,8 @@ TakesManifest setup m bytes result next = (manifest : Manifest)
     × IsManifest setup.identity bytes manifest
     × Accepts setup.map m manifest.sequence manifest.components.items result next
 
--- A manifest comes: the refusals of the device are first, then those of the manifest, then those of the upload. Where
--- memory runs out while its text is read nothing changes.
+-- A manifest comes: the refusals of the device are first, then those of the manifest, then those of
+-- the upload. Where memory runs out while its text is read nothing changes.
 abbrev pub TakesText : Setup → Machine → List ℕ → Reply → Machine → Type 0
 TakesText setup m bytes (Refused (no.Manifest fault)) next =
     IsReady m × IsRefusal setup.identity bytes fault × (next ≡ m)

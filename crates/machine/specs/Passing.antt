@@ -1,5 +1,5 @@
--- What a device's calls have to leave: what stands after each passage of a boot, after a confirmation, and after
--- whole steps and runs.
+-- What a device's calls have to leave: what stands after each passage of a boot, after a
+-- confirmation, and after whole steps and runs.
 use Rattle.std.specs.Prelude.{◌≡◌, ◌⊎◌, ℕ, Bool, true, false, List, Result, Ok, Err}
 use Rattle.flash_model.specs.Chip.{Chip}
 use Rattle.sector_map.specs.declared.layout.SectorMap.{SectorMap}

@@ -35,7 +35,8 @@ IsSetOf mask (Refused fault) = Unit {0}
 IsSetOf mask Done = Unit {0}
 IsSetOf mask Cut = Unit {0}
 
--- A swap of a set that is resumed: one erase for each step that is left, two for each image, and two more.
+-- A swap of a set that is resumed: one erase for each step that is left, two for each image, and
+-- two more.
 abbrev pub IsResumed : SectorMap → Chip → Chip → Side → ℕ → Type 0
 IsResumed map old new side mask = new.erases + steps_done map old side mask
     ≤ old.erases + steps_in_all map old side mask + 2 * members map mask + 2

@@ -8,8 +8,8 @@ use manifest::ManifestError;
 use thiserror::Error;
 use upload::UploadError;
 
-/// Why a call of a device is refused. The numbers are 1 to 10, in this order; where several apply, the lowest is
-/// answered.
+/// Why a call of a device is refused. The numbers are 1 to 10, in this order; where several apply,
+/// the lowest is answered.
 #[derive(Clone, Copy, Debug, PartialEq, Eq, Error)]
 pub enum Fault {
     /// The device isn't up: it was made, reset or cut, and no boot has answered since.
@@ -24,11 +24,12 @@ pub enum Fault {
     /// The flash has no log of a device.
     #[error("the flash isn't provisioned")]
     NotProvisioned,
-    /// The running bytes of this image are no intact image, or, in the midst of an upgrade, those of an image of
-    /// its set; of several the lowest is told.
+    /// The running bytes of this image are no intact image, or, in the midst of an upgrade, those
+    /// of an image of its set; of several the lowest is told.
     #[error("the running image {0} is damaged")]
     RunningDamaged(u8),
-    /// A dependency of a running image isn't met, or the set of an upgrade isn't the one that would be chosen.
+    /// A dependency of a running image isn't met, or the set of an upgrade isn't the one that would
+    /// be chosen.
     #[error("the running set isn't valid")]
     InvalidSet,
     /// A call on the flash failed.

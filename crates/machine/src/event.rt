@@ -1,6 +1,7 @@
 //! What happens to a device.
 
-/// What happens to a device. The number of an image is given as it comes, also where the device has no such image.
+/// What happens to a device. The number of an image is given as it comes, also where the device has
+/// no such image.
 #[derive(Clone, Copy, Debug, PartialEq, Eq)]
 pub enum Event<'a> {
     /// A manifest comes: these are the bytes of its JSON text.

@@ -20,9 +20,9 @@ ghost use Rattle.machine.specs.declared.event.Event.TheVariants as event;
 ghost use Rattle.machine.specs.declared.reply.Reply.{Reply};
 ghost use Rattle.machine.specs.declared.reply.Reply.TheVariants.{Booted};
 
-/// In every run, whatever is cut in it, each boot that answers a report starts the greatest set of all combinations of
-/// the images that run and are requested as it boots, image by image, and gives for each refused request a reason that
-/// holds at its place.
+/// In every run, whatever is cut in it, each boot that answers a report starts the greatest set of
+/// all combinations of the images that run and are requested as it boots, image by image, and gives
+/// for each refused request a reason that holds at its place.
 ///
 /// It does nothing: its contract is the theorem.
 #[tactic(auto, using(crate::proofs::Answered::booted_at))]
@@ -34,10 +34,11 @@ pub fn each_boot_that_answers_starts_the_greatest_set()
         → IsBootedAt setup m events replies last place table report permanent }
 {}
 
-/// However often a boot was cut on the way, the one that answers a report starts the greatest set of all combinations
-/// of the images that ran and were requested before the first of them; unless one that was cut had finished what it
-/// did: it had taken an image, gone back, or begun another boot of a trial, so that the device had come to the state
-/// after a complete boot. A boot that was cut and had nothing to take is no such boot.
+/// However often a boot was cut on the way, the one that answers a report starts the greatest set
+/// of all combinations of the images that ran and were requested before the first of them; unless
+/// one that was cut had finished what it did: it had taken an image, gone back, or begun another
+/// boot of a trial, so that the device had come to the state after a complete boot. A boot that was
+/// cut and had nothing to take is no such boot.
 ///
 /// It does nothing: its contract is the theorem.
 pub fn boots_that_were_cut_start_the_same_set()
@@ -48,8 +49,8 @@ pub fn boots_that_were_cut_start_the_same_set()
         ⊎ HasFinished setup m mid times }
 {}
 
-/// What runs stays intact and valid in every run, whatever is cut in it: where what a state runs is so, and in a trial
-/// what ran before it too, the same is true of each state of a run from there.
+/// What runs stays intact and valid in every run, whatever is cut in it: where what a state runs is
+/// so, and in a trial what ran before it too, the same is true of each state of a run from there.
 ///
 /// It does nothing: its contract is the theorem.
 #[tactic(auto, using(crate::proofs::SoundRuns::run_sound))]
@@ -58,8 +59,8 @@ pub fn runs_keep_what_runs_intact_and_valid()
         → IsRun setup m events replies last → IsAllSound m.kept → IsAllSound last.kept }
 {}
 
-/// A boot that isn't cut answers wherever what runs is intact and valid, and in a trial what ran before it too: it
-/// isn't refused.
+/// A boot that isn't cut answers wherever what runs is intact and valid, and in a trial what ran
+/// before it too: it isn't refused.
 ///
 /// It does nothing: its contract is the theorem.
 pub fn boots_from_an_intact_and_valid_state_answer()
@@ -75,8 +76,8 @@ pub fn tables_of_a_state_are_equal()
         → IsTableOf s first → IsTableOf s second → first ≡ second }
 {}
 
-/// All boots from a state that answer a report take the same set of images: a boot that was cut and is repeated decides
-/// as the one before it.
+/// All boots from a state that answer a report take the same set of images: a boot that was cut and
+/// is repeated decides as the one before it.
 ///
 /// It does nothing: its contract is the law.
 pub fn reports_of_a_state_take_the_same_set()
@@ -96,7 +97,8 @@ pub fn runs_are_joined()
         → IsRun setup m (events ++ more) (replies ++ answered) last }
 {}
 
-/// A run over events and then others is a run over the first, and one over the others that goes on from there.
+/// A run over events and then others is a run over the first, and one over the others that goes on
+/// from there.
 ///
 /// It does nothing: its contract is the law.
 #[tactic(auto, using(crate::proofs::Runs::run_splits))]
@@ -107,8 +109,8 @@ pub fn runs_are_parted()
         × IsRun setup m events replies mid × IsRun setup mid more answered last }
 {}
 
-/// After any number of events of a run there is a state, to which the first of them are a run and from which the rest
-/// are one.
+/// After any number of events of a run there is a state, to which the first of them are a run and
+/// from which the rest are one.
 ///
 /// It does nothing: its contract is the law.
 #[tactic(auto, using(crate::proofs::Runs::run_prefix))]
@@ -128,8 +130,8 @@ pub fn each_event_has_a_reply()
         → IsRun setup m events replies last → length replies ≡ length events }
 {}
 
-/// A run of whose replies none is `Cut` consists of complete steps alone, and a run of complete steps has no such
-/// reply.
+/// A run of whose replies none is `Cut` consists of complete steps alone, and a run of complete
+/// steps has no such reply.
 ///
 /// It does nothing: its contract is the law.
 #[tactic(auto, using(crate::proofs::Runs::uncut_run, crate::proofs::Runs::complete_run))]
@@ -144,9 +146,9 @@ pub fn runs_without_a_cut_are_complete()
         → IsRun setup m events replies last × (cuts_in replies ≡ 0) }
 {}
 
-/// The trailers tell by MCUboot's table of swap types (its design document, "Swapping") what stands: of each image of
-/// a set on trial that isn't confirmed, that it goes back; and of each request that stands while nothing is on trial,
-/// that it is tried or stays, as it was asked for.
+/// The trailers tell by MCUboot's table of swap types (its design document, "Swapping") what
+/// stands: of each image of a set on trial that isn't confirmed, that it goes back; and of each
+/// request that stands while nothing is on trial, that it is tried or stays, as it was asked for.
 ///
 /// It does nothing: its contract is the law.
 pub fn trailers_tell_trials_and_requests()

@@ -1,10 +1,12 @@
-//! The device, over whole images: what happens to it, what it answers, and what its flash holds at every moment.
+//! The device, over whole images: what happens to it, what it answers, and what its flash holds at
+//! every moment.
 //!
-//! Promises: nothing runs here but the numbers and the names of faults. The definitions (`specs/`) say what a device
-//! does that knows whole images only, and what ties the bytes of a flash to a state of it; the lemmas (`proofs/`) say
-//! what follows for the passages of a boot and for whole runs. What follows for every run is promised by functions
-//! without a body (`laws`): above all that each boot which answers a report starts the greatest set. `boot_core` states
-//! its contracts by these definitions, and `answers` prints the replies.
+//! Promises: nothing runs here but the numbers and the names of faults. The definitions (`specs/`)
+//! say what a device does that knows whole images only, and what ties the bytes of a flash to a
+//! state of it; the lemmas (`proofs/`) say what follows for the passages of a boot and for whole
+//! runs. What follows for every run is promised by functions without a body (`laws`): above all
+//! that each boot which answers a report starts the greatest set. `boot_core` states its contracts
+//! by these definitions, and `answers` prints the replies.
 #![tactic(auto)]
 
 mod error;

@@ -26,7 +26,8 @@ abbrev pub values_of : Items → List Data
 values_of no_items = []
 values_of (item value items) = value ∷ values_of items
 
--- The whole number from 0 on that a value is: one that is written without a fraction or an exponent.
+-- The whole number from 0 on that a value is: one that is written without a fraction or an
+-- exponent.
 abbrev pub whole_number : Data → Option ℕ
 whole_number value = option_and_then as_u64 (as_number value)
 

@@ -5,15 +5,15 @@ ghost use Rattle.manifest.specs.Codes.{code_of, name_of};
 
 use thiserror::Error;
 
-/// Why bytes are no manifest for a device: the lowest refusal that applies to their JSON value, or memory runs out.
-/// The numbers are 1 to 8, in this order.
+/// Why bytes are no manifest for a device: the lowest refusal that applies to their JSON value, or
+/// memory runs out. The numbers are 1 to 8, in this order.
 #[derive(Clone, Copy, Debug, PartialEq, Eq, Error)]
 pub enum ManifestError {
     /// The bytes aren't the JSON text of a value.
     #[error("no JSON text")]
     NotJson,
-    /// The value isn't an object with exactly the keys of a manifest, or an object among its components hasn't
-    /// exactly those of a component.
+    /// The value isn't an object with exactly the keys of a manifest, or an object among its
+    /// components hasn't exactly those of a component.
     #[error("a key that is missing, or one that isn't known")]
     BadKey,
     /// What stands at a key isn't what has to stand there.

@@ -2,8 +2,8 @@
 
 use uuid::Uuid;
 
-/// What a device is, for those who send it updates: a manifest has to name its vendor, its class, and images that it
-/// has (RFC 9124, "Vendor ID Condition" and "Class ID Condition").
+/// What a device is, for those who send it updates: a manifest has to name its vendor, its class,
+/// and images that it has (RFC 9124, "Vendor ID Condition" and "Class ID Condition").
 #[derive(Clone, Copy, Debug, PartialEq, Eq)]
 pub struct Identity {
     /// Who makes the device.

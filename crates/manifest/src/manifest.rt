@@ -5,8 +5,8 @@ use arrayvec::ArrayVec;
 /// How many components a manifest has at most: one an image of a device.
 pub const MOST_COMPONENTS: usize = 8;
 
-/// One image that may come (RFC 9124, "Component Identifier", "Payload Digests", "Size" and "Precursor Image Digest
-/// Condition").
+/// One image that may come (RFC 9124, "Component Identifier", "Payload Digests", "Size" and
+/// "Precursor Image Digest Condition").
 #[derive(Clone, Copy, Debug, Default, PartialEq, Eq)]
 pub struct Component {
     /// The number of the image.
@@ -24,7 +24,8 @@ pub struct Component {
 /// What may come to a device.
 #[derive(Clone, Debug, Default, Drop, PartialEq, Eq)]
 pub struct Manifest {
-    /// Rises from manifest to manifest, so that an old one is known (RFC 9124, "Monotonic Sequence Number").
+    /// Rises from manifest to manifest, so that an old one is known (RFC 9124, "Monotonic Sequence
+    /// Number").
     pub sequence: u32,
     /// The images that may come, 1 to 8, in the order of the file, each image once.
     pub components: ArrayVec<Component, MOST_COMPONENTS>,

@@ -86,20 +86,22 @@ fn meant(value: &Value, identity: &Identity) -> Result<Manifest, ManifestError>
 impl Manifest {
     /// The manifest that a file is to a device.
     ///
-    /// `bytes` are the whole file, of any length: a JSON text (RFC 8259) of one object with exactly the keys of a
-    /// manifest, which docs/FORMATS.md lists. `identity` is what the device is. `alloc` is where the JSON value is
-    /// held while it is read; what is answered doesn't allocate.
+    /// `bytes` are the whole file, of any length: a JSON text (RFC 8259) of one object with exactly
+    /// the keys of a manifest, which docs/FORMATS.md lists. `identity` is what the device is.
+    /// `alloc` is where the JSON value is held while it is read; what is answered doesn't allocate.
     ///
     /// # Errors
-    /// The lowest refusal that applies to the value of the text, whatever is met first: 1 where the bytes are no
-    /// JSON text, 2 and 3 where the value isn't a manifest's, 4 to 7 where it is one for another device. `NoMemory`
-    /// comes where memory is refused while the text is read, and only there.
+    /// The lowest refusal that applies to the value of the text, whatever is met first: 1 where the
+    /// bytes are no JSON text, 2 and 3 where the value isn't a manifest's, 4 to 7 where it is one
+    /// for another device. `NoMemory` comes where memory is refused while the text is read, and
+    /// only there.
     pub fn read(alloc: Global, bytes: &[u8], identity: &Identity) -> Result<Manifest, ManifestError>
         ensures means { IfOk result (IsManifest identity.now bytes.now) }
         ensures read { (manifest : Manifest) → IsManifest identity.now bytes.now manifest
             → (result ≡ Ok manifest) ⊎ (result ≡ Err ManifestError.NoMemory) }
 
-        // The lowest refusal that applies is the error, and there is no other but that memory runs out.
+        // The lowest refusal that applies is the error, and there is no other but that memory runs
+        // out.
         ensures refused { (fault : ManifestError) → IsRefusal identity.now bytes.now fault
             → (result ≡ Err fault) ⊎ (result ≡ Err ManifestError.NoMemory) }
         ensures only { IfErr result (λ error. (error ≢ ManifestError.NoMemory)

@@ -1,5 +1,5 @@
-//! What the tests of the program run it over: files, standard input and outputs in memory, and devices with their flash
-//! files and scripts there. It is for tests alone.
+//! What the tests of the program run it over: files, standard input and outputs in memory, and
+//! devices with their flash files and scripts there. It is for tests alone.
 //!
 //! What checks fails by an `Err`, so a test passes it on by `?`.
 #![tactic(auto)]

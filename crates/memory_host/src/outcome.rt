@@ -23,8 +23,8 @@ impl Outcome {
         self.status == status && self.out.has(out.as_bytes()) && self.err.has(err.as_bytes())
     }
 
-    /// Fails, with what it left and `what` was run, unless this is the status, and these are the outputs, which were
-    /// flushed.
+    /// Fails, with what it left and `what` was run, unless this is the status, and these are the
+    /// outputs, which were flushed.
     pub fn expect<W: Debug + Copy>(
         &self,
         status: u8,
@@ -40,12 +40,14 @@ impl Outcome {
     }
 }
 
-/// Runs the program with these words, the program's own name first, where memory and room are ample.
+/// Runs the program with these words, the program's own name first, where memory and room are
+/// ample.
 pub fn run(alloc: Global, host: &mut MemoryHost<'_, '_>, words: &[&str]) -> Outcome {
     run_within(alloc, &alloc, host, words, AMPLE)
 }
 
-/// Runs the program with these words and outputs of these limits, and with its tables in memory of `heap`.
+/// Runs the program with these words and outputs of these limits, and with its tables in memory of
+/// `heap`.
 pub fn run_within<A: Allocator>(
     alloc: Global,
     heap: &A,
@@ -84,8 +86,8 @@ pub fn expect_each(alloc: Global, files: Files<'_>, cases: &[Case<'_>]) -> Resul
     Ok(())
 }
 
-/// Fails unless the choice over this table, from standard input and from a file, leaves this status, this standard
-/// output and this standard error.
+/// Fails unless the choice over this table, from standard input and from a file, leaves this
+/// status, this standard output and this standard error.
 pub fn expect_outcome(
     alloc: Global,
     table: &[u8],

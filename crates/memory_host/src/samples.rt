@@ -1,5 +1,5 @@
-//! The files that the commands are tried over: images, byte for byte, device files, manifests, tables and scripts. The
-//! digests in them were taken by another program.
+//! The files that the commands are tried over: images, byte for byte, device files, manifests,
+//! tables and scripts. The digests in them were taken by another program.
 
 /// Version 1.0.0+0, which needs nothing.
 pub const RUNNING: [u8; 76] = [

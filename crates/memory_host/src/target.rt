@@ -1,5 +1,5 @@
-//! Devices that the commands are tried over: the sample files, a flash file that the program makes and writes, and a
-//! script.
+//! Devices that the commands are tried over: the sample files, a flash file that the program makes
+//! and writes, and a script.
 use crate::files::{FLASH_FILE, Left, MemoryHost, WritableFile};
 use crate::outcome::{Outcome, run_within};
 use crate::samples::{
@@ -117,8 +117,8 @@ impl Target {
         Ok(())
     }
 
-    /// Runs the program with these words over all files, this script and this standard input, where memory and room
-    /// are ample.
+    /// Runs the program with these words over all files, this script and this standard input, where
+    /// memory and room are ample.
     pub fn command(
         &mut self,
         alloc: Global,
@@ -129,7 +129,8 @@ impl Target {
         self.command_within(alloc, &alloc, words, script, input, AMPLE)
     }
 
-    /// The same with the words of a line, each behind a space but the first, without the program's own name.
+    /// The same with the words of a line, each behind a space but the first, without the program's
+    /// own name.
     pub fn line(
         &mut self,
         alloc: Global,
@@ -144,7 +145,8 @@ impl Target {
         Ok(self.command(alloc, words.as_slice(), script, input))
     }
 
-    /// The same as `command` with outputs of these limits, and with files and texts in memory of `heap`.
+    /// The same as `command` with outputs of these limits, and with files and texts in memory of
+    /// `heap`.
     pub fn command_within<A: Allocator>(
         &mut self,
         alloc: Global,
@@ -200,7 +202,8 @@ pub fn two_images(alloc: Global) -> Result<Target, Fail> {
     provisioned(alloc, Device::TwoImages, &["running.img", "running.img"])
 }
 
-/// Fails unless `run` of this script leaves this status and this standard output, and no standard error.
+/// Fails unless `run` of this script leaves this status and this standard output, and no standard
+/// error.
 pub fn expect_run(
     alloc: Global,
     target: &mut Target,
@@ -276,7 +279,8 @@ impl Fresh {
         Ok(self.target.run(alloc, script))
     }
 
-    /// Fails unless `run` of this script leaves this status and this standard output, and no standard error.
+    /// Fails unless `run` of this script leaves this status and this standard output, and no
+    /// standard error.
     pub fn expect(
         &mut self,
         alloc: Global,

@@ -31,7 +31,8 @@ AnswersChoice Done table input file old new =
 AnswersChoice Refused table input file old new = ⊥
 AnswersChoice Cut table input file old new = ⊥
 
--- `image` read the bytes of an image, and wrote what it says of itself, or the first check that fails.
+-- `image` read the bytes of an image, and wrote what it says of itself, or the first check that
+-- fails.
 abbrev pub Describes : DescribeEnd → Source → Option (List ℕ) → FileBytes
     → Option (List ℕ) → Option (List ℕ) → Type 0
 Describes end image input file old new =
@@ -45,7 +46,8 @@ AnswersDescription Refused image input file old new =
     Describes description.Refused image input file old new
 AnswersDescription Cut image input file old new = ⊥
 
--- `check` read the bytes of a table and of a report, and wrote whether the report is right for the table.
+-- `check` read the bytes of a table and of a report, and wrote whether the report is right for the
+-- table.
 abbrev pub Checks : CheckEnd → Source → Source → Option (List ℕ) → FileBytes
     → Option (List ℕ) → Option (List ℕ) → Type 0
 Checks end table report input file old new =
@@ -60,8 +62,8 @@ AnswersCheck Refused table report input file old new =
     Checks check.No table report input file old new
 AnswersCheck Cut table report input file old new = ⊥
 
--- `manifest` read the bytes of a device file and of a manifest, and wrote what the manifest says to the
--- device, or the lowest refusal that applies ..
+-- `manifest` read the bytes of a device file and of a manifest, and wrote what the manifest says to
+-- the device, or the lowest refusal that applies ..
 abbrev pub TellsDevice : ManifestEnd → Source → Source → Option (List ℕ) → FileBytes
     → Option (List ℕ) → Option (List ℕ) → Type 0
 TellsDevice end device file input files old new =

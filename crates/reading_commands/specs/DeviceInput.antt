@@ -21,7 +21,8 @@ RefusesMap source input files old new =
     (bytes : List ℕ) × (refused : MapError) × Gives source input files bytes
     × IsDeviceFault bytes (fault.Map refused) × Appends old new (map_refusal_text refused)
 
--- What was read of a device file: the device, and the writer took nothing; or none, for its sizes make no map.
+-- What was read of a device file: the device, and the writer took nothing; or none, for its sizes
+-- make no map.
 abbrev pub ReadsDevice : Option DeviceFile → Source → Option (List ℕ) → FileBytes
     → Option (List ℕ) → Option (List ℕ) → Type 0
 ReadsDevice (Some device) source input files old new =

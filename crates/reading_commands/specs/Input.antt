@@ -1,4 +1,5 @@
--- What a host is known to hold: what is left of its standard input, and what each of its files holds.
+-- What a host is known to hold: what is left of its standard input, and what each of its files
+-- holds.
 use Rattle.std.specs.Prelude.{◌≡◌, ◌≢◌, ℕ, List, Option, IfSome, codes}
 use Rattle.std.specs.Io.KnownBytes.{Keeps}
 use Rattle.reading_commands.specs.declared.source.Source.{Source}
@@ -26,8 +27,8 @@ abbrev pub Gives : Source → Option (List ℕ) → FileBytes → List ℕ → T
 Gives StandardInput input file bytes = IsKnownAs input bytes
 Gives (File name) input file bytes = IsKnownAs (file name.now) bytes
 
--- These are the bytes of two sources that are read one after the other. What a file holds once standard
--- input was read is not said.
+-- These are the bytes of two sources that are read one after the other. What a file holds once
+-- standard input was read is not said.
 abbrev pub GiveBoth : Source → Source → Option (List ℕ) → FileBytes
     → List ℕ → List ℕ → Type 0
 GiveBoth StandardInput second input file first_bytes second_bytes =

@@ -43,11 +43,11 @@ impl Answer {
     }
 }
 
-/// Brings a command to its end, and returns the exit status: an answer is flushed, and a refusal is an error
-/// line. Standard output holds what it held.
+/// Brings a command to its end, and returns the exit status: an answer is flushed, and a refusal is
+/// an error line. Standard output holds what it held.
 ///
-/// The status is that of the answer or the refusal, or 1 where a write failed; after that nothing more is written. So
-/// it is 0 only where the answer is `Done` and was flushed.
+/// The status is that of the answer or the refusal, or 1 where a write failed; after that nothing
+/// more is written. So it is 0 only where the answer is `Done` and was flushed.
 pub fn finish<O: Write, E: Write>(
     outcome: Result<Answer, Refusal<'_>>,
     out: &mut O,
@@ -64,7 +64,8 @@ pub fn finish<O: Write, E: Write>(
     }
 }
 
-/// Writes the error line of a refusal, and returns the exit status: that of the refusal, or 1 where a write failed.
+/// Writes the error line of a refusal, and returns the exit status: that of the refusal, or 1 where
+/// a write failed.
 pub fn refuse<E: Write>(refusal: Refusal<'_>, err: &mut E) -> u8
     ensures { (result ≡ status_of_refusal refusal.entry) ⊎ (result ≡ 1) }
 {

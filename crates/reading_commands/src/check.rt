@@ -11,8 +11,8 @@ use certificate::Table;
 use std::alloc::Allocator;
 use std::io::Write;
 
-/// Reads both texts from `host` into memory of `heap`, and writes the verdict to `out`. The table is judged
-/// before the report is read.
+/// Reads both texts from `host` into memory of `heap`, and writes the verdict to `out`. The table
+/// is judged before the report is read.
 pub fn perform<'a, A: Allocator, H: Host, O: Write>(
     heap: &A,
     table: Source<'a>,

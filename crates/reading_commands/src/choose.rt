@@ -10,7 +10,8 @@ use answers::{ChooseEnd, choose_over};
 use std::alloc::Allocator;
 use std::io::Write;
 
-/// Reads a table from `host` into memory of `heap`, and writes the report of the choice over it to `out`.
+/// Reads a table from `host` into memory of `heap`, and writes the report of the choice over it to
+/// `out`.
 pub fn perform<'a, A: Allocator, H: Host, O: Write>(
     heap: &A,
     table: Source<'a>,

@@ -14,8 +14,9 @@ use sector_map::{MapError, SectorMap};
 use std::alloc::{Allocator, Global};
 use std::io::Write;
 
-/// The device of a device file, which is read from `host` into memory of `heap`. What the file is as a JSON value
-/// stands in memory of `alloc`. There is none where its sizes make no map: then `out` is told why.
+/// The device of a device file, which is read from `host` into memory of `heap`. What the file is
+/// as a JSON value stands in memory of `alloc`. There is none where its sizes make no map: then
+/// `out` is told why.
 pub fn read_device<'a, A: Allocator, H: Host, O: Write>(
     alloc: Global,
     heap: &A,
@@ -58,7 +59,8 @@ fn tell_map<'a, A: Allocator, O: Write>(
     }
 }
 
-/// The bytes of a device's flash, which are as many as its map says, from `host`, in memory of `alloc`.
+/// The bytes of a device's flash, which are as many as its map says, from `host`, in memory of
+/// `alloc`.
 pub fn read_flash<'a, H: Host>(
     alloc: Global,
     flash: Source<'a>,

@@ -39,7 +39,8 @@ pub enum Refusal<'a> {
     /// The flash file could not be made, or not be written.
     #[error("flash file")]
     FlashFile,
-    /// The answer could not be written to its end. It is never printed: after a write that failed nothing is.
+    /// The answer could not be written to its end. It is never printed: after a write that failed
+    /// nothing is.
     #[error("cannot write")]
     CannotWrite,
 }

@@ -1,4 +1,5 @@
-//! What the program asks of the system: the bytes of files and of standard input, and a file to write.
+//! What the program asks of the system: the bytes of files and of standard input, and a file to
+//! write.
 ghost use Rattle.std.specs.Prelude.{IfOk, List, ℕ, None, Option};
 ghost use Rattle.std.specs.Io.{ReadsAtMost};
 ghost use Rattle.std.specs.Io.KnownBytes.{Keeps, ReadConsumes};
@@ -8,11 +9,11 @@ use std::alloc::Allocator;
 use std::io;
 use std::io::Read;
 
-/// Where the program's input comes from, and the file that it writes. A test stands in for the system with bytes in
-/// memory.
+/// Where the program's input comes from, and the file that it writes. A test stands in for the
+/// system with bytes in memory.
 ///
-/// Where a file or standard input is read, an error of kind `OutOfMemory` says that memory ran out, and any other that
-/// the read failed.
+/// Where a file or standard input is read, an error of kind `OutOfMemory` says that memory ran out,
+/// and any other that the read failed.
 pub trait Host {
     // What is left of standard input, where it is known.
     ghost input: { Self → Option (List ℕ) } = { λ _. None };
@@ -32,12 +33,13 @@ pub trait Host {
         ensures bytes { ReadConsumes (input self.old) (input self.new) result buffer.new }
         ensures files { KeepsFiles (file self.old) (file self.new) };
 
-    /// Makes a file of this name that has so many bytes. One that is there is emptied first. What the bytes are is
-    /// not said.
+    /// Makes a file of this name that has so many bytes. One that is there is emptied first. What
+    /// the bytes are is not said.
     fn create_file(&mut self, name: &str, length: u64) -> io::Result<()>
         ensures input { Keeps (input self.old) (input self.new) };
 
-    /// Writes all of `bytes` to the file of this name, which is there, from its byte `at` on. Does not allocate.
+    /// Writes all of `bytes` to the file of this name, which is there, from its byte `at` on. Does
+    /// not allocate.
     fn write_file_at(&mut self, name: &str, at: u64, bytes: &[u8]) -> io::Result<()>
         ensures input { Keeps (input self.old) (input self.new) };
 }

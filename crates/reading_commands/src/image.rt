@@ -10,8 +10,8 @@ use answers::{DescribeEnd, describe_over};
 use std::alloc::Allocator;
 use std::io::Write;
 
-/// Reads an image from `host` into memory of `heap`, and writes to `out` what it says of itself, or the first
-/// check that fails.
+/// Reads an image from `host` into memory of `heap`, and writes to `out` what it says of itself, or
+/// the first check that fails.
 pub fn perform<'a, A: Allocator, H: Host, O: Write>(
     heap: &A,
     image: Source<'a>,

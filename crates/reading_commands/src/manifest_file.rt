@@ -1,4 +1,5 @@
-//! `bootswap manifest`: what the manifest of a file says to the device of another, or why it is none for it.
+//! `bootswap manifest`: what the manifest of a file says to the device of another, or why it is
+//! none for it.
 ghost use Rattle.std.specs.Prelude.{IfOk};
 ghost use Rattle.reading_commands.specs.AnswerEnd.{AnswersManifest};
 
@@ -11,9 +12,10 @@ use answers::{ManifestEnd, tell_over};
 use std::alloc::{Allocator, Global};
 use std::io::Write;
 
-/// Reads a device file and a manifest from `host` into memory of `heap`, and writes to `out` what the manifest says
-/// to the device, or why it is none for it. What the files are as JSON values stands in memory of `alloc`. The device
-/// file is judged before the manifest is read: where its sizes make no map, that is written.
+/// Reads a device file and a manifest from `host` into memory of `heap`, and writes to `out` what
+/// the manifest says to the device, or why it is none for it. What the files are as JSON values
+/// stands in memory of `alloc`. The device file is judged before the manifest is read: where its
+/// sizes make no map, that is written.
 pub fn perform<'a, A: Allocator, H: Host, O: Write>(
     alloc: Global,
     heap: &A,

@@ -13,9 +13,9 @@ use std::io::Write;
 use std::marker::Brand;
 use std::sync::ledger::Blank;
 
-/// Reads a device file from `host` into memory of `heap`, and the bytes of the device's flash into memory of `alloc`,
-/// and writes to `out` what stands there. The device file is judged before the flash is read: where its sizes make no
-/// map, that is written. Nothing is changed.
+/// Reads a device file from `host` into memory of `heap`, and the bytes of the device's flash into
+/// memory of `alloc`, and writes to `out` what stands there. The device file is judged before the
+/// flash is read: where its sizes make no map, that is written. Nothing is changed.
 pub fn perform<'a, A: Allocator, H: Host, O: Write>(
     alloc: Global,
     heap: &A,

@@ -47,8 +47,8 @@ start_of map part = first_of map part * map.sector_size
 abbrev pub length_of : SectorMap → Part → ℕ
 length_of map part = count_of map part * map.sector_size
 
--- How many places for records a sector of the log has: of 64 bytes each, and 64 are left at the end for its
--- closing unit.
+-- How many places for records a sector of the log has: of 64 bytes each, and 64 are left at the end
+-- for its closing unit.
 abbrev pub places_of : SectorMap → ℕ
 places_of map = map.sector_size / 64 - 1
 
@@ -69,8 +69,8 @@ pub record IsIn (map : SectorMap) (part : Part) (sector : ℕ) : Type 0 where
 abbrev pub IsWithin : SectorMap → ℕ → Type 0
 IsWithin map mask = (i : ℕ) → is_member mask i ≡ true → i < map.images
 
--- The map is laid out on a flash: this has sectors of the map's size, and as many at least. The rest is true
--- of each map and of each flash.
+-- The map is laid out on a flash: this has sectors of the map's size, and as many at least. The
+-- rest is true of each map and of each flash.
 pub record IsLaidOut (map : SectorMap) (chip : Chip) : Type 0 where
   pub sector_size : chip.sector_size ≡ map.sector_size
   pub sectors : sectors_of map ≤ chip.sectors
@@ -88,7 +88,8 @@ part_of map chip part =
 abbrev pub end_of_map : SectorMap → ℕ
 end_of_map map = sectors_of map * map.sector_size
 
--- The sectors are the same, each part that isn't touched is as it was, and so is each byte behind the map.
+-- The sectors are the same, each part that isn't touched is as it was, and so is each byte behind
+-- the map.
 pub record Keeps (map : SectorMap) (touched : Part → Bool) (old new : Chip) : Type 0 where
   pub sector_size : new.sector_size ≡ old.sector_size
   pub sectors : new.sectors ≡ old.sectors

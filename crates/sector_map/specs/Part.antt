@@ -74,7 +74,8 @@ swap_one j on (TrailerOf i side) = (i == j) && same_side side on
 swap_one j on Scratch = true
 swap_one j on Log = false
 
--- What a swap of the images of a mask writes: both slots of each, its trailer on one side, and scratch.
+-- What a swap of the images of a mask writes: both slots of each, its trailer on one side, and
+-- scratch.
 abbrev pub swap_of : ℕ → Side → Part → Bool
 swap_of mask on (Slot i side) = is_member mask i
 swap_of mask on (TrailerOf i side) = is_member mask i && same_side side on

@@ -15,11 +15,13 @@ pub record AreImages (images : ℕ) (sectors : List ℕ) : Type 0 where
   pub few : images ≤ MOST_IMAGES
   pub some : (i : ℕ) → i < images → 0 < slice_index sectors i
 
--- Each trailer fits its sector: three status units of 8 bytes for each sector of its slot, and 56 bytes.
+-- Each trailer fits its sector: three status units of 8 bytes for each sector of its slot, and 56
+-- bytes.
 abbrev pub HoldTrailers : ℕ → List ℕ → Type 0
 HoldTrailers size sectors = (i : ℕ) → 24 * slice_index sectors i + 56 ≤ size
 
--- How many sectors of a side lie before an image: the slots before it, each with the sector of its trailer.
+-- How many sectors of a side lie before an image: the slots before it, each with the sector of its
+-- trailer.
 unfoldable pub before : List ℕ → ℕ → ℕ
 before sectors i = sum (take i sectors) + i
 
@@ -31,8 +33,8 @@ all_sectors images sectors = 2 * before sectors images + 4
 abbrev pub AreAddressed : ℕ → ℕ → List ℕ → Type 0
 AreAddressed size images sectors = all_sectors images sectors * size < 2 ^ 32
 
--- Sectors of this size, and so many images with these sectors a slot, make a map. An image that it lacks has
--- no sectors.
+-- Sectors of this size, and so many images with these sectors a slot, make a map. An image that it
+-- lacks has no sectors.
 pub record MakeMap (size images : ℕ) (sectors : List ℕ) : Type 0 where
   pub sector : IsSectorSize size
   pub counts : AreImages images sectors

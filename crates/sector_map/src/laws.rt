@@ -6,8 +6,8 @@ ghost use Rattle.sector_map.specs.Part.{Part};
 
 use crate::layout::SectorMap;
 
-/// The parts of a map are disjoint, lie in the flash, and fill it; and each trailer fits its sector: 24 bytes
-/// of status for each sector of the slot, and 56 bytes of other fields.
+/// The parts of a map are disjoint, lie in the flash, and fill it; and each trailer fits its
+/// sector: 24 bytes of status for each sector of the slot, and 56 bytes of other fields.
 pub fn parts_lie_apart(map: &SectorMap)
     ensures apart { (p q : Part) (s : ℕ) → IsIn map.now p s → IsIn map.now q s → p ≡ q }
     ensures within { (p : Part) (s : ℕ) → IsIn map.now p s → s < sectors_of map.now }

@@ -11,14 +11,15 @@ use flash_model::Flash;
 pub enum Side {
     /// The slot that the image runs from.
     Primary,
-    /// The slot that a new image is written to, and that keeps the old one while the new one is on trial.
+    /// The slot that a new image is written to, and that keeps the old one while the new one is on
+    /// trial.
     Secondary,
 }
 
-/// Where the parts of a device's flash lie, by the length of a sector and the sectors of each image. Both slots
-/// of an image have as many. In the order of their addresses there are: for each image its primary slot and the
-/// trailer's sector; for each image its secondary slot and the trailer's sector; scratch; three sectors of the
-/// log.
+/// Where the parts of a device's flash lie, by the length of a sector and the sectors of each
+/// image. Both slots of an image have as many. In the order of their addresses there are: for each
+/// image its primary slot and the trailer's sector; for each image its secondary slot and the
+/// trailer's sector; scratch; three sectors of the log.
 #[derive(Clone, Copy, Debug, PartialEq, Eq)]
 pub struct SectorMap {
     /// The length of a sector in bytes.

@@ -9,14 +9,14 @@ use crate::layout::SectorMap;
 use common::limits::MOST_IMAGES;
 
 impl SectorMap {
-    /// The map of sectors of `sector_size` bytes and of as many images as there are counts, the slots of each
-    /// with so many sectors.
+    /// The map of sectors of `sector_size` bytes and of as many images as there are counts, the
+    /// slots of each with so many sectors.
     ///
     /// # Errors
-    /// The first check that fails: `BadSector` unless the size is a multiple of 64 from 512 to 131072;
-    /// `BadCount` unless there are 1 to 8 images, each with a sector at least; `TrailerFull` where three status
-    /// units of 8 bytes a sector and 56 bytes more don't fit into a sector; `TooLarge` where all parts together
-    /// have more than 4294967295 bytes.
+    /// The first check that fails: `BadSector` unless the size is a multiple of 64 from 512 to
+    /// 131072; `BadCount` unless there are 1 to 8 images, each with a sector at least;
+    /// `TrailerFull` where three status units of 8 bytes a sector and 56 bytes more don't fit into
+    /// a sector; `TooLarge` where all parts together have more than 4294967295 bytes.
     pub fn new(sector_size: u32, sectors_per_image: &[u32]) -> Result<SectorMap, MapError>
         ensures made { IfOk result (HasSizes sector_size sectors_per_image.now) }
         ensures accepted { IsOk result ↔

@@ -31,8 +31,8 @@ fn bit(on: bool) -> u8
     if on { 1 } else { 0 }
 }
 
-/// The mask of the images of which a list says that they are members: its entry i is for image i, and images behind
-/// its end are none. It has 8 entries at most.
+/// The mask of the images of which a list says that they are members: its entry i is for image i,
+/// and images behind its end are none. It has 8 entries at most.
 pub fn mask_of(members: &[bool]) -> u8
     requires { length members.now ≤ MOST_IMAGES }
     // These images are in it and no others ..

@@ -34,8 +34,8 @@ kind_fits Trial mask permanent left = not (mask == 0) && nat_le left 6
 kind_fits Back mask permanent left = not (mask == 0) && (left == 0)
 kind_fits BackSettle mask permanent left = not (mask == 0) && (left == 0)
 
--- A state keeps the table of records, for so many images: the set is of these images, it has what its kind
--- asks for, and the floors past the last image are 0.
+-- A state keeps the table of records, for so many images: the set is of these images, it has what
+-- its kind asks for, and the floors past the last image are 0.
 abbrev pub fits : ℕ → State → Bool
 fits images s =
     nat_lt s.mask (2 ^ images) && (kind_fits s.kind s.mask s.permanent s.left
@@ -61,7 +61,8 @@ pub record Spells (images : ℕ) (bytes : List ℕ) (s : State) : Type 0 where
   pub spelled : bytes ≡ record_bytes s
   pub kept : fits images s ≡ true
 
--- The numbers of a state are of four bytes, and there are eight floors: so it is of each state of a program.
+-- The numbers of a state are of four bytes, and there are eight floors: so it is of each state of a
+-- program.
 pub record IsSized (s : State) : Type 0 where
   pub sequence : s.sequence < 2 ^ 32
   pub eight : length s.floors ≡ 8

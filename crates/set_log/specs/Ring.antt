@@ -1,6 +1,6 @@
--- The ring: a log of three sectors, numbered 0 to 2, of which the first follows the third. Of a sector of e bytes
--- the first e / 64 - 1 times 64 are places, each for a record of 56 bytes and its gate, and the last 8 are its
--- closing unit.
+-- The ring: a log of three sectors, numbered 0 to 2, of which the first follows the third. Of a
+-- sector of e bytes the first e / 64 - 1 times 64 are places, each for a record of 56 bytes and its
+-- gate, and the last 8 are its closing unit.
 use Rattle.std.specs.Prelude.{◌≡◌, ℕ, zero, suc, ◌+◌, ◌-◌, ◌*◌, ◌/◌, ◌%◌, ◌<◌, Bool, true, false, not, ◌&&◌, ◌==◌}
 use Rattle.std.specs.Prelude.{List, [], ◌∷◌, slice_range, Option, Some, None, if◌then◌else◌, find}
 use Rattle.std.specs.List.{list_all}

@@ -13,7 +13,8 @@ pub record IsWritten (e : ℕ) (log : Chip) (sector place : ℕ) (bytes : List �
 abbrev pub HasClosingFlag : ℕ → Chip → ℕ → Type 0
 HasClosingFlag e log sector = Reads log (sector * e + (e - 8)) FLAG
 
--- The first free place of a sector: it and all behind it are erased, and no earlier place is so too.
+-- The first free place of a sector: it and all behind it are erased, and no earlier place is so
+-- too.
 pub record IsFirstFree (e : ℕ) (log : Chip) (sector place : ℕ) : Type 0 where
   pub free : IsFree e log sector place
   pub first : (earlier : ℕ) → earlier < place → IsFree e log sector earlier → ⊥
@@ -25,7 +26,8 @@ pub record IsBesideNext (e active : ℕ) (old new : Chip) : Type 0 where
   pub before : (k : ℕ) → previous_of active * e ≤ k → k < previous_of active * e + e
       → slice_index new.bytes k ≡ slice_index old.bytes k
 
--- The log moved on: a record stands at the first place of the next sector, and the active one is closed by a flag.
+-- The log moved on: a record stands at the first place of the next sector, and the active one is
+-- closed by a flag.
 pub record IsMovedOn (e active : ℕ) (bytes : List ℕ) (new : Chip) : Type 0 where
   pub record_there : IsWritten e new (next_of active) 0 bytes
   pub closed : HasClosingFlag e new active

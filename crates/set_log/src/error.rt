@@ -9,8 +9,8 @@ use thiserror::Error;
 /// Why the log gives no state. The numbers are 1 and 2, in this order.
 #[derive(Clone, Copy, Debug, PartialEq, Eq, Error)]
 pub enum LogError {
-    /// The log has no state: no sector is active, the active one has no gated record, or its last gated record
-    /// breaks the table of records.
+    /// The log has no state: no sector is active, the active one has no gated record, or its last
+    /// gated record breaks the table of records.
     #[error("the log has no state")]
     NoLog,
     /// A call on the flash failed. Reading never answers `Cut`.

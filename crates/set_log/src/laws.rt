@@ -9,8 +9,8 @@ ghost use Rattle.set_log.specs.Ring.{IsActive};
 
 use sector_map::SectorMap;
 
-/// The state is a function of the bytes of the log: where a call leaves the log, the state is as it was, whatever
-/// else the call touched. So are the places that are free.
+/// The state is a function of the bytes of the log: where a call leaves the log, the state is as it
+/// was, whatever else the call touched. So are the places that are free.
 pub fn a_log_that_is_left_keeps_its_state(map: &SectorMap)
     ensures state { (touched : Part → Bool) (old new : Chip) → Keeps map.now touched old new
         → touched Log ≡ false → state_of map.now new ≡ state_of map.now old }

@@ -1,9 +1,9 @@
 //! Records on flash, second part: the set log, a register that survives cuts.
 //!
-//! Promises: the state is a function of the bytes of the log's three sectors, and `read_state` is that function; an
-//! append that power cuts leaves the old state or the new one, over any bytes that it tears; nothing but the log is
-//! touched; and how many sectors are erased is known exactly. Does not allocate. `upload`, `boot_core` and `answers`
-//! call it.
+//! Promises: the state is a function of the bytes of the log's three sectors, and `read_state` is
+//! that function; an append that power cuts leaves the old state or the new one, over any bytes
+//! that it tears; nothing but the log is touched; and how many sectors are erased is known exactly.
+//! Does not allocate. `upload`, `boot_core` and `answers` call it.
 #![tactic(auto)]
 
 mod error;

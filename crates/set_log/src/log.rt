@@ -16,22 +16,22 @@ use crate::writing::{append_record, start_record};
 use flash_model::{Flash, FlashError};
 use sector_map::SectorMap;
 
-/// Reads the state of the log: that of the last gated record of the active sector, which is the open one whose
-/// predecessor is closed. The other sectors don't count, whatever they hold.
+/// Reads the state of the log: that of the last gated record of the active sector, which is the
+/// open one whose predecessor is closed. The other sectors don't count, whatever they hold.
 ///
-/// The map is laid out on the flash, which doesn't change. Any bytes are allowed: the call returns on each log.
-/// Does not allocate.
+/// The map is laid out on the flash, which doesn't change. Any bytes are allowed: the call returns
+/// on each log. Does not allocate.
 ///
 /// # Errors
-/// `NoLog` where no sector is active, the active one has no gated record, or the last one breaks the table of
-/// records. `Flash(Off)` where the flash was off.
+/// `NoLog` where no sector is active, the active one has no gated record, or the last one breaks
+/// the table of records. `Flash(Off)` where the flash was off.
 pub fn read_state<F: Flash>(flash: &mut F, map: &SectorMap) -> Result<State, LogError>
     requires { IsLaidOut map.now (F.chip flash.old) }
     ensures same { F.chip flash.new ≡ F.chip flash.old }
     ensures answers { Answers result
         (state_of map.now (F.chip flash.old)) (F.chip flash.old).is_on }
-    // A state that is in the log keeps the table of records, whatever bytes it has: so its set is of images of
-    // the map.
+    // A state that is in the log keeps the table of records, whatever bytes it has: so its set is
+    // of images of the map.
     ensures table { (state : State) → state_of map.now (F.chip flash.old) ≡ Some state
         → fits map.now.images state ≡ true }
     ensures within { (state : State) → state_of map.now (F.chip flash.old) ≡ Some state
@@ -53,13 +53,14 @@ pub fn read_state<F: Flash>(flash: &mut F, map: &SectorMap) -> Result<State, Log
 
 /// Appends a state: it stands in place of the one before.
 ///
-/// The map is laid out on the flash, the log has a state, of which `read_state` is the test, and the new one fits
-/// the map's images, of which `State::fits` is the test. Where a place is free, 56 bytes and a gate are written;
-/// else the next sector is erased, the record written there, and the active sector closed. Does not allocate.
+/// The map is laid out on the flash, the log has a state, of which `read_state` is the test, and
+/// the new one fits the map's images, of which `State::fits` is the test. Where a place is free, 56
+/// bytes and a gate are written; else the next sector is erased, the record written there, and the
+/// active sector closed. Does not allocate.
 ///
 /// # Errors
-/// `Cut` where power failed: the old state stands or the new one, whatever bytes the write left, and all other
-/// parts are as they were. `Off` where the flash was off before: nothing changed.
+/// `Cut` where power failed: the old state stands or the new one, whatever bytes the write left,
+/// and all other parts are as they were. `Off` where the flash was off before: nothing changed.
 pub fn append<F: Flash>(flash: &mut F, map: &SectorMap, state: &State) -> Result<(), FlashError>
     requires laid_out { IsLaidOut map.now (F.chip flash.old) }
     requires has_state { IsSome (state_of map.now (F.chip flash.old)) }
@@ -69,7 +70,8 @@ pub fn append<F: Flash>(flash: &mut F, map: &SectorMap, state: &State) -> Result
     ensures either { (state_of map.now (F.chip flash.new) ≡ state_of map.now (F.chip flash.old))
         ⊎ (state_of map.now (F.chip flash.new) ≡ Some state.now) }
     ensures ok { OnOk result (state_of map.now (F.chip flash.new) ≡ Some state.now) }
-    // Where a place is free the record goes to the first such place of the active sector, and nothing else is written.
+    // Where a place is free the record goes to the first such place of the active sector, and
+    // nothing else is written.
     ensures within { let e = map.now.sector_size in (sector place : ℕ)
         → IsActive e (log_bytes map.now (F.chip flash.old)) sector
         → IsFirstFree e (log_of map.now (F.chip flash.old)) sector place
@@ -79,7 +81,8 @@ pub fn append<F: Flash>(flash: &mut F, map: &SectorMap, state: &State) -> Result
         → IsActive e (log_bytes map.now (F.chip flash.old)) sector
         → IsFirstFree e (log_of map.now (F.chip flash.old)) sector place
         → IsWritten e (log_of map.now (F.chip flash.new)) sector place (record_bytes state.now)) }
-    // Where none is, it goes to the first place of the next sector, and then the active one is closed.
+    // Where none is, it goes to the first place of the next sector, and then the active one is
+    // closed.
     ensures beside { let e = map.now.sector_size in (sector : ℕ)
         → IsActive e (log_bytes map.now (F.chip flash.old)) sector
         → is_place_free map.now (F.chip flash.old) ≡ false
@@ -98,15 +101,15 @@ pub fn append<F: Flash>(flash: &mut F, map: &SectorMap, state: &State) -> Result
     Ok(())
 }
 
-/// Begins a log with a state, whatever stood there: erases the three sectors, writes the record at the first place
-/// of the first and closes the third.
+/// Begins a log with a state, whatever stood there: erases the three sectors, writes the record at
+/// the first place of the first and closes the third.
 ///
-/// The map is laid out on the flash, and the state fits the map's images, of which `State::fits` is the test. Does
-/// not allocate.
+/// The map is laid out on the flash, and the state fits the map's images, of which `State::fits` is
+/// the test. Does not allocate.
 ///
 /// # Errors
-/// `Cut` where power failed: the log holds any bytes, and all other parts are as they were. `Off` where the flash
-/// was off before: nothing changed.
+/// `Cut` where power failed: the log holds any bytes, and all other parts are as they were. `Off`
+/// where the flash was off before: nothing changed.
 pub fn start<F: Flash>(flash: &mut F, map: &SectorMap, state: &State) -> Result<(), FlashError>
     requires laid_out { IsLaidOut map.now (F.chip flash.old) }
     requires fits { fits map.now.images state.now ≡ true }
@@ -116,7 +119,8 @@ pub fn start<F: Flash>(flash: &mut F, map: &SectorMap, state: &State) -> Result<
     ensures written { let e = map.now.sector_size in OnOk result
         (IsWritten e (log_of map.now (F.chip flash.new)) 0 0 (record_bytes state.now)
         × HasClosingFlag e (log_of map.now (F.chip flash.new)) 2) }
-    // That is written last: once the three sectors are erased the third is closed only where the record stands.
+    // That is written last: once the three sectors are erased the third is closed only where the
+    // record stands.
     ensures last { (F.chip flash.new).erases ≡ (F.chip flash.old).erases + 3
         → is_closed map.now.sector_size (log_bytes map.now (F.chip flash.new)) 2 ≡ true
         → state_of map.now (F.chip flash.new) ≡ Some state.now }

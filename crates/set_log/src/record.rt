@@ -11,9 +11,9 @@ use common::limits::MOST_IMAGES;
 /// How many bytes a record has, without its gate.
 pub(crate) const RECORD: usize = 56;
 
-/// A state is that of bytes exactly where they spell it and it keeps the table of records, so that what is written
-/// is read back, and what is read was written so. The state is one that a program can have: its numbers are of
-/// four bytes, and there are eight floors.
+/// A state is that of bytes exactly where they spell it and it keeps the table of records, so that
+/// what is written is read back, and what is read was written so. The state is one that a program
+/// can have: its numbers are of four bytes, and there are eight floors.
 pub fn records_are_read_back()
     ensures { (images : ℕ) (bytes : List ℕ) (state : State) → IsSized state
         → (state_from images bytes ≡ Some state) ↔ Spells images bytes state }
@@ -92,8 +92,8 @@ impl State {
         }
     }
 
-    /// The state that bytes spell, of so many images: what they have is spelled again and compared, so that no
-    /// field can be forgotten.
+    /// The state that bytes spell, of so many images: what they have is spelled again and compared,
+    /// so that no field can be forgotten.
     pub(crate) fn from_bytes(bytes: &[u8; RECORD], images: u8) -> Option<State>
         requires { images ≤ MOST_IMAGES }
         ensures { result ≡ state_from images bytes.now }

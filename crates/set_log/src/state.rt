@@ -23,8 +23,8 @@ pub enum Kind {
     BackSettle,
 }
 
-/// The state of a device that is kept through its boots. A record of the log is one such state; it *fits* a number
-/// of images where it keeps the table of records (`fits`).
+/// The state of a device that is kept through its boots. A record of the log is one such state; it
+/// *fits* a number of images where it keeps the table of records (`fits`).
 #[derive(Clone, Copy, Debug, PartialEq, Eq)]
 pub struct State {
     /// What the device is in the midst of.
@@ -88,9 +88,10 @@ fn has_no_floor_from(floors: &[u32; MOST_IMAGES], images: u8) -> bool
 }
 
 impl State {
-    /// Whether the state keeps the table of records, on a device of so many images, at most 8: the set is of
-    /// images of the device; `Steady` has no set, isn't permanent and has no boots left; each other kind has a set,
-    /// with 0 to 6 boots left in `Trial` and none in the others; and the floors past the last image are 0.
+    /// Whether the state keeps the table of records, on a device of so many images, at most 8: the
+    /// set is of images of the device; `Steady` has no set, isn't permanent and has no boots left;
+    /// each other kind has a set, with 0 to 6 boots left in `Trial` and none in the others; and the
+    /// floors past the last image are 0.
     ///
     /// Does not allocate.
     pub fn fits(&self, images: u8) -> bool

@@ -14,7 +14,8 @@ use crate::record::RECORD;
 use flash_model::{Flash, FlashError};
 use sector_map::SectorMap;
 
-/// Writes a record at a free place of a sector, and then its gate: up to the gate the record doesn't count.
+/// Writes a record at a free place of a sector, and then its gate: up to the gate the record
+/// doesn't count.
 fn write_record<F: Flash>(
     flash: &mut F,
     map: &SectorMap,
@@ -44,8 +45,8 @@ fn write_record<F: Flash>(
     Ok(())
 }
 
-/// Erases the sector after the active one, writes the record there, and then closes the active one: up to that
-/// unit this is the one that is read.
+/// Erases the sector after the active one, writes the record there, and then closes the active one:
+/// up to that unit this is the one that is read.
 fn move_on<F: Flash>(
     flash: &mut F,
     map: &SectorMap,
@@ -85,7 +86,8 @@ pub(crate) fn append_record<F: Flash>(
     ensures either { (record_of map.now (F.chip flash.new) ≡ record_of map.now (F.chip flash.old))
         ⊎ (record_of map.now (F.chip flash.new) ≡ Some body.now) }
     ensures ok { OnOk result (record_of map.now (F.chip flash.new) ≡ Some body.now) }
-    // Where a place is free the record goes to the first such place of the active sector, and nothing else is written.
+    // Where a place is free the record goes to the first such place of the active sector, and
+    // nothing else is written.
     ensures within { let e = map.now.sector_size in (sector place : ℕ)
         → IsActive e (log_bytes map.now (F.chip flash.old)) sector
         → IsFirstFree e (log_of map.now (F.chip flash.old)) sector place
@@ -95,7 +97,8 @@ pub(crate) fn append_record<F: Flash>(
         → IsActive e (log_bytes map.now (F.chip flash.old)) sector
         → IsFirstFree e (log_of map.now (F.chip flash.old)) sector place
         → IsWritten e (log_of map.now (F.chip flash.new)) sector place body.now) }
-    // Where none is, it goes to the first place of the next sector, and then the active one is closed.
+    // Where none is, it goes to the first place of the next sector, and then the active one is
+    // closed.
     ensures beside { let e = map.now.sector_size in (sector : ℕ)
         → IsActive e (log_bytes map.now (F.chip flash.old)) sector
         → is_place_free map.now (F.chip flash.old) ≡ false
@@ -135,8 +138,8 @@ fn erase_log<F: Flash>(flash: &mut F, map: &SectorMap) -> Result<(), FlashError>
     Ok(())
 }
 
-/// Erases the log, writes a record at its first place, and closes the last sector, which makes the first the
-/// active one.
+/// Erases the log, writes a record at its first place, and closes the last sector, which makes the
+/// first the active one.
 pub(crate) fn start_record<F: Flash>(
     flash: &mut F,
     map: &SectorMap,
@@ -149,7 +152,8 @@ pub(crate) fn start_record<F: Flash>(
     ensures written { let e = map.now.sector_size in OnOk result
         (IsWritten e (log_of map.now (F.chip flash.new)) 0 0 body.now
         × HasClosingFlag e (log_of map.now (F.chip flash.new)) 2) }
-    // That is written last: once the three sectors are erased the third is closed only where the record stands.
+    // That is written last: once the three sectors are erased the third is closed only where the
+    // record stands.
     ensures last { (F.chip flash.new).erases ≡ (F.chip flash.old).erases + 3
         → is_closed map.now.sector_size (log_bytes map.now (F.chip flash.new)) 2 ≡ true
         → record_of map.now (F.chip flash.new) ≡ Some body.now }

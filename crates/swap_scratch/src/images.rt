@@ -14,8 +14,8 @@ use flash_model::{Flash, FlashError};
 use sector_map::{SectorMap, Side};
 use trailer::status_count;
 
-/// Swaps the slots of one image, from wherever the swap stands. An image that is done isn't touched: scratch may
-/// hold a sector of a later one.
+/// Swaps the slots of one image, from wherever the swap stands. An image that is done isn't
+/// touched: scratch may hold a sector of a later one.
 pub(crate) fn swap_image<F: Flash>(
     flash: &mut F,
     map: &SectorMap,

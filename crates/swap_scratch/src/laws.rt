@@ -12,7 +12,8 @@ ghost use Rattle.swap_scratch.specs.Swap.{AreSwapped, IsAllCounted, IsSwapAt};
 
 use sector_map::SectorMap;
 
-/// The laws of a place of a swap, by which calls before a swap and between its parts are joined to it:
+/// The laws of a place of a swap, by which calls before a swap and between its parts are joined to
+/// it:
 /// - where no status unit of the mask's trailers is set, a swap of what stands in the slots begins;
 /// - a size in a trailer moves as many bytes at least, and no swap moves more than the slot;
 /// - a place survives every call that touches none of the parts of the swap;

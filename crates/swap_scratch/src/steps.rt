@@ -13,8 +13,8 @@ use flash_model::{Flash, FlashError};
 use sector_map::{SectorMap, Side};
 use trailer::push_status;
 
-/// The sectors that the step after so many copies from and to. The indices go from the highest of the used ones
-/// to the lowest.
+/// The sectors that the step after so many copies from and to. The indices go from the highest of
+/// the used ones to the lowest.
 #[tactic(auto, using(crate::proofs::Sizes::slot_addressed))]
 fn sectors_of_step(map: &SectorMap, image: u8, used: u32, status: u32) -> (u32, u32)
     requires there { image < map.now.images }
@@ -66,8 +66,8 @@ fn move_sector<F: Flash>(
     Ok(())
 }
 
-/// Takes the step after so many, and counts it. Where the flash is at no place of a swap, units behind the first
-/// erased one may be set; then the count goes up by more than one.
+/// Takes the step after so many, and counts it. Where the flash is at no place of a swap, units
+/// behind the first erased one may be set; then the count goes up by more than one.
 pub(crate) fn take_step<F: Flash>(
     flash: &mut F,
     map: &SectorMap,

@@ -52,20 +52,20 @@ fn swap_member<F: Flash>(
     Ok(())
 }
 
-/// Swaps the primary and the secondary slot of each image of a mask through scratch, in ascending order, begun or
-/// interrupted anywhere.
+/// Swaps the primary and the secondary slot of each image of a mask through scratch, in ascending
+/// order, begun or interrupted anywhere.
 ///
-/// The map is laid out on the flash, and the mask, an image a bit, names images of the map only. Progress is counted
-/// in the status units of the images' trailers of `side`. The size in such a trailer says how many bytes of each
-/// slot of its image are moved, rounded up to whole sectors; where it holds no size all sectors are. Another call
-/// with the same mask and side goes on where the last one ended, and erases one sector for each step that is left;
-/// where none is, as of a mask of no image, nothing changes. Bytes are copied through a buffer of 256. Does not
-/// allocate.
+/// The map is laid out on the flash, and the mask, an image a bit, names images of the map only.
+/// Progress is counted in the status units of the images' trailers of `side`. The size in such a
+/// trailer says how many bytes of each slot of its image are moved, rounded up to whole sectors;
+/// where it holds no size all sectors are. Another call with the same mask and side goes on where
+/// the last one ended, and erases one sector for each step that is left; where none is, as of a
+/// mask of no image, nothing changes. Bytes are copied through a buffer of 256. Does not allocate.
 ///
 /// # Errors
-/// `Cut` where power failed in the midst of a write. The flash then stands at a place of the same swap: each byte
-/// of the old contents stands in a slot of its image or in scratch, and another call ends the swap. `Off` where
-/// the flash was off before: nothing changed.
+/// `Cut` where power failed in the midst of a write. The flash then stands at a place of the same
+/// swap: each byte of the old contents stands in a slot of its image or in scratch, and another
+/// call ends the swap. `Off` where the flash was off before: nothing changed.
 pub fn swap_set<F: Flash>(
     flash: &mut F,
     map: &SectorMap,

@@ -12,7 +12,8 @@ use sha2::{Digest, Sha256};
 /// The length in bytes of the pieces that a flash is hashed by.
 const PIECE_LENGTH: usize = 256;
 
-/// What an image is read from, span by span. Contracts see bytes in memory as a flash that is always on.
+/// What an image is read from, span by span. Contracts see bytes in memory as a flash that is
+/// always on.
 pub(crate) trait Medium {
     ghost chip: { Self → Chip };
 

@@ -21,8 +21,8 @@ pub struct SlotTlv {
     pub value: Span,
 }
 
-/// The entries of an area in a flash from its first on, up to the first that doesn't fit. The flash is lent to
-/// each call, and of the entries only types and lengths are read.
+/// The entries of an area in a flash from its first on, up to the first that doesn't fit. The flash
+/// is lent to each call, and of the entries only types and lengths are read.
 #[derive(Clone, Copy, Debug)]
 pub struct SlotTlvs {
     rest: Span,

@@ -17,8 +17,9 @@ pub struct Tlv<'a> {
     pub value: &'a [u8],
 }
 
-/// The entries of an area from its first on, up to the first that doesn't fit. It borrows the area. What a walk
-/// comes to is said by [`a_walk_gives_the_entries_of_its_area`](crate::a_walk_gives_the_entries_of_its_area).
+/// The entries of an area from its first on, up to the first that doesn't fit. It borrows the area.
+/// What a walk comes to is said by
+/// [`a_walk_gives_the_entries_of_its_area`](crate::a_walk_gives_the_entries_of_its_area).
 #[derive(Clone, Debug, Drop)]
 pub struct Tlvs<'a> {
     rest: &'a [u8],
@@ -32,8 +33,8 @@ impl<'a> Tlvs<'a> {
         Tlvs { rest: area }
     }
 
-    /// The bytes after the entries given so far. Once there is no further entry they are what stands after all
-    /// entries, and nothing where entries fill the area.
+    /// The bytes after the entries given so far. Once there is no further entry they are what
+    /// stands after all entries, and nothing where entries fill the area.
     pub fn rest(&self) -> &'a [u8]
         ensures { result.now ≡ tlvs_rest self.now }
     {

@@ -13,8 +13,8 @@ use crate::slot_tlvs::SlotTlv;
 use crate::span::Span;
 use byteorder::{ByteOrder, LittleEndian};
 
-/// The two numbers of a head: an area's magic number and its length, or an entry's type and the length of its
-/// value.
+/// The two numbers of a head: an area's magic number and its length, or an entry's type and the
+/// length of its value.
 pub(crate) fn head<M: Medium>(medium: &mut M, bytes: Span) -> (u16, u16)
     requires readable { CanRead (M.chip medium.old) bytes }
     requires long { 4 ≤ bytes.len }

@@ -1,5 +1,5 @@
--- What a trailer says, by the bytes of its sector. The fields, but withdrawn, and the bytes of the magic are
--- MCUboot's (its design document, "Image Trailer"); where they stand is bootswap's own.
+-- What a trailer says, by the bytes of its sector. The fields, but withdrawn, and the bytes of the
+-- magic are MCUboot's (its design document, "Image Trailer"); where they stand is bootswap's own.
 use Rattle.std.specs.Prelude.{ℕ, ◌+◌, ◌-◌, ◌*◌, ◌==◌, ◌&&◌, Bool, true, false, not, nat_lt, nat_le}
 use Rattle.std.specs.Prelude.{List, [], ◌∷◌, ◌++◌, drop, slice_range, Option, Some, None, if◌then◌else◌}
 use Rattle.std.specs.List.{list_all}

@@ -15,8 +15,8 @@ is_confirmed Test = false
 is_confirmed Permanent = true
 is_confirmed Back = true
 
--- The trailers of an image that is settled: the primary one tells of a swap that is done, and of an image that is
--- confirmed or not; the secondary one is erased.
+-- The trailers of an image that is settled: the primary one tells of a swap that is done, and of an
+-- image that is confirmed or not; the secondary one is erased.
 pub record IsSettled (confirmed : Bool) (primary secondary : Fields) : Type 0 where
   pub magic : primary.magic ≡ Good
   pub copy_done : primary.copy_done ≡ true
@@ -45,8 +45,8 @@ pub record IsWhole (map : SectorMap) (chip : Chip) (image : ℕ) (side : Side) (
   pub image_ok : IsOkFree confirmed (bytes_at map chip image side 24 8)
   pub magic : IsFree (bytes_at map chip image side 16 16) good_magic
 
--- A primary trailer that needn't be erased for its units to be written: none of them is torn, and it isn't settled
--- after a swap back, for which it is erased always.
+-- A primary trailer that needn't be erased for its units to be written: none of them is torn, and
+-- it isn't settled after a swap back, for which it is erased always.
 pub record IsSpared (map : SectorMap) (chip : Chip) (image : ℕ) (side : Side) (settling : Settling)
     : Type 0 where
   pub forth : settling ≡ Back → ⊥

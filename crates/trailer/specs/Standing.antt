@@ -31,7 +31,8 @@ kind_of image_ok = if image_ok then Permanent else Test
 abbrev pub first_is_set : List ℕ → Bool
 first_is_set slot = is_set (slice_range slot 0 8)
 
--- The request that stands, by the secondary trailer and by whether the first unit of the secondary slot is set.
+-- The request that stands, by the secondary trailer and by whether the first unit of the secondary
+-- slot is set.
 abbrev pub standing_kind : Trailer → Bool → Option Kind
 standing_kind trailer is_filled =
     if is_good trailer.magic && (not trailer.withdrawn && is_filled)

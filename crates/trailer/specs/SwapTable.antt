@@ -1,5 +1,5 @@
--- What a pair of trailers asks of a boot, as MCUboot reads them (its design document, "Swapping": the tables of
--- swap types). The order of the rows is bootswap's own.
+-- What a pair of trailers asks of a boot, as MCUboot reads them (its design document, "Swapping":
+-- the tables of swap types). The order of the rows is bootswap's own.
 use Rattle.std.specs.Prelude.{◌&&◌, Bool, true, false, not, if◌then◌else◌}
 use Rattle.trailer.specs.declared.kinds.Magic.{Magic}
 use Rattle.trailer.specs.declared.kinds.Magic.TheVariants.{Good, Unset, Bad}

@@ -55,8 +55,8 @@ pub(crate) fn erase_trailer<F: Flash>(
 /// The map is laid out on the flash, and has the image, which is told by its number from 0.
 ///
 /// # Errors
-/// `Cut` where power failed: the trailer holds any bytes, and all else is as it was. `Off` where the flash was
-/// off before: nothing changed.
+/// `Cut` where power failed: the trailer holds any bytes, and all else is as it was. `Off` where
+/// the flash was off before: nothing changed.
 #[tactic(auto, using(crate::proofs::Erased::erased_fields_at))]
 pub fn clear<F: Flash>(
     flash: &mut F,

@@ -1,5 +1,6 @@
-//! Where the fields of a trailer stand in its sector, and what is written there. A field's place is told by how
-//! many bytes before the end of the sector it begins. From the sector's first byte on stand the status units.
+//! Where the fields of a trailer stand in its sector, and what is written there. A field's place is
+//! told by how many bytes before the end of the sector it begins. From the sector's first byte on
+//! stand the status units.
 
 /// The magic (`BOOT_MAGIC`), which is written as one unit of 16 bytes.
 pub(crate) const MAGIC: [u8; 16] = [

@@ -1,6 +1,7 @@
 //! What a trailer says, and what is asked of it.
 
-/// What the magic of a trailer says (`BOOT_MAGIC_GOOD`, `BOOT_MAGIC_UNSET`, `BOOT_MAGIC_BAD` of MCUboot).
+/// What the magic of a trailer says (`BOOT_MAGIC_GOOD`, `BOOT_MAGIC_UNSET`, `BOOT_MAGIC_BAD` of
+/// MCUboot).
 #[derive(Clone, Copy, Debug, PartialEq, Eq)]
 pub enum Magic {
     /// It is the right one (`BOOT_MAGIC`).

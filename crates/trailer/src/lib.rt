@@ -1,9 +1,9 @@
 //! Records on flash, first part: the trailer behind each slot, with MCUboot's fields.
 //!
-//! Promises: each field is read as its bytes say; after a call each trailer is as asked, and after a cut a
-//! request, a withdrawal and a confirmation stand as before or as asked, and any other write leaves its own unit
-//! (an erase its sector) with any bytes and all else as it was. Does not allocate. `upload`, `swap_scratch`,
-//! `boot_core` and `answers` call it.
+//! Promises: each field is read as its bytes say; after a call each trailer is as asked, and after
+//! a cut a request, a withdrawal and a confirmation stand as before or as asked, and any other
+//! write leaves its own unit (an erase its sector) with any bytes and all else as it was. Does not
+//! allocate. `upload`, `swap_scratch`, `boot_core` and `answers` call it.
 #![tactic(auto)]
 
 mod clearing;

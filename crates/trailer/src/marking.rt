@@ -12,7 +12,8 @@ use crate::units::{are_units_erased, write_units};
 use flash_model::{FLAG, Flash, FlashError};
 use sector_map::{SectorMap, Side};
 
-/// Writes units that are erased or hold these bytes already; nothing is written where they hold them.
+/// Writes units that are erased or hold these bytes already; nothing is written where they hold
+/// them.
 #[tactic(auto, using(crate::proofs::Marks::holds_value))]
 fn mark<F: Flash>(
     flash: &mut F,

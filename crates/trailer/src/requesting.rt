@@ -44,14 +44,14 @@ fn mark_kind<F: Flash>(
     }
 }
 
-/// Requests the image in a secondary slot, whose trailer is erased: writes `image_ok` where it is to stay, and
-/// then the magic.
+/// Requests the image in a secondary slot, whose trailer is erased: writes `image_ok` where it is
+/// to stay, and then the magic.
 ///
 /// The map is laid out on the flash, and has the image, which is told by its number from 0.
 ///
 /// # Errors
-/// `Cut` where power failed: the image is requested as asked, or the magic isn't good and no request stands.
-/// `Off` where the flash was off before: nothing changed.
+/// `Cut` where power failed: the image is requested as asked, or the magic isn't good and no
+/// request stands. `Off` where the flash was off before: nothing changed.
 pub fn request<F: Flash>(
     flash: &mut F,
     map: &SectorMap,
@@ -89,8 +89,8 @@ pub fn request<F: Flash>(
 /// The map is laid out on the flash, and has the image, which is told by its number from 0.
 ///
 /// # Errors
-/// `Cut` where power failed: `image_ok` is as it was or set, and all else as it was. `Off` where the flash was
-/// off before: nothing changed.
+/// `Cut` where power failed: `image_ok` is as it was or set, and all else as it was. `Off` where
+/// the flash was off before: nothing changed.
 #[tactic(auto, using(crate::proofs::FieldUnits::either_image_ok, crate::proofs::FieldUnits::kept_image_ok))]
 pub fn set_ok<F: Flash>(flash: &mut F, map: &SectorMap, image: u8) -> Result<(), FlashError>
     requires laid_out { IsLaidOut map.now (F.chip flash.old) }

@@ -45,9 +45,9 @@ fn standing_kind(trailer: &Trailer, is_filled: bool) -> Option<Kind>
     }
 }
 
-/// The request that stands for an image, if one stands: where the magic of its secondary trailer is good, its
-/// withdrawn unit is erased, and the first unit of its secondary slot is set, that is, not all 0xFF. It is
-/// permanent where `image_ok` is set.
+/// The request that stands for an image, if one stands: where the magic of its secondary trailer is
+/// good, its withdrawn unit is erased, and the first unit of its secondary slot is set, that is,
+/// not all 0xFF. It is permanent where `image_ok` is set.
 ///
 /// The map is laid out on the flash, and has the image, which is told by its number from 0.
 ///

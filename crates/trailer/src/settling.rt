@@ -135,8 +135,8 @@ fn is_trailer_whole<F: Flash>(
     Ok(copy_done && image_ok && magic)
 }
 
-/// Erases a primary trailer where the units that settling writes can't be written: after a swap back always, else where
-/// one of them is torn, or is set and has to stay erased.
+/// Erases a primary trailer where the units that settling writes can't be written: after a swap
+/// back always, else where one of them is torn, or is set and has to stay erased.
 fn make_whole<F: Flash>(
     flash: &mut F,
     map: &SectorMap,
@@ -168,17 +168,18 @@ fn make_whole<F: Flash>(
     Ok(())
 }
 
-/// Settles the trailers of an image whose slots were swapped. The secondary trailer is erased. The primary one
-/// gets `copy_done`, `image_ok` unless the image is to be tried, and the magic; it is erased first where one of
-/// these units is torn, that is, set and not to its value, where `image_ok` is set of an image that is to be tried,
-/// and after a swap back always. Units that hold their values aren't written again.
+/// Settles the trailers of an image whose slots were swapped. The secondary trailer is erased. The
+/// primary one gets `copy_done`, `image_ok` unless the image is to be tried, and the magic; it is
+/// erased first where one of these units is torn, that is, set and not to its value, where
+/// `image_ok` is set of an image that is to be tried, and after a swap back always. Units that hold
+/// their values aren't written again.
 ///
-/// It can be repeated, whatever the trailers hold. The map is laid out on the flash, and has the image, which is
-/// told by its number from 0.
+/// It can be repeated, whatever the trailers hold. The map is laid out on the flash, and has the
+/// image, which is told by its number from 0.
 ///
 /// # Errors
-/// `Cut` where power failed: the two trailers hold any bytes, and all else is as it was. `Off` where the flash
-/// was off before: nothing changed.
+/// `Cut` where power failed: the two trailers hold any bytes, and all else is as it was. `Off`
+/// where the flash was off before: nothing changed.
 pub fn settle<F: Flash>(
     flash: &mut F,
     map: &SectorMap,
@@ -194,7 +195,8 @@ pub fn settle<F: Flash>(
     // No unit is left torn.
     ensures marks { OnOk result
         (HasMarks map.now (F.chip flash.new) image Primary (is_confirmed settling)) }
-    // Byte for byte: the secondary trailer is erased, and after a swap back all of the primary one but its marks.
+    // Byte for byte: the secondary trailer is erased, and after a swap back all of the primary one
+    // but its marks.
     ensures erased { OnOk result
         (are_erased (trailer_bytes map.now (F.chip flash.new) image Secondary) ≡ true) }
     ensures back { OnOk result (settling ≡ Settling.Back → are_erased

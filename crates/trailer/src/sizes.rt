@@ -33,14 +33,14 @@ fn size_in(unit: &[u8; 8], limit: u32) -> Option<u32>
     }
 }
 
-/// Writes the unit of `swap_size` of a trailer, which is erased: how many bytes of each slot a swap moves, from 1
-/// to the slot's length.
+/// Writes the unit of `swap_size` of a trailer, which is erased: how many bytes of each slot a swap
+/// moves, from 1 to the slot's length.
 ///
 /// The map is laid out on the flash, and has the image, which is told by its number from 0.
 ///
 /// # Errors
-/// `Cut` where power failed: the unit holds any bytes, and all else is as it was. `Off` where the flash was off
-/// before: nothing changed.
+/// `Cut` where power failed: the unit holds any bytes, and all else is as it was. `Off` where the
+/// flash was off before: nothing changed.
 #[tactic(auto, using(crate::proofs::Places::units_alone, crate::proofs::OwnFields::own_size, crate::proofs::SizeUnits::size_written))]
 pub fn write_size<F: Flash>(
     flash: &mut F,
@@ -69,8 +69,9 @@ pub fn write_size<F: Flash>(
     write_units(flash, map, image, side, SWAP_SIZE, &size_unit(size))
 }
 
-/// Reads `swap_size` of a trailer: how many bytes of each slot a swap moves. There is none where the unit is
-/// erased, where its number isn't from 1 to the slot's length, or where its last four bytes aren't zero.
+/// Reads `swap_size` of a trailer: how many bytes of each slot a swap moves. There is none where
+/// the unit is erased, where its number isn't from 1 to the slot's length, or where its last four
+/// bytes aren't zero.
 ///
 /// The map is laid out on the flash, and has the image, which is told by its number from 0.
 ///

@@ -42,8 +42,8 @@ fn is_status_erased<F: Flash>(
     Ok(erased)
 }
 
-/// Counts the status units of a trailer that are set, from its first one up to the first that is erased: how many
-/// steps of a swap are done.
+/// Counts the status units of a trailer that are set, from its first one up to the first that is
+/// erased: how many steps of a swap are done.
 ///
 /// The map is laid out on the flash, and has the image, which is told by its number from 0.
 ///
@@ -73,14 +73,14 @@ pub fn status_count<F: Flash>(
     Ok(all)
 }
 
-/// Sets the first status unit of a trailer that is erased. There is one: the status count is below three for each
-/// sector of the slot.
+/// Sets the first status unit of a trailer that is erased. There is one: the status count is below
+/// three for each sector of the slot.
 ///
 /// The map is laid out on the flash, and has the image, which is told by its number from 0.
 ///
 /// # Errors
-/// `Cut` where power failed: the unit holds any bytes, so it counts or not, and all else is as it was. `Off` where
-/// the flash was off before: nothing changed.
+/// `Cut` where power failed: the unit holds any bytes, so it counts or not, and all else is as it
+/// was. `Off` where the flash was off before: nothing changed.
 #[tactic(auto, using(crate::proofs::Places::trailer_fits, crate::proofs::Places::trailer_addressed, crate::proofs::StatusUnits::status_alone, crate::proofs::StatusUnits::own_status, crate::proofs::StatusUnits::pushed, crate::proofs::StatusUnits::status_is_erased))]
 pub fn push_status<F: Flash>(
     flash: &mut F,

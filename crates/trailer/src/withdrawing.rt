@@ -69,15 +69,16 @@ fn erase_front<F: Flash>(
     Ok(())
 }
 
-/// Takes back the request of an image, if one stands: sets the withdrawn unit, then erases the first sector of
-/// the secondary slot unless its first unit is erased, and then the secondary trailer unless it is all erased.
-/// Where no request stands only what is left of these erases is made.
+/// Takes back the request of an image, if one stands: sets the withdrawn unit, then erases the
+/// first sector of the secondary slot unless its first unit is erased, and then the secondary
+/// trailer unless it is all erased. Where no request stands only what is left of these erases is
+/// made.
 ///
 /// The map is laid out on the flash, and has the image, which is told by its number from 0.
 ///
 /// # Errors
-/// `Cut` where power failed: the request is as it was, slot and trailer, or none stands. `Off` where the flash
-/// was off before: nothing changed.
+/// `Cut` where power failed: the request is as it was, slot and trailer, or none stands. `Off`
+/// where the flash was off before: nothing changed.
 pub fn withdraw<F: Flash>(flash: &mut F, map: &SectorMap, image: u8) -> Result<(), FlashError>
     requires laid_out { IsLaidOut map.now (F.chip flash.old) }
     requires there { image < map.now.images }
@@ -85,12 +86,13 @@ pub fn withdraw<F: Flash>(flash: &mut F, map: &SectorMap, image: u8) -> Result<(
     // Of the slot the first sector alone is touched ..
     ensures rest { KeepsBehindFirst map.now image Secondary (F.chip flash.old)
         (F.chip flash.new) }
-    // .. and nothing where the slot doesn't begin with a unit that is set and the trailer is erased.
+    // .. and nothing where the slot doesn't begin with a unit that is set and the trailer is
+    // erased.
     ensures idle { first_is_set (incoming_slot map.now (F.chip flash.old) image) ≡ false
         → are_erased (trailer_bytes map.now (F.chip flash.old) image Secondary) ≡ true
         → F.chip flash.new ≡ F.chip flash.old }
-    // Whatever happened, slot and trailer are as they were, or no request stands: the magic isn't good, the
-    // withdrawn unit is set, or the slot's first unit is erased.
+    // Whatever happened, slot and trailer are as they were, or no request stands: the magic isn't
+    // good, the withdrawn unit is set, or the slot's first unit is erased.
     ensures either { ((incoming_slot map.now (F.chip flash.new) image
         ≡ incoming_slot map.now (F.chip flash.old) image)
         × (fields_at map.now (F.chip flash.new) image Secondary

@@ -68,7 +68,8 @@ abbrev pub HasDigest : List ℕ → List ℕ → Type 0
 HasDigest bytes digest = (description : Desc) × IsIntact bytes description
     × (description.digest ≡ digest)
 
--- An image of this digest entry runs, where one is asked for (RFC 9124, "Precursor Image Digest Condition").
+-- An image of this digest entry runs, where one is asked for (RFC 9124, "Precursor Image Digest
+-- Condition").
 abbrev pub IsPrecursor : Option (List ℕ) → Option (List ℕ) → Type 0
 IsPrecursor None running = Unit
 IsPrecursor (Some digest) None = ⊥
@@ -122,7 +123,8 @@ abbrev pub request_after : Option Component → Option Wanted → Option Wanted
 request_after None before = before
 request_after (Some c) before = None
 
--- The manifest is taken: its sequence stands, and each named image has no request and an empty session.
+-- The manifest is taken: its sequence stands, and each named image has no request and an empty
+-- session.
 abbrev pub accepted : Machine → ℕ → List Component → Machine
 accepted m sequence cs = record m {
   kept = record m.kept {
@@ -132,8 +134,8 @@ accepted m sequence cs = record m {
   session = λ i. session_after (latest cs i) (m.session i);
 }
 
--- Taking it was cut: the old sequence and each request as it was, or the new one and each request of a named image as
--- it was or gone.
+-- Taking it was cut: the old sequence and each request as it was, or the new one and each request
+-- of a named image as it was or gone.
 pub record IsAcceptCut (s : DeviceState) (sequence : ℕ) (cs : List Component) (next : DeviceState)
     : Type 0 where
   pub rest : next ≡ record s { sequence = next.sequence; request = next.request }
@@ -142,9 +144,10 @@ pub record IsAcceptCut (s : DeviceState) (sequence : ℕ) (cs : List Component) 
       ⊎ ((next.sequence ≡ sequence)
       × ((i : ℕ) → (next.request i ≡ s.request i) ⊎ (next.request i ≡ None)))
 
--- The manifest is taken, or the first check that fails is answered, each made of all components: its sequence isn't
--- below the last one; each image fits its slot; each follows the image that runs. Where the flash stops the call all
--- sessions are closed: in a cut the manifest had passed all checks, and nothing else changed where the flash was off.
+-- The manifest is taken, or the first check that fails is answered, each made of all components:
+-- its sequence isn't below the last one; each image fits its slot; each follows the image that
+-- runs. Where the flash stops the call all sessions are closed: in a cut the manifest had passed
+-- all checks, and nothing else changed where the flash was off.
 abbrev pub Accepts : SectorMap → Machine → ℕ → List Component → Result Unit UploadError → Machine
     → Type 0
 Accepts map m sequence cs (Ok done) next =

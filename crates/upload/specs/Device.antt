@@ -7,7 +7,8 @@ pub record Wanted : Type 0 where
   pub bytes : Option (List ℕ)
   pub kind : Kind
 
--- An upload that is open: how long the file is to be, its digest, how it will be requested, and the bytes that came.
+-- An upload that is open: how long the file is to be, its digest, how it will be requested, and the
+-- bytes that came.
 pub record Session : Type 0 where
   pub size : ℕ
   pub digest : List ℕ

@@ -22,7 +22,8 @@ is_flash (Err no.NothingRequested) = false
 is_flash (Err (no.Flash error)) = true
 is_flash (Err no.NoMemory) = false
 
--- A call that doesn't stop at the flash leaves the power as it was; one that is cut is so in its last write.
+-- A call that doesn't stop at the flash leaves the power as it was; one that is cut is so in its
+-- last write.
 pub record EndsUpload {T : Type 0} (result : Result T UploadError) (old new : Chip)
     : Type 0 where
   -- A flash that is off stays as it is.

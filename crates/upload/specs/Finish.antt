@@ -19,14 +19,15 @@ use Rattle.upload.specs.Withdrawal.{with_request}
 abbrev pub asked : Session → Wanted
 asked session = record { bytes = Some session.received; kind = session.kind }
 
--- A whole upload: of the right length and the right digest (SHA-256, FIPS 180-4), and an intact image.
+-- A whole upload: of the right length and the right digest (SHA-256, FIPS 180-4), and an intact
+-- image.
 pub record IsGoodUpload (session : Session) : Type 0 where
   pub size : length session.received ≡ session.size
   pub digest : sha256 session.received ≡ session.digest
   pub image : IsImage session.received
 
--- The checks of an upload in their order. Each name says that its own check passes, and all before it: the length is
--- the manifest's ..
+-- The checks of an upload in their order. Each name says that its own check passes, and all before
+-- it: the length is the manifest's ..
 abbrev pub HasSize : Session → Type 0
 HasSize session = length session.received ≡ session.size
 
@@ -34,9 +35,10 @@ HasSize session = length session.received ≡ session.size
 abbrev pub HasSizeAndDigest : Session → Type 0
 HasSizeAndDigest session = HasSize session × (sha256 session.received ≡ session.digest)
 
--- Finishing a session: the image is requested, or the first check that fails is answered; the session is closed in any
--- case. Where the flash stops the call the upload had the manifest's length, and all sessions are closed: after a cut
--- no request stands, or the one that was asked for, of a good upload; nothing else changed where the flash was off.
+-- Finishing a session: the image is requested, or the first check that fails is answered; the
+-- session is closed in any case. Where the flash stops the call the upload had the manifest's
+-- length, and all sessions are closed: after a cut no request stands, or the one that was asked
+-- for, of a good upload; nothing else changed where the flash was off.
 abbrev pub Finishes : Machine → ℕ → Session → Result Unit UploadError → Machine → Type 0
 Finishes m i session (Ok done) next = IsGoodUpload session × (next ≡ with_session
     (record m { kept = with_request m.kept i (Some (asked session)) }) i None)

@@ -25,9 +25,10 @@ TakesMore old new i before after bytes = (written : List ℕ) → IsUploadAt old
 abbrev pub HasRoom : Session → List ℕ → Type 0
 HasRoom session bytes = length session.received + length bytes ≤ session.size
 
--- The bytes are appended; or the image has no session; or they are more than its size allows, and the session is
--- closed. Where the flash stops the call a session was open that has room for the bytes, all sessions are closed, and
--- what the flash keeps stays: nothing was requested for the image.
+-- The bytes are appended; or the image has no session; or they are more than its size allows, and
+-- the session is closed. Where the flash stops the call a session was open that has room for the
+-- bytes, all sessions are closed, and what the flash keeps stays: nothing was requested for the
+-- image.
 abbrev pub Pieces : Machine → ℕ → List ℕ → Result Unit UploadError → Machine → Type 0
 Pieces m i bytes (Ok done) next = (session : Session) × (m.session i ≡ Some session)
     × HasRoom session bytes × (next ≡ with_session m i (Some (appended session bytes)))

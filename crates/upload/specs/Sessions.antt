@@ -26,8 +26,8 @@ pub record IsWritten (slot front : List ℕ) : Type 0 where
   pub left : ℕ
   pub is : slot ≡ front ++ replicate left 0xff
 
--- An open upload on the flash: these bytes are written in the slot, the rest of the slot and its trailer are erased,
--- and the bytes of a unit that isn't whole yet are held back.
+-- An open upload on the flash: these bytes are written in the slot, the rest of the slot and its
+-- trailer are erased, and the bytes of a unit that isn't whole yet are held back.
 pub record IsUploadAt (w : View) (i : ℕ) (upload : Upload) (written : List ℕ) : Type 0 where
   pub there : i < w.images
   pub units : (k : ℕ) × (length written ≡ 8 * k)

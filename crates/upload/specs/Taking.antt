@@ -46,8 +46,8 @@ Refuses map w sequence cs (no.NotAnImage fault) = ⊥
 Refuses map w sequence cs no.NothingRequested = ⊥
 Refuses map w sequence cs no.NoMemory = ⊥
 
--- A manifest was taken: its sequence number stands, each named image has an erased slot and trailer and a new upload,
--- and uploads of other images go on.
+-- A manifest was taken: its sequence number stands, each named image has an erased slot and trailer
+-- and a new upload, and uploads of other images go on.
 pub record IsTaken (old new : View) (told tnew : List (Option Upload)) (sequence : ℕ)
     (cs : List Component) : Type 0 where
   pub log : (state : State) → old.log ≡ Some state
@@ -68,8 +68,8 @@ abbrev pub CutsAccept : View → View → ℕ → List Component → Type 0
 CutsAccept old new sequence cs = (s : DeviceState) → IsSteadyAt old s
     → (next : DeviceState) × IsAcceptCut s sequence cs next × IsSteadyAt new next
 
--- Whatever a flash holds: the old sequence number stands or the new one, each request is as it was or gone, and
--- unless the new number stands each slot and trailer is as it was.
+-- Whatever a flash holds: the old sequence number stands or the new one, each request is as it was
+-- or gone, and unless the new number stands each slot and trailer is as it was.
 pub record LeavesAccept (old new : View) (sequence : ℕ) : Type 0 where
   pub log : (state : State) → old.log ≡ Some state
       → (new.log ≡ old.log) ⊎ (new.log ≡ Some (record state { sequence = sequence }))

@@ -13,9 +13,9 @@ use Rattle.upload.specs.Steady.{request_in}
 abbrev pub with_request : DeviceState → ℕ → Option Wanted → DeviceState
 with_request s i wanted = record s { request = λ j. if j == i then wanted else s.request j }
 
--- A request that stood is gone; or none stood, or there is no such image. Where the flash stops the call all
--- sessions are closed: after a cut a request that stood is as it was or gone, and nothing else changed where the
--- flash was off.
+-- A request that stood is gone; or none stood, or there is no such image. Where the flash stops the
+-- call all sessions are closed: after a cut a request that stood is as it was or gone, and nothing
+-- else changed where the flash was off.
 abbrev pub Withdraws : Machine → ℕ → Result Unit UploadError → Machine → Type 0
 Withdraws m i (Ok done) next =
     (m.kept.request i ≢ None) × (next ≡ record m { kept = with_request m.kept i None })

@@ -67,7 +67,8 @@ fn write_last<F: Flash>(
     write_slot(flash, map, image, start, unit.as_slice())
 }
 
-/// Judges the first bytes of a secondary slot: their digest, and then whether they are an intact image.
+/// Judges the first bytes of a secondary slot: their digest, and then whether they are an intact
+/// image.
 fn judge<F: Flash>(
     flash: &mut F,
     map: &SectorMap,
@@ -134,20 +135,21 @@ fn finish_upload<F: Flash>(
 }
 
 impl Uploads {
-    /// Finishes the upload of an image, which is told by its number from 0: writes the bytes that were held back, their
-    /// unit filled with 0xFF, checks length, digest and image, and requests the image as the manifest says. The upload
-    /// is closed in any case.
+    /// Finishes the upload of an image, which is told by its number from 0: writes the bytes that
+    /// were held back, their unit filled with 0xFF, checks length, digest and image, and requests
+    /// the image as the manifest says. The upload is closed in any case.
     ///
-    /// The map is laid out on the flash and is that of the [`accept`](Self::accept) which opened the upload, and slot
-    /// and trailer stand as the calls before left them.
+    /// The map is laid out on the flash and is that of the [`accept`](Self::accept) which opened
+    /// the upload, and slot and trailer stand as the calls before left them.
     ///
     /// # Errors
-    /// `NoSession` where no upload of the image is open: nothing changed. The first check that fails, and nothing is
-    /// requested for the image: `SizeWrong` where fewer bytes came than the manifest said, `DigestWrong` where their
-    /// SHA-256 isn't the manifest's, `NotAnImage` where they are no intact image, with the first check that fails of
-    /// it. Past the check of the length, `Flash` with `Cut` where power failed: all uploads are closed, and nothing is
-    /// requested for the image, or it is requested as asked; with `Off` where the flash was off: all uploads are
-    /// closed, and nothing is requested.
+    /// `NoSession` where no upload of the image is open: nothing changed. The first check that
+    /// fails, and nothing is requested for the image: `SizeWrong` where fewer bytes came than the
+    /// manifest said, `DigestWrong` where their SHA-256 isn't the manifest's, `NotAnImage` where
+    /// they are no intact image, with the first check that fails of it. Past the check of the
+    /// length, `Flash` with `Cut` where power failed: all uploads are closed, and nothing is
+    /// requested for the image, or it is requested as asked; with `Off` where the flash was off:
+    /// all uploads are closed, and nothing is requested.
     pub fn finish<F: Flash>(
         &mut self,
         flash: &mut F,
@@ -160,7 +162,8 @@ impl Uploads {
         ensures outside { Keeps map.now (incoming_of image) (F.chip flash.old) (F.chip flash.new) }
         ensures all_open { AllOpenAt (view map.now (F.chip flash.old)) self.old.sessions
             → AllOpenAt (view map.now (F.chip flash.new)) self.new.sessions }
-        // On any flash: what is answered, and what is left then. Nothing is requested but a whole image.
+        // On any flash: what is answered, and what is left then. Nothing is requested but a whole
+        // image.
         ensures finishes { (u : Upload) (written : List ℕ)
             → upload_at self.old.sessions image ≡ Some u
             → IsUploadAt (view map.now (F.chip flash.old)) image u written

@@ -1,9 +1,10 @@
-//! Intake, second part: uploads. A manifest opens a session for each image that it names, pieces fill the secondary
-//! slot, and a finished upload requests its image.
+//! Intake, second part: uploads. A manifest opens a session for each image that it names, pieces
+//! fill the secondary slot, and a finished upload requests its image.
 //!
-//! Promises: a request stands only for a whole image that has the digest and the length of its manifest; each call is
-//! a step of a machine that knows whole images only (`specs/`), and where power fails in the midst of it, a cut step;
-//! sessions of different images don't disturb one another. Does not allocate. The device above calls it.
+//! Promises: a request stands only for a whole image that has the digest and the length of its
+//! manifest; each call is a step of a machine that knows whole images only (`specs/`), and where
+//! power fails in the midst of it, a cut step; sessions of different images don't disturb one
+//! another. Does not allocate. The device above calls it.
 #![tactic(auto)]
 
 mod accepting;

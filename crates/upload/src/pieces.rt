@@ -19,17 +19,19 @@ use flash_model::Flash;
 use sector_map::SectorMap;
 
 impl Uploads {
-    /// Appends bytes to the upload of an image, which is told by its number from 0. Whole units are programmed into
-    /// the secondary slot; the bytes of a unit that isn't whole are held back.
+    /// Appends bytes to the upload of an image, which is told by its number from 0. Whole units are
+    /// programmed into the secondary slot; the bytes of a unit that isn't whole are held back.
     ///
-    /// The map is laid out on the flash and is that of the [`accept`](Self::accept) which opened the upload, and slot
-    /// and trailer stand as the calls before left them: what is written, and erased behind it.
+    /// The map is laid out on the flash and is that of the [`accept`](Self::accept) which opened
+    /// the upload, and slot and trailer stand as the calls before left them: what is written, and
+    /// erased behind it.
     ///
     /// # Errors
-    /// `NoSession` where no upload of the image is open: nothing changed. `TooMuch` where more bytes came in all than
-    /// the manifest said: the upload is closed, and nothing is requested. Past both checks, `Flash` with `Cut` where
-    /// power failed or with `Off` where the flash was off: all uploads are closed, and nothing is requested for the
-    /// image. Bytes that are only held back don't ask the flash.
+    /// `NoSession` where no upload of the image is open: nothing changed. `TooMuch` where more
+    /// bytes came in all than the manifest said: the upload is closed, and nothing is requested.
+    /// Past both checks, `Flash` with `Cut` where power failed or with `Off` where the flash was
+    /// off: all uploads are closed, and nothing is requested for the image. Bytes that are only
+    /// held back don't ask the flash.
     pub fn piece<F: Flash>(
         &mut self,
         flash: &mut F,

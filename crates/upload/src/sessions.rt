@@ -28,8 +28,8 @@ pub struct Upload {
     pub held: ArrayVec<u8, UNIT>,
 }
 
-/// The uploads that are open: at most one an image, told by its number. The field is public since the contracts of all
-/// calls speak of it.
+/// The uploads that are open: at most one an image, told by its number. The field is public since
+/// the contracts of all calls speak of it.
 #[derive(Debug, Drop)]
 pub struct Uploads {
     /// The upload of each image, if one is open.

@@ -36,11 +36,13 @@ pub struct Played {
     pub has_failed: bool,
 }
 
-/// Reads a device file, the flash of the device and a script from `host`, runs the script's events on the device, and
-/// writes the replies to `out`. What changes on the flash is written through to its file at once.
+/// Reads a device file, the flash of the device and a script from `host`, runs the script's events
+/// on the device, and writes the replies to `out`. What changes on the flash is written through to
+/// its file at once.
 ///
-/// The flash stands in memory of `alloc`, and so does what the device needs to run; the script's text is put into
-/// `text`, and all else stands in memory of `heap`. All files are judged before anything is run.
+/// The flash stands in memory of `alloc`, and so does what the device needs to run; the script's
+/// text is put into `text`, and all else stands in memory of `heap`. All files are judged before
+/// anything is run.
 pub fn perform<'a, 'h, A: Allocator, H: Host, O: Write>(
     alloc: Global,
     heap: &'h A,
@@ -66,8 +68,9 @@ pub fn perform<'a, 'h, A: Allocator, H: Host, O: Write>(
     play_script(alloc, heap, &device, bytes, script, file, out)
 }
 
-/// Runs the events of a script on a device that has these bytes on its flash, and writes the replies to `out`. What
-/// changes is written through to the file of the flash, which holds the bytes.
+/// Runs the events of a script on a device that has these bytes on its flash, and writes the
+/// replies to `out`. What changes is written through to the file of the flash, which holds the
+/// bytes.
 fn play_script<'a, 'h, A: Allocator, F: FlashFile + Drop, O: Write>(
     alloc: Global,
     heap: &'h A,
@@ -104,8 +107,8 @@ fn play_script<'a, 'h, A: Allocator, F: FlashFile + Drop, O: Write>(
     }
 }
 
-/// Runs events on a device that has these bytes on its flash, with these writes of the flash cut, and writes what
-/// changes through to the file of the flash, which holds the bytes.
+/// Runs events on a device that has these bytes on its flash, with these writes of the flash cut,
+/// and writes what changes through to the file of the flash, which holds the bytes.
 ///
 /// # Errors
 /// Where there is no memory for the cuts or the replies: nothing was done.
@@ -142,8 +145,8 @@ fn play<L: Ledger, M: Ledger, F: FlashFile + Drop>(
     })
 }
 
-/// A flash that has these bytes, of which these writes are cut, and that writes what changes through to its file, which
-/// holds the bytes.
+/// A flash that has these bytes, of which these writes are cut, and that writes what changes
+/// through to its file, which holds the bytes.
 fn armed_flash<L: Ledger, M: Ledger, F: FlashFile + Drop>(
     alloc: Global,
     blank: Blank,

@@ -29,9 +29,10 @@ pub enum Made {
     FileFailed,
 }
 
-/// Reads a device file and its images from `host`, makes the file of the flash, with each image at the front of its
-/// primary slot, and makes it a device's. Writes to `out` that it is done, or why it is refused. The flash stands in
-/// memory of `alloc`, and so does what the device file is as a JSON value; all else stands in memory of `heap`.
+/// Reads a device file and its images from `host`, makes the file of the flash, with each image at
+/// the front of its primary slot, and makes it a device's. Writes to `out` that it is done, or why
+/// it is refused. The flash stands in memory of `alloc`, and so does what the device file is as a
+/// JSON value; all else stands in memory of `heap`.
 ///
 /// The device file and then the images are judged before the file is made.
 pub fn perform<'a, A: Allocator, H: Host, O: Write>(
@@ -63,7 +64,8 @@ pub fn perform<'a, A: Allocator, H: Host, O: Write>(
     tell_made(heap, made, out)
 }
 
-/// The bytes of a flash that holds these images, each at the front of its primary slot, and is erased elsewhere.
+/// The bytes of a flash that holds these images, each at the front of its primary slot, and is
+/// erased elsewhere.
 fn read_images<'a, A: Allocator, H: Host>(
     alloc: Global,
     heap: &A,
@@ -128,7 +130,8 @@ fn make_file<'a, H: Host>(name: &str, bytes: &[u8], host: &mut H) -> Result<(), 
     }
 }
 
-/// Makes the flash of these bytes a device's, and writes what changes through to its file, which holds the bytes.
+/// Makes the flash of these bytes a device's, and writes what changes through to its file, which
+/// holds the bytes.
 fn make_device<L: Ledger, M: Ledger, F: FlashFile + Drop>(
     alloc: Global,
     blank: Blank,

@@ -16,8 +16,8 @@ enum Later {
     Confirm(u8),
 }
 
-/// What comes of an upload of two images that need each other, requested for good or not, and of the events after it,
-/// where these writes are cut.
+/// What comes of an upload of two images that need each other, requested for good or not, and of
+/// the events after it, where these writes are cut.
 fn played(
     rt: &(impl Abort + AllocGlobal),
     permanent: bool,
@@ -108,8 +108,8 @@ fn an_upgrade_that_is_cut_at_any_write_is_ended_by_the_next_boot(
     Ok(())
 }
 
-/// Asserts what the boots after an upgrade answer that was cut at a write, of which the first is cut at each of its
-/// writes but the last.
+/// Asserts what the boots after an upgrade answer that was cut at a write, of which the first is
+/// cut at each of its writes but the last.
 fn expect_tried_twice(rt: &(impl Abort + AllocGlobal), write: u64, left: Left) -> Result<(), Fail> {
     let recovered = played(rt, false, &[(write, left)], &[Later::Boot, Later::Boot])?;
     assert!(rt; write < recovered.writes && recovered.writes < 1000);
@@ -187,7 +187,8 @@ fn a_last_confirmation_that_is_cut_counts_where_it_was_written(
     Ok(())
 }
 
-/// Asserts what the boots after an upgrade answer that is cut at a write, where a trial has three boots.
+/// Asserts what the boots after an upgrade answer that is cut at a write, where a trial has three
+/// boots.
 fn expect_of_three_boots(
     rt: &(impl Abort + AllocGlobal),
     write: u64,

@@ -1,5 +1,5 @@
-//! Devices whose power failed at each write of an upload, of an upgrade and of its way back, and whose flash was damaged
-//! then: each call returns on it.
+//! Devices whose power failed at each write of an upload, of an upgrade and of its way back, and
+//! whose flash was damaged then: each call returns on it.
 
 use super::images::{PLAIN, PLAIN_DIGEST, RUNNING};
 use super::playing::{Cut, EACH_LEFT, Named, Outcome, manifest, outcome_of, provisioned};
@@ -63,8 +63,8 @@ fn damage(random: &mut Random, bytes: &mut [u8]) {
     }
 }
 
-/// Asserts that each of these events is answered on a device of so many images with a flash of these bytes, and that the
-/// flash stays as long as it was.
+/// Asserts that each of these events is answered on a device of so many images with a flash of
+/// these bytes, and that the flash stays as long as it was.
 fn expect_answers(
     rt: &(impl Abort + AllocGlobal),
     images: usize,
@@ -188,8 +188,9 @@ fn events_on_damaged_flashes_are_answered_from_wherever_power_failed(
     let mut flashes = 0u32;
     for images in 1..=8 {
         let made = expect_of_images(&rt, &mut random, images)?;
-        // The upgrade and its way back have three steps for an image, each with an erase, two pieces of 256 bytes and a
-        // status unit; the rest are those of records, of trailers and of the upload.
+        // The upgrade and its way back have three steps for an image, each with an erase, two
+        // pieces of 256 bytes and a status unit; the rest are those of records, of trailers and of
+        // the upload.
         assert!(&rt; made > WAYS * 2 * 12, "{images}: {made}");
         flashes = flashes.saturating_add(made);
     }

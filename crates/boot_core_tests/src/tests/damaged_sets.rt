@@ -1,4 +1,5 @@
-//! Upgrades that the log tells of on a flash that holds no state, since an image that they are of is damaged.
+//! Upgrades that the log tells of on a flash that holds no state, since an image that they are of
+//! is damaged.
 
 use super::images::{FIRST, RUNNING, SECOND};
 use super::playing::{Outcome, outcome_of, put, two_images};
@@ -16,8 +17,9 @@ const PRIMARY: [usize; 2] = [32, 1568];
 
 const SECONDARY: [usize; 2] = [3104, 4640];
 
-/// What the first boot answers where the log has a record of this kind and mask, and these bytes are damaged. The images
-/// that ran stand in the primary slots up to the swap, and in the secondary ones after it.
+/// What the first boot answers where the log has a record of this kind and mask, and these bytes
+/// are damaged. The images that ran stand in the primary slots up to the swap, and in the secondary
+/// ones after it.
 fn boot(
     rt: &(impl Abort + AllocGlobal),
     kind: u8,

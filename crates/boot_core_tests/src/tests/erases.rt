@@ -6,10 +6,10 @@ use super::trials::pair;
 use machine::Event;
 use std::test::Fail;
 
-/// How many events were played, and how many erases there were up to then. The slots of an upload that is the first
-/// are erased already. The upgrade moves one sector of each slot in three steps, each of which erases a sector, and
-/// erases the two secondary trailers; the way back moves them again, erases four trailers, and turns the log to its
-/// next sector.
+/// How many events were played, and how many erases there were up to then. The slots of an upload
+/// that is the first are erased already. The upgrade moves one sector of each slot in three steps,
+/// each of which erases a sector, and erases the two secondary trailers; the way back moves them
+/// again, erases four trailers, and turns the log to its next sector.
 const ERASES: [(usize, u64); 7] = [(1, 0), (2, 0), (6, 0), (7, 8), (8, 8), (9, 19), (10, 19)];
 
 #[test]

@@ -1,5 +1,6 @@
-//! Images, byte for byte: a header of 32 bytes, the body ABCD, a protected area where there is a counter or a
-//! dependency, and the digest. The digests, and those of the whole files, were taken by another program.
+//! Images, byte for byte: a header of 32 bytes, the body ABCD, a protected area where there is a
+//! counter or a dependency, and the digest. The digests, and those of the whole files, were taken
+//! by another program.
 
 /// Version 1.0.0+0, which needs nothing.
 pub(super) const RUNNING: [u8; 76] = [

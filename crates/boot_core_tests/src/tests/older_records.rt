@@ -1,5 +1,5 @@
-//! Flashes that were written before a trial could have several boots: the record of a trial has a zero byte where the
-//! number of boots is that are left.
+//! Flashes that were written before a trial could have several boots: the record of a trial has a
+//! zero byte where the number of boots is that are left.
 
 use super::images::{FIRST, SECOND};
 use super::playing::{outcome_of, put, two_images, two_play};
@@ -31,7 +31,8 @@ fn trial(left: u8) -> [u8; 64] {
     record
 }
 
-/// The bytes of a flash whose two images are on trial by such a record, which is the fifth of the log.
+/// The bytes of a flash whose two images are on trial by such a record, which is the fifth of the
+/// log.
 fn on_trial(rt: &(impl Abort + AllocGlobal)) -> Result<Vec<u8>, Fail> {
     let text = pair(rt.alloc())?;
     let tried = two_play(
@@ -71,7 +72,8 @@ fn a_trial_without_a_number_of_boots_goes_back_and_the_next_one_has_three(
     ];
     let outcome = outcome_of(&rt, &[2, 2], 3, on_trial(&rt)?, &[], &events)?;
     assert_eq!(&rt; outcome.told.as_str(), TOLD);
-    // The log's second sector: steady, swap, settle, and the trial with two boots left, with one, and with none.
+    // The log's second sector: steady, swap, settle, and the trial with two boots left, with one,
+    // and with none.
     assert!(&rt; outcome.bytes.len() == 8192);
     for (at, left) in [(7360, 2), (7424, 1), (7488, 0)] {
         assert!(&rt; at <= 8192 - 64);

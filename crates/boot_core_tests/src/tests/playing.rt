@@ -1,5 +1,6 @@
-//! A device on a flash in memory, and what comes of events on it. Sectors have 512 bytes and slots two sectors, so that
-//! the primary slots begin at 0, 1536 and so on, and each slot has the sector of its trailer after it.
+//! A device on a flash in memory, and what comes of events on it. Sectors have 512 bytes and slots
+//! two sectors, so that the primary slots begin at 0, 1536 and so on, and each slot has the sector
+//! of its trailer after it.
 
 ghost use Rattle.std.specs.Prelude.{◌≡◌};
 
@@ -15,11 +16,12 @@ use std::process::Abort;
 use std::sync::ledger::{Blank, Ledger};
 use std::test::Fail;
 
-/// A component of a manifest: the image, whether it is requested for good, and the digest and the size of the file.
+/// A component of a manifest: the image, whether it is requested for good, and the digest and the
+/// size of the file.
 pub(super) type Named<'a> = (u8, bool, &'a str, u32);
 
-/// The text of a manifest for the device. The identifier of its class is the UUID of version 5 of `bootswap` in the
-/// namespace of the vendor's identifier.
+/// The text of a manifest for the device. The identifier of its class is the UUID of version 5 of
+/// `bootswap` in the namespace of the vendor's identifier.
 pub(super) fn manifest(alloc: Global, sequence: u32, components: &[Named]) -> Result<String, Fail> {
     let mut text = format!(in alloc;
         r#"{{"manifest-version":1,"sequence-number":{sequence},"vendor-id":"886313e1-3b8a-5372-9b90-0c9aee199e5d","class-id":"74b0b1ed-70fe-5a24-9102-6a41c2172c6d","components":["#
@@ -55,8 +57,8 @@ pub(super) const EACH_LEFT: [Left; 4] = [
 /// A write that is cut, counted from 1, and what the cut leaves.
 pub(super) type Cut = (u64, Left);
 
-/// What came of events: the replies, as a program prints them, the bytes of the flash, and how many writes there were
-/// and how many erases that were not cut.
+/// What came of events: the replies, as a program prints them, the bytes of the flash, and how many
+/// writes there were and how many erases that were not cut.
 #[derive(Drop)]
 pub(super) struct Outcome {
     pub(super) told: String,
@@ -71,8 +73,9 @@ pub(super) fn put(rt: &impl Abort, bytes: &mut Vec<u8>, at: usize, part: &[u8]) 
     bytes[at..at + part.len()].copy_from_slice(part);
 }
 
-/// The bytes of a provisioned flash of so many bytes that runs these images: the record of a steady state with the
-/// sequence number 0 and no floor stands in the first place of the log, and the log's third sector is closed.
+/// The bytes of a provisioned flash of so many bytes that runs these images: the record of a steady
+/// state with the sequence number 0 and no floor stands in the first place of the log, and the
+/// log's third sector is closed.
 pub(super) fn provisioned(
     rt: &(impl Abort + AllocGlobal),
     size: usize,
@@ -156,8 +159,8 @@ fn play<L: Ledger>(
     })
 }
 
-/// What comes of events on a device of images with so many sectors, whose trials have so many boots and whose flash has
-/// these bytes, where these writes are cut.
+/// What comes of events on a device of images with so many sectors, whose trials have so many boots
+/// and whose flash has these bytes, where these writes are cut.
 pub(super) fn outcome_of(
     rt: &(impl Abort + AllocGlobal),
     sectors: &[u32],

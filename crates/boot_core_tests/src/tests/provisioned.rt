@@ -30,7 +30,8 @@ fn made<L: Ledger>(
     Ok((answer, Vec::from_slice(rt.alloc(), flash.bytes())?))
 }
 
-/// What is answered where a flash of these bytes is made that of a device of two images, and its bytes then.
+/// What is answered where a flash of these bytes is made that of a device of two images, and its
+/// bytes then.
 pub(super) fn made_of(
     rt: &(impl Abort + AllocGlobal),
     bytes: Vec<u8>,

@@ -58,7 +58,8 @@ impl<F: Flash> Flash for Counted<F> {
     }
 }
 
-/// How many bytes of the primary slots and trailers a boot reads of a new device of two images without requests.
+/// How many bytes of the primary slots and trailers a boot reads of a new device of two images
+/// without requests.
 fn reads<L: Ledger>(rt: &(impl Abort + AllocGlobal), blank: Blank) -> Result<u64, Fail>
     requires name { blank.name ≡ L.name }
     requires parts { blank.parts ≡ L.parts }
@@ -93,7 +94,8 @@ fn reads_of(rt: &(impl Abort + AllocGlobal)) -> Result<u64, Fail> {
 
 #[test]
 fn a_plain_boot_reads_each_image_once(rt: HostRuntime) -> Result<(), Fail> {
-    // Of each image 36 bytes for the digest, then the header, the head of the area, that of its entry, and the digest.
+    // Of each image 36 bytes for the digest, then the header, the head of the area, that of its
+    // entry, and the digest.
     assert_eq!(rt; reads_of(&rt)?, 2 * (36 + 32 + 4 + 4 + 32));
     Ok(())
 }

@@ -151,7 +151,8 @@ fn an_erased_flash_is_not_provisioned(rt: HostRuntime) -> Result<(), Fail> {
 
 #[test]
 fn a_record_out_of_the_table_is_none(rt: HostRuntime) -> Result<(), Fail> {
-    // No such kind, a mask past the images, a set in the steady state, one left in it, and six boots too many.
+    // No such kind, a mask past the images, a set in the steady state, one left in it, and six
+    // boots too many.
     let none = [
         [7, 1, 0, 0],
         [2, 4, 0, 0],

@@ -10,7 +10,8 @@ use machine::Event;
 use std::process::Abort;
 use std::test::Fail;
 
-/// Asserts what the boot answers that follows an upload of two images, requested for good or not, and the one after it.
+/// Asserts what the boot answers that follows an upload of two images, requested for good or not,
+/// and the one after it.
 fn expect_of_requests(
     rt: &(impl Abort + AllocGlobal),
     permanent: (bool, bool),

@@ -28,8 +28,8 @@ run 1 1.0.0+0
 6 done
 ";
 
-/// Asserts what follows the boot of a new device, an upload of two images that need each other, and the boot that takes
-/// them on trial.
+/// Asserts what follows the boot of a new device, an upload of two images that need each other, and
+/// the boot that takes them on trial.
 fn expect_in_trial(
     rt: &(impl Abort + AllocGlobal),
     boots: u8,
@@ -263,7 +263,8 @@ fn a_trial_of_three_boots_is_recorded_with_two_left(rt: HostRuntime) -> Result<(
     Ok(())
 }
 
-/// What comes of a trial of two images of so many boots and of the boots after it, where these writes are cut.
+/// What comes of a trial of two images of so many boots and of the boots after it, where these
+/// writes are cut.
 fn tried(
     rt: &(impl Abort + AllocGlobal),
     boots: u8,

@@ -1,4 +1,5 @@
-//! Tables that break a rule, each told by its first bad line, and those at the very limits, which break none.
+//! Tables that break a rule, each told by its first bad line, and those at the very limits, which
+//! break none.
 use memory_host::expect_outcome;
 use std::alloc::{AllocError, Global};
 use std::test::Fail;

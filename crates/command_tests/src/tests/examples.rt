@@ -1,4 +1,5 @@
-//! Worked examples of tables, from standard input and from a file, with the reports that they have to give.
+//! Worked examples of tables, from standard input and from a file, with the reports that they have
+//! to give.
 use memory_host::expect_outcome;
 use std::test::Fail;
 

@@ -131,8 +131,8 @@ fn front(text: &str, count: usize) -> &[u8] {
     &bytes[..count.min(bytes.len())]
 }
 
-/// Asserts that a run whose outputs have these limits exits with status 1, and has written as much of what it has
-/// to write as there is room for, and nothing else.
+/// Asserts that a run whose outputs have these limits exits with status 1, and has written as much
+/// of what it has to write as there is room for, and nothing else.
 fn expect_beginning(
     rt: &(impl Abort + AllocGlobal),
     files: Files<'_>,
@@ -149,8 +149,8 @@ fn expect_beginning(
     );
 }
 
-/// Asserts that each of these runs exits with status 1 where a write or a flush fails, at every place, and writes
-/// nothing more.
+/// Asserts that each of these runs exits with status 1 where a write or a flush fails, at every
+/// place, and writes nothing more.
 fn expect_each_beginning(rt: &(impl Abort + AllocGlobal), cases: &[Case<'_>]) {
     let files = files();
     for case in cases {

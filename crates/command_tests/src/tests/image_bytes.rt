@@ -1,6 +1,7 @@
 //! Images that another program made and that only `image` reads, as hexadecimal digits.
 
-/// Version 1.0.0+0, a body of four bytes, no protected area, and a key hash and a signature after the digest.
+/// Version 1.0.0+0, a body of four bytes, no protected area, and a key hash and a signature after
+/// the digest.
 pub const SIGNED: &str =
     "3db8f39600000000200000000400000000000000010000000000000000000000414243440769960010002000\
      a3e71cf40711fbfbade5131cd38ef12419ade325218beabf515b5fa1df6d5c8c010020000001020304050607\
@@ -8,7 +9,8 @@ pub const SIGNED: &str =
      101112131415161718191a1b1c1d1e1f202122232425262728292a2b2c2d2e2f303132333435363738393a3b\
      3c3d3e3f404142434445";
 
-/// The same with a security counter in the unprotected area, where none is read, in the place of the two.
+/// The same with a security counter in the unprotected area, where none is read, in the place of
+/// the two.
 pub const COUNTED_OUTSIDE: &str =
     "3db8f39600000000200000000400000000000000010000000000000000000000414243440769300010002000\
      a3e71cf40711fbfbade5131cd38ef12419ade325218beabf515b5fa1df6d5c8c5000040007000000";

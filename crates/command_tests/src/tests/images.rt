@@ -10,8 +10,8 @@ use std::test::Fail;
 /// The digest of the first image.
 const ONE_DIGEST: &str = "a3e71cf40711fbfbade5131cd38ef12419ade325218beabf515b5fa1df6d5c8c";
 
-/// Asserts that `image` over a file of these bytes leaves this status and this standard output, and no
-/// standard error.
+/// Asserts that `image` over a file of these bytes leaves this status and this standard output, and
+/// no standard error.
 fn expect_image(rt: &(impl Abort + AllocGlobal), bytes: &[u8], status: u8, out: &str) {
     let files = [("firmware.img", bytes)];
     let mut host = MemoryHost::new(files.as_slice(), b"");
@@ -147,7 +147,8 @@ const CHANGES: [(&[u8], usize, &[u8], &str); 15] = [
     (&RUNNING, 40, b"\x11", "refused 8 NoDigest\n"),
     (&RUNNING, 75, b"\x8d", "refused 10 BadDigest\n"),
     (&FIRST, 38, b"\x18", "refused 7 BadTlvSize\n"),
-    // The sizes of the header, the body, the protected area, the other area and its entry, each at a limit of it.
+    // The sizes of the header, the body, the protected area, the other area and its entry, each at
+    // a limit of it.
     (&RUNNING, 8, b"\xff\xff", "refused 5 Truncated\n"),
     (&RUNNING, 12, b"\xff\xff\xff\xff", "refused 5 Truncated\n"),
     (&RUNNING, 10, b"\x03\x00", "refused 6 BadTlvMagic\n"),

@@ -41,7 +41,8 @@ fn the_sample_is_told(rt: HostRuntime) {
     );
 }
 
-/// Two components, of which one asks for a running image. Digits are of either case, and keys in any order.
+/// Two components, of which one asks for a running image. Digits are of either case, and keys in
+/// any order.
 const TWO_COMPONENTS: &str =
     r#" {"sequence-number": 4294967295, "manifest-version": 1, "components": [
     {"kind": "permanent", "size": 4294967295, "component-id": 1,

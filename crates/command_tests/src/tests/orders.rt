@@ -239,7 +239,8 @@ struct Help {
     parts: &'static [&'static str],
 }
 
-/// Every help. The short ones name the exit statuses and an example, the long ones what is read and printed.
+/// Every help. The short ones name the exit statuses and an example, the long ones what is read and
+/// printed.
 const HELPS: [Help; 18] = [
     Help {
         words: &["bootswap", "-h"],

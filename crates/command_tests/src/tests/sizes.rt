@@ -12,8 +12,8 @@ const GREATEST: &str = "255.255.65535+4294967295";
 
 const ALMOST: &str = "255.255.65535+4294967294";
 
-/// Asserts that this run gives this answer, with status 0, to a writer that takes some bytes at a time and to
-/// one that takes one.
+/// Asserts that this run gives this answer, with status 0, to a writer that takes some bytes at a
+/// time and to one that takes one.
 fn expect_answer(
     rt: &(impl Abort + AllocGlobal),
     files: Files<'_>,
@@ -28,8 +28,9 @@ fn expect_answer(
     }
 }
 
-/// A table of 8 images that run this version and need image 7 sixteen times with it, each with a request of the
-/// same version that needs image 7 sixteen times with the version `needed`. All numbers are the greatest.
+/// A table of 8 images that run this version and need image 7 sixteen times with it, each with a
+/// request of the same version that needs image 7 sixteen times with the version `needed`. All
+/// numbers are the greatest.
 fn full_table(alloc: Global, running: &str, needed: &str) -> Result<String, AllocError> {
     let mut table = String::new(alloc);
     for image in 0..8 {
@@ -155,7 +156,8 @@ fn eight_refusals_of_every_reason(rt: HostRuntime) {
     expect_answer(&rt, files.as_slice(), "", &check, "yes\n");
 }
 
-/// The header of version 7.8.9+10 with a body of 4194307 bytes, and what follows the body of as many bytes `Z`.
+/// The header of version 7.8.9+10 with a body of 4194307 bytes, and what follows the body of as
+/// many bytes `Z`.
 const LONG_HEAD: &str = "3db8f39600000000200000000300400000000000070809000a00000000000000";
 
 const LONG_TAIL: &str =

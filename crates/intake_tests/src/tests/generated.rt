@@ -7,7 +7,8 @@ use manifest::Manifest;
 use std::alloc::AllocError;
 use std::test::Fail;
 
-/// A piece of text, with the number of the refusal that it asks for; 0 where nothing is wrong with it.
+/// A piece of text, with the number of the refusal that it asks for; 0 where nothing is wrong with
+/// it.
 type Piece = (&'static str, u8);
 
 const VERSIONS: [Piece; 6] = [
@@ -214,8 +215,8 @@ impl Text {
     }
 }
 
-// Each text is judged by its pieces alone. Then one of its bytes is changed, and what is asked is that the call
-// returns.
+// Each text is judged by its pieces alone. Then one of its bytes is changed, and what is asked is
+// that the call returns.
 #[test]
 fn ten_thousand_generated_texts_are_judged_by_their_pieces(rt: HostRuntime) -> Result<(), Fail> {
     let identity = device(2)?;

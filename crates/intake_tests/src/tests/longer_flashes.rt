@@ -1,4 +1,5 @@
-//! Uploads on a flash that has three sectors more than its map: what is behind the map's sectors stays as it is.
+//! Uploads on a flash that has three sectors more than its map: what is behind the map's sectors
+//! stays as it is.
 
 ghost use Rattle.std.specs.Prelude.{◌≡◌};
 

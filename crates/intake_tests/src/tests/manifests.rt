@@ -1,5 +1,5 @@
-//! What no clause says: that manifests are read where memory suffices, which texts are which JSON values, and
-//! identifiers that another program made.
+//! What no clause says: that manifests are read where memory suffices, which texts are which JSON
+//! values, and identifiers that another program made.
 
 use super::same::same;
 use super::sample_manifest::{SAMPLE, changed, device};
@@ -154,7 +154,8 @@ fn identifiers_are_uuids_of_version_5(rt: HostRuntime) -> Result<(), Fail> {
     Ok(())
 }
 
-// Memory is refused by the one who runs this: each request of this test in turn. See docs/PROOFS.md.
+// Memory is refused by the one who runs this: each request of this test in turn. See
+// docs/PROOFS.md.
 #[test]
 fn a_read_gives_the_manifest_or_says_that_memory_ran_out(rt: HostRuntime) -> Result<(), Fail> {
     match Manifest::read(rt.alloc(), SAMPLE.as_bytes(), &device(2)?) {

@@ -1,6 +1,7 @@
-//! Uploads on a flash in memory, with the places and bytes written out. The flash has 16 sectors of 512 bytes, for two
-//! images of two sectors. The primary slots begin at 0 and 1536, the secondary ones at 3072 and 4608, with their
-//! trailers at 4096 and 5632; the log begins at 6656. Digests were taken by another program.
+//! Uploads on a flash in memory, with the places and bytes written out. The flash has 16 sectors of
+//! 512 bytes, for two images of two sectors. The primary slots begin at 0 and 1536, the secondary
+//! ones at 3072 and 4608, with their trailers at 4096 and 5632; the log begins at 6656. Digests
+//! were taken by another program.
 
 ghost use Rattle.std.specs.Prelude.{◌≡◌, ◌↔◌, ◌<◌, ◌≤◌, IsTrue, length};
 ghost use Rattle.upload.specs.View.{view};
@@ -499,8 +500,8 @@ fn torn(alloc: Global, which: u8) -> Result<Torn, Fail> {
     }
 }
 
-/// Uploads and finishes an image for good, and then takes another manifest or, without one, withdraws the request, up
-/// to the first refusal.
+/// Uploads and finishes an image for good, and then takes another manifest or, without one,
+/// withdraws the request, up to the first refusal.
 fn upload_and<F: Flash>(
     rt: &impl Abort,
     uploads: &mut Uploads,
@@ -536,7 +537,8 @@ fn upload_and<F: Flash>(
     }
 }
 
-/// The sequence number and the request of image 0, after one write was cut of an upload and a step more.
+/// The sequence number and the request of image 0, after one write was cut of an upload and a step
+/// more.
 fn upload_cut<L: Ledger>(
     rt: &impl Abort,
     alloc: Global,

@@ -1,4 +1,5 @@
-//! What reaches the file, with cuts of the flash and failures of the file, by the bytes written out.
+//! What reaches the file, with cuts of the flash and failures of the file, by the bytes written
+//! out.
 
 ghost use Rattle.std.specs.Prelude.{◌≡◌, ◌+◌, ◌≤◌, Some};
 
@@ -95,9 +96,9 @@ fn answer<L: Ledger, M: Ledger>(
     }
 }
 
-/// Three sectors of sixteen bytes over a file, all bytes the same, after these steps, each of which has to answer
-/// what stands beside it. The write of number `cut.0` is cut and leaves `cut.1`, and the write of the file of number
-/// `failing` fails.
+/// Three sectors of sixteen bytes over a file, all bytes the same, after these steps, each of which
+/// has to answer what stands beside it. The write of number `cut.0` is cut and leaves `cut.1`, and
+/// the write of the file of number `failing` fails.
 fn play<L: Ledger, M: Ledger>(
     rt: &impl Abort,
     alloc: Global,

@@ -17,8 +17,8 @@ const TORN: [u8; 16] = [
     0x5a, 0xa5, 0x00, 0x5a, 0xa5, 0x00, 0x5a, 0xa5, 0x00, 0x5a, 0xa5, 0x00, 0x5a, 0xa5, 0x00, 0x5a,
 ];
 
-/// Two sectors of sixteen bytes after the first write was cut: a program of sixteen bytes at 8, or an erase of
-/// the second sector of a flash that is all 07.
+/// Two sectors of sixteen bytes after the first write was cut: a program of sixteen bytes at 8, or
+/// an erase of the second sector of a flash that is all 07.
 fn cut<L: Ledger>(
     rt: &impl Abort,
     alloc: Global,
@@ -125,8 +125,9 @@ fn a_cut_erase_leaves_what_was_armed(rt: HostRuntime) -> Result<(), Fail> {
     Ok(())
 }
 
-/// The counts of writes and erases after an erase that was done, one that was cut, one that was refused, and
-/// one more that was done. Two arms for the second one, and one for a write that is over.
+/// The counts of writes and erases after an erase that was done, one that was cut, one that was
+/// refused, and one more that was done. Two arms for the second one, and one for a write that is
+/// over.
 fn counted<L: Ledger>(rt: &impl Abort, alloc: Global, blank: Blank) -> Result<(u64, u64), Fail>
     requires name { blank.name ≡ L.name }
     requires parts { blank.parts ≡ L.parts }

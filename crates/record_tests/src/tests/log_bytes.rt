@@ -1,5 +1,5 @@
-//! The log, byte for byte, on a flash that has three sectors more than its map: sectors 13 to 15 of 19 are the log, and
-//! all others stay as they are.
+//! The log, byte for byte, on a flash that has three sectors more than its map: sectors 13 to 15 of
+//! 19 are the log, and all others stay as they are.
 
 ghost use Rattle.std.specs.Prelude.{◌≡◌};
 
@@ -21,7 +21,8 @@ fn odd_bytes(alloc: Global) -> Result<Vec<u8>, Fail> {
     Ok(bytes)
 }
 
-/// Writes what an append leaves that is the first one in a sector: this sector is erased, and the one before it closed.
+/// Writes what an append leaves that is the first one in a sector: this sector is erased, and the
+/// one before it closed.
 fn turn(rt: &impl Abort, bytes: &mut Vec<u8>, sequence: u8) {
     match sequence / 7 % 3 {
         0 => {

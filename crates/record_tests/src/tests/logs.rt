@@ -1,6 +1,6 @@
-//! The log on a flash in memory, with its bytes written out. The flash has 16 sectors of 512 bytes, for two images of
-//! two sectors. Its log is in sectors 13 to 15, at 6656, 7168 and 7680, with seven places each; their closing units
-//! stand at 7160, 7672 and 8184.
+//! The log on a flash in memory, with its bytes written out. The flash has 16 sectors of 512 bytes,
+//! for two images of two sectors. Its log is in sectors 13 to 15, at 6656, 7168 and 7680, with
+//! seven places each; their closing units stand at 7160, 7672 and 8184.
 
 ghost use Rattle.std.specs.Prelude.{◌≡◌, ◌+◌, ◌<◌, ◌≤◌};
 
@@ -171,7 +171,8 @@ fn append_seven<F: Flash>(rt: &impl Abort, flash: &mut F, map: &SectorMap) -> Re
     Ok(())
 }
 
-/// Six appends, and a seventh whose write of this number is cut, counted from the making of the flash.
+/// Six appends, and a seventh whose write of this number is cut, counted from the making of the
+/// flash.
 fn seventh_cut<L: Ledger>(
     rt: &impl Abort,
     alloc: Global,
@@ -361,8 +362,8 @@ fn a_record_has_these_bytes(rt: HostRuntime) -> Result<(), Fail> {
     is_recorded(&rt, rt.alloc(), &swap, &wanted)
 }
 
-/// What a cut leaves, five kinds: all as it was, all that was to be written, zeros, erased bytes, and a copy of
-/// what a sector holds that has later records.
+/// What a cut leaves, five kinds: all as it was, all that was to be written, zeros, erased bytes,
+/// and a copy of what a sector holds that has later records.
 fn torn(alloc: Global, which: usize) -> Result<Torn, Fail> {
     Ok(match which {
         0 => Torn::Keep,
@@ -411,7 +412,8 @@ fn is_cut<F: Flash>(
     Ok(cut)
 }
 
-/// Fifty appends of which one write is cut: the old state or the new one stands, which is appended again.
+/// Fifty appends of which one write is cut: the old state or the new one stands, which is appended
+/// again.
 fn one_cut<L: Ledger>(
     rt: &impl Abort,
     alloc: Global,

@@ -18,8 +18,8 @@ use trailer::status_count;
 /// In the place of a sector's number: bytes that no sector had before the swap.
 const OTHER: u8 = 16;
 
-/// How the flash stands: which sector's bytes of before the swap each sector has, how many status units of the
-/// two primary trailers are set, and the size in each, 0 where there is none.
+/// How the flash stands: which sector's bytes of before the swap each sector has, how many status
+/// units of the two primary trailers are set, and the size in each, 0 where there is none.
 #[derive(Clone, Copy)]
 struct Standing {
     sources: [u8; 16],
@@ -307,8 +307,8 @@ fn end_from(
 
 #[test]
 fn a_swap_ends_from_every_place(rt: HostRuntime) -> Result<(), Fail> {
-    // No size and one of 513 bytes move two sectors, sizes of 1, 96 and 512 bytes one; a number past the slot's 1024
-    // bytes is none.
+    // No size and one of 513 bytes move two sectors, sizes of 1, 96 and 512 bytes one; a number
+    // past the slot's 1024 bytes is none.
     for (sectors, swap_size) in [
         (2, 0),
         (2, 513),
@@ -487,8 +487,8 @@ fn sectors_of_576_bytes_are_copied_to_their_last_piece(rt: HostRuntime) -> Resul
     Ok(())
 }
 
-/// The bytes of a flash of which image 1 was swapped by so many steps, which are counted in its secondary trailer,
-/// sector 11, with any bytes in its primary one.
+/// The bytes of a flash of which image 1 was swapped by so many steps, which are counted in its
+/// secondary trailer, sector 11, with any bytes in its primary one.
 fn counted_aside(rt: &impl Abort, alloc: Global, count: u8) -> Result<Vec<u8>, Fail> {
     let mut bytes = bytes_of(alloc, 512, &after_steps([0, count], 2, 0))?;
     assert!(rt; bytes.len() == 8192);

@@ -1,6 +1,6 @@
-//! What requests, withdrawals, sizes and settled trailers leave on a flash, byte for byte. The flash has three sectors
-//! more than its map. Of image 0 the primary trailer begins at 1024, the secondary slot at 3072, and the trailer of that
-//! at 4096.
+//! What requests, withdrawals, sizes and settled trailers leave on a flash, byte for byte. The
+//! flash has three sectors more than its map. Of image 0 the primary trailer begins at 1024, the
+//! secondary slot at 3072, and the trailer of that at 4096.
 
 use super::put::put;
 use super::trailers::{DONE, FLAG, MAGIC, Step, Steps, UNCUT, WITHDRAWAL_CUT, after_on};
@@ -16,7 +16,8 @@ type Part<'a> = (usize, &'a [u8]);
 /// The first byte of the secondary slot.
 const SLOT: Part<'static> = (3072, &[0x3d]);
 
-/// The bytes of a flash that has these parts. All else of the map is one byte, and behind it is what no call changes.
+/// The bytes of a flash that has these parts. All else of the map is one byte, and behind it is
+/// what no call changes.
 fn flash_with(rt: &impl Abort, alloc: Global, byte: u8, parts: &[Part]) -> Result<Vec<u8>, Fail> {
     let mut bytes = vec![in alloc; byte; 8192]?;
     for at in 0..1536u16 {
@@ -28,7 +29,8 @@ fn flash_with(rt: &impl Abort, alloc: Global, byte: u8, parts: &[Part]) -> Resul
     Ok(bytes)
 }
 
-/// Steps on a flash that is erased but for the first byte of the secondary slot, and all that isn't erased then.
+/// Steps on a flash that is erased but for the first byte of the secondary slot, and all that isn't
+/// erased then.
 const ON_ERASED: [(Steps, &[Part]); 12] = [
     (
         &[(Step::Request(Kind::Test), DONE)],
@@ -126,8 +128,8 @@ fn each_call_writes_these_bytes_and_no_others(rt: HostRuntime) -> Result<(), Fai
 /// A sector that is erased.
 const ERASED: [u8; 512] = [0xff; 512];
 
-/// Steps on a flash that has the byte 0x5a everywhere, and all that has another one then. No unit of the trailers is
-/// erased, and none is right.
+/// Steps on a flash that has the byte 0x5a everywhere, and all that has another one then. No unit
+/// of the trailers is erased, and none is right.
 const ON_FILLED: [(Step, &[Part]); 9] = [
     (
         Step::Settle(Settling::Test),
@@ -186,8 +188,8 @@ fn what_is_settled_on_any_bytes_is_settled_byte_for_byte(rt: HostRuntime) -> Res
     Ok(())
 }
 
-/// The writes of a withdrawal that follows a request for good, and all that isn't erased where each is cut and leaves
-/// the byte 0x5a.
+/// The writes of a withdrawal that follows a request for good, and all that isn't erased where each
+/// is cut and leaves the byte 0x5a.
 const WITHDRAWAL_IN_ORDER: [(u64, &[Part]); 3] = [
     (
         3,

@@ -1,6 +1,6 @@
-//! Requests, withdrawals, sizes and settled trailers on a flash in memory, with the places and bytes written out.
-//! Image 0 of the map has its primary trailer in sector 2, its secondary slot in sectors 6 and 7, and the trailer
-//! of that in sector 8.
+//! Requests, withdrawals, sizes and settled trailers on a flash in memory, with the places and
+//! bytes written out. Image 0 of the map has its primary trailer in sector 2, its secondary slot in
+//! sectors 6 and 7, and the trailer of that in sector 8.
 
 ghost use Rattle.std.specs.Prelude.{◌≡◌, ◌<◌};
 ghost use Rattle.sector_map.specs.Map.{IsLaidOut};
@@ -174,7 +174,8 @@ fn look<L: Ledger>(
     })
 }
 
-/// What is seen after steps on a flash of these bytes. The write of number `cut.0` is cut and leaves `cut.1`.
+/// What is seen after steps on a flash of these bytes. The write of number `cut.0` is cut and
+/// leaves `cut.1`.
 fn played<L: Ledger>(
     rt: &impl Abort,
     alloc: Global,
@@ -218,7 +219,8 @@ fn after(rt: &impl Abort, alloc: Global, cut: (u64, Torn), steps: Steps) -> Resu
 /// No write is cut.
 pub(super) const UNCUT: (u64, Torn) = (0, Torn::Keep);
 
-/// What a cut leaves: the range as it was, as if done, all 0x00, all 0xff, or a copy of a trailer with a good magic.
+/// What a cut leaves: the range as it was, as if done, all 0x00, all 0xff, or a copy of a trailer
+/// with a good magic.
 fn torn(alloc: Global, which: u8) -> Result<Torn, Fail> {
     match which {
         0 => Ok(Torn::Keep),
@@ -326,7 +328,8 @@ const SETTLED: [(Step, Result<(), FlashError>); 5] = [
 
 #[test]
 fn what_is_settled_is_not_written_again(rt: HostRuntime) -> Result<(), Fail> {
-    // The secondary trailer is erased; copy_done and the magic are written, and no more the second time.
+    // The secondary trailer is erased; copy_done and the magic are written, and no more the second
+    // time.
     let once = after(&rt, rt.alloc(), UNCUT, &SETTLED[..1])?;
     same(&rt, "the writes", &once.writes, &3);
     let twice = after(&rt, rt.alloc(), UNCUT, &SETTLED[..2])?;

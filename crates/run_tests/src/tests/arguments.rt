@@ -1,10 +1,12 @@
-//! The words of the commands on a device: which fault is told where several are there, and what standard input may be.
+//! The words of the commands on a device: which fault is told where several are there, and what
+//! standard input may be.
 use memory_host::samples::DEVICE;
 use memory_host::two_images;
 use std::alloc::Global;
 use std::test::Fail;
 
-/// The words of a command behind the program's name, and what is told on standard output and on standard error.
+/// The words of a command behind the program's name, and what is told on standard output and on
+/// standard error.
 type Told = (&'static str, &'static str, &'static str);
 
 /// `run` with more than one argument that is wrong, or the last: the first that is wrong is told.
@@ -57,7 +59,8 @@ const SHOW_FAULTS: [Told; 6] = [
     ),
 ];
 
-/// `provision` with more than one argument that is wrong, or the last: the first that is wrong is told.
+/// `provision` with more than one argument that is wrong, or the last: the first that is wrong is
+/// told.
 const PROVISION_FAULTS: [Told; 5] = [
     (
         "provision missing flash.bin absent",
@@ -94,7 +97,8 @@ const BOOTED: &str = "1 plain\nrun 0 1.0.0+0\nrun 1 1.0.0+0\n";
 const SHOWN: &str =
     "state steady\nset -\nsequence 0\nfloor 0 0\nfloor 1 0\nswap 0 none\nswap 1 none\n";
 
-/// Commands that are done and read standard input: the words, the script, standard input and standard output.
+/// Commands that are done and read standard input: the words, the script, standard input and
+/// standard output.
 const INPUTS: [(&str, &str, &str, &str); 5] = [
     ("run device.json flash.bin script.txt", "boot\n", "", BOOTED),
     ("run - flash.bin script.txt", "boot\n", DEVICE, BOOTED),
@@ -103,8 +107,8 @@ const INPUTS: [(&str, &str, &str, &str); 5] = [
     ("show - flash.bin", "", DEVICE, SHOWN),
 ];
 
-/// Commands that read standard input and are refused, and one whose flash file can't be made: the words, standard
-/// input, the status, standard output and standard error.
+/// Commands that read standard input and are refused, and one whose flash file can't be made: the
+/// words, standard input, the status, standard output and standard error.
 const BAD_INPUTS: [(&str, &str, u8, &str, &str); 3] = [
     ("show device.json -", "boot\n", 1, "", "error: flash size\n"),
     (

@@ -103,8 +103,8 @@ fn writes_of(
     })
 }
 
-/// Asserts what a sweep says of each write of its event and each way to tear it, and that the write after the event
-/// isn't the event's.
+/// Asserts what a sweep says of each write of its event and each way to tear it, and that the write
+/// after the event isn't the event's.
 fn expect_sweep(rt: &(impl Abort + AllocGlobal), sweep: &Sweep) -> Result<Writes, Fail>
     ensures some { IfOk result (λ writes. writes.first ≤ writes.last) }
     ensures few { IfOk result (λ writes. writes.last < 1000) }
@@ -149,7 +149,8 @@ fn an_upgrade_that_is_cut_at_any_write_is_ended_by_the_next_boot(
     rt: HostRuntime,
 ) -> Result<(), Fail> {
     let writes = expect_sweep(&rt, &UPGRADE)?;
-    // A copy of one sector has an erase and two programs at least, and there are six with a status unit each.
+    // A copy of one sector has an erase and two programs at least, and there are six with a status
+    // unit each.
     assert!(rt; writes.last - writes.first >= 24, "{writes:?}");
     Ok(())
 }
@@ -199,9 +200,10 @@ fn cut_twice(
     Ok(Twice::NotCut)
 }
 
-/// Asserts that after a first cut, which isn't of the upgrade's last write, a second cut at each write of the boot
-/// after it leaves the upgrade to the third boot; but for the last of them, where that is told to set its unit. The
-/// ways to tear are taken in turn, from write to write. Returns how many writes the second boot makes.
+/// Asserts that after a first cut, which isn't of the upgrade's last write, a second cut at each
+/// write of the boot after it leaves the upgrade to the third boot; but for the last of them, where
+/// that is told to set its unit. The ways to tear are taken in turn, from write to write. Returns
+/// how many writes the second boot makes.
 fn expect_cut_twice(
     rt: &(impl Abort + AllocGlobal),
     fresh: &mut Fresh,
@@ -230,8 +232,9 @@ fn expect_cut_twice(
     Ok(0)
 }
 
-// Of the upgrade's writes but the last, each is cut in each of the four ways; and with each of these first cuts, each
-// write of the boot after it in one way: of two writes that follow one another, in different ways.
+// Of the upgrade's writes but the last, each is cut in each of the four ways; and with each of
+// these first cuts, each write of the boot after it in one way: of two writes that follow one
+// another, in different ways.
 #[test]
 fn an_upgrade_that_is_cut_twice_is_ended_by_the_boot_after(rt: HostRuntime) -> Result<(), Fail> {
     let mut fresh = Fresh::new(rt.alloc(), Device::TwoImages)?;
@@ -423,8 +426,8 @@ run 1 1.0.0+0
 4 done
 ";
 
-/// Asserts what comes of the event after that upload where this write of it is cut so: whether the request stands, and
-/// the stored sequence number.
+/// Asserts what comes of the event after that upload where this write of it is cut so: whether the
+/// request stands, and the stored sequence number.
 fn expect_request(
     rt: &(impl Abort + AllocGlobal),
     fresh: &mut Fresh,
@@ -514,8 +517,8 @@ fn a_request_goes_only_after_the_sequence_number_of_the_manifest_that_replaces_i
     Ok(())
 }
 
-/// Asserts how `show` begins after the event of a sweep was cut at each of its writes in turn, each of which is left as
-/// it was: as these stages say, one after the other.
+/// Asserts how `show` begins after the event of a sweep was cut at each of its writes in turn, each
+/// of which is left as it was: as these stages say, one after the other.
 fn expect_stages(
     rt: &(impl Abort + AllocGlobal),
     sweep: &Sweep,

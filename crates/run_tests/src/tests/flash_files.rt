@@ -4,7 +4,8 @@ use memory_host::{Device, Fresh, Left, Target, expect_run, two_images};
 use std::process::Abort;
 use std::test::Fail;
 
-/// Asserts that `run` of a script and `show` refuse a flash file with this error line, and change nothing.
+/// Asserts that `run` of a script and `show` refuse a flash file with this error line, and change
+/// nothing.
 fn expect_refused(
     rt: &(impl Abort + AllocGlobal),
     target: &mut Target,
@@ -48,8 +49,8 @@ struct Event {
     done: Option<&'static str>,
 }
 
-/// The events that write, and those between them. After the write that fails no later one does anything: so a boot is
-/// cut where it has something to write, and else it is plain.
+/// The events that write, and those between them. After the write that fails no later one does
+/// anything: so a boot is cut where it has something to write, and else it is plain.
 const EVENTS: [Event; 9] = [
     Event {
         line: "boot\n",
@@ -310,7 +311,8 @@ fn what_a_write_leaves_that_fails_is_what_a_cut_leaves(rt: HostRuntime) -> Resul
         for left in [Left::Old, Left::Half] {
             let outcome = fresh.run_failing(rt.alloc(), &script, (write, left))?;
             assert!(rt; outcome.status == 4, "{write} {left:?} {outcome:?}");
-            // Of the last gate the first half is what counts: the other bytes are those of an erased unit.
+            // Of the last gate the first half is what counts: the other bytes are those of an
+            // erased unit.
             let is_ended = write == last && left == Left::Half;
             let out = if is_ended { "1 reverted 0 1\n" } else { TAKEN };
             fresh.target.flash.failing = None;

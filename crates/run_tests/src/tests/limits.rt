@@ -119,8 +119,8 @@ fn front(text: &str, count: usize) -> &[u8] {
     &bytes[..count.min(bytes.len())]
 }
 
-/// Asserts that a command whose outputs have these limits exits with status 1, and has written as much of what it has
-/// to write as there is room for, and nothing after a write that failed.
+/// Asserts that a command whose outputs have these limits exits with status 1, and has written as
+/// much of what it has to write as there is room for, and nothing after a write that failed.
 fn expect_beginning(
     rt: &(impl Abort + AllocGlobal),
     target: &mut Target,
@@ -175,8 +175,8 @@ fn after_a_failed_write_or_flush_nothing_more_is_written(rt: HostRuntime) -> Res
     Ok(())
 }
 
-/// Asserts that a command with a heap of this size leaves what it has to, or refuses for want of memory. Returns
-/// whether it leaves what it has to.
+/// Asserts that a command with a heap of this size leaves what it has to, or refuses for want of
+/// memory. Returns whether it leaves what it has to.
 fn is_answered(
     rt: &(impl Abort + AllocGlobal),
     target: &mut Target,

@@ -67,7 +67,8 @@ swap 1 none
 #[test]
 fn a_device_of_eight_images_is_provisioned_and_boots(rt: HostRuntime) -> Result<(), Fail> {
     let mut target = provisioned(rt.alloc(), Device::EightImages, &["running.img"; 8])?;
-    // Two slots and two trailers of a sector each for each image, scratch, and the three sectors of the log.
+    // Two slots and two trailers of a sector each for each image, scratch, and the three sectors of
+    // the log.
     assert!(rt; target.flash.bytes.len() == 18432);
     let out = "1 plain
 run 0 1.0.0+0

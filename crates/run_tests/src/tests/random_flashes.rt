@@ -1,4 +1,5 @@
-//! Flashes whose bytes were made at random, or changed at random: the program comes to an end on each.
+//! Flashes whose bytes were made at random, or changed at random: the program comes to an end on
+//! each.
 use memory_host::samples::TRIED;
 use memory_host::{Device, Fresh, Left, Target};
 use random_numbers::Random;
@@ -52,7 +53,8 @@ impl Seen {
     }
 }
 
-/// Writes over some bytes from a place on, which is at random: with bytes at random, or erased ones.
+/// Writes over some bytes from a place on, which is at random: with bytes at random, or erased
+/// ones.
 fn change(random: &mut Random, bytes: &mut [u8]) {
     let at = (random.number() % 8192) as usize;
     let length = usize::from(random.below(40));

@@ -226,7 +226,8 @@ fn an_upload_by_parts_is_whole(rt: HostRuntime) -> Result<(), Fail> {
     expect_each_step(rt.alloc(), &[WHOLE_BY_PARTS])
 }
 
-/// Runs that read standard input once: the words, the script, standard input, and what is told behind the first boot.
+/// Runs that read standard input once: the words, the script, standard input, and what is told
+/// behind the first boot.
 const READ_ONCE: [(&str, &str, &str, &str); 4] = [
     (
         "run device.json flash.bin script.txt",
@@ -265,7 +266,8 @@ fn standard_input_is_read_once_by_the_words_or_by_a_line(rt: HostRuntime) -> Res
     Ok(())
 }
 
-/// Runs that would read standard input twice or past its end: the same, and what is told on standard error.
+/// Runs that would read standard input twice or past its end: the same, and what is told on
+/// standard error.
 const READ_TWICE: [(&str, &str, &str, &str); 4] = [
     (
         "run device.json flash.bin script.txt",
