@@ -5,6 +5,7 @@ pub mod Frames
 pub mod OpenOnes
 pub mod Added
 pub mod PieceRow
+pub mod Requested
 pub mod WithdrawRow
 pub mod Images
 pub mod Precursors
@@ -13,3 +14,4 @@ pub mod AcceptRow
 pub mod TakenRow
 pub mod Finished
 pub mod FinishRow
+pub mod Worn

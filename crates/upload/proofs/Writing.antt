@@ -28,7 +28,7 @@ left_is : (slot front : List ℕ) (was : IsWritten slot front) → length slot �
 left_is slot front was = ap length was.is ∙ length-append front (replicate was.left 0xff)
     ∙ ap (λ n. length front + n) (length-replicate was.left 0xff)
 
-behind_at : (slot front : List ℕ) (was : IsWritten slot front) (o : ℕ) → length front ≤ o → o < length slot
+pub behind_at : (slot front : List ℕ) (was : IsWritten slot front) (o : ℕ) → length front ≤ o → o < length slot
     → slice_index slot o ≡ 0xff
 behind_at slot front was o le lt = ap (λ l. slice_index l o) was.is
     ∙ get_or-append_right front (replicate was.left 0xff) (length front) o 0 refl le
@@ -176,6 +176,16 @@ sector_erased_too map chip image index lt blank =
       each = λ k above below. blank.each k (omega (arith, above, low))
           (omega (arith, below, high, end_of map (Slot image Secondary)));
     }
+
+-- a slot that is erased stays as it is, sector by sector
+pub sectors_idle : (map : SectorMap) (old mid new : Chip) (image index : ℕ) → index < slot_sectors map image
+    → (IsErased old (start_of map (Slot image Secondary)) (length_of map (Slot image Secondary)) → mid ≡ old)
+    → (IsErased mid ((first_of map (Slot image Secondary) + index) * map.sector_size) map.sector_size → new ≡ mid)
+    → IsErased old (start_of map (Slot image Secondary)) (length_of map (Slot image Secondary)) → new ≡ old
+sectors_idle map old mid new image index lt before next blank =
+    let same = before blank in
+    next (subst (λ chip. IsErased chip ((first_of map (Slot image Secondary) + index) * map.sector_size) map.sector_size)
+    (sym same) (sector_erased_too map old image index lt blank)) ∙ same
 
 -- the first unit of an erased slot isn't set
 pub front_blank : (map : SectorMap) (chip : Chip) (image : ℕ) → IsLaidOut map chip → image < map.images

@@ -9,3 +9,4 @@ pub mod Withdrawal
 pub mod Accepted
 pub mod Taking
 pub mod Finish
+pub mod Wear

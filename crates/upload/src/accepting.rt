@@ -13,6 +13,7 @@ ghost use Rattle.upload.specs.Steady.{IsSteadyAt};
 ghost use Rattle.upload.specs.Sessions.{AllClosed, AllOpenAt, IsUpAt};
 ghost use Rattle.upload.specs.Ending.{EndsUpload, is_flash};
 ghost use Rattle.upload.specs.Accepted.{Accepts, AreBlank, AreThere, AllFit, IsAcceptCut, accepted_parts};
+ghost use Rattle.upload.specs.Wear.{ErasesFew, most_recording};
 ghost use Rattle.upload.specs.Taking.{EndsAccept, IsTaken, LeavesAccept};
 
 use crate::error::UploadError;
@@ -41,6 +42,8 @@ fn record_sequence<F: Flash>(
         ≡ Some (record state.now { sequence = sequence })) }
     ensures ok { OnOk result (state_of map.now (F.chip flash.new)
         ≡ Some (record state.now { sequence = sequence })) }
+    ensures erases { OnOk result ((F.chip flash.new).erases
+        ≤ (F.chip flash.old).erases + most_recording state.now.sequence sequence) }
     // An equal sequence number is accepted without a record.
     ensures idle { state.now.sequence ≡ sequence → F.chip flash.new ≡ F.chip flash.old }
     ensures ends { Ends result (F.chip flash.old) (F.chip flash.new) }
@@ -76,6 +79,8 @@ fn write_manifest<F: Flash>(
     ensures ok { OnOk result (IsTaken (view map.now (F.chip flash.old))
         (view map.now (F.chip flash.new)) uploads.old.sessions uploads.new.sessions
         sequence components.now) }
+    ensures erases { OnOk result (ErasesFew map.now (F.chip flash.old) (F.chip flash.new)
+        state.now.sequence sequence components.now) }
     ensures equal { state.now.sequence ≡ sequence
         → part_of map.now (F.chip flash.new) Log ≡ part_of map.now (F.chip flash.old) Log }
     ensures idle { state.now.sequence ≡ sequence
@@ -107,6 +112,10 @@ fn take_manifest<F: Flash>(
     ensures equal { (state : LogState) → state_of map.now (F.chip flash.old) ≡ Some state
         → state.sequence ≡ manifest.now.sequence
         → part_of map.now (F.chip flash.new) Log ≡ part_of map.now (F.chip flash.old) Log }
+    ensures erases { OnOk result ((state : LogState)
+        → state_of map.now (F.chip flash.old) ≡ Some state
+        → ErasesFew map.now (F.chip flash.old) (F.chip flash.new) state.sequence
+        manifest.now.sequence manifest.now.components.items) }
     ensures idle { (state : LogState) → state_of map.now (F.chip flash.old) ≡ Some state
         → state.sequence ≡ manifest.now.sequence
         → AreBlank map.now (F.chip flash.old) manifest.now.components.items
@@ -125,20 +134,22 @@ fn take_manifest<F: Flash>(
 }
 
 impl Uploads {
-    /// Takes a manifest: stores its sequence number in the log, unless it is the one there, then takes back what is
-    /// requested for each image that it names, erases the secondary slot, and opens an upload of the image. Where two
-    /// components name an image the last one counts. Uploads of other images go on.
+    /// Takes a manifest: stores its sequence number in the log, unless it is the one there, then
+    /// takes back what is requested for each image that it names, erases the secondary slot, and
+    /// opens an upload of the image. Where two components name an image the last one counts.
+    /// Uploads of other images go on.
     ///
-    /// The map is laid out on the flash, the log has a state, of which `read_state` is the test, and each component
-    /// names an image of the map.
+    /// The map is laid out on the flash, the log has a state, of which `read_state` is the test,
+    /// and each component names an image of the map.
     ///
     /// # Errors
-    /// The first check that fails, each made of all components, and nothing changed: `OldSequence` where the sequence
-    /// number is below the one in the log, `TooBig` where an image is longer than its slot, `WrongPrecursor` where an
-    /// image is to follow another than the one that runs. `Flash` with `Cut` where power failed after all checks had
-    /// passed: all uploads are closed; the log has the old sequence number and each request is as it was, or it has
-    /// the new one and each request of a named image is as it was or gone. `Flash` with `Off` where the flash was off:
-    /// all uploads are closed, and nothing else changed.
+    /// The first check that fails, each made of all components, and nothing changed: `OldSequence`
+    /// where the sequence number is below the one in the log, `TooBig` where an image is longer
+    /// than its slot, `WrongPrecursor` where an image is to follow another than the one that runs.
+    /// `Flash` with `Cut` where power failed after all checks had passed: all uploads are closed;
+    /// the log has the old sequence number and each request is as it was, or it has the new one and
+    /// each request of a named image is as it was or gone. `Flash` with `Off` where the flash was
+    /// off: all uploads are closed, and nothing else changed.
     pub fn accept<F: Flash>(
         &mut self,
         flash: &mut F,
@@ -167,6 +178,12 @@ impl Uploads {
             → state.sequence ≡ manifest.now.sequence
             → AreBlank map.now (F.chip flash.old) manifest.now.components.items
             → F.chip flash.new ≡ F.chip flash.old }
+        // Beside the record's, no more sectors are erased than aren't erased, and one for each
+        // image that has any.
+        ensures erases { OnOk result ((state : LogState)
+            → state_of map.now (F.chip flash.old) ≡ Some state
+            → ErasesFew map.now (F.chip flash.old) (F.chip flash.new) state.sequence
+            manifest.now.sequence manifest.now.components.items) }
         ensures closed { is_flash result ≡ true → AllClosed self.new.sessions }
         // On a flash that holds a state: the step of a machine that knows whole images.
         ensures row { (m : Machine)

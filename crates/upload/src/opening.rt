@@ -1,6 +1,6 @@
 //! Opening the sessions of a manifest.
 
-ghost use Rattle.std.specs.Prelude.{◌≡◌, ◌≤◌, ◌<◌, ℕ, [], All, OnOk, Some, None};
+ghost use Rattle.std.specs.Prelude.{◌≡◌, ◌+◌, ◌≤◌, ◌<◌, ℕ, [], All, OnOk, Some, None};
 ghost use Rattle.flash_model.specs.Chip.{Chip, Ends};
 ghost use Rattle.sector_map.specs.Map.{IsLaidOut, Keeps};
 ghost use Rattle.sector_map.specs.Part.{incoming_of};
@@ -11,6 +11,7 @@ ghost use Rattle.upload.specs.View.{view};
 ghost use Rattle.upload.specs.Sessions.{IsWith, IsWritten};
 ghost use Rattle.upload.specs.Withdrawal.{IsKeptOrGone};
 ghost use Rattle.upload.specs.Accepted.{AreBlank, AreThere, IsBlank, IsFresh, IsOpened, IsOpening, latest, named_parts};
+ghost use Rattle.upload.specs.Wear.{most_erases, most_erases_of, worn};
 ghost use Rattle.upload.specs.declared.sessions.Upload.{Upload};
 
 use crate::sessions::{Upload, Uploads};
@@ -31,6 +32,9 @@ fn open_slot<F: Flash>(flash: &mut F, map: &SectorMap, image: u8) -> Result<(), 
     ensures trailer { OnOk result
         (fields_at map.now (F.chip flash.new) image Secondary ≡ erased_fields) }
     ensures slot { OnOk result (IsWritten (incoming_slot map.now (F.chip flash.new) image) []) }
+    ensures erases { OnOk result ((F.chip flash.new).erases
+        ≤ (F.chip flash.old).erases + most_erases map.now (F.chip flash.old) image) }
+    ensures erased { OnOk result (worn map.now (F.chip flash.new) image ≡ 0) }
     ensures idle { IsBlank map.now (F.chip flash.old) image
         → F.chip flash.new ≡ F.chip flash.old }
     ensures ends { Ends result (F.chip flash.old) (F.chip flash.new) }
@@ -80,6 +84,9 @@ fn open_one<F: Flash>(
         (fields_at map.now (F.chip flash.new) component.now.image Secondary ≡ erased_fields) }
     ensures slot { OnOk result
         (IsWritten (incoming_slot map.now (F.chip flash.new) component.now.image) []) }
+    ensures erases { OnOk result ((F.chip flash.new).erases
+        ≤ (F.chip flash.old).erases + most_erases map.now (F.chip flash.old) component.now.image) }
+    ensures erased { OnOk result (worn map.now (F.chip flash.new) component.now.image ≡ 0) }
     ensures table { OnOk result ((u : Upload) × IsFresh component.now u
         × IsWith component.now.image (Some u) uploads.old.sessions uploads.new.sessions) }
     ensures idle { IsBlank map.now (F.chip flash.old) component.now.image
@@ -107,6 +114,8 @@ pub(crate) fn open_all<F: Flash>(
     ensures opened { OnOk result (IsOpened (view map.now (F.chip flash.old))
         (view map.now (F.chip flash.new)) uploads.old.sessions uploads.new.sessions
         (latest components.now)) }
+    ensures erases { OnOk result ((F.chip flash.new).erases
+        ≤ (F.chip flash.old).erases + most_erases_of map.now (F.chip flash.old) components.now) }
     ensures idle { AreBlank map.now (F.chip flash.old) components.now
         → F.chip flash.new ≡ F.chip flash.old }
     ensures ends { Ends result (F.chip flash.old) (F.chip flash.new) }

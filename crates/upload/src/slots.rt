@@ -7,6 +7,7 @@ ghost use Rattle.sector_map.specs.Part.{Slot, only};
 ghost use Rattle.sector_map.specs.declared.layout.Side.TheVariants.{Secondary};
 ghost use Rattle.trailer.specs.Standing.{incoming_slot};
 ghost use Rattle.upload.specs.Sessions.{IsWritten};
+ghost use Rattle.upload.specs.Wear.{one_unless_erased, sector_in, worn_slot};
 
 use flash_model::{Flash, FlashError, is_erased};
 use sector_map::{SectorMap, Side};
@@ -63,6 +64,9 @@ fn erase_sector<F: Flash>(
         map.now.sector_size → F.chip flash.new ≡ F.chip flash.old }
     ensures erases { OnOk result
         ((F.chip flash.new).erases ≤ (F.chip flash.old).erases + 1) }
+    ensures worn { OnOk result ((F.chip flash.new).erases ≡ (F.chip flash.old).erases
+        + one_unless_erased (sector_in map.now.sector_size
+        (incoming_slot map.now (F.chip flash.old) image) index)) }
     ensures ends { Ends result (F.chip flash.old) (F.chip flash.new) }
 {
     let sector = map.slot(image, Side::Secondary) + index;
@@ -87,6 +91,9 @@ pub(crate) fn erase_slot<F: Flash>(
         (length_of map.now (Slot image Secondary)) → F.chip flash.new ≡ F.chip flash.old }
     ensures erases { OnOk result ((F.chip flash.new).erases
         ≤ (F.chip flash.old).erases + slot_sectors map.now image) }
+    // No sector is erased that is erased.
+    ensures worn { OnOk result ((F.chip flash.new).erases
+        ≡ (F.chip flash.old).erases + worn_slot map.now (F.chip flash.old) image) }
     ensures ends { Ends result (F.chip flash.old) (F.chip flash.new) }
 {
     for index in 0..map.slot_sectors(image) {

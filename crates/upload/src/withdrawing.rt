@@ -1,6 +1,6 @@
 //! Taking back what is requested.
 
-ghost use Rattle.std.specs.Prelude.{◌≡◌, ◌≤◌, ◌<◌, ℕ, false, Err, IfErr};
+ghost use Rattle.std.specs.Prelude.{◌≡◌, ◌≤◌, ◌<◌, ◌+◌, ℕ, false, Err, IfErr, OnOk};
 ghost use Rattle.flash_model.specs.Chip.{Chip};
 ghost use Rattle.sector_map.specs.Map.{IsLaidOut, Keeps};
 ghost use Rattle.sector_map.specs.Part.{incoming_of};
@@ -18,6 +18,7 @@ use sector_map::SectorMap;
 use trailer::{standing, withdraw};
 
 /// Takes back the request of an image, where one stands.
+#[tactic(auto, using(crate::proofs::Requested::stands_in_units))]
 fn withdraw_standing<F: Flash>(flash: &mut F, map: &SectorMap, image: u8) -> Result<(), UploadError>
     requires laid_out { IsLaidOut map.now (F.chip flash.old) }
     requires there { image < map.now.images }
@@ -26,6 +27,7 @@ fn withdraw_standing<F: Flash>(flash: &mut F, map: &SectorMap, image: u8) -> Res
         (view map.now (F.chip flash.new)) image result }
     ensures nothing { IfErr result (λ error. is_flash {T = Unit} (Err error) ≡ false
         → F.chip flash.new ≡ F.chip flash.old) }
+    ensures erases { OnOk result ((F.chip flash.new).erases ≡ (F.chip flash.old).erases + 2) }
     ensures ends { EndsUpload result (F.chip flash.old) (F.chip flash.new) }
 {
     match standing(flash, map, image) {
@@ -39,15 +41,16 @@ fn withdraw_standing<F: Flash>(flash: &mut F, map: &SectorMap, image: u8) -> Res
 }
 
 impl Uploads {
-    /// Takes back the request of an image, which is told by its number from 0. An upload that is open stays so, and an
-    /// image with one has no request.
+    /// Takes back the request of an image, which is told by its number from 0. An upload that is
+    /// open stays so, and an image with one has no request.
     ///
     /// The map is laid out on the flash.
     ///
     /// # Errors
-    /// `NothingRequested` where no request stands, or there is no such image: nothing changed. `Flash` with `Cut`
-    /// where power failed: all uploads are closed, and the request that stood stands as before or not at all; with
-    /// `Off` where the flash was off: all uploads are closed, and nothing else changed.
+    /// `NothingRequested` where no request stands, or there is no such image: nothing changed.
+    /// `Flash` with `Cut` where power failed: all uploads are closed, and the request that stood
+    /// stands as before or not at all; with `Off` where the flash was off: all uploads are closed,
+    /// and nothing else changed.
     pub fn withdraw<F: Flash>(
         &mut self,
         flash: &mut F,
@@ -64,6 +67,8 @@ impl Uploads {
         ensures unknown { map.now.images ≤ image → result ≡ Err NothingRequested }
         ensures nothing { IfErr result (λ error. is_flash {T = Unit} (Err error) ≡ false
             → F.chip flash.new ≡ F.chip flash.old) }
+        // What is withdrawn costs the slot's first sector and its trailer one erase each.
+        ensures erases { OnOk result ((F.chip flash.new).erases ≡ (F.chip flash.old).erases + 2) }
         ensures table { IsClosedAfter result self.old.sessions self.new.sessions }
         // On a flash that holds a state: the step of a machine that knows whole images.
         ensures row { (m : Machine)

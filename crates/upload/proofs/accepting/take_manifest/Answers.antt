@@ -3,6 +3,7 @@ use Rattle.upload.specs.View.{view}
 use Rattle.upload.specs.Taking.{CutsAccept, IsTaken, LeavesAccept}
 use Rattle.upload.proofs.Ends.{same_off}
 use Rattle.upload.proofs.TakenRow.{equal_blank, equal_log, stopped}
+use Rattle.upload.proofs.Worn.{few_of_state}
 use Rattle.upload.proofs.accepting.take_manifest.Goals as goal
 
 pub returns-in-Ok-write_manifest-clause-accepts : goal.returns-in-Ok-write_manifest-clause-accepts
@@ -59,3 +60,10 @@ returns-in-Err-write_manifest-clause-idle g c = λ state read equal blank.
     c.in-Ok.state c.args.manifest.now.sequence c.as_slice-components.result.now
     c.args.manifest.now.components.items c.judge_manifest.ensures.same c.as_slice-components.ensures.value read
     c.in-Ok.ensures.ok.newer.read equal blank c.write_manifest.ensures.idle
+
+pub returns-in-Ok-write_manifest-clause-erases : goal.returns-in-Ok-write_manifest-clause-erases
+returns-in-Ok-write_manifest-clause-erases g c = λ state read.
+    few_of_state c.args.map.now (g.F.Flash.chip c.args.flash.now) (g.F.Flash.chip c.judge_manifest.new.flash)
+    (g.F.Flash.chip c.write_manifest.new.flash) state c.in-Ok.state c.args.manifest.now.sequence
+    c.as_slice-components.result.now c.args.manifest.now.components.items c.judge_manifest.ensures.same
+    c.as_slice-components.ensures.value read c.in-Ok.ensures.ok.newer.read c.in-Ok-write_manifest.ensures.erases

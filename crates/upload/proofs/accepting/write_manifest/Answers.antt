@@ -9,6 +9,7 @@ use Rattle.upload.proofs.Views.{view_kept}
 use Rattle.upload.proofs.Opened.{log_of_accepted, parts_and_log}
 use Rattle.upload.proofs.AcceptRow.{sequenced, sequence_cut, cut_after, accept_done, opens_all, leaves_early, leaves_late, same_record}
 use Rattle.upload.proofs.TakenRow.{named_fit}
+use Rattle.upload.proofs.Worn.{few_erased}
 use Rattle.upload.proofs.accepting.write_manifest.Goals as goal
 
 pub returns-in_err-record_sequence-clause-outside : goal.returns-in_err-record_sequence-clause-outside
@@ -77,3 +78,9 @@ pub returns-clause-idle : goal.returns-clause-idle
 returns-clause-idle g c = λ equal blank.
     let same = c.record_sequence.ensures.idle equal in
     c.open_all.ensures.idle (subst (λ chip. AreBlank c.args.map.now chip c.args.components.now) (sym same) blank) ∙ same
+
+pub returns-clause-erases : goal.returns-clause-erases
+returns-clause-erases g c = on_ok_weaker c.open_all.result (λ all. few_erased c.args.map.now _ _
+    (g.F.Flash.chip c.open_all.new.flash)
+    c.args.state.now.sequence c.args.sequence c.args.components.now c.record_sequence.ensures.outside
+    c.in_ok-record_sequence.ensures.erases all) c.open_all.ensures.erases

@@ -1,9 +1,10 @@
-use Rattle.std.proofs.Common.{rules, ◌+◌, ◌∙◌, false, take, get_or, None, [], refl, subst, sym}
+use Rattle.std.proofs.Common.{rules, arith, ◌+◌, ◌∙◌, false, take, get_or, None, [], refl, subst, sym}
 use Rattle.sector_map.proofs.Parts.{keeps_wider, laid_out_kept}
 use Rattle.manifest.specs.declared.manifest.Component.{Component}
 use Rattle.upload.specs.Accepted.{IsBlank, latest, named_parts}
 use Rattle.upload.proofs.Views.{view_kept, view_long}
 use Rattle.upload.proofs.Opened.{first_parts, keeps_more, latest_at, latest_less, opening_more, opening_wider, opened_more, opened_none}
+use Rattle.upload.proofs.Worn.{most_more}
 use Rattle.upload.proofs.opening.open_all.Goals as goal
 
 abbrev blank : Component
@@ -13,6 +14,7 @@ pub loop-component-init : goal.loop-component-init
 loop-component-init g c = record {
   outside = search rules;
   opened = opened_none _ _ c.args.components.now;
+  erases = omega arith;
   idle = λ still. refl;
   uncut = search rules;
   asleep = search rules;
@@ -56,6 +58,9 @@ loop-component-preserved g c =
           c.open_one.ensures.either _ _ _
           c.in_ok-open_one.ensures.trailer c.in_ok-open_one.ensures.slot c.in_ok-open_one.ensures.table.0
           c.in_ok-open_one.ensures.table.1 c.in_ok-open_one.ensures.table.2 c.loop-component.invariant.opened;
+      erases = most_more map _ _ _ cs c.loop-component.component-index blank c.loop-component-test.true
+          c.open_one.ensures.outside c.in_ok-open_one.ensures.erased c.in_ok-open_one.ensures.erases
+          c.loop-component.invariant.erases;
       idle = λ still.
           let same = c.loop-component.invariant.idle still in
           c.open_one.ensures.idle (subst (λ chip. IsBlank c.args.map.now chip

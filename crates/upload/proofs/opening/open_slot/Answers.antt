@@ -1,13 +1,16 @@
-use Rattle.std.proofs.Common.{◌∙◌, refl, inr, subst, sym}
+use Rattle.std.proofs.Common.{◌∙◌, ap, refl, inr, subst, sym}
 use Rattle.std.proofs.lemmas.Result.{on_ok_weaker}
 use Rattle.sector_map.specs.declared.layout.Side.TheVariants.{Secondary}
 use Rattle.upload.specs.View.{view}
 use Rattle.upload.proofs.Views.{view_kept}
 use Rattle.flash_model.specs.Chip.{IsErased}
-use Rattle.sector_map.specs.Part.{Slot}
+use Rattle.sector_map.specs.Part.{Slot, TrailerOf}
 use Rattle.sector_map.specs.Map.{length_of, start_of}
+use Rattle.trailer.specs.Fields.{are_erased}
 use Rattle.upload.proofs.Writing.{front_blank}
 use Rattle.upload.proofs.Frames.{erased_stands}
+use Rattle.sector_map.proofs.Parts.{laid_out_kept}
+use Rattle.upload.proofs.Worn.{idle_erases, none_worn, open_erases}
 use Rattle.upload.proofs.opening.open_slot.Goals as goal
 
 pub returns-clause-either : goal.returns-clause-either
@@ -33,3 +36,16 @@ returns-clause-idle g c = λ blank.
     (front_blank map _ c.args.image c.requires.laid_out c.requires.there blank.slot) blank.trailer in
     c.erase_slot.ensures.idle (subst (λ chip. IsErased chip (start_of map (Slot c.args.image Secondary))
     (length_of map (Slot c.args.image Secondary))) (sym same) blank.slot) ∙ same
+
+pub returns-clause-erases : goal.returns-clause-erases
+returns-clause-erases g c =
+    let laid = laid_out_kept c.args.map.now _ _ (g.F.Flash.chip c.withdraw.new.flash) c.requires.laid_out
+    c.withdraw.ensures.outside in
+    on_ok_weaker c.erase_slot.result (λ worn. idle_erases c.args.map.now _ _ c.args.image c.requires.laid_out
+    (returns-clause-idle g c) (open_erases c.args.map.now _ _ c.args.image _ c.requires.laid_out laid
+    c.requires.there c.withdraw.ensures.rest c.in_ok-withdraw.ensures.erases worn)) c.erase_slot.ensures.worn
+
+pub returns-clause-erased : goal.returns-clause-erased
+returns-clause-erased g c = on_ok_weaker c.erase_slot.result (λ slot. none_worn c.args.map.now _ c.args.image slot
+    (ap are_erased (c.erase_slot.ensures.outside.parts (TrailerOf c.args.image Secondary) refl)
+    ∙ c.in_ok-withdraw.ensures.bytes)) c.erase_slot.ensures.ok

@@ -1,4 +1,5 @@
-use Rattle.std.proofs.Common.{◌+◌, ◌*◌, arith, ap, subst, sym}
+use Rattle.std.proofs.Common.{ℕ, ◌+◌, ◌*◌, ◌∙◌, arith, ap, subst, sym, if◌then◌else◌}
+use Rattle.std.proofs.lemmas.Result.{on_ok_weaker}
 use Rattle.flash_model.proofs.Frame.{product_le}
 use Rattle.sector_map.specs.declared.layout.Side.TheVariants.{Secondary}
 use Rattle.sector_map.specs.Part.{Slot, only}
@@ -7,6 +8,7 @@ use Rattle.sector_map.proofs.Places.{addressed}
 use Rattle.sector_map.proofs.Products.{mul_le}
 use Rattle.sector_map.proofs.PartBytes.{keeps_erase}
 use Rattle.upload.proofs.Writing.{in_slot, slot_sector}
+use Rattle.upload.proofs.Worn.{sector_told}
 use Rattle.upload.proofs.slots.erase_sector.Goals as goal
 
 pub overflow_add-sector : goal.overflow_add-sector
@@ -53,3 +55,18 @@ returns-clause-outside g c =
     c.erase.ensures.outside
     (subst (λ first. IsIn map part (first + c.args.index)) (sym c.slot.ensures)
     (in_slot map c.args.image c.args.index c.requires.within)))
+
+pub returns-then-branch-clause-worn : goal.returns-then-branch-clause-worn
+returns-then-branch-clause-worn g c =
+    let told = sector_told c.args.map.now _ c.args.image c.args.index c.sector_start.result c.in_ok-is_erased.field-0
+    c.in_ok-is_erased.ensures.ok c.requires.laid_out c.requires.within
+    (c.sector_start.ensures ∙ ap (λ first. (first + c.args.index) * c.args.map.now.sector_size) c.slot.ensures) in
+    omega (arith, c.is_erased.ensures.erases, ap {B = ℕ} (λ t. if t then 0 else 1) (sym told ∙ c.if-branch.true))
+
+pub returns-clause-worn : goal.returns-clause-worn
+returns-clause-worn g c =
+    let told = sector_told c.args.map.now _ c.args.image c.args.index c.sector_start.result c.in_ok-is_erased.field-0
+    c.in_ok-is_erased.ensures.ok c.requires.laid_out c.requires.within
+    (c.sector_start.ensures ∙ ap (λ first. (first + c.args.index) * c.args.map.now.sector_size) c.slot.ensures) in
+    let one = ap {B = ℕ} (λ t. if t then 0 else 1) (sym told ∙ c.if-branch.false) in
+    on_ok_weaker c.erase.result (λ more. omega (arith, more, c.is_erased.ensures.erases, one)) c.erase.ensures.erases

@@ -1,10 +1,11 @@
-use Rattle.std.proofs.Common.{◌+◌, ◌*◌, ◌∙◌, arith, subst, sym}
+use Rattle.std.proofs.Common.{rules, ◌*◌, ◌∙◌, arith, subst}
 use Rattle.sector_map.specs.declared.layout.Side.TheVariants.{Secondary}
 use Rattle.sector_map.specs.Part.{Slot, only}
-use Rattle.sector_map.specs.Map.{first_of, start_of}
-use Rattle.sector_map.proofs.Parts.{laid_out_kept}
+use Rattle.sector_map.specs.Map.{start_of}
+use Rattle.sector_map.proofs.Parts.{keeps_trans, laid_out_kept}
 use Rattle.flash_model.specs.Chip.{IsErased}
-use Rattle.upload.proofs.Writing.{sector_erased_too, slot_erased}
+use Rattle.upload.proofs.Writing.{erased_more, next_sector, sector_place, sectors_idle, slot_erased}
+use Rattle.upload.proofs.Worn.{worn_more}
 use Rattle.upload.proofs.slots.erase_slot.Goals as goal
 
 pub returns-clause-ok : goal.returns-clause-ok
@@ -18,9 +19,30 @@ returns-clause-ok g c =
     (n * map.sector_size)) (omega (arith, c.loop-index-test.false, c.slot_sectors-index-end.ensures)) all.erased)
 
 pub returns-in_err-erase_sector-clause-idle : goal.returns-in_err-erase_sector-clause-idle
-returns-in_err-erase_sector-clause-idle g c = λ blank.
-    let same = c.loop-index.invariant.idle blank in
-    c.erase_sector.ensures.idle (subst (λ chip. IsErased chip
-    ((first_of c.args.map.now (Slot c.args.image Secondary) + c.loop-index.index) * c.args.map.now.sector_size)
-    c.args.map.now.sector_size) (sym same) (sector_erased_too c.args.map.now _ c.args.image c.loop-index.index
-    (rw c.slot_sectors-index-end.ensures at c.loop-index-test.true) blank)) ∙ same
+returns-in_err-erase_sector-clause-idle g c =
+    sectors_idle c.args.map.now _ _ _ c.args.image c.loop-index.index
+    (rw c.slot_sectors-index-end.ensures at c.loop-index-test.true) c.loop-index.invariant.idle
+    c.erase_sector.ensures.idle
+
+pub loop-index-preserved : goal.loop-index-preserved
+loop-index-preserved g c =
+    let map = c.args.map.now in
+    let all = c.loop-index.invariant in
+    let laid = laid_out_kept map (only (Slot c.args.image Secondary)) _ (g.F.Flash.chip c.loop-index.flash)
+    c.requires.laid_out all.outside in
+    let lt = rw c.slot_sectors-index-end.ensures at c.loop-index-test.true in
+    let place = sector_place map c.args.image c.loop-index.index in
+    let next = next_sector map c.loop-index.index in
+    record {
+      outside = keeps_trans map (only (Slot c.args.image Secondary)) _ _ _ all.outside c.erase_sector.ensures.outside;
+      erased = erased_more map _ _ c.args.image c.loop-index.index all.erased c.erase_sector.ensures.sector
+          c.in_ok-erase_sector.ensures.ok;
+      uncut = search rules;
+      erases = search rules;
+      worn = worn_more map _ _ c.args.image c.loop-index.index _ _ c.requires.laid_out laid lt all.outside.size
+          all.behind all.worn c.in_ok-erase_sector.ensures.worn;
+      behind = λ k low. c.erase_sector.ensures.sector.after k (omega (arith, low, place, next))
+          ∙ all.behind k (omega (arith, low, next));
+      idle = sectors_idle map _ _ _ c.args.image c.loop-index.index lt all.idle c.erase_sector.ensures.idle;
+      asleep = search rules;
+    }
