@@ -7,3 +7,10 @@ pub const MOST_IMAGES: usize = 8;
 /// How many dependencies an image has at most (entries of type `IMAGE_TLV_DEPENDENCY`, 0x40:
 /// MCUboot design document, "Image format").
 pub const MOST_DEPENDENCIES: usize = 16;
+
+/// How many groups an image has at most: entries of type 0xA0, which each ask for one of several
+/// images (bootswap's own; MCUboot leaves 0xA0 to 0xFE to vendors).
+pub const MOST_GROUPS: usize = 4;
+
+/// How many alternatives a group has at most; it has one at least.
+pub const MOST_ALTERNATIVES: usize = 4;

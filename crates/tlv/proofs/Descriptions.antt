@@ -1,6 +1,5 @@
 -- Bytes are an intact image by one description, and no check fails of them.
-use Rattle.std.proofs.Common.{◌≡◌, ◌≢◌, ℕ, ◌+◌, ◌^◌, ◌<◌, ◌≤◌, inl, inr, List, [], ◌∷◌, ◌++◌, length, drop, map, refl, sym, ap, subst, ◌∙◌, arith}
-use Rattle.std.specs.List.{AllByRecursion}
+use Rattle.std.proofs.Common.{◌≡◌, ◌≢◌, ℕ, ◌+◌, ◌^◌, ◌<◌, ◌≤◌, inl, inr, List, [], ◌∷◌, ◌++◌, length, drop, refl, sym, ap, subst, ◌∙◌, arith}
 use Rattle.std.proofs.lemmas.List.{append-nil, length-append, nil_from_length}
 use Rattle.byteorder.specs.Endian.{little_number}
 use Rattle.byteorder.specs.Numbers.{little_number-reads_back}
@@ -8,6 +7,7 @@ use Rattle.sha2.specs.Sha256.{sha256}
 use Rattle.arrayvec.specs.ArrayVec.{ArrayVec}
 use Rattle.common.proofs.Items.{same_cons}
 use Rattle.version_order.specs.declared.dependency.Dependency.{Dependency}
+use Rattle.version_order.specs.declared.group.Group.{Group}
 use Rattle.version_order.specs.declared.version.Version.{Version}
 use Rattle.image_header.specs.declared.header.Header.{Header}
 use Rattle.image_header.specs.declared.error.HeaderError.{HeaderError}
@@ -16,20 +16,20 @@ use Rattle.image_header.specs.Header.{IsHeaderFault}
 use Rattle.flash_model.specs.Chip.{Chip}
 use Rattle.tlv.specs.declared.desc.Desc.{Desc}
 use Rattle.tlv.specs.declared.error.ImageError.{ImageError}
-use Rattle.tlv.specs.declared.error.ImageError.TheVariants.{NoDigest, TwoDigests, BadDigest, BadDependency, TooManyDependencies, TrailingBytes, BadCounter}
+use Rattle.tlv.specs.declared.error.ImageError.TheVariants.{NoDigest, TwoDigests, BadDigest, BadDependency, TooManyDependencies, TrailingBytes, BadCounter, TooManyGroups}
 use Rattle.tlv.specs.declared.front.Front.{Front}
 use Rattle.tlv.specs.Area.{values_of}
 use Rattle.tlv.specs.Fault.{IsEntryFault, IsFirstFault, IsFrontFault}
-use Rattle.tlv.specs.Fields.{FitsDependency, IsCounterFault, IsDependencyFault, IsDigestFault, SpellCounter, SpellDependencies, SpellDigest, counter_bytes, counter_kind, dependency_bytes, dependency_kind, digest_kind}
+use Rattle.tlv.specs.Fields.{IsCounterFault, IsDependencyFault, IsDigestFault, SpellCounter, SpellDependencies, SpellDigest, SpellGroups, counter_bytes, counter_kind, dependency_kind, digest_kind, group_kind}
 use Rattle.tlv.specs.Front.{IsFrontOf}
-use Rattle.tlv.specs.Image.{BeginsIntact, BeginsWithImage, Describes, Image, IsIntact, PassesCounter, PassesDependencyCount, PassesDigest, PassesEntries, counter_values, dependency_values, digest_values, hashed_bytes, image_bytes}
+use Rattle.tlv.specs.Image.{BeginsIntact, BeginsWithImage, Describes, Image, IsIntact, PassesCounter, PassesDigest, PassesEntries, PassesGroupCount, counter_values, dependency_values, digest_values, group_values, hashed_bytes, image_bytes}
 use Rattle.tlv.specs.Reading.{entries_of}
 use Rattle.tlv.specs.SlotTlvs.{values_at}
 use Rattle.tlv.specs.Span.{bytes_of}
 use Rattle.tlv.proofs.AreaLaws.{entries_of-entries_bytes}
-use Rattle.tlv.proofs.FieldLaws.{dependency_bytes-same}
 use Rattle.tlv.proofs.Fronts.{no_image_in_protected, no_image_in_unprotected}
 use Rattle.tlv.proofs.ImageLaws.{parts_of_image, image-unique}
+use Rattle.tlv.proofs.Needs.{dependencies-unique, groups-unique}
 
 -- ---- one description
 
@@ -56,45 +56,36 @@ counter-unique values first second a b =
       ]
     ]
 
--- Lists with one spelling in common are the same.
-dependencies-unique : (first second : List Dependency) → AllByRecursion FitsDependency first
-    → AllByRecursion FitsDependency second → map dependency_bytes first ≡ map dependency_bytes second → first ≡ second
-dependencies-unique [] [] a b e = refl
-dependencies-unique [] (y ∷ ys) a b e = absurd (omega (arith, ap length e))
-dependencies-unique (x ∷ xs) [] a b e = absurd (omega (arith, ap length e))
-dependencies-unique (x ∷ xs) (y ∷ ys) a b e =
-    let parts =
-    same_cons (dependency_bytes x) (dependency_bytes y) (map dependency_bytes xs) (map dependency_bytes ys) e in
-    let head = dependency_bytes-same x y a.0 b.0 parts.0 in
-    let tail = dependencies-unique xs ys a.1 b.1 parts.1 in
-    cc
-
 -- Descriptions with the same fields are the same.
-abbrev desc : Version → ℕ → ℕ → ℕ → List Dependency → List ℕ → Desc
-desc version counter flags length dependencies digest = record {
+abbrev desc : Version → ℕ → ℕ → ℕ → List Dependency → List Group → List ℕ → Desc
+desc version counter flags length dependencies groups digest = record {
   version = version;
   counter = counter;
   flags = flags;
   dependencies = record { items = dependencies };
+  groups = record { items = groups };
   digest = digest;
   length = length;
 }
 
-same_descriptions : (v1 v2 : Version) (c1 c2 f1 f2 l1 l2 : ℕ) (d1 d2 : List Dependency) (h1 h2 : List ℕ)
-    → v1 ≡ v2 → c1 ≡ c2 → f1 ≡ f2 → d1 ≡ d2 → h1 ≡ h2 → l1 ≡ l2 → desc v1 c1 f1 l1 d1 h1 ≡ desc v2 c2 f2 l2 d2 h2
-same_descriptions v1 v2 c1 c2 f1 f2 l1 l2 d1 d2 h1 h2 v c f d h l = cc
+same_descriptions : (v1 v2 : Version) (c1 c2 f1 f2 l1 l2 : ℕ) (d1 d2 : List Dependency) (g1 g2 : List Group)
+    (h1 h2 : List ℕ) → v1 ≡ v2 → c1 ≡ c2 → f1 ≡ f2 → d1 ≡ d2 → g1 ≡ g2 → h1 ≡ h2 → l1 ≡ l2
+    → desc v1 c1 f1 l1 d1 g1 h1 ≡ desc v2 c2 f2 l2 d2 g2 h2
+same_descriptions v1 v2 c1 c2 f1 f2 l1 l2 d1 d2 g1 g2 h1 h2 v c f d g h l = cc
 
 -- An image has one description.
 description-unique : (image : Image) (first second : Desc) → Describes image first → Describes image second
     → first ≡ second
 description-unique image first second a b =
     same_descriptions first.version second.version first.counter second.counter first.flags second.flags
-    first.length second.length first.dependencies.items second.dependencies.items first.digest second.digest
+    first.length second.length first.dependencies.items second.dependencies.items first.groups.items
+    second.groups.items first.digest second.digest
     (a.version ∙ sym b.version)
     (counter-unique (counter_values image) first.counter second.counter a.counter b.counter)
     (a.flags ∙ sym b.flags)
-    (dependencies-unique first.dependencies.items second.dependencies.items a.dependencies.fit b.dependencies.fit
-    (sym a.dependencies.spelled ∙ b.dependencies.spelled))
+    (dependencies-unique (dependency_values image) first.dependencies.items second.dependencies.items a.dependencies
+    b.dependencies)
+    (groups-unique (group_values image) first.groups.items second.groups.items a.groups b.groups)
     (a.digest ∙ sym b.digest)
     (a.length_of ∙ sym b.length_of)
 
@@ -123,10 +114,12 @@ no_digest_fault values hashed TwoDigests spelled failed = omega (arith, failed, 
 no_digest_fault values hashed BadDigest spelled failed = failed.1 spelled
 no_digest_fault values hashed other spelled failed = failed
 
-no_dependency_fault : (image : Image) (fault : ImageError) → PassesDependencyCount image
-    → IsDependencyFault (dependency_values image) fault → ⊥
-no_dependency_fault image BadDependency passes failed = passes.0.1 failed
-no_dependency_fault image TooManyDependencies passes failed = omega (arith, failed.1, passes.1)
+no_dependency_fault : (image : Image) (fault : ImageError) → PassesGroupCount image
+    → IsDependencyFault (dependency_values image) (group_values image) fault → ⊥
+no_dependency_fault image BadDependency passes failed =
+    elim failed [ inl bad ↦ passes.0.0.1.0 bad | inr bad ↦ passes.0.0.1.1 bad ]
+no_dependency_fault image TooManyDependencies passes failed = omega (arith, failed.1, passes.0.1)
+no_dependency_fault image TooManyGroups passes failed = omega (arith, failed.2, passes.1)
 no_dependency_fault image other passes failed = failed
 
 no_counter_fault : (image : Image) (fault : ImageError) → PassesCounter image
@@ -140,7 +133,7 @@ no_entry_fault : (image : Image) (trailing : List ℕ) (fault : ImageError) → 
 no_entry_fault image trailing fault passes failed =
     elim failed [
       | IsEntryFault.in_digest own ↦
-          absurd (no_digest_fault (digest_values image) (hashed_bytes image) fault passes.0.0.0 own)
+          absurd (no_digest_fault (digest_values image) (hashed_bytes image) fault passes.0.0.0.0 own)
       | IsEntryFault.in_dependencies before own ↦ absurd (no_dependency_fault image fault passes.0 own)
       | IsEntryFault.in_counter before own ↦ absurd (no_counter_fault image fault passes own)
       | IsEntryFault.behind before some is ↦ (is, some)
@@ -255,6 +248,14 @@ has_dependencies chip bytes front image dependencies is spelled =
     let same = protected_values chip bytes front image dependency_kind is in
     subst (λ (values : List (List ℕ)). SpellDependencies values dependencies) same spelled
 
+pub has_groups : (chip : Chip) (bytes : List ℕ) (front : Front) (image : Image) (groups : List Group)
+    → IsFrontOf chip bytes front image
+    → SpellGroups (values_at group_kind chip front.protected.entries) groups
+    → SpellGroups (group_values image) groups
+has_groups chip bytes front image groups is spelled =
+    let same = protected_values chip bytes front image group_kind is in
+    subst (λ (values : List (List ℕ)). SpellGroups values groups) same spelled
+
 pub has_counter : (chip : Chip) (bytes : List ℕ) (front : Front) (image : Image) (counter : ℕ)
     → IsFrontOf chip bytes front image → SpellCounter (values_at counter_kind chip front.protected.entries) counter
     → SpellCounter (counter_values image) counter
@@ -270,11 +271,12 @@ digest_not_behind values hashed TwoDigests failed = λ behind. cc
 digest_not_behind values hashed BadDigest failed = λ behind. cc
 digest_not_behind values hashed other failed = absurd failed
 
-dependencies_not_behind : (values : List (List ℕ)) (fault : ImageError) → IsDependencyFault values fault
-    → fault ≢ TrailingBytes
-dependencies_not_behind values BadDependency failed = λ behind. cc
-dependencies_not_behind values TooManyDependencies failed = λ behind. cc
-dependencies_not_behind values other failed = absurd failed
+dependencies_not_behind : (values groups : List (List ℕ)) (fault : ImageError)
+    → IsDependencyFault values groups fault → fault ≢ TrailingBytes
+dependencies_not_behind values groups BadDependency failed = λ behind. cc
+dependencies_not_behind values groups TooManyDependencies failed = λ behind. cc
+dependencies_not_behind values groups TooManyGroups failed = λ behind. cc
+dependencies_not_behind values groups other failed = absurd failed
 
 counter_not_behind : (values : List (List ℕ)) (fault : ImageError) → IsCounterFault values fault
     → fault ≢ TrailingBytes
@@ -295,20 +297,25 @@ first_in_digest chip bytes front image fault is failed =
       digest_not_behind read (bytes_of chip front.hashed) fault failed,
     )
 
--- .. and then that of the dependencies ..
+-- .. and then that of the dependencies and groups ..
 pub first_in_dependencies : (chip : Chip) (bytes : List ℕ) (front : Front) (image : Image) (fault : ImageError)
     → IsFrontOf chip bytes front image → PassesDigest image
-    → IsDependencyFault (values_at dependency_kind chip front.protected.entries) fault → IsFrontFault bytes fault
+    → IsDependencyFault (values_at dependency_kind chip front.protected.entries)
+    (values_at group_kind chip front.protected.entries) fault → IsFrontFault bytes fault
 first_in_dependencies chip bytes front image fault is digest failed =
+    let read = values_at group_kind chip front.protected.entries in
     let same = protected_values chip bytes front image dependency_kind is in
-    let own = subst (λ (values : List (List ℕ)). IsDependencyFault values fault) same failed in (
+    let same_groups = protected_values chip bytes front image group_kind is in
+    let half = subst (λ (values : List (List ℕ)). IsDependencyFault values read fault) same failed in
+    let own = subst (λ (groups : List (List ℕ)). IsDependencyFault (dependency_values image) groups fault) same_groups
+    half in (
       IsFirstFault.in_entries image (drop front.length bytes) is.begins (IsEntryFault.in_dependencies digest own),
-      dependencies_not_behind (values_at dependency_kind chip front.protected.entries) fault failed,
+      dependencies_not_behind (dependency_values image) (group_values image) fault own,
     )
 
 -- .. and that of the security counter.
 pub first_in_counter : (chip : Chip) (bytes : List ℕ) (front : Front) (image : Image) (fault : ImageError)
-    → IsFrontOf chip bytes front image → PassesDependencyCount image
+    → IsFrontOf chip bytes front image → PassesGroupCount image
     → IsCounterFault (values_at counter_kind chip front.protected.entries) fault → IsFrontFault bytes fault
 first_in_counter chip bytes front image fault is passes failed =
     let same = protected_values chip bytes front image counter_kind is in
@@ -319,27 +326,30 @@ first_in_counter chip bytes front image fault is passes failed =
 
 -- A front that passes all checks is an intact image, which the bytes begin with.
 pub intact_front : (chip : Chip) (bytes : List ℕ) (front : Front) (image : Image) (digest : List ℕ)
-    (dependencies : ArrayVec Dependency) (counter : ℕ) → IsFrontOf chip bytes front image
+    (dependencies : ArrayVec Dependency) (groups : ArrayVec Group) (counter : ℕ) → IsFrontOf chip bytes front image
     → digest ≡ sha256 (bytes_of chip front.hashed)
-    → SpellDependencies (dependency_values image) dependencies.items → SpellCounter (counter_values image) counter
+    → SpellDependencies (dependency_values image) dependencies.items
+    → SpellGroups (group_values image) groups.items → SpellCounter (counter_values image) counter
     → PassesEntries image
     → BeginsIntact bytes
-    (desc front.header.version counter front.header.flags front.length dependencies.items digest)
-intact_front chip bytes front image digest dependencies counter is digest_is spelled counts passes = (
-  image_bytes image,
-  drop front.length bytes,
-  is.begins.parts,
-  (
-    image,
-    record { formed = is.begins.formed; parts = sym (append-nil (image_bytes image)) },
-    record {
-      version = ap (λ (header : Header). header.version) is.header;
-      flags = ap (λ (header : Header). header.flags) is.header;
-      length_of = is.length_of;
-      digest = digest_is ∙ ap sha256 is.hashed;
-      dependencies = spelled;
-      counter = counts;
-    },
-    passes,
-  ),
-)
+    (desc front.header.version counter front.header.flags front.length dependencies.items groups.items digest)
+intact_front chip bytes front image digest dependencies groups counter is digest_is spelled spelled_groups counts
+    passes = (
+      image_bytes image,
+      drop front.length bytes,
+      is.begins.parts,
+      (
+        image,
+        record { formed = is.begins.formed; parts = sym (append-nil (image_bytes image)) },
+        record {
+          version = ap (λ (header : Header). header.version) is.header;
+          flags = ap (λ (header : Header). header.flags) is.header;
+          length_of = is.length_of;
+          digest = digest_is ∙ ap sha256 is.hashed;
+          dependencies = spelled;
+          groups = spelled_groups;
+          counter = counts;
+        },
+        passes,
+      ),
+    )

@@ -2,18 +2,18 @@
 use Rattle.std.proofs.Common.{◌≡◌, ℕ, zero, suc, ◌+◌, ◌<◌, ◌≤◌, inl, inr, List, length, Option, None, Some, refl, sym, ap, subst, ◌∙◌, arith}
 use Rattle.common.specs.Checks.{FailsFirst, PassBefore}
 use Rattle.common.proofs.ChecksLaws.{FailsFirst-unique}
-use Rattle.common.specs.declared.limits.TheConstants.{MOST_DEPENDENCIES}
+use Rattle.common.specs.declared.limits.TheConstants.{MOST_DEPENDENCIES, MOST_GROUPS}
 use Rattle.image_header.specs.declared.header.Header.{Header}
 use Rattle.image_header.specs.declared.error.HeaderError.{HeaderError}
 use Rattle.image_header.specs.Header.{BeginsWith, IsHeaderFault}
 use Rattle.image_header.proofs.Faults.{accepted_has_no_fault, header_fault-unique}
 use Rattle.image_header.proofs.Laws.{header-unique}
 use Rattle.tlv.specs.declared.error.ImageError.{ImageError}
-use Rattle.tlv.specs.declared.error.ImageError.TheVariants.{Truncated, BadTlvMagic, BadTlvSize, NoDigest, TwoDigests, BadDigest, BadDependency, TooManyDependencies, TrailingBytes, BadCounter}
+use Rattle.tlv.specs.declared.error.ImageError.TheVariants.{Truncated, BadTlvMagic, BadTlvSize, NoDigest, TwoDigests, BadDigest, BadDependency, TooManyDependencies, TrailingBytes, BadCounter, TooManyGroups}
 use Rattle.tlv.specs.Area.{protected_magic, unprotected_magic}
 use Rattle.tlv.specs.Fault.{BeginsAccepted, HasAreaHead, HasProtectedArea, IsAreaFault, IsEntryFault, IsFilled, IsFirstFault, IsProtectedFault, IsTotal, IsUnprotectedFault, entries_at, image_fault, magic_at, protected_place, total_at, unprotected_place}
-use Rattle.tlv.specs.Fields.{HasBadCounter, HasBadDependency, IsCounterFault, IsDependencyFault, IsDigestFault}
-use Rattle.tlv.specs.Image.{BeginsWithImage, Image, PassesDependencies, PassesDependencyCount, PassesDigest, counter_values, dependency_values, digest_values, hashed_bytes}
+use Rattle.tlv.specs.Fields.{HasBadCounter, HaveForms, IsCounterFault, IsDependencyFault, IsDigestFault}
+use Rattle.tlv.specs.Image.{BeginsWithImage, Image, PassesDependencies, PassesDependencyCount, PassesDigest, PassesGroupCount, counter_values, dependency_values, digest_values, group_values, hashed_bytes}
 use Rattle.tlv.proofs.Areas.{area_has_no_fault}
 use Rattle.tlv.proofs.Fronts.{no_image_in_protected, no_image_in_unprotected}
 use Rattle.tlv.proofs.ImageLaws.{image-unique, parts_of_image}
@@ -97,9 +97,10 @@ abbrev entry_check : Image → List ℕ → ℕ → Type 0
 entry_check image trailing zero = 1 ≤ length (digest_values image)
 entry_check image trailing (suc zero) = length (digest_values image) ≤ 1
 entry_check image trailing (suc (suc zero)) = PassesDigest image
-entry_check image trailing (suc (suc (suc zero))) = HasBadDependency (dependency_values image) → ⊥
+entry_check image trailing (suc (suc (suc zero))) = HaveForms (dependency_values image) (group_values image)
 entry_check image trailing (suc (suc (suc (suc zero)))) = length (dependency_values image) ≤ MOST_DEPENDENCIES
-entry_check image trailing (suc (suc (suc (suc (suc zero))))) = HasBadCounter (counter_values image) → ⊥
+entry_check image trailing (suc (suc (suc (suc (suc zero))))) = length (group_values image) ≤ MOST_GROUPS
+entry_check image trailing (suc (suc (suc (suc (suc (suc zero)))))) = HasBadCounter (counter_values image) → ⊥
 entry_check image trailing other = length trailing ≤ 0
 
 -- .. and what it is called that one fails.
@@ -109,7 +110,8 @@ entry_fault_at (suc zero) = TwoDigests
 entry_fault_at (suc (suc zero)) = BadDigest
 entry_fault_at (suc (suc (suc zero))) = BadDependency
 entry_fault_at (suc (suc (suc (suc zero)))) = TooManyDependencies
-entry_fault_at (suc (suc (suc (suc (suc zero))))) = BadCounter
+entry_fault_at (suc (suc (suc (suc (suc zero))))) = TooManyGroups
+entry_fault_at (suc (suc (suc (suc (suc (suc zero)))))) = BadCounter
 entry_fault_at other = TrailingBytes
 
 -- A fault has its place among these checks.
@@ -122,7 +124,7 @@ digest_passes image trailing digest =
     let one : length (digest_values image) ≡ 1 = ap length digest in
     (((tt, omega (arith, one)), omega (arith, one)), digest)
 
--- .. and likewise those of its dependencies ..
+-- .. and likewise those of its dependencies and groups ..
 dependencies_pass : (image : Image) (trailing : List ℕ) → PassesDependencies image
     → PassBefore (entry_check image trailing) 4
 dependencies_pass image trailing passes = (digest_passes image trailing passes.0, passes.1)
@@ -130,6 +132,10 @@ dependencies_pass image trailing passes = (digest_passes image trailing passes.0
 count_passes : (image : Image) (trailing : List ℕ) → PassesDependencyCount image
     → PassBefore (entry_check image trailing) 5
 count_passes image trailing passes = (dependencies_pass image trailing passes.0, passes.1)
+
+group_count_passes : (image : Image) (trailing : List ℕ) → PassesGroupCount image
+    → PassBefore (entry_check image trailing) 6
+group_count_passes image trailing passes = (count_passes image trailing passes.0, passes.1)
 
 digest_fails_at : (image : Image) (trailing : List ℕ) (fault : ImageError)
     → IsDigestFault (digest_values image) (hashed_bytes image) fault → FailsAt image trailing fault
@@ -145,19 +151,25 @@ digest_fails_at image trailing BadDigest failed =
 digest_fails_at image trailing other failed = absurd failed
 
 dependencies_fail_at : (image : Image) (trailing : List ℕ) (fault : ImageError) → PassesDigest image
-    → IsDependencyFault (dependency_values image) fault → FailsAt image trailing fault
+    → IsDependencyFault (dependency_values image) (group_values image) fault → FailsAt image trailing fault
 dependencies_fail_at image trailing BadDependency digest failed =
-    (3, (digest_passes image trailing digest, λ good. good failed), refl)
+    let bad : HaveForms (dependency_values image) (group_values image) → ⊥ =
+    λ good. elim failed [ inl some ↦ good.0 some | inr some ↦ good.1 some ] in
+    (3, (digest_passes image trailing digest, bad), refl)
 dependencies_fail_at image trailing TooManyDependencies digest failed =
     let passed = dependencies_pass image trailing (digest, failed.0) in
     let many : 16 < length (dependency_values image) = failed.1 in
     (4, (passed, λ few. omega (arith, few, many)), refl)
+dependencies_fail_at image trailing TooManyGroups digest failed =
+    let passed = count_passes image trailing ((digest, failed.0), failed.1) in
+    let many : 4 < length (group_values image) = failed.2 in
+    (5, (passed, λ few. omega (arith, few, many)), refl)
 dependencies_fail_at image trailing other digest failed = absurd failed
 
-counter_fails_at : (image : Image) (trailing : List ℕ) (fault : ImageError) → PassesDependencyCount image
+counter_fails_at : (image : Image) (trailing : List ℕ) (fault : ImageError) → PassesGroupCount image
     → IsCounterFault (counter_values image) fault → FailsAt image trailing fault
 counter_fails_at image trailing BadCounter passes failed =
-    (5, (count_passes image trailing passes, λ good. good failed), refl)
+    (6, (group_count_passes image trailing passes, λ good. good failed), refl)
 counter_fails_at image trailing other passes failed = absurd failed
 
 entry_fails_at : (image : Image) (trailing : List ℕ) (fault : ImageError) → IsEntryFault image trailing fault
@@ -168,9 +180,9 @@ entry_fails_at image trailing fault failed =
       | IsEntryFault.in_dependencies passes own ↦ dependencies_fail_at image trailing fault passes own
       | IsEntryFault.in_counter passes own ↦ counter_fails_at image trailing fault passes own
       | IsEntryFault.behind passes some is ↦
-          let passed : PassBefore (entry_check image trailing) 6 =
-          (count_passes image trailing passes.0, passes.1) in
-          (6, (passed, λ none. omega (arith, none, some)), is)
+          let passed : PassBefore (entry_check image trailing) 7 =
+          (group_count_passes image trailing passes.0, passes.1) in
+          (7, (passed, λ none. omega (arith, none, some)), is)
     ]
 
 -- The image that bytes begin with has one such fault at most.

@@ -1,13 +1,16 @@
 -- What was gathered of entries can be read, and what is gathered where there are none.
 use Rattle.std.proofs.Common.{◌≡◌, ℕ, List, [], length, sym, ap, subst, arith}
+use Rattle.common.specs.declared.limits.TheConstants.{MOST_DEPENDENCIES, MOST_GROUPS}
 use Rattle.flash_model.specs.Chip.{Chip}
-use Rattle.tlv.specs.declared.gathering.MetDependencies.{MetDependencies}
+use Rattle.version_order.specs.declared.dependency.Dependency.{Dependency}
+use Rattle.version_order.specs.declared.group.Group.{Group}
 use Rattle.tlv.specs.declared.gathering.Occurrence.{Occurrence}
 use Rattle.tlv.specs.declared.gathering.Occurrence.TheVariants.{Absent, Once, Repeated}
+use Rattle.tlv.specs.declared.met.Met.{Met}
 use Rattle.tlv.specs.declared.span.Span.{Span}
 use Rattle.tlv.specs.Area.{values_of}
-use Rattle.tlv.specs.Fields.{counter_kind, dependency_kind}
-use Rattle.tlv.specs.Gathered.{CanReadOccurrence, HasGatheredProtected, HasMet, IsOccurrence}
+use Rattle.tlv.specs.Fields.{counter_kind, dependency_kind, group_kind}
+use Rattle.tlv.specs.Gathered.{CanReadOccurrence, HasGatheredProtected, HaveMetDependencies, HaveMetGroups, IsOccurrence}
 use Rattle.tlv.specs.Reading.{values_read}
 use Rattle.tlv.specs.Span.{bytes_of}
 use Rattle.tlv.proofs.AreaLaws.{entries_of-none, first_entry-short}
@@ -25,11 +28,16 @@ no_values kind bytes none =
     ap (values_of kind) (entries_of-none bytes (first_entry-short bytes (omega (arith, none))))
 
 -- .. so that nothing is gathered of them.
-pub HasGatheredProtected-none : (chip : Chip) (entries : Span) (met : MetDependencies)
-    → length (bytes_of chip entries) ≡ 0 → ((values : List (List ℕ)) → HasMet values values met)
-    → HasGatheredProtected chip (record { entries = entries; dependencies = met; counter = Absent })
-HasGatheredProtected-none chip entries met none fresh = record {
-  dependencies = subst (λ (values : List (List ℕ)). HasMet values [] met)
+pub HasGatheredProtected-none : (chip : Chip) (entries : Span) (dependencies : Met Dependency MOST_DEPENDENCIES)
+    (groups : Met Group MOST_GROUPS) → length (bytes_of chip entries) ≡ 0
+    → ((values : List (List ℕ)) → HaveMetDependencies values values dependencies)
+    → ((values : List (List ℕ)) → HaveMetGroups values values groups)
+    → HasGatheredProtected chip
+    (record { entries = entries; dependencies = dependencies; groups = groups; counter = Absent })
+HasGatheredProtected-none chip entries dependencies groups none fresh fresh_groups = record {
+  dependencies = subst (λ (values : List (List ℕ)). HaveMetDependencies values [] dependencies)
       (sym (no_values dependency_kind (bytes_of chip entries) none)) (fresh []);
+  groups = subst (λ (values : List (List ℕ)). HaveMetGroups values [] groups)
+      (sym (no_values group_kind (bytes_of chip entries) none)) (fresh_groups []);
   counter = no_values counter_kind (bytes_of chip entries) none;
 }

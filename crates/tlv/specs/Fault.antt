@@ -9,7 +9,7 @@ use Rattle.tlv.specs.declared.error.ImageError.{ImageError}
 use Rattle.tlv.specs.declared.error.ImageError.TheVariants.{Short, BadMagic, BadHeaderSize, UnsupportedFlags, Truncated, BadTlvMagic, BadTlvSize, TrailingBytes}
 use Rattle.tlv.specs.Area.{Entry, FitsArea, entries_bytes, protected_magic, unprotected_magic}
 use Rattle.tlv.specs.Fields.{IsCounterFault, IsDependencyFault, IsDigestFault}
-use Rattle.tlv.specs.Image.{BeginsWithImage, Image, PassesDependencyCount, PassesDigest, PassesEntries, counter_values, dependency_values, digest_values, hashed_bytes}
+use Rattle.tlv.specs.Image.{BeginsWithImage, Image, PassesDigest, PassesEntries, PassesGroupCount, counter_values, dependency_values, digest_values, group_values, hashed_bytes}
 
 -- ---- the header
 
@@ -124,9 +124,10 @@ IsUnprotectedFault bytes header fault =
 pub data IsEntryFault (image : Image) (trailing : List ℕ) (fault : ImageError) : Type 0 where
   in_digest : IsDigestFault (digest_values image) (hashed_bytes image) fault
       → IsEntryFault image trailing fault
-  in_dependencies : PassesDigest image → IsDependencyFault (dependency_values image) fault
+  in_dependencies : PassesDigest image
+      → IsDependencyFault (dependency_values image) (group_values image) fault
       → IsEntryFault image trailing fault
-  in_counter : PassesDependencyCount image → IsCounterFault (counter_values image) fault
+  in_counter : PassesGroupCount image → IsCounterFault (counter_values image) fault
       → IsEntryFault image trailing fault
   behind : PassesEntries image → 0 < length trailing → fault ≡ TrailingBytes
       → IsEntryFault image trailing fault

@@ -1,17 +1,18 @@
 -- The fields that entries hold, by the values of the entries of their type.
-use Rattle.std.specs.Prelude.{◌≡◌, ◌≢◌, ℕ, ◌^◌, ◌<◌, ◌≤◌, ◌⊎◌, List, [], ◌∷◌, length, map, slice_index}
-use Rattle.std.specs.List.{AllByRecursion, Any}
+use Rattle.std.specs.Prelude.{◌≡◌, ◌≢◌, ℕ, ◌*◌, ◌^◌, ◌<◌, ◌≤◌, ◌⊎◌, List, [], ◌∷◌, length, map, take, drop, slice_index}
+use Rattle.std.specs.List.{AllByRecursion, Any, flat_map}
 use Rattle.byteorder.specs.Endian.{little_bytes}
 use Rattle.sha2.specs.Sha256.{sha256}
-use Rattle.common.specs.declared.limits.TheConstants.{MOST_DEPENDENCIES}
+use Rattle.common.specs.declared.limits.TheConstants.{MOST_ALTERNATIVES, MOST_DEPENDENCIES, MOST_GROUPS}
 use Rattle.version_order.specs.declared.dependency.Dependency.{Dependency}
+use Rattle.version_order.specs.declared.group.Group.{Group}
 use Rattle.version_order.specs.VersionText.{FitsFields}
 use Rattle.image_header.specs.Header.{version_bytes}
 use Rattle.tlv.specs.declared.error.ImageError.{ImageError}
-use Rattle.tlv.specs.declared.error.ImageError.TheVariants.{NoDigest, TwoDigests, BadDigest, BadDependency, TooManyDependencies, BadCounter}
+use Rattle.tlv.specs.declared.error.ImageError.TheVariants.{NoDigest, TwoDigests, BadDigest, BadDependency, TooManyDependencies, BadCounter, TooManyGroups}
 
--- The types of the entries that are read: `IMAGE_TLV_SHA256`, `IMAGE_TLV_DEPENDENCY` and
--- `IMAGE_TLV_SEC_CNT`.
+-- The types of the entries that are read: `IMAGE_TLV_SHA256`, `IMAGE_TLV_DEPENDENCY`,
+-- `IMAGE_TLV_SEC_CNT`, and a group's, which is bootswap's own.
 abbrev pub digest_kind : ℕ
 digest_kind = 0x10
 
@@ -20,6 +21,9 @@ dependency_kind = 0x40
 
 abbrev pub counter_kind : ℕ
 counter_kind = 0x50
+
+abbrev pub group_kind : ℕ
+group_kind = 0xA0
 
 -- ---- the digest
 
@@ -62,12 +66,55 @@ pub record IsDependencyForm (value : List ℕ) : Type 0 where
 abbrev pub HasBadDependency : List (List ℕ) → Type 0
 HasBadDependency values = Any (λ value. IsDependencyForm value → ⊥) values
 
--- Why values are not dependencies that an image may have: the first check that fails.
-abbrev pub IsDependencyFault : List (List ℕ) → ImageError → Type 0
-IsDependencyFault values BadDependency = HasBadDependency values
-IsDependencyFault values TooManyDependencies =
-    (HasBadDependency values → ⊥) × (MOST_DEPENDENCIES < length values)
-IsDependencyFault values other = ⊥
+-- ---- groups
+
+-- The bytes of dependencies, one after the other.
+abbrev pub alternatives_bytes : List Dependency → List ℕ
+alternatives_bytes alternatives = flat_map dependency_bytes alternatives
+
+-- A group's bytes: those of its alternatives, each as of a dependency.
+abbrev pub group_bytes : Group → List ℕ
+group_bytes group = alternatives_bytes group.alternatives.items
+
+-- A group has one alternative at least, not too many, and the numbers of each fit their fields.
+pub record FitsGroup (group : Group) : Type 0 where
+  pub some : 1 ≤ length group.alternatives.items
+  pub most : length group.alternatives.items ≤ MOST_ALTERNATIVES
+  pub fit : AllByRecursion FitsDependency group.alternatives.items
+
+-- Values spell these groups, in order.
+pub record SpellGroups (values : List (List ℕ)) (groups : List Group) : Type 0 where
+  pub fit : AllByRecursion FitsGroup groups
+  pub spelled : values ≡ map group_bytes groups
+
+-- A value has the form of a group: it is one to four pieces of 12 bytes, and each has the form of a
+-- dependency.
+pub record IsGroupForm (value : List ℕ) : Type 0 where
+  pub count : ℕ
+  pub some : 1 ≤ count
+  pub most : count ≤ MOST_ALTERNATIVES
+  pub size : length value ≡ 12 * count
+  pub each : (k : ℕ) → k < count → IsDependencyForm (take 12 (drop (12 * k) value))
+
+-- Some value hasn't that form.
+abbrev pub HasBadGroup : List (List ℕ) → Type 0
+HasBadGroup values = Any (λ value. IsGroupForm value → ⊥) values
+
+-- ---- dependencies and groups
+
+-- Each value of a dependency and each of a group has its form.
+abbrev pub HaveForms : List (List ℕ) → List (List ℕ) → Type 0
+HaveForms dependencies groups = (HasBadDependency dependencies → ⊥) × (HasBadGroup groups → ⊥)
+
+-- Why values are not dependencies and groups that an image may have: the first check that fails.
+abbrev pub IsDependencyFault : List (List ℕ) → List (List ℕ) → ImageError → Type 0
+IsDependencyFault dependencies groups BadDependency =
+    HasBadDependency dependencies ⊎ HasBadGroup groups
+IsDependencyFault dependencies groups TooManyDependencies =
+    HaveForms dependencies groups × (MOST_DEPENDENCIES < length dependencies)
+IsDependencyFault dependencies groups TooManyGroups = HaveForms dependencies groups
+    × (length dependencies ≤ MOST_DEPENDENCIES) × (MOST_GROUPS < length groups)
+IsDependencyFault dependencies groups other = ⊥
 
 -- ---- the security counter
 

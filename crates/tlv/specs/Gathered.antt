@@ -1,16 +1,17 @@
 -- What a walk over the entries of an area has gathered. Of all values of a type, those before the
 -- ones that are left were met.
 use Rattle.std.specs.Prelude.{◌≡◌, ℕ, ◌≤◌, Bool, true, false, ltb, List, [], ◌∷◌, ◌++◌, length, map, take, ⊤}
-use Rattle.std.specs.List.{AllByRecursion}
-use Rattle.common.specs.declared.limits.TheConstants.{MOST_DEPENDENCIES}
+use Rattle.std.specs.List.{AllByRecursion, Any}
+use Rattle.common.specs.declared.limits.TheConstants.{MOST_DEPENDENCIES, MOST_GROUPS}
 use Rattle.flash_model.specs.Chip.{Chip}
 use Rattle.version_order.specs.declared.dependency.Dependency.{Dependency}
-use Rattle.tlv.specs.declared.gathering.MetDependencies.{MetDependencies}
+use Rattle.version_order.specs.declared.group.Group.{Group}
 use Rattle.tlv.specs.declared.gathering.Occurrence.{Occurrence}
 use Rattle.tlv.specs.declared.gathering.Occurrence.TheVariants.{Absent, Once, Repeated}
 use Rattle.tlv.specs.declared.gathering.ProtectedFields.{ProtectedFields}
 use Rattle.tlv.specs.declared.gathering.UnprotectedFields.{UnprotectedFields}
-use Rattle.tlv.specs.Fields.{FitsDependency, HasBadDependency, counter_kind, dependency_bytes, dependency_kind, digest_kind}
+use Rattle.tlv.specs.declared.met.Met.{Met}
+use Rattle.tlv.specs.Fields.{FitsDependency, FitsGroup, IsDependencyForm, IsGroupForm, counter_kind, dependency_bytes, dependency_kind, digest_kind, group_bytes, group_kind}
 use Rattle.tlv.specs.SlotTlvs.{values_at}
 use Rattle.tlv.specs.Span.{CanRead, bytes_of}
 
@@ -26,23 +27,51 @@ abbrev pub CanReadOccurrence : Chip → Occurrence → Type 0
 CanReadOccurrence chip (Once value) = CanRead chip value
 CanReadOccurrence chip other = ⊤
 
--- The values that were met spell dependencies, of which as many are kept as an image may have.
-pub record Kept (values left : List (List ℕ)) (items : List Dependency) (too_many : Bool)
-    : Type 0 where
-  pub found : List Dependency
-  pub fit : AllByRecursion FitsDependency found
-  pub spelled : values ≡ map dependency_bytes found ++ left
-  pub first : items ≡ take MOST_DEPENDENCIES found
-  pub over : too_many ≡ ltb MOST_DEPENDENCIES (length found)
+-- What the values of a type spell: what fits the fields, its bytes, and the form of such bytes.
+pub record Spelling (X : Type 0) : Type 1 where
+  pub Fits : X → Type 0
+  pub bytes : X → List ℕ
+  pub IsForm : List ℕ → Type 0
 
--- They do so, or it was noted that one of them hasn't the form of a dependency.
-pub record HasMet (values left : List (List ℕ)) (met : MetDependencies) : Type 0 where
-  pub bad : met.bad ≡ true → HasBadDependency values
-  pub kept : met.bad ≡ false → Kept values left met.kept.items met.too_many
+abbrev pub dependency_spelling : Spelling Dependency
+dependency_spelling = record {
+  Fits = FitsDependency;
+  bytes = dependency_bytes;
+  IsForm = IsDependencyForm;
+}
 
--- The dependencies and the security counter of a protected area were gathered ..
+abbrev pub group_spelling : Spelling Group
+group_spelling = record { Fits = FitsGroup; bytes = group_bytes; IsForm = IsGroupForm }
+
+-- The values that were met spell things, of which as many are kept as an image may have.
+pub record Kept {X : Type 0} (spelling : Spelling X) (most : ℕ) (values left : List (List ℕ))
+    (items : List X) (too_many : Bool) : Type 0 where
+  pub found : List X
+  pub fit : AllByRecursion spelling.Fits found
+  pub spelled : values ≡ map spelling.bytes found ++ left
+  pub first : items ≡ take most found
+  pub over : too_many ≡ ltb most (length found)
+
+-- They do so, or it was noted that one of them hasn't the form for it.
+pub record HasMet {X : Type 0} (spelling : Spelling X) (most : ℕ) (values left : List (List ℕ))
+    (met : Met X most) : Type 0 where
+  pub bad : met.bad ≡ true → Any (λ value. spelling.IsForm value → ⊥) values
+  pub kept : met.bad ≡ false → Kept spelling most values left met.kept.items met.too_many
+
+-- Dependencies were met ..
+abbrev pub HaveMetDependencies : List (List ℕ) → List (List ℕ)
+    → Met Dependency MOST_DEPENDENCIES → Type 0
+HaveMetDependencies values left met = HasMet dependency_spelling MOST_DEPENDENCIES values left met
+
+-- .. and groups.
+abbrev pub HaveMetGroups : List (List ℕ) → List (List ℕ) → Met Group MOST_GROUPS → Type 0
+HaveMetGroups values left met = HasMet group_spelling MOST_GROUPS values left met
+
+-- The dependencies, the groups and the security counter of a protected area were gathered ..
 pub record HasGatheredProtected (chip : Chip) (fields : ProtectedFields) : Type 0 where
-  pub dependencies : HasMet (values_at dependency_kind chip fields.entries) [] fields.dependencies
+  pub dependencies : HaveMetDependencies (values_at dependency_kind chip fields.entries) []
+      fields.dependencies
+  pub groups : HaveMetGroups (values_at group_kind chip fields.entries) [] fields.groups
   pub counter : IsOccurrence chip (values_at counter_kind chip fields.entries) [] fields.counter
 
 -- .. and the digest of an unprotected one.

@@ -2,12 +2,12 @@
 -- document, "Image format").
 use Rattle.std.specs.Prelude.{◌≡◌, ℕ, ◌+◌, ◌≤◌, ◌==◌, List, [], ◌++◌, length, if◌then◌else◌}
 use Rattle.sha2.specs.Sha256.{sha256}
-use Rattle.common.specs.declared.limits.TheConstants.{MOST_DEPENDENCIES}
+use Rattle.common.specs.declared.limits.TheConstants.{MOST_DEPENDENCIES, MOST_GROUPS}
 use Rattle.image_header.specs.declared.header.Header.{Header}
 use Rattle.image_header.specs.Header.{FitsHeader, IsAccepted, header_bytes}
 use Rattle.tlv.specs.declared.desc.Desc.{Desc}
 use Rattle.tlv.specs.Area.{Entry, FitsArea, area_bytes, protected_magic, unprotected_magic, values_of}
-use Rattle.tlv.specs.Fields.{HasBadCounter, HasBadDependency, SpellCounter, SpellDependencies, SpellDigest, counter_kind, dependency_kind, digest_kind}
+use Rattle.tlv.specs.Fields.{HasBadCounter, HaveForms, SpellCounter, SpellDependencies, SpellDigest, SpellGroups, counter_kind, dependency_kind, digest_kind, group_kind}
 
 -- The parts of an image.
 pub record Image : Type 0 where
@@ -49,13 +49,17 @@ pub record BeginsWithImage (bytes : List ℕ) (image : Image) (trailing : List �
   pub formed : IsWellFormed image
   pub parts : bytes ≡ image_bytes image ++ trailing
 
--- The values of the entries that are read: the digest in the unprotected area, dependencies and
--- security counter in the protected one. They are skipped in the other area, as other types are.
+-- The values of the entries that are read: the digest in the unprotected area, dependencies, groups
+-- and security counter in the protected one. They are skipped in the other area, as other types
+-- are.
 abbrev pub digest_values : Image → List (List ℕ)
 digest_values image = values_of digest_kind image.unprotected
 
 abbrev pub dependency_values : Image → List (List ℕ)
 dependency_values image = values_of dependency_kind image.protected
+
+abbrev pub group_values : Image → List (List ℕ)
+group_values image = values_of group_kind image.protected
 
 abbrev pub counter_values : Image → List (List ℕ)
 counter_values image = values_of counter_kind image.protected
@@ -65,18 +69,23 @@ counter_values image = values_of counter_kind image.protected
 abbrev pub PassesDigest : Image → Type 0
 PassesDigest image = SpellDigest (digest_values image) (hashed_bytes image)
 
--- .. each dependency has its form ..
+-- .. each dependency and each group has its form ..
 abbrev pub PassesDependencies : Image → Type 0
-PassesDependencies image = PassesDigest image × (HasBadDependency (dependency_values image) → ⊥)
+PassesDependencies image =
+    PassesDigest image × HaveForms (dependency_values image) (group_values image)
 
--- .. there are not too many of them ..
+-- .. there are not too many dependencies ..
 abbrev pub PassesDependencyCount : Image → Type 0
 PassesDependencyCount image =
     PassesDependencies image × (length (dependency_values image) ≤ MOST_DEPENDENCIES)
 
+-- .. nor too many groups ..
+abbrev pub PassesGroupCount : Image → Type 0
+PassesGroupCount image = PassesDependencyCount image × (length (group_values image) ≤ MOST_GROUPS)
+
 -- .. and the security counter is one of four bytes, or there is none.
 abbrev pub PassesCounter : Image → Type 0
-PassesCounter image = PassesDependencyCount image × (HasBadCounter (counter_values image) → ⊥)
+PassesCounter image = PassesGroupCount image × (HasBadCounter (counter_values image) → ⊥)
 
 -- All checks of an image's entries pass.
 abbrev pub PassesEntries : Image → Type 0
@@ -89,6 +98,7 @@ pub record Describes (image : Image) (description : Desc) : Type 0 where
   pub length_of : description.length ≡ length (image_bytes image)
   pub digest : description.digest ≡ sha256 (hashed_bytes image)
   pub dependencies : SpellDependencies (dependency_values image) description.dependencies.items
+  pub groups : SpellGroups (group_values image) description.groups.items
   pub counter : SpellCounter (counter_values image) description.counter
 
 -- Whole bytes are an intact image, of which this is the description.

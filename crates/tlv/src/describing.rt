@@ -12,7 +12,7 @@ ghost use Rattle.tlv.specs.declared.error.ImageError.{ImageError};
 
 use crate::desc::Desc;
 use crate::error::ImageError;
-use crate::fields::{counter, dependencies, digest_value, is_digest};
+use crate::fields::{checked_needs, counter, digest_value, is_digest};
 use crate::front::Front;
 use crate::gathering::Occurrence;
 use crate::medium::{Medium, Memory};
@@ -22,9 +22,10 @@ use crate::span::Span;
 ///
 /// # Errors
 ///
-/// The first check that fails, in this order: header, protected area, unprotected area, digest, dependencies,
-/// security counter, and that nothing follows the image. `NoDigest`, `TwoDigests` and what comes after them in
-/// this order are found only where the bytes begin with an image by its areas.
+/// The first check that fails, in this order: header, protected area, unprotected area, digest, the
+/// forms of dependencies and groups, how many dependencies there are, how many groups, security
+/// counter, and that nothing follows the image. `NoDigest`, `TwoDigests` and what comes after them
+/// in this order are found only where the bytes begin with an image by its areas.
 pub fn describe(bytes: &[u8]) -> Result<Desc, ImageError>
     // What is described is an intact image, so described.
     ensures described { IfOk result (IsIntact bytes.now) }
@@ -65,15 +66,16 @@ pub(crate) fn describe_front<M: Medium>(medium: &mut M, bytes: Span) -> Result<D
 {
     let front = Front::read(medium, bytes)?;
     let digest = own_digest(medium, front.hashed, front.unprotected.digest)?;
-    // The dependencies are moved out of the front: what else it says is taken first.
+    // Dependencies and groups are moved out of the front: what else it says is taken first.
     let (header, length, counter_entry) = (front.header, front.length, front.protected.counter);
-    let dependencies = dependencies(front.protected.dependencies)?;
+    let needs = checked_needs(front.protected.dependencies, front.protected.groups)?;
     let counter = counter(medium, counter_entry)?;
     Ok(Desc {
         version: header.version,
         counter,
         flags: header.flags,
-        dependencies,
+        dependencies: needs.dependencies,
+        groups: needs.groups,
         digest,
         length: length as u64,
     })

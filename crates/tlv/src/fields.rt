@@ -1,20 +1,22 @@
-//! The fields that entries hold: digest, dependencies and security counter.
+//! The fields that entries hold: digest, security counter and dependencies; and dependencies and
+//! groups together.
 
 ghost use Rattle.std.specs.Prelude.{◌≡◌, ◌≢◌, ◌↔◌, ℕ, ◌≤◌, ◌∷◌, [], List, length, IsTrue, IfOk, IfErr, IfSome, IfNone};
 ghost use Rattle.flash_model.specs.Chip.{Chip};
-ghost use Rattle.tlv.specs.Fields.{FitsDependency, IsCounterFault, IsDependencyFault, IsDependencyForm, IsDigestFault, SpellCounter, SpellDependencies, counter_bytes, dependency_bytes};
-ghost use Rattle.tlv.specs.Gathered.{CanReadOccurrence, HasMet, IsOccurrence};
+ghost use Rattle.tlv.specs.Fields.{FitsDependency, IsCounterFault, IsDependencyFault, IsDependencyForm, IsDigestFault, SpellCounter, SpellDependencies, SpellGroups, counter_bytes, dependency_bytes};
+ghost use Rattle.tlv.specs.Gathered.{CanReadOccurrence, HaveMetDependencies, HaveMetGroups, IsOccurrence};
 ghost use Rattle.tlv.specs.Span.{CanRead, bytes_of};
 
 use crate::error::ImageError;
 use crate::format::{COUNTER_LENGTH, DEPENDENCY_LENGTH, DIGEST_LENGTH};
-use crate::gathering::{MetDependencies, Occurrence};
+use crate::gathering::Occurrence;
 use crate::medium::Medium;
+use crate::met::{Met, Spelled};
 use crate::span::Span;
 use arrayvec::ArrayVec;
 use byteorder::{ByteOrder, LittleEndian};
-use common::limits::MOST_DEPENDENCIES;
-use version_order::{Dependency, Version};
+use common::limits::{MOST_DEPENDENCIES, MOST_GROUPS};
+use version_order::{Dependency, Group, Version};
 
 /// Where the value of the one digest entry lies.
 ///
@@ -82,21 +84,19 @@ fn counter_at<M: Medium>(medium: &mut M, value: Span) -> Option<u32>
     Some(LittleEndian::read_u32(&counter))
 }
 
-/// The dependency that the value at a place spells, if it has the form of one.
-pub(crate) fn dependency_at<M: Medium>(medium: &mut M, value: Span) -> Option<Dependency>
-    requires { CanRead (M.chip medium.old) value }
-    ensures same { M.chip medium.new ≡ M.chip medium.old }
-    ensures fits { IfSome result FitsDependency }
-    ensures spelled { IfSome result (λ dependency.
-        bytes_of (M.chip medium.old) value ≡ dependency_bytes dependency) }
-    ensures none { IfNone result (IsDependencyForm (bytes_of (M.chip medium.old) value) → ⊥) }
-{
-    if value.len != DEPENDENCY_LENGTH {
-        return None;
+impl Spelled for Dependency {
+    ghost use Rattle.tlv.specs.Gathered.{dependency_spelling};
+
+    ghost spelling = { dependency_spelling };
+
+    fn at<M: Medium>(medium: &mut M, value: Span) -> Option<Dependency> {
+        if value.len != DEPENDENCY_LENGTH {
+            return None;
+        }
+        let mut dependency = [0; DEPENDENCY_LENGTH];
+        medium.read(value, &mut dependency);
+        dependency_of(&dependency)
     }
-    let mut dependency = [0; DEPENDENCY_LENGTH];
-    medium.read(value, &mut dependency);
-    dependency_of(&dependency)
 }
 
 // The dependency that twelve bytes spell, if they have the form of one.
@@ -121,24 +121,45 @@ fn dependency_of(value: &[u8]) -> Option<Dependency>
     })
 }
 
-/// The dependencies, once all are met, in the order of their entries.
+/// What an image asks of the images of the device.
+#[derive(Drop)]
+pub(crate) struct Needs {
+    /// The dependencies, in the order of their entries.
+    pub(crate) dependencies: ArrayVec<Dependency, MOST_DEPENDENCIES>,
+    /// The groups, in the order of their entries.
+    pub(crate) groups: ArrayVec<Group, MOST_GROUPS>,
+}
+
+/// The dependencies and the groups, once all are met.
 ///
-/// `BadDependency` where the value of one isn't 12 bytes long, or its three bytes after the image number aren't
-/// zero; `TooManyDependencies` where none is so, but there are more than [`MOST_DEPENDENCIES`].
-pub(crate) fn dependencies(
-    met: MetDependencies,
-) -> Result<ArrayVec<Dependency, MOST_DEPENDENCIES>, ImageError>
-    ensures ok { (values : List (List ℕ)) → HasMet values [] met
-        → IfOk result (λ dependencies. SpellDependencies values dependencies.items) }
-    ensures few { IfOk result (λ dependencies. length dependencies.items ≤ MOST_DEPENDENCIES) }
-    ensures err { (values : List (List ℕ)) → HasMet values [] met
-        → IfErr result (IsDependencyFault values) }
+/// `BadDependency` where the value of one hasn't its form; `TooManyDependencies` where none is so,
+/// but there are more than [`MOST_DEPENDENCIES`] dependencies; `TooManyGroups` where there aren't,
+/// but there are more than [`MOST_GROUPS`] groups.
+pub(crate) fn checked_needs(
+    dependencies: Met<Dependency, MOST_DEPENDENCIES>,
+    groups: Met<Group, MOST_GROUPS>,
+) -> Result<Needs, ImageError>
+    ensures dependencies { (values : List (List ℕ)) → HaveMetDependencies values [] dependencies
+        → IfOk result (λ needs. SpellDependencies values needs.dependencies.items) }
+    ensures groups { (values : List (List ℕ)) → HaveMetGroups values [] groups
+        → IfOk result (λ needs. SpellGroups values needs.groups.items) }
+    ensures few_dependencies { IfOk result (λ needs.
+        length needs.dependencies.items ≤ MOST_DEPENDENCIES) }
+    ensures few_groups { IfOk result (λ needs. length needs.groups.items ≤ MOST_GROUPS) }
+    ensures err { (values others : List (List ℕ)) → HaveMetDependencies values [] dependencies
+        → HaveMetGroups others [] groups → IfErr result (IsDependencyFault values others) }
 {
-    if met.bad {
+    if dependencies.bad || groups.bad {
         return Err(ImageError::BadDependency);
     }
-    if met.too_many {
+    if dependencies.too_many {
         return Err(ImageError::TooManyDependencies);
     }
-    Ok(met.kept)
+    if groups.too_many {
+        return Err(ImageError::TooManyGroups);
+    }
+    Ok(Needs {
+        dependencies: dependencies.kept,
+        groups: groups.kept,
+    })
 }

@@ -11,10 +11,10 @@ ghost use Rattle.tlv.specs.Span.{CanRead, bytes_of};
 use crate::error::ImageError;
 use crate::format::{HEAD_LENGTH, PROTECTED_MAGIC, UNPROTECTED_MAGIC};
 use crate::gathering::{
-    MetDependencies, Occurrence, ProtectedFields, UnprotectedFields, protected_fields,
-    unprotected_fields,
+    Occurrence, ProtectedFields, UnprotectedFields, protected_fields, unprotected_fields,
 };
 use crate::medium::Medium;
+use crate::met::Met;
 use crate::span::Span;
 use crate::walk::head;
 use image_header::{HEADER_LENGTH, Header, HeaderError};
@@ -100,7 +100,8 @@ fn protected_area<M: Medium>(
     if size == 0 {
         return Ok(ProtectedFields {
             entries: bytes.first(0),
-            dependencies: MetDependencies::new(),
+            dependencies: Met::new(),
+            groups: Met::new(),
             counter: Occurrence::Absent,
         });
     }
@@ -130,8 +131,8 @@ fn unprotected_area<M: Medium>(
     unprotected_fields(medium, entries).ok_or(ImageError::BadTlvSize)
 }
 
-// Where the entries of the area lie that begins at a place, with this magic number; its length is the one that is
-// expected, if any. That they fill it isn't seen yet.
+// Where the entries of the area lie that begins at a place, with this magic number; its length is
+// the one that is expected, if any. That they fill it isn't seen yet.
 fn area_entries<M: Medium>(
     medium: &mut M,
     bytes: Span,

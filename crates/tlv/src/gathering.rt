@@ -4,19 +4,17 @@ ghost use Rattle.std.specs.Prelude.{◌≡◌, ℕ, ◌+◌, ◌^◌, ◌<◌, �
 ghost use Rattle.flash_model.specs.Chip.{Chip};
 ghost use Rattle.tlv.specs.Area.{Entry, values_of};
 ghost use Rattle.tlv.specs.Fault.{IsFilled};
-ghost use Rattle.tlv.specs.Fields.{dependency_kind};
-ghost use Rattle.tlv.specs.Gathered.{HasGatheredProtected, HasGatheredUnprotected, HasMet, IsOccurrence};
+ghost use Rattle.tlv.specs.Gathered.{HasGatheredProtected, HasGatheredUnprotected, IsOccurrence};
 ghost use Rattle.tlv.specs.SlotTlvs.{slot_tlv_view};
 ghost use Rattle.tlv.specs.Span.{CanRead, bytes_of};
 
-use crate::fields::dependency_at;
-use crate::format::{COUNTER_KIND, DEPENDENCY_KIND, DIGEST_KIND};
+use crate::format::{COUNTER_KIND, DEPENDENCY_KIND, DIGEST_KIND, GROUP_KIND};
 use crate::medium::Medium;
+use crate::met::Met;
 use crate::slot_tlvs::{SlotTlv, SlotTlvs};
 use crate::span::Span;
-use arrayvec::ArrayVec;
-use common::limits::MOST_DEPENDENCIES;
-use version_order::Dependency;
+use common::limits::{MOST_DEPENDENCIES, MOST_GROUPS};
+use version_order::{Dependency, Group};
 
 /// How often a type occurs of which an area is to have one entry at most.
 #[derive(Clone, Copy)]
@@ -47,60 +45,15 @@ impl Occurrence {
     }
 }
 
-/// The dependencies that were met so far.
-#[derive(Drop)]
-pub(crate) struct MetDependencies {
-    /// The first of them, as many as an image may have.
-    pub(crate) kept: ArrayVec<Dependency, MOST_DEPENDENCIES>,
-    /// Whether there were more.
-    pub(crate) too_many: bool,
-    /// Whether the value of one hasn't the form of a dependency. What comes after it isn't read.
-    pub(crate) bad: bool,
-}
-
-impl MetDependencies {
-    /// None was met.
-    pub(crate) fn new() -> MetDependencies
-        ensures { (values : List (List ℕ)) → HasMet values values result }
-    {
-        MetDependencies {
-            kept: ArrayVec::new(),
-            too_many: false,
-            bad: false,
-        }
-    }
-
-    /// Meets an entry. Its value is read if it is a dependency's.
-    fn meet<M: Medium>(&mut self, medium: &mut M, entry: SlotTlv)
-        requires { CanRead (M.chip medium.old) entry.value }
-        ensures same { M.chip medium.new ≡ M.chip medium.old }
-        ensures met { (values : List (List ℕ)) (left : List Entry)
-            → HasMet values (values_of dependency_kind
-            (slot_tlv_view (M.chip medium.old) entry ∷ left)) self.old
-            → HasMet values (values_of dependency_kind left) self.new }
-    {
-        if entry.kind != DEPENDENCY_KIND || self.bad {
-            return;
-        }
-        let Some(dependency) = dependency_at(medium, entry.value) else {
-            self.bad = true;
-            return;
-        };
-        if self.kept.is_full() {
-            self.too_many = true;
-        } else {
-            self.kept.push(dependency);
-        }
-    }
-}
-
 /// What is gathered of a protected area.
 #[derive(Drop)]
 pub(crate) struct ProtectedFields {
     /// The entries, without the area's first four bytes; none where the area is absent.
     pub(crate) entries: Span,
     /// The dependencies among them.
-    pub(crate) dependencies: MetDependencies,
+    pub(crate) dependencies: Met<Dependency, MOST_DEPENDENCIES>,
+    /// The groups among them.
+    pub(crate) groups: Met<Group, MOST_GROUPS>,
     /// The security counter among them.
     pub(crate) counter: Occurrence,
 }
@@ -125,10 +78,12 @@ pub(crate) fn protected_fields<M: Medium>(medium: &mut M, area: Span) -> Option<
     ensures gathered { IfSome result (HasGatheredProtected (M.chip medium.old)) }
 {
     let mut protected = SlotTlvs::new(area);
-    let mut dependencies = MetDependencies::new();
+    let mut dependencies = Met::new();
+    let mut groups = Met::new();
     let mut counter = Occurrence::Absent;
     while let Some(entry) = protected.step(medium) {
-        dependencies.meet(medium, entry);
+        dependencies.meet(medium, DEPENDENCY_KIND, entry);
+        groups.meet(medium, GROUP_KIND, entry);
         counter = counter.with(COUNTER_KIND, entry);
     }
     let is_filled = protected.rest().len == 0;
@@ -138,6 +93,7 @@ pub(crate) fn protected_fields<M: Medium>(medium: &mut M, area: Span) -> Option<
     Some(ProtectedFields {
         entries: area,
         dependencies,
+        groups,
         counter,
     })
 }

@@ -1,15 +1,19 @@
-//! Images, second part: the entries of MCUboot's image format, and what a whole image says of itself (MCUboot,
-//! design document, "Image format").
+//! Images, second part: the entries of MCUboot's image format, and what a whole image says of
+//! itself (MCUboot, design document, "Image format").
 //!
-//! Promises: an area is walked entry by entry; a file is described exactly where its bytes are an intact image,
-//! and its description ([`Desc`]) lists what that image says of itself; a slot is described exactly where it begins
-//! with an intact image; each refusal is the first check that fails; a flash that is off is told from a slot
-//! without an image, and no flash is changed; of the values that an image is to have ([`ImageSpec`]) the intact image
-//! is made that has them. Does not allocate but to make an image.
+//! Promises: an area is walked entry by entry; a file is described exactly where its bytes are an
+//! intact image, and its description ([`Desc`]) lists what that image says of itself; a slot is
+//! described exactly where it begins with an intact image; each refusal is the first check that
+//! fails; a flash that is off is told from a slot without an image, and no flash is changed; of the
+//! values that an image is to have ([`ImageSpec`]) the intact image is made that has them. Does not
+//! allocate but to make an image.
 //!
-//! One reader serves bytes in memory, a file in a slot and the front of a slot, and has one proof: it reads span by
-//! span ([`Span`]), and hashes a flash by pieces of 256 bytes. `upload`, `boot_core`, `answers` and `bench_exports`
-//! call the crate.
+//! One type of entry isn't MCUboot's but bootswap's own: a group (0xA0), which lists dependencies
+//! of which one has to be met.
+//!
+//! One reader serves bytes in memory, a file in a slot and the front of a slot, and has one proof:
+//! it reads span by span ([`Span`]), and hashes a flash by pieces of 256 bytes. `upload`,
+//! `boot_core`, `answers` and `bench_exports` call the crate.
 #![tactic(auto)]
 
 mod desc;
@@ -19,9 +23,11 @@ mod fields;
 mod format;
 mod front;
 mod gathering;
+mod groups;
 mod laws;
 mod make;
 mod medium;
+mod met;
 mod slot;
 mod slot_tlvs;
 mod span;

@@ -24,14 +24,16 @@ use sector_map::{SectorMap, Side};
 
 /// What the image says of itself that a slot begins with, whatever follows it. Does not allocate.
 ///
-/// The map is laid out on the flash and has the image, which is told by its number from 0. Header, body and
-/// protected area are read once for the digest, by pieces of 256 bytes at most. Beside that the header, the first four
-/// bytes of each area, the type and length of each entry, and the values of digest, dependencies and security counter
-/// are read once at most, and nothing else is.
+/// The map is laid out on the flash and has the image, which is told by its number from 0. Header,
+/// body and protected area are read once for the digest, by pieces of 256 bytes at most. Beside
+/// that the header, the first four bytes of each area, the type and length of each entry, and the
+/// values of digest, dependencies, groups and security counter are read once at most, and nothing
+/// else is.
 ///
 /// # Errors
-/// `Image` with the first check that fails, as of [`describe`](crate::describe), but that bytes may follow the
-/// image; an image may reach to the slot's end. `Flash(Off)` where the flash was off. Nothing changes in any case.
+/// `Image` with the first check that fails, as of [`describe`](crate::describe), but that bytes may
+/// follow the image; an image may reach to the slot's end. `Flash(Off)` where the flash was off.
+/// Nothing changes in any case.
 pub fn describe_slot<F: Flash>(
     flash: &mut F,
     map: &SectorMap,
@@ -65,15 +67,15 @@ pub fn describe_slot<F: Flash>(
     Ok(description)
 }
 
-/// What the image says of itself that the first `len` bytes of a slot are, all of them: [`describe`](crate::describe)
-/// of them. Does not allocate.
+/// What the image says of itself that the first `len` bytes of a slot are, all of them:
+/// [`describe`](crate::describe) of them. Does not allocate.
 ///
-/// The map is laid out on the flash and has the image, which is told by its number from 0; the slot has as many
-/// bytes.
+/// The map is laid out on the flash and has the image, which is told by its number from 0; the slot
+/// has as many bytes.
 ///
 /// # Errors
-/// `Image` with the first check that fails, as of [`describe`](crate::describe). `Flash(Off)` where the flash was
-/// off. Nothing changes in any case.
+/// `Image` with the first check that fails, as of [`describe`](crate::describe). `Flash(Off)` where
+/// the flash was off. Nothing changes in any case.
 pub fn describe_file<F: Flash>(
     flash: &mut F,
     map: &SectorMap,
@@ -111,8 +113,8 @@ pub fn describe_file<F: Flash>(
 
 /// The SHA-256 of the first `len` bytes of a slot (FIPS 180-4). Does not allocate.
 ///
-/// The map is laid out on the flash and has the image, which is told by its number from 0; the slot has as many
-/// bytes. They are read by pieces of 256 bytes at most.
+/// The map is laid out on the flash and has the image, which is told by its number from 0; the slot
+/// has as many bytes. They are read by pieces of 256 bytes at most.
 ///
 /// # Errors
 /// `Off` where the flash was off. Nothing changes in any case.

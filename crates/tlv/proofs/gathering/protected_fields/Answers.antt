@@ -1,6 +1,6 @@
 use Rattle.std.proofs.Common.{ap, ◌∙◌, arith}
 use Rattle.tlv.specs.declared.span.Span.{Span}
-use Rattle.tlv.specs.Fields.{counter_kind, dependency_kind}
+use Rattle.tlv.specs.Fields.{counter_kind, dependency_kind, group_kind}
 use Rattle.tlv.specs.SlotTlvs.{slot_tlvs_left, slot_tlvs_rest, values_at}
 use Rattle.tlv.specs.Span.{bytes_of}
 use Rattle.tlv.proofs.Spans.{IsBytes-bytes_of}
@@ -11,19 +11,23 @@ pub loop-entry-preserved : goal.loop-entry-preserved
 loop-entry-preserved g c =
     let chip = g.M.Medium.chip c.args.medium.now in
     let dependencies = values_at dependency_kind chip c.args.area in
+    let groups = values_at group_kind chip c.args.area in
     let counters = values_at counter_kind chip c.args.area in
     let so_far = c.loop-entry.invariant in
     let step = rw so_far.same at c.in-Some.ensures.steps in
     let value = rw so_far.same at c.in-Some.ensures.value in
     let after = slot_tlvs_left chip c.step.new.self in
     let met = rw (c.step.ensures.same, so_far.same) at c.meet.ensures.met in
+    let met_groups = rw (c.meet.ensures.same, c.step.ensures.same, so_far.same) at c.meet-in-Some.ensures.met in
     let before = rw step at so_far.dependencies in
+    let before_groups = rw step at so_far.groups in
     let counted = rw step at so_far.counter in
     record {
-      same = c.meet.ensures.same ∙ c.step.ensures.same ∙ so_far.same;
+      same = c.meet-in-Some.ensures.same ∙ c.meet.ensures.same ∙ c.step.ensures.same ∙ so_far.same;
       readable = rw so_far.same at c.in-Some.ensures.readable;
       rest = rw so_far.same at c.in-Some.ensures.rest ∙ so_far.rest;
       dependencies = met dependencies after before;
+      groups = met_groups groups after before_groups;
       counter = c.with-counter.ensures chip counters after value counted;
     }
 

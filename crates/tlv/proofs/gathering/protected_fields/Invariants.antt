@@ -1,6 +1,6 @@
 use Rattle.std.proofs.Common.{◌≡◌}
-use Rattle.tlv.specs.Fields.{counter_kind, dependency_kind}
-use Rattle.tlv.specs.Gathered.{HasMet, IsOccurrence}
+use Rattle.tlv.specs.Fields.{counter_kind, dependency_kind, group_kind}
+use Rattle.tlv.specs.Gathered.{HaveMetDependencies, HaveMetGroups, IsOccurrence}
 use Rattle.tlv.specs.Reading.{rest_of}
 use Rattle.tlv.specs.SlotTlvs.{slot_tlvs_rest, slot_values_left, values_at}
 use Rattle.tlv.specs.Span.{CanRead, bytes_of}
@@ -12,8 +12,10 @@ invariant-loop-entry g l = record {
   readable : CanRead (g.M.Medium.chip l.fn.medium) (slot_tlvs_rest l.protected);
   rest : rest_of (bytes_of (g.M.Medium.chip l.fn.medium) (slot_tlvs_rest l.protected))
       ≡ rest_of (bytes_of (g.M.Medium.chip l.fn.medium) l.fn.area);
-  dependencies : HasMet (values_at dependency_kind (g.M.Medium.chip l.fn.medium) l.fn.area)
+  dependencies : HaveMetDependencies (values_at dependency_kind (g.M.Medium.chip l.fn.medium) l.fn.area)
       (slot_values_left dependency_kind (g.M.Medium.chip l.fn.medium) l.protected) l.dependencies;
+  groups : HaveMetGroups (values_at group_kind (g.M.Medium.chip l.fn.medium) l.fn.area)
+      (slot_values_left group_kind (g.M.Medium.chip l.fn.medium) l.protected) l.groups;
   counter : IsOccurrence (g.M.Medium.chip l.fn.medium)
       (values_at counter_kind (g.M.Medium.chip l.fn.medium) l.fn.area)
       (slot_values_left counter_kind (g.M.Medium.chip l.fn.medium) l.protected) l.counter;

@@ -1,0 +1,52 @@
+use Rattle.std.proofs.Common.{ℕ, List, subst, rules}
+use Rattle.std.proofs.lemmas.Bool.{true≢false}
+use Rattle.tlv.specs.Area.{values_of}
+use Rattle.tlv.specs.Gathered.{HasMet}
+use Rattle.tlv.specs.SlotTlvs.{slot_tlv_view}
+use Rattle.tlv.proofs.FieldLaws.{values_of-same}
+use Rattle.tlv.proofs.Kept.{Kept-bad, Kept-over, Kept-push}
+use Rattle.tlv.proofs.met.Met.meet.Goals as goal
+
+pub returns-then-is_full-clause-met : goal.returns-then-is_full-clause-met
+returns-then-is_full-clause-met g c =
+    let entry = slot_tlv_view (g.M.Medium.chip c.args.medium.now) c.args.entry in
+    let spelling = g.T.Spelled.spelling in
+    let met = c.args.self.now in
+    λ values left before.
+    let first = values_of-same c.args.kind entry left c.if-entry-kind.false in
+    let so_far = subst (λ (rest : List (List ℕ)). HasMet spelling g.row.MOST values rest met) first before in
+    record {
+      bad = so_far.bad;
+      kept = λ good. Kept-over spelling g.row.MOST values (values_of c.args.kind left) entry.value met.kept.items
+          met.too_many c.in-Some.item (so_far.kept good) c.in-Some.ensures.fits c.in-Some.ensures.spelled
+          (search rules);
+    }
+
+pub returns-else-is_full-clause-met : goal.returns-else-is_full-clause-met
+returns-else-is_full-clause-met g c =
+    let entry = slot_tlv_view (g.M.Medium.chip c.args.medium.now) c.args.entry in
+    let spelling = g.T.Spelled.spelling in
+    let met = c.args.self.now in
+    λ values left before.
+    let first = values_of-same c.args.kind entry left c.if-entry-kind.false in
+    let so_far = subst (λ (rest : List (List ℕ)). HasMet spelling g.row.MOST values rest met) first before in
+    record {
+      bad = so_far.bad;
+      kept = λ good. rw c.push.ensures.items (Kept-push spelling g.row.MOST values (values_of c.args.kind left)
+          entry.value met.kept.items met.too_many c.in-Some.item (so_far.kept good) c.in-Some.ensures.fits
+          c.in-Some.ensures.spelled (search rules));
+    }
+
+pub returns-in_default-clause-met : goal.returns-in_default-clause-met
+returns-in_default-clause-met g c =
+    let entry = slot_tlv_view (g.M.Medium.chip c.args.medium.now) c.args.entry in
+    let spelling = g.T.Spelled.spelling in
+    let met = c.args.self.now in
+    λ values left before.
+    let first = values_of-same c.args.kind entry left c.if-entry-kind.false in
+    let so_far = subst (λ (rest : List (List ℕ)). HasMet spelling g.row.MOST values rest met) first before in
+    record {
+      bad = λ _. Kept-bad spelling g.row.MOST values (values_of c.args.kind left) entry.value met.kept.items
+          met.too_many (so_far.kept c.if-self.false) c.in_default.ensures.none;
+      kept = λ good. absurd (true≢false good);
+    }

@@ -1,0 +1,89 @@
+//! The groups of an image that is made: whether it may have them, and writing their entries.
+
+ghost use Rattle.std.specs.Prelude.{◌≡◌, ◌↔◌, ◌≤◌, ◌++◌, IsTrue, OnOk, length, map};
+ghost use Rattle.std.specs.List.{AllByRecursion};
+ghost use Rattle.tlv.specs.Area.{entries_bytes, entry_bytes};
+ghost use Rattle.tlv.specs.Fields.{FitsDependency, FitsGroup, alternatives_bytes, group_kind};
+ghost use Rattle.tlv.specs.Making.{AreGroups, HasAlternatives, group_entry, groups_of};
+
+use crate::format::{DEPENDENCY_LENGTH, GROUP_KIND, HEAD_LENGTH};
+use crate::make::entries::{push_dependency, push_head};
+use common::limits::{MOST_ALTERNATIVES, MOST_GROUPS};
+use std::alloc::{AllocError, Allocator};
+use version_order::Dependency;
+
+/// Whether an image may have these groups: there aren't too many, and each has one alternative at
+/// least and not too many.
+pub fn are_groups(groups: &[&[Dependency]]) -> bool
+    ensures { IsTrue result ↔ AreGroups (groups_of groups.now) }
+{
+    if groups.len() > MOST_GROUPS {
+        return false;
+    }
+    for alternatives in groups {
+        if alternatives.is_empty() || alternatives.len() > MOST_ALTERNATIVES {
+            return false;
+        }
+    }
+    true
+}
+
+/// The length in bytes of the entries of groups.
+pub fn groups_length(groups: &[&[Dependency]]) -> usize
+    requires { AreGroups (groups_of groups.now) }
+    ensures length { result ≡ length (entries_bytes (map group_entry (groups_of groups.now))) }
+    ensures few { result ≤ 208 }
+{
+    let mut length = 0;
+    for alternatives in groups {
+        length += HEAD_LENGTH + DEPENDENCY_LENGTH * alternatives.len();
+    }
+    length
+}
+
+/// Writes the alternatives of a group at the end of the bytes.
+fn push_alternatives<A: Allocator>(
+    bytes: &mut Vec<u8, A>,
+    alternatives: &[Dependency],
+) -> Result<(), AllocError>
+    ensures written { OnOk result
+        (bytes.new.items ≡ bytes.old.items ++ alternatives_bytes alternatives.now) }
+    ensures fit { OnOk result (AllByRecursion FitsDependency alternatives.now) }
+{
+    for alternative in alternatives {
+        push_dependency(bytes, alternative)?;
+    }
+    Ok(())
+}
+
+/// Writes the entry of a group at the end of the bytes.
+fn push_group<A: Allocator>(
+    bytes: &mut Vec<u8, A>,
+    alternatives: &[Dependency],
+) -> Result<(), AllocError>
+    requires { length alternatives.now ≤ MOST_ALTERNATIVES }
+    ensures entry { let value = alternatives_bytes alternatives.now in
+        let entry = entry_bytes (record { kind = group_kind; value = value }) in
+        OnOk result (bytes.new.items ≡ bytes.old.items ++ entry) }
+    ensures fit { OnOk result (AllByRecursion FitsDependency alternatives.now) }
+{
+    let size = DEPENDENCY_LENGTH * alternatives.len();
+    push_head(bytes, GROUP_KIND, size as u16)?;
+    push_alternatives(bytes, alternatives)
+}
+
+/// Writes the entries of groups at the end of the bytes.
+pub fn push_groups<A: Allocator>(
+    bytes: &mut Vec<u8, A>,
+    groups: &[&[Dependency]],
+) -> Result<(), AllocError>
+    requires { AllByRecursion HasAlternatives (groups_of groups.now) }
+    ensures entries { let entries = entries_bytes (map group_entry (groups_of groups.now)) in
+        OnOk result (bytes.new.items ≡ bytes.old.items ++ entries) }
+    ensures fit { OnOk result (AllByRecursion FitsGroup (groups_of groups.now)) }
+{
+    for alternatives in groups {
+        push_group(bytes, alternatives)?;
+    }
+    Ok(())
+}
