@@ -1,20 +1,23 @@
 -- The combination of a right report contains every valid one: no request that a valid combination takes is refused.
-use Rattle.std.proofs.Common.{◌≡◌, ℕ, zero, suc, ◌<◌, Bool, true, false, List, take, Some, None, count_by, inl, inr, sym, ap, ◌∙◌, eqb, arith}
+use Rattle.std.proofs.Common.{◌≡◌, ℕ, zero, suc, ◌<◌, Bool, true, false, not, List, take, Some, None, count_by, inl, inr, sym, ap, ◌∙◌, eqb, arith}
 use Rattle.std.specs.Prelude.{◌==◌, ⊤, IsTrue, Contains, slice_get}
 use Rattle.std.specs.List.{list_all, list_any}
-use Rattle.std.proofs.lemmas.Bool.{both_ways, not-true, false_from_ne_true, cases_Bool, eqb-true}
+use Rattle.std.specs.Option.{option_map_or}
+use Rattle.std.proofs.lemmas.Bool.{both_ways, false≢true, not-true, false_from_ne_true, cases_Bool, eqb-true}
+use Rattle.std.proofs.lemmas.Map.Keys.{any_passes_from_place}
 use Rattle.std.proofs.lemmas.Option.{MatchOption-at_some, none-some, slice_get-get_or}
 use Rattle.version_order.specs.declared.dependency.Dependency.{Dependency}
-use Rattle.version_order.specs.Order.{IsOlder}
+use Rattle.version_order.specs.declared.group.Group.{Group}
+use Rattle.version_order.specs.Order.{is_older, IsOlder}
 use Rattle.certificate.specs.declared.table.Entry.{Entry}
 use Rattle.certificate.specs.declared.table.Image.{Image}
 use Rattle.certificate.specs.declared.table.Table.{Table}
 use Rattle.certificate.specs.declared.report.Reason.{Reason}
-use Rattle.certificate.specs.declared.report.Reason.TheVariants.{Damaged, Older, Counter, NoSuchImage, Needs}
+use Rattle.certificate.specs.declared.report.Reason.TheVariants.{Damaged, Older, Counter, NoSuchImage, Needs, NeedsOne}
 use Rattle.certificate.specs.declared.report.Refusal.{Refusal}
 use Rattle.certificate.specs.declared.report.Report.{Report}
-use Rattle.certificate.specs.Combination.{image_at, intact_entry, entry_in, is_met, RequestMeets, IsValid, IsGreatest}
-use Rattle.certificate.specs.Reasons.{is_refused, best_version, is_out_of_reach, ReasonHolds, IsFounded}
+use Rattle.certificate.specs.Combination.{image_at, intact_entry, entry_in, is_group_met, is_met, RequestMeets, IsValid, IsGreatest}
+use Rattle.certificate.specs.Reasons.{is_refused, best_version, is_group_out_of_reach, is_in_reach, is_out_of_reach, ReasonHolds, IsFounded}
 use Rattle.certificate.specs.Rightness.{IsRight, taken_in, has_request, once_if}
 use Rattle.common.proofs.Lists.{Passes-from_list_any, Passes-from_count_by, IfSome-from_list_all, slice_get-take}
 use Rattle.common.proofs.Options.{IsSomeAnd-at, option_map_or-true, option_map_or-at}
@@ -23,25 +26,47 @@ use Rattle.certificate.proofs.BestVersion.{best-at_least}
 use Rattle.certificate.proofs.Members.{IsMember, IsMember-from_valid}
 use Rattle.certificate.proofs.Requests.{has_request-intact}
 
--- a dependency that a list meets, at its place
+-- a test that all of a list pass, at what the list contains
 passes_where_contained : {X : Type 0} (p : X → Bool) (xs : List X) (x : X) → list_all p xs ≡ true → Contains xs x
     → p x ≡ true
 passes_where_contained p xs x all (k, within, is) =
     MatchOption-at_some ⊤ _ x (slice_get-get_or xs k x within ∙ ap Some is) (IfSome-from_list_all p xs k all)
 
 module _ (table : Table) (other : ℕ → Bool) (valid : IsValid table other) where
-  -- what a member needs is within reach, where no member is refused
+  -- what a valid combination meets is in reach of a member, where no member is refused
+  in_reach : (before : List Refusal) (unrefused : (j : ℕ) → other j ≡ true → is_refused before j ≡ false)
+      (i : ℕ) (member : other i ≡ true) (dependency : Dependency) → is_met table other dependency ≡ true
+      → is_in_reach table before i dependency ≡ true
+  in_reach before unrefused i member dependency met =
+      let j = dependency.image in
+      let (image, has_image, reaches) = option_map_or-true _ (image_at table j) met in
+      let best = best-at_least (intact_entry image.request) image.running (eqb j i) (is_refused before j) (other j)
+      (λ own. ap other (eqb-true j i own) ∙ member) (unrefused j) in
+      ap (λ found. option_map_or (λ any_image. not
+      (is_older (best_version before i j any_image) dependency.minimum)) found false) has_image
+      ∙ IsAtLeast_trans (best_version before i j image) (entry_in image (other j)).version dependency.minimum
+      best reaches
+
+  -- and so isn't out of reach
   within_reach : (before : List Refusal) (unrefused : (j : ℕ) → other j ≡ true → is_refused before j ≡ false)
       (i : ℕ) (member : other i ≡ true) (dependency : Dependency) → is_met table other dependency ≡ true
       → is_out_of_reach table before i dependency ≡ true → ⊥
   within_reach before unrefused i member dependency met out_of_reach =
-      let j = dependency.image in
-      let (image, has_image, reaches) = option_map_or-true _ (image_at table j) met in
-      let too_old = option_map_or-at _ (image_at table j) image has_image out_of_reach in
-      let best = best-at_least (intact_entry image.request) image.running (eqb j i) (is_refused before j) (other j)
-      (λ own. ap other (eqb-true j i own) ∙ member) (unrefused j) in
-      both_ways _ (not-true _ (IsAtLeast_trans (best_version before i j image)
-      (entry_in image (other j)).version dependency.minimum best reaches)) too_old
+      let (image, has_image, reaches) = option_map_or-true _ (image_at table dependency.image)
+      (in_reach before unrefused i member dependency met) in
+      both_ways _ (not-true _ reaches)
+      (option_map_or-at _ (image_at table dependency.image) image has_image out_of_reach)
+
+  -- of a group that is met an alternative is in reach, where no member is refused
+  group_within_reach : (before : List Refusal) (unrefused : (j : ℕ) → other j ≡ true → is_refused before j ≡ false)
+      (i : ℕ) (member : other i ≡ true) (group : Group) → is_group_met table other group ≡ true
+      → is_group_out_of_reach table before i group ≡ true → ⊥
+  group_within_reach before unrefused i member group met out_of_reach =
+      let alternatives = group.alternatives.items in
+      let alternative = Passes-from_list_any (is_met table other) alternatives met in
+      false≢true (sym (not-true _ out_of_reach)
+      ∙ any_passes_from_place (is_in_reach table before i) alternatives alternative.place alternative.element
+      alternative.at (in_reach before unrefused i member alternative.element alternative.passes))
 
   -- what a reason says of a member
   requested_at : (i : ℕ) (image : Image) (entry : Entry) → IsMember table other i image entry
@@ -82,6 +107,13 @@ module _ (table : Table) (other : ℕ → Bool) (valid : IsValid table other) wh
       × IsTrue (is_out_of_reach table before i dependency)) holds in
       within_reach before unrefused i member dependency
       (passes_where_contained _ entry.dependencies.items dependency is.met contained) out_of_reach
+  no_reason before unrefused i member image entry is (NeedsOne group) holds =
+      let (contained, out_of_reach) =
+      requested_at i image entry is
+      (λ (im : Image) (e : Entry). Contains e.groups.items group
+      × IsTrue (is_group_out_of_reach table before i group)) holds in
+      group_within_reach before unrefused i member group
+      (passes_where_contained _ entry.groups.items group is.groups_met contained) out_of_reach
 
   -- no member is refused at a place, where none is refused before
   no_member_at : (refusals : List Refusal) → IsFounded table refusals

@@ -1,3 +1,4 @@
+pub mod AlternativeLaws
 pub mod BestVersion
 pub mod CheckingRequests
 pub mod Counts

@@ -1,6 +1,6 @@
 -- Reading a line finds what its text says, and nothing else.
 use Rattle.std.proofs.Common.{◌≡◌, ℕ, ◌^◌, ◌<◌, List, ◌∷◌, ◌++◌, Some, refl, ap, ◌∙◌, subst, inl, inr, arith, rules}
-use Rattle.std.specs.Prelude.{codes, decimal, bytes_eq}
+use Rattle.std.specs.Prelude.{codes, decimal, bytes_eq, option_map}
 use Rattle.std.proofs.lemmas.Bool.{cases_Bool}
 use Rattle.std.proofs.lemmas.Slice.Eq.{bytes_eq-Decides}
 use Rattle.std.proofs.lemmas.Option.{option_and_then_some, none-some, same_Some}
@@ -10,9 +10,10 @@ use Rattle.common.specs.Lines.{◌␣◌}
 use Rattle.common.specs.Ascii.{number_of, number_below, cut, LacksByte}
 use Rattle.version_order.specs.VersionText.{IsVersionText, version_of, version_text}
 use Rattle.common.proofs.AsciiLaws.{number_of-decimal, number_of-spelled, number_below-decimal, number_below-spelled, LacksByte-decimal, LacksByte-append, cut-found, cut-parts}
+use Rattle.common.proofs.Options.{option_map-Some}
 use Rattle.version_order.proofs.VersionTexts.{LacksByte-version, version_of-text, version_of-spelled}
 use Rattle.certificate.specs.declared.report.Reason.{Reason}
-use Rattle.certificate.specs.declared.report.Reason.TheVariants.{Damaged, Older, Counter, NoSuchImage, Needs}
+use Rattle.certificate.specs.declared.report.Reason.TheVariants.{Damaged, Older, Counter, NoSuchImage, Needs, NeedsOne}
 use Rattle.certificate.specs.declared.report.Refusal.{Refusal}
 use Rattle.certificate.specs.declared.report_line.ReportLine.{ReportLine}
 use Rattle.certificate.specs.declared.report_line.ReportLine.TheVariants as report_line
@@ -20,7 +21,8 @@ use Rattle.certificate.specs.declared.table_line.TableLine.{TableLine}
 use Rattle.certificate.specs.declared.table_line.TableLine.TheVariants as table_line
 use Rattle.certificate.specs.TableText.{FitsTableLine, table_line_text, IsTableLineText}
 use Rattle.certificate.specs.ReportText.{FitsReason, FitsReportLine, reason_text, report_line_text, IsReasonText, IsReportLineText}
-use Rattle.certificate.specs.LineReading.{image_and_version_of, image_line_of, needs_line_of, request_line_of, table_line_at, table_line_of, run_line_of, take_line_of, reason_at, reason_of, refuse_line_of, report_line_at, report_line_of}
+use Rattle.certificate.specs.LineReading.{group_of, image_and_version_of, image_line_of, needs_line_of, request_line_of, table_line_at, table_line_of, run_line_of, take_line_of, reason_at, reason_of, refuse_line_of, report_line_at, report_line_of}
+use Rattle.certificate.proofs.AlternativeLaws.{FitsGroup-from_text, LacksByte-needs_one, group_of-spelled, group_of-text, needs_one_text-said}
 
 -- A word is cut off at the space after it.
 cut-number : (n : ℕ) (after : List ℕ) → n < 2 ^ 32 → cut 32 (decimal n ++ 32 ∷ after) ≡ (decimal n, Some after)
@@ -85,6 +87,11 @@ table_line_of-needs : (fields : List ℕ) → table_line_of (codes "needs" ␣ f
 unfolding table_line_of cut
 table_line_of-needs fields = refl
 
+table_line_of-needs_one : (fields : List ℕ)
+    → table_line_of (codes "needs-one" ␣ fields) ≡ option_map (λ group. table_line.NeedsOne group) (group_of fields)
+unfolding table_line_of cut
+table_line_of-needs_one fields = refl
+
 table_line_of-request : (fields : List ℕ) → table_line_of (codes "request" ␣ fields) ≡ request_line_of fields
 unfolding table_line_of cut
 table_line_of-request fields = refl
@@ -102,6 +109,9 @@ table_line_of-text text (table_line.Image number version counter floor)
 table_line_of-text text (table_line.Needs dependency) (small, spelled, says, is) =
     ap table_line_of is ∙ table_line_of-needs (decimal dependency.image ␣ spelled)
     ∙ needs_line_of-text dependency spelled small says
+table_line_of-text text (table_line.NeedsOne group) is =
+    let (fields, begins, read) = group_of-text text group is in
+    ap table_line_of begins ∙ table_line_of-needs_one fields ∙ rw read refl
 table_line_of-text text (table_line.Request version counter) (fits, spelled, says, is) =
     ap table_line_of is ∙ table_line_of-request (spelled ␣ decimal counter)
     ∙ request_line_of-text counter version spelled fits says
@@ -174,6 +184,14 @@ needs_line_of-spelled fields said read =
     (same_Some (table_line.Needs (record { image = needed.0; minimum = needed.1 })) said made)
     (found.0, found.1, found.2, ap (λ t. codes "needs" ␣ t) found.3))
 
+needs_one_line-spelled : (fields : List ℕ) (said : TableLine)
+    → option_map (λ group. table_line.NeedsOne group) (group_of fields) ≡ Some said
+    → IsTableLineText (codes "needs-one" ␣ fields) said
+needs_one_line-spelled fields said read =
+    let (group, is_group, made) = option_map-Some (λ group. table_line.NeedsOne group) (group_of fields) said read in
+    subst (λ (t : TableLine). IsTableLineText (codes "needs-one" ␣ fields) t) made
+    (group_of-spelled fields group is_group)
+
 request_line_of-spelled : (fields : List ℕ) (said : TableLine) → request_line_of fields ≡ Some said
     → IsTableLineText (codes "request" ␣ fields) said
 unfolding request_line_of
@@ -202,10 +220,16 @@ table_line_at-spelled word fields said read =
                 (needs_line_of-spelled fields said (rw needs at read))
             | inr not_needs ↦
                 let read = rw not_needs at read in
-                elim (cases_Bool (bytes_eq word (codes "request"))) [
-                  | inl request ↦ rw ((bytes_eq-Decides word (codes "request")).0 request)
-                      (request_line_of-spelled fields said (rw request at read))
-                  | inr not_request ↦ absurd (none-some said (rw not_request at read))
+                elim (cases_Bool (bytes_eq word (codes "needs-one"))) [
+                  | inl needs_one ↦ rw ((bytes_eq-Decides word (codes "needs-one")).0 needs_one)
+                      (needs_one_line-spelled fields said (rw needs_one at read))
+                  | inr not_needs_one ↦
+                      let read = rw not_needs_one at read in
+                      elim (cases_Bool (bytes_eq word (codes "request"))) [
+                        | inl request ↦ rw ((bytes_eq-Decides word (codes "request")).0 request)
+                            (request_line_of-spelled fields said (rw request at read))
+                        | inr not_request ↦ absurd (none-some said (rw not_request at read))
+                      ]
                 ]
           ]
     ]
@@ -252,6 +276,7 @@ LacksByte-table_line text (table_line.Image number version counter floor)
 LacksByte-table_line text (table_line.Needs dependency) (small, spelled, says, is) =
     rw is (LacksByte-words (codes "needs") (decimal dependency.image ␣ spelled) (search rules)
     (LacksByte-image_and_version dependency.image dependency.minimum spelled small says))
+LacksByte-table_line text (table_line.NeedsOne group) is = LacksByte-needs_one text group is
 LacksByte-table_line text (table_line.Request version counter) (fits, spelled, says, is) =
     rw is (LacksByte-words (codes "request") (spelled ␣ decimal counter) (search rules)
     (LacksByte-words spelled (decimal counter) (LacksByte-version 10 spelled version (omega arith) says)
@@ -266,6 +291,7 @@ table_line_text-said (table_line.Image number version counter floor) (small, fit
     (small, counter_fits, floor_fits, version_text version, (fits, inl refl), refl)
 table_line_text-said (table_line.Needs dependency) (small, fits) =
     (small, version_text dependency.minimum, (fits, inl refl), refl)
+table_line_text-said (table_line.NeedsOne group) fits = needs_one_text-said group fits
 table_line_text-said (table_line.Request version counter) (fits, counter_fits) =
     (counter_fits, version_text version, (fits, inl refl), refl)
 table_line_text-said table_line.Damaged fits = refl
@@ -275,6 +301,7 @@ pub FitsTableLine-from_text : (text : List ℕ) (said : TableLine) → IsTableLi
 FitsTableLine-from_text text (table_line.Image number version counter floor)
     (small, counter_fits, floor_fits, spelled, says, is) = (small, says.0, counter_fits, floor_fits)
 FitsTableLine-from_text text (table_line.Needs dependency) (small, spelled, says, is) = (small, says.0)
+FitsTableLine-from_text text (table_line.NeedsOne group) is = FitsGroup-from_text text group is
 FitsTableLine-from_text text (table_line.Request version counter) (counter_fits, spelled, says, is) =
     (says.0, counter_fits)
 FitsTableLine-from_text text table_line.Damaged is = tt
@@ -304,6 +331,11 @@ reason_of-needs : (fields : List ℕ) → reason_of (codes "needs" ␣ fields) �
 unfolding reason_of cut
 reason_of-needs fields = refl
 
+reason_of-needs_one : (fields : List ℕ)
+    → reason_of (codes "needs-one" ␣ fields) ≡ option_map (λ group. NeedsOne group) (group_of fields)
+unfolding reason_of cut
+reason_of-needs_one fields = refl
+
 reason_of-text : (text : List ℕ) (reason : Reason) → IsReasonText text reason → reason_of text ≡ Some reason
 unfolding reason_of
 reason_of-text text Damaged is = rw is refl
@@ -315,6 +347,9 @@ reason_of-text text (NoSuchImage image) (small, is) =
 reason_of-text text (Needs image minimum) (small, spelled, says, is) =
     ap reason_of is ∙ reason_of-needs (decimal image ␣ spelled)
     ∙ rw (image_and_version_of-text image minimum spelled small says) refl
+reason_of-text text (NeedsOne group) is =
+    let (fields, begins, read) = group_of-text text group is in
+    ap reason_of begins ∙ reason_of-needs_one fields ∙ rw read refl
 
 refuse_line_of-text : (refusal : Refusal) (reason : List ℕ) → refusal.image < 2 ^ 8
     → IsReasonText reason refusal.reason
@@ -374,6 +409,14 @@ take_line_of-spelled fields said read =
     (same_Some (report_line.Take taken.0 taken.1) said made)
     (found.0, found.1, found.2, ap (λ t. codes "take" ␣ t) found.3))
 
+needs_one_reason-spelled : (fields : List ℕ) (reason : Reason)
+    → option_map (λ group. NeedsOne group) (group_of fields) ≡ Some reason
+    → IsReasonText (codes "needs-one" ␣ fields) reason
+needs_one_reason-spelled fields reason read =
+    let (group, is_group, made) = option_map-Some (λ group. NeedsOne group) (group_of fields) reason read in
+    subst (λ (r : Reason). IsReasonText (codes "needs-one" ␣ fields) r) made
+    (group_of-spelled fields group is_group)
+
 reason_at-spelled : (word fields : List ℕ) (reason : Reason) → reason_at word fields ≡ Some reason
     → IsReasonText (word ␣ fields) reason
 reason_at-spelled word fields reason read =
@@ -396,7 +439,13 @@ reason_at-spelled word fields reason read =
                 subst (λ (r : Reason). IsReasonText (codes "needs" ␣ fields) r)
                 (same_Some (Needs needed.0 needed.1) reason made)
                 (found.0, found.1, found.2, ap (λ t. codes "needs" ␣ t) found.3)))
-            | inr not_needs ↦ absurd (none-some reason (rw not_needs at read))
+            | inr not_needs ↦
+                let read = rw not_needs at read in
+                elim (cases_Bool (bytes_eq word (codes "needs-one"))) [
+                  | inl needs_one ↦ rw ((bytes_eq-Decides word (codes "needs-one")).0 needs_one)
+                      (needs_one_reason-spelled fields reason (rw needs_one at read))
+                  | inr not_needs_one ↦ absurd (none-some reason (rw not_needs_one at read))
+                ]
           ]
     ]
 
@@ -477,6 +526,7 @@ LacksByte-reason text (NoSuchImage image) (small, is) =
 LacksByte-reason text (Needs image minimum) (small, spelled, says, is) =
     rw is (LacksByte-words (codes "needs") (decimal image ␣ spelled) (search rules)
     (LacksByte-image_and_version image minimum spelled small says))
+LacksByte-reason text (NeedsOne group) is = LacksByte-needs_one text group is
 
 pub LacksByte-report_line : (text : List ℕ) (said : ReportLine) → IsReportLineText text said → LacksByte 10 text
 LacksByte-report_line text (report_line.Run number version) (small, spelled, says, is) =
@@ -497,6 +547,7 @@ reason_text-said Older fits = refl
 reason_text-said Counter fits = refl
 reason_text-said (NoSuchImage image) small = (small, refl)
 reason_text-said (Needs image minimum) (small, fits) = (small, version_text minimum, (fits, inl refl), refl)
+reason_text-said (NeedsOne group) fits = needs_one_text-said group fits
 
 pub report_line_text-said : (said : ReportLine) → FitsReportLine said → IsReportLineText (report_line_text said) said
 report_line_text-said (report_line.Run number version) (small, fits) =
@@ -513,6 +564,7 @@ FitsReason-from_text text Older is = tt
 FitsReason-from_text text Counter is = tt
 FitsReason-from_text text (NoSuchImage image) (small, is) = small
 FitsReason-from_text text (Needs image minimum) (small, spelled, says, is) = (small, says.0)
+FitsReason-from_text text (NeedsOne group) is = FitsGroup-from_text text group is
 
 pub FitsReportLine-from_text : (text : List ℕ) (said : ReportLine) → IsReportLineText text said → FitsReportLine said
 FitsReportLine-from_text text (report_line.Run number version) (small, spelled, says, is) = (small, says.0)

@@ -2,13 +2,13 @@
 use Rattle.std.proofs.Common.{◌≡◌, ℕ, ◌≤◌, Bool, true, Some, ap, ◌∙◌, subst}
 use Rattle.std.specs.Prelude.{⊤, unwrap_or}
 use Rattle.std.specs.List.{list_all}
-use Rattle.std.proofs.lemmas.Bool.{cond-true}
+use Rattle.std.proofs.lemmas.Bool.{and_parts, cond-true}
 use Rattle.std.proofs.lemmas.Option.{MatchOption-at_some}
 use Rattle.version_order.specs.Order.{IsAtLeast}
 use Rattle.certificate.specs.declared.table.Entry.{Entry}
 use Rattle.certificate.specs.declared.table.Image.{Image}
 use Rattle.certificate.specs.declared.table.Table.{Table}
-use Rattle.certificate.specs.Combination.{image_at, intact_entry, entry_in, is_met, IsValid}
+use Rattle.certificate.specs.Combination.{image_at, intact_entry, entry_in, is_group_met, is_met, meets_all, IsValid}
 use Rattle.common.proofs.Options.{opened}
 
 -- image j with its requested entry, as a member of a valid combination has them
@@ -18,6 +18,7 @@ pub record IsMember (table : Table) (taken : ℕ → Bool) (j : ℕ) (image : Im
   pub at_least_running : IsAtLeast entry.version image.running.version
   pub counter_accepted : image.floor ≤ entry.counter
   pub met : list_all (is_met table taken) entry.dependencies.items ≡ true
+  pub groups_met : list_all (is_group_met table taken) entry.groups.items ≡ true
 
 -- what a member contributes is its requested entry
 pub entry_in-member : (image : Image) (entry : Entry) (is_member : Bool) → is_member ≡ true
@@ -30,7 +31,12 @@ pub IsMember-from_valid : (table : Table) (taken : ℕ → Bool) → IsValid tab
     → (image : Image) × (entry : Entry) × IsMember table taken j image entry
 IsMember-from_valid table taken valid j member =
     let (image, has_image, intact) = opened (image_at table j) _ (valid.members j member) in
-    let (entry, has_entry, accepted) = opened (intact_entry image.request) _ intact in (
+    let (entry, has_entry, accepted) = opened (intact_entry image.request) _ intact in
+    let all_met : meets_all table taken entry ≡ true =
+    subst (λ (contributed : Entry). meets_all table taken contributed ≡ true)
+    (entry_in-member image entry (taken j) member has_entry) (MatchOption-at_some ⊤ _ image has_image (valid.met j)) in
+    let met = and_parts (list_all (is_met table taken) entry.dependencies.items)
+    (list_all (is_group_met table taken) entry.groups.items) all_met in (
       image,
       entry,
       record {
@@ -38,8 +44,7 @@ IsMember-from_valid table taken valid j member =
         has_entry = has_entry;
         at_least_running = accepted.0;
         counter_accepted = accepted.1;
-        met = subst (λ (contributed : Entry). list_all (is_met table taken) contributed.dependencies.items ≡ true)
-            (entry_in-member image entry (taken j) member has_entry)
-            (MatchOption-at_some ⊤ _ image has_image (valid.met j));
+        met = met.0;
+        groups_met = met.1;
       },
     )

@@ -1,6 +1,6 @@
 -- A report that is right for a table that fits its fields fits its own, so that it has a text.
 use Rattle.std.proofs.Common.{◌≡◌, ℕ, zero, suc, ◌+◌, ◌^◌, ◌<◌, ◌≤◌, Bool, true, false, List, [], ◌∷◌, length, map, take, Option, Some, inl, inr, refl, sym, ap, subst, ◌∙◌, arith}
-use Rattle.std.specs.Prelude.{⊤, slice_get, unwrap_or}
+use Rattle.std.specs.Prelude.{⊤, slice_get, unwrap_or, Contains}
 use Rattle.std.specs.List.{AllByRecursion}
 use Rattle.std.proofs.lemmas.Bool.{eqb-true}
 use Rattle.std.proofs.lemmas.Option.{MatchOption-at_some, none-some, same_Some, slice_get-get_or, slice_get_cases, slice_get_within}
@@ -8,23 +8,25 @@ use Rattle.common.proofs.Lists.{AllByRecursion-append, AllByRecursion-at, AllByR
 use Rattle.common.proofs.Options.{cases_option, opened}
 use Rattle.version_order.specs.declared.version.Version.{Version}
 use Rattle.version_order.specs.declared.dependency.Dependency.{Dependency}
+use Rattle.version_order.specs.declared.group.Group.{Group}
 use Rattle.version_order.specs.VersionText.{FitsFields}
 use Rattle.certificate.specs.declared.table.Entry.{Entry}
 use Rattle.certificate.specs.declared.table.Request.{Request}
 use Rattle.certificate.specs.declared.table.Request.TheVariants as request
 use Rattle.certificate.specs.declared.table.Image.{Image}
 use Rattle.certificate.specs.declared.table.Table.{Table}
+use Rattle.certificate.specs.declared.table_line.TableLine.{TableLine}
 use Rattle.certificate.specs.declared.table_line.TableLine.TheVariants as table_line
 use Rattle.certificate.specs.declared.report.Reason.{Reason}
-use Rattle.certificate.specs.declared.report.Reason.TheVariants.{Damaged, Older, Counter, NoSuchImage, Needs}
+use Rattle.certificate.specs.declared.report.Reason.TheVariants.{Damaged, Older, Counter, NoSuchImage, Needs, NeedsOne}
 use Rattle.certificate.specs.declared.report.Refusal.{Refusal}
 use Rattle.certificate.specs.declared.report.ReportedImage.{ReportedImage}
 use Rattle.certificate.specs.declared.report.Report.{Report}
 use Rattle.certificate.specs.Combination.{image_at, intact_entry, entry_in}
 use Rattle.certificate.specs.Reasons.{ReasonHolds}
 use Rattle.certificate.specs.Rightness.{IsRight}
-use Rattle.certificate.specs.DependencyText.{FitsDependency}
-use Rattle.certificate.specs.TableText.{FitsTable, FitsTableLine, image_lines, needs_lines, request_lines, table_lines}
+use Rattle.certificate.specs.DependencyText.{FitsDependency, FitsGroup}
+use Rattle.certificate.specs.TableText.{FitsTable, FitsTableLine, group_lines, image_lines, needs_lines, request_lines, table_lines}
 use Rattle.certificate.specs.ReportText.{FitsReason, FitsReport, FitsReportLine, IsReportText, refuse_lines, report_text, reported_line, reported_lines}
 use Rattle.certificate.proofs.Counts.{length-once}
 use Rattle.certificate.proofs.ReadBack.{printed_report_is_text}
@@ -33,18 +35,37 @@ use Rattle.certificate.proofs.ReadBack.{printed_report_is_text}
 record FitsEntry (entry : Entry) : Type 0 where
   pub version : FitsFields entry.version
   pub dependencies : AllByRecursion FitsDependency entry.dependencies.items
+  pub groups : AllByRecursion FitsGroup entry.groups.items
 
 -- an image whose entries fit
 record FitsImage (image : Image) : Type 0 where
   pub running : FitsEntry image.running
   pub requested : (entry : Entry) → intact_entry image.request ≡ Some entry → FitsEntry entry
 
--- dependencies whose lines fit
-fits_needs : (dependencies : List Dependency)
-    → AllByRecursion FitsTableLine (map (λ dependency. table_line.Needs dependency) dependencies)
-    → AllByRecursion FitsDependency dependencies
-fits_needs [] fit = tt
-fits_needs (dependency ∷ dependencies) fit = (fit.0, fits_needs dependencies fit.1)
+-- things whose lines fit
+fits_each : {A : Type 0} (line_of : A → TableLine) (Fits : A → Type 0) → ((x : A) → FitsTableLine (line_of x) → Fits x)
+    → (xs : List A) → AllByRecursion FitsTableLine (map line_of xs) → AllByRecursion Fits xs
+fits_each line_of Fits from [] fit = tt
+fits_each line_of Fits from (x ∷ xs) fit = (from x fit.0, fits_each line_of Fits from xs fit.1)
+
+-- an entry whose version fits, and whose lines do
+fits_entry : (entry : Entry) → FitsFields entry.version → AllByRecursion FitsTableLine (needs_lines entry)
+    → FitsEntry entry
+fits_entry entry version fit =
+    let dependency_line = λ (dependency : Dependency). table_line.Needs dependency in
+    let group_line = λ (group : Group). table_line.NeedsOne group in
+    let parts = AllByRecursion-parts FitsTableLine (map dependency_line entry.dependencies.items)
+    (group_lines entry.groups.items) fit in
+    record {
+      version = version;
+      dependencies = fits_each dependency_line FitsDependency (λ x fits. fits) entry.dependencies.items parts.0;
+      groups = fits_each group_line FitsGroup (λ x fits. fits) entry.groups.items parts.1;
+    }
+
+-- what a list contains fits
+fits_contained : {A : Type 0} (Fits : A → Type 0) (xs : List A) (x : A) → Contains xs x → AllByRecursion Fits xs → Fits x
+fits_contained Fits xs x (k, within, is) fit =
+    AllByRecursion-at Fits xs k x (slice_get-get_or xs k x within ∙ ap Some is) fit
 
 -- a request whose lines fit
 fits_request : (asked : Request) → AllByRecursion FitsTableLine (request_lines asked) → (entry : Entry)
@@ -52,15 +73,14 @@ fits_request : (asked : Request) → AllByRecursion FitsTableLine (request_lines
 fits_request request.None fit entry is = absurd (none-some entry is)
 fits_request request.Damaged fit entry is = absurd (none-some entry is)
 fits_request (request.Entry intact) fit entry is =
-    subst FitsEntry (same_Some intact entry is)
-    (record { version = fit.0.0; dependencies = fits_needs intact.dependencies.items fit.1 })
+    subst FitsEntry (same_Some intact entry is) (fits_entry intact fit.0.0 fit.1)
 
 -- an image whose lines fit
 fits_image : (n : ℕ) (image : Image) → AllByRecursion FitsTableLine (image_lines n image) → FitsImage image
 fits_image n image fit =
     let parts = AllByRecursion-parts FitsTableLine (needs_lines image.running) (request_lines image.request) fit.1 in
     record {
-      running = record { version = fit.0.1; dependencies = fits_needs image.running.dependencies.items parts.0 };
+      running = fits_entry image.running fit.0.1 parts.0;
       requested = fits_request image.request parts.1;
     }
 
@@ -133,8 +153,10 @@ module _ (table : Table) (table_fits : FitsTable table) where
       let (image, has_image, _) = opened (image_at table i) _ holds in small_number i image has_image
   refused_is_small before i (Needs j minimum) holds =
       let (image, has_image, _) = opened (image_at table i) _ holds in small_number i image has_image
+  refused_is_small before i (NeedsOne group) holds =
+      let (image, has_image, _) = opened (image_at table i) _ holds in small_number i image has_image
 
-  -- a reason that holds names what a dependency of the table does
+  -- a reason that holds names what a dependency or a group of the table does
   reason_fits : (before : List Refusal) (i : ℕ) (reason : Reason) → ReasonHolds table before i reason
       → FitsReason reason
   reason_fits before i Damaged holds = tt
@@ -148,13 +170,15 @@ module _ (table : Table) (table_fits : FitsTable table) where
       let fits = AllByRecursion-at FitsDependency entry.dependencies.items dependency.place dependency.element dependency.at dependencies in
       subst (λ (n : ℕ). n < 2 ^ 8) (eqb-true _ j dependency.passes) fits.0
   reason_fits before i (Needs j minimum) holds =
-      let dependency : Dependency = record { image = j; minimum = minimum } in
       let (image, has_image, asked) = opened (image_at table i) _ holds in
       let (entry, has_entry, needs) = opened (intact_entry image.request) _ asked in
-      let dependencies = ((image_fits i image has_image).requested entry has_entry).dependencies in
-      let (k, within, is) = needs.0 in
-      AllByRecursion-at FitsDependency entry.dependencies.items k dependency
-      (slice_get-get_or entry.dependencies.items k dependency within ∙ ap Some is) dependencies
+      fits_contained FitsDependency entry.dependencies.items (record { image = j; minimum = minimum }) needs.0
+      ((image_fits i image has_image).requested entry has_entry).dependencies
+  reason_fits before i (NeedsOne group) holds =
+      let (image, has_image, asked) = opened (image_at table i) _ holds in
+      let (entry, has_entry, needs) = opened (intact_entry image.request) _ asked in
+      fits_contained FitsGroup entry.groups.items group needs.0
+      ((image_fits i image has_image).requested entry has_entry).groups
 
   module _ (report : Report) (right : IsRight table report) where
     -- the version of each reported image fits

@@ -1,15 +1,14 @@
--- The running images fit each other where each of their dependencies is met by what runs.
+-- The running images fit each other where each of their dependencies and groups is met by what runs.
 use Rattle.std.proofs.Common.{◌≡◌, Bool, true}
 use Rattle.std.specs.List.{list_all}
 use Rattle.std.proofs.lemmas.Bool.{false≢true}
 use Rattle.certificate.specs.declared.table.Table.{Table}
-use Rattle.certificate.specs.Combination.{IsValid, is_met, running_set}
+use Rattle.certificate.specs.Combination.{IsValid, meets_all, running_set}
 use Rattle.common.proofs.Lists.{IfSome-from_list_all, list_all-from_IfSome}
 
--- whether all dependencies of all running images are met by what runs
+-- whether all dependencies and groups of all running images are met by what runs
 abbrev pub running_images_fit : Table → Bool
-running_images_fit table = list_all (λ image. list_all
-    (is_met table running_set) image.running.dependencies.items) table.images.items
+running_images_fit table = list_all (λ image. meets_all table running_set image.running) table.images.items
 
 -- a combination of no members is valid where the running images fit, and only there
 pub running_set_is_valid : (table : Table) → (running_images_fit table ≡ true → IsValid table running_set)

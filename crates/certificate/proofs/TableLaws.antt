@@ -1,12 +1,13 @@
 -- Reading a table line by line gives what the lines say, and all of it.
-use Rattle.std.proofs.Common.{◌≡◌, ℕ, suc, ◌+◌, ◌<◌, eqb, ltb, ◌&&◌, List, [], ◌∷◌, ◌++◌, length, Some, refl, sym, ap, ◌∙◌, append_assoc, arith}
-use Rattle.std.proofs.lemmas.List.{append-nil, map-append}
+use Rattle.std.proofs.Common.{◌≡◌, ℕ, suc, ◌+◌, ◌<◌, eqb, ltb, ◌&&◌, List, [], ◌∷◌, ◌++◌, length, map, Option, Some, refl, sym, ap, ◌∙◌, append_assoc, arith}
+use Rattle.std.proofs.lemmas.List.{append-nil, map-append, nil_from_length}
 use Rattle.std.proofs.Common.{add-zero, zero-add}
 use Rattle.std.proofs.lemmas.Bool.{and_parts, eqb-true, ltb-true}
 use Rattle.std.proofs.lemmas.Option.{cond_some}
 use Rattle.common.proofs.Options.{option_map-Some}
-use Rattle.common.specs.declared.limits.TheConstants.{MOST_DEPENDENCIES, MOST_IMAGES}
+use Rattle.common.specs.declared.limits.TheConstants.{MOST_DEPENDENCIES, MOST_GROUPS, MOST_IMAGES}
 use Rattle.version_order.specs.declared.dependency.Dependency.{Dependency}
+use Rattle.version_order.specs.declared.group.Group.{Group}
 use Rattle.certificate.specs.declared.table.Entry.{Entry}
 use Rattle.certificate.specs.declared.table.Request.{Request}
 use Rattle.certificate.specs.declared.table.Request.TheVariants as request
@@ -14,8 +15,8 @@ use Rattle.certificate.specs.declared.table.Image.{Image}
 use Rattle.certificate.specs.declared.table.Table.{Table}
 use Rattle.certificate.specs.declared.table_line.TableLine.{TableLine}
 use Rattle.certificate.specs.declared.table_line.TableLine.TheVariants as line
-use Rattle.certificate.specs.TableText.{needs_lines, request_lines, image_lines, table_lines}
-use Rattle.certificate.specs.TableReading.{new_entry, with_dependency, with_needs, with_request, with_line, with_line_in_last, with_line_of_images, table_of, with_table_line}
+use Rattle.certificate.specs.TableText.{group_lines, needs_lines, request_lines, image_lines, table_lines}
+use Rattle.certificate.specs.TableReading.{in_last_entry, new_entry, with_dependency, with_group, with_request, with_line, with_line_in_last, with_line_of_images, table_of, with_table_line}
 
 push_nil : {A : Type 0} (xs : List A) (x : A) → (xs ++ x ∷ []) ++ [] ≡ (xs ++ []) ++ x ∷ []
 push_nil xs x = append-nil (xs ++ x ∷ []) ∙ ap (λ (t : List _). t ++ x ∷ []) (sym (append-nil xs))
@@ -24,6 +25,9 @@ push_nil xs x = append-nil (xs ++ x ∷ []) ∙ ap (λ (t : List _). t ++ x ∷ 
 
 abbrev needs_line : Dependency → TableLine
 needs_line dependency = line.Needs dependency
+
+abbrev needs_one_line : Group → TableLine
+needs_one_line group = line.NeedsOne group
 
 -- The lines of images one after the other.
 pub table_lines-append : (n : ℕ) (xs ys : List Image)
@@ -35,44 +39,78 @@ table_lines-append n (x ∷ xs) ys =
     (table_lines-append (n + 1) xs ys ∙ ap (λ (k : ℕ). table_lines (n + 1) xs ++ table_lines k ys) e)
     ∙ simp append_assoc
 
--- One more dependency, where there is room.
+-- One more dependency, before any group and where there is room.
 pub with_dependency-some : (dependency : Dependency) (entry more : Entry)
-    → with_dependency dependency entry ≡ Some more → (length entry.dependencies.items < MOST_DEPENDENCIES)
+    → with_dependency dependency entry ≡ Some more → (entry.groups.items ≡ [])
+    × (length entry.dependencies.items < MOST_DEPENDENCIES)
     × (record entry { dependencies = record { items = entry.dependencies.items ++ dependency ∷ [] } } ≡ more)
 with_dependency-some dependency entry more e =
-    let g = cond_some (ltb (length entry.dependencies.items) MOST_DEPENDENCIES)
+    let no_groups = eqb (length entry.groups.items) 0 in
+    let room = ltb (length entry.dependencies.items) MOST_DEPENDENCIES in
+    let g = cond_some (no_groups && room)
     (record entry { dependencies = record { items = entry.dependencies.items ++ dependency ∷ [] } }) more e in
+    let a = and_parts no_groups room g.0 in
+    (nil_from_length entry.groups.items (eqb-true _ _ a.0), ltb-true _ _ a.1, g.1)
+
+-- One more group, where there is room.
+pub with_group-some : (group : Group) (entry more : Entry) → with_group group entry ≡ Some more
+    → (length entry.groups.items < MOST_GROUPS)
+    × (record entry { groups = record { items = entry.groups.items ++ group ∷ [] } } ≡ more)
+with_group-some group entry more e =
+    let g = cond_some (ltb (length entry.groups.items) MOST_GROUPS)
+    (record entry { groups = record { items = entry.groups.items ++ group ∷ [] } }) more e in
     (ltb-true _ _ g.0, g.1)
 
-needs_lines-push : (dependency : Dependency) (entry more : Entry) → with_dependency dependency entry ≡ Some more
-    → needs_lines more ≡ needs_lines entry ++ line.Needs dependency ∷ []
-needs_lines-push dependency entry more e =
-    let g = with_dependency-some dependency entry more e in
-    rw (← g.1) (map-append needs_line entry.dependencies.items (dependency ∷ []))
+-- An entry has one more line, which says what it needs.
+abbrev HasOneMore : Entry → Entry → TableLine → Type 0
+HasOneMore entry more said =
+    (needs_lines more ≡ needs_lines entry ++ said ∷ []) × (more.version ≡ entry.version)
+    × (more.counter ≡ entry.counter)
 
-image_lines-needs : (n : ℕ) (image more : Image) (dependency : Dependency) (asked : Request) → image.request ≡ asked
-    → with_needs image dependency asked ≡ Some more
-    → image_lines n more ≡ image_lines n image ++ line.Needs dependency ∷ []
-image_lines-needs n image more dependency request.None is e =
-    let a = option_map-Some (λ entry. record image { running = entry })
-    (with_dependency dependency image.running) more e in
-    let d = with_dependency-some dependency image.running a.0 a.1 in
-    rw (← a.2, ← d.1, is) (ap (λ (ls : List TableLine).
+dependency-more : (dependency : Dependency) (entry more : Entry) → with_dependency dependency entry ≡ Some more
+    → HasOneMore entry more (line.Needs dependency)
+dependency-more dependency entry more e =
+    let g = with_dependency-some dependency entry more e in
+    rw (← g.2, g.0) (
+      ap (λ (ls : List TableLine). ls ++ []) (map-append needs_line entry.dependencies.items (dependency ∷ []))
+          ∙ push_nil (map needs_line entry.dependencies.items) (line.Needs dependency),
+      refl,
+      refl,
+    )
+
+group-more : (group : Group) (entry more : Entry) → with_group group entry ≡ Some more
+    → HasOneMore entry more (line.NeedsOne group)
+group-more group entry more e =
+    let g = with_group-some group entry more e in
+    rw (← g.1) (
+      ap (λ (ls : List TableLine). map needs_line entry.dependencies.items ++ ls)
+          (map-append needs_one_line entry.groups.items (group ∷ []))
+          ∙ sym (append_assoc (map needs_line entry.dependencies.items) (group_lines entry.groups.items)
+          (line.NeedsOne group ∷ [])),
+      refl,
+      refl,
+    )
+
+-- One more need of the last entry is one more line of the image.
+image_lines-more : (with_one_more : Entry → Option Entry) (said : TableLine)
+    → ((entry more : Entry) → with_one_more entry ≡ Some more → HasOneMore entry more said)
+    → (n : ℕ) (image more : Image) (asked : Request) → image.request ≡ asked
+    → in_last_entry with_one_more image asked ≡ Some more
+    → image_lines n more ≡ image_lines n image ++ said ∷ []
+image_lines-more with_one_more said grows n image more request.None is e =
+    let a = option_map-Some (λ entry. record image { running = entry }) (with_one_more image.running) more e in
+    let d = grows image.running a.0 a.1 in
+    rw (← a.2, d.0, d.1, d.2, is) (ap (λ (ls : List TableLine).
     line.Image n image.running.version image.running.counter image.floor ∷ ls)
-    (ap (λ (ls : List TableLine). ls ++ [])
-    (map-append needs_line image.running.dependencies.items (dependency ∷ []))
-    ∙ push_nil (needs_lines image.running) (line.Needs dependency)))
-image_lines-needs n image more dependency request.Damaged is e = cc
-image_lines-needs n image more dependency (request.Entry entry) is e =
-    let a = option_map-Some (λ asked. record image { request = request.Entry asked })
-    (with_dependency dependency entry) more e in
-    let d = with_dependency-some dependency entry a.0 a.1 in
-    rw (← a.2, ← d.1, is) (ap (λ (ls : List TableLine).
+    (push_nil (needs_lines image.running) said))
+image_lines-more with_one_more said grows n image more request.Damaged is e = cc
+image_lines-more with_one_more said grows n image more (request.Entry entry) is e =
+    let a = option_map-Some (λ asked. record image { request = request.Entry asked }) (with_one_more entry) more e in
+    let d = grows entry a.0 a.1 in
+    rw (← a.2, d.0, d.1, d.2, is) (ap (λ (ls : List TableLine).
     line.Image n image.running.version image.running.counter image.floor ∷ ls)
-    (ap (λ (ls : List TableLine). needs_lines image.running ++ line.Request entry.version entry.counter ∷ ls)
-    (map-append needs_line entry.dependencies.items (dependency ∷ []))
-    ∙ sym (append_assoc (needs_lines image.running) (line.Request entry.version entry.counter ∷ needs_lines entry)
-    (line.Needs dependency ∷ []))))
+    (sym (append_assoc (needs_lines image.running) (line.Request entry.version entry.counter ∷ needs_lines entry)
+    (said ∷ []))))
 
 image_lines-request : (n : ℕ) (image more : Image) (new asked : Request) (said : TableLine)
     → request_lines new ≡ said ∷ [] → image.request ≡ asked → with_request image new asked ≡ Some more
@@ -89,7 +127,10 @@ image_lines-with_line : (n : ℕ) (image more : Image) (said : TableLine) → wi
     → image_lines n more ≡ image_lines n image ++ said ∷ []
 image_lines-with_line n image more (line.Image number version counter floor) e = cc
 image_lines-with_line n image more (line.Needs dependency) e =
-    image_lines-needs n image more dependency image.request refl e
+    image_lines-more (with_dependency dependency) (line.Needs dependency) (dependency-more dependency)
+    n image more image.request refl e
+image_lines-with_line n image more (line.NeedsOne group) e =
+    image_lines-more (with_group group) (line.NeedsOne group) (group-more group) n image more image.request refl e
 image_lines-with_line n image more (line.Request version counter) e =
     image_lines-request n image more (request.Entry (new_entry version counter)) image.request
     (line.Request version counter) refl refl e
@@ -122,6 +163,7 @@ images-grow images next (line.Image number version counter floor) e =
     rw (← g.1, number-is) (table_lines-append 0 images (image ∷ [])
     ∙ ap (λ (n : ℕ). table_lines 0 images ++ table_lines n (image ∷ [])) (zero-add (length images)))
 images-grow images next (line.Needs dependency) e = table_lines-in_last 0 images next (line.Needs dependency) e
+images-grow images next (line.NeedsOne group) e = table_lines-in_last 0 images next (line.NeedsOne group) e
 images-grow images next (line.Request version counter) e =
     table_lines-in_last 0 images next (line.Request version counter) e
 images-grow images next line.Damaged e = table_lines-in_last 0 images next line.Damaged e

@@ -4,6 +4,8 @@ use Rattle.std.specs.List.{AllByRecursion}
 use Rattle.std.proofs.lemmas.Bool.{and_parts, ltb-true}
 use Rattle.std.proofs.lemmas.Option.{cond_some, same_Some}
 use Rattle.common.specs.declared.limits.TheConstants.{MOST_IMAGES}
+use Rattle.version_order.specs.declared.version.Version.{Version}
+use Rattle.version_order.specs.declared.group.Group.{Group}
 use Rattle.version_order.specs.declared.dependency.Dependency.{Dependency}
 use Rattle.certificate.specs.declared.table.Entry.{Entry}
 use Rattle.certificate.specs.declared.table.Request.{Request}
@@ -13,34 +15,50 @@ use Rattle.certificate.specs.declared.table.Table.{Table}
 use Rattle.certificate.specs.declared.table_line.TableLine.{TableLine}
 use Rattle.certificate.specs.declared.table_line.TableLine.TheVariants as line
 use Rattle.common.specs.Reading.{with_text}
-use Rattle.certificate.specs.TableText.{HasFewDependencies, AsksForFew, IsSmall}
-use Rattle.certificate.specs.TableReading.{new_entry, with_dependency, with_needs, with_request, with_line, with_line_in_last, with_line_of_images, table_of, with_table_line}
+use Rattle.certificate.specs.TableText.{HasFewNeeds, AsksForFew, IsSmall}
+use Rattle.certificate.specs.TableReading.{in_last_entry, new_entry, with_dependency, with_group, with_request, with_line, with_line_in_last, with_line_of_images, table_of, with_table_line}
 use Rattle.common.proofs.Options.{and_then_some, option_map-Some}
 use Rattle.common.proofs.ReadingLaws.{run}
-use Rattle.certificate.proofs.TableLaws.{with_dependency-some}
+use Rattle.certificate.proofs.TableLaws.{with_dependency-some, with_group-some}
 
--- At most eight images of few dependencies.
+-- At most eight images of few needs.
 pub record AreFew (images : List Image) : Type 0 where
   pub most : length images ≤ MOST_IMAGES
   pub few : AllByRecursion IsSmall images
 
-few-with_dependency : (dependency : Dependency) (entry more : Entry) → with_dependency dependency entry ≡ Some more
-    → HasFewDependencies more
-few-with_dependency dependency entry more e =
-    let g = with_dependency-some dependency entry more e in
-    rw (← g.1) (omega (arith, length-append entry.dependencies.items (dependency ∷ [])))
+-- An entry without needs has few.
+few_in_new : {version : Version} {counter : ℕ} → HasFewNeeds (new_entry version counter)
+few_in_new = record { dependencies = omega arith; groups = omega arith }
 
-IsSmall-needs : (image more : Image) (dependency : Dependency) (asked : Request) → image.request ≡ asked
-    → with_needs image dependency asked ≡ Some more → IsSmall image → IsSmall more
-IsSmall-needs image more dependency request.None is e small =
-    let a = option_map-Some (λ entry. record image { running = entry })
-    (with_dependency dependency image.running) more e in
-    rw (← a.2) (few-with_dependency dependency image.running a.0 a.1, small.1)
-IsSmall-needs image more dependency request.Damaged is e small = cc
-IsSmall-needs image more dependency (request.Entry entry) is e small =
-    let a = option_map-Some (λ asked. record image { request = request.Entry asked })
-    (with_dependency dependency entry) more e in
-    rw (← a.2) (small.0, few-with_dependency dependency entry a.0 a.1)
+few-with_dependency : (dependency : Dependency) (entry more : Entry) → with_dependency dependency entry ≡ Some more
+    → HasFewNeeds entry → HasFewNeeds more
+few-with_dependency dependency entry more e few =
+    let g = with_dependency-some dependency entry more e in
+    rw (← g.2) (record {
+      dependencies = omega (arith, g.1, length-append entry.dependencies.items (dependency ∷ []));
+      groups = few.groups;
+    })
+
+few-with_group : (group : Group) (entry more : Entry) → with_group group entry ≡ Some more → HasFewNeeds entry
+    → HasFewNeeds more
+few-with_group group entry more e few =
+    let g = with_group-some group entry more e in
+    rw (← g.1) (record {
+      dependencies = few.dependencies;
+      groups = omega (arith, g.0, length-append entry.groups.items (group ∷ []));
+    })
+
+IsSmall-more : (with_one_more : Entry → Option Entry)
+    → ((entry more : Entry) → with_one_more entry ≡ Some more → HasFewNeeds entry → HasFewNeeds more)
+    → (image more : Image) (asked : Request) → image.request ≡ asked
+    → in_last_entry with_one_more image asked ≡ Some more → IsSmall image → IsSmall more
+IsSmall-more with_one_more keeps image more request.None is e small =
+    let a = option_map-Some (λ entry. record image { running = entry }) (with_one_more image.running) more e in
+    rw (← a.2) (keeps image.running a.0 a.1 small.0, small.1)
+IsSmall-more with_one_more keeps image more request.Damaged is e small = cc
+IsSmall-more with_one_more keeps image more (request.Entry entry) is e small =
+    let a = option_map-Some (λ asked. record image { request = request.Entry asked }) (with_one_more entry) more e in
+    rw (← a.2) (small.0, keeps entry a.0 a.1 (rw is at small.1))
 
 IsSmall-request : (image more : Image) (new asked : Request) → AsksForFew new
     → with_request image new asked ≡ Some more → IsSmall image → IsSmall more
@@ -53,9 +71,11 @@ IsSmall-with_line : (image more : Image) (said : TableLine) → with_line image 
     → IsSmall more
 IsSmall-with_line image more (line.Image number version counter floor) e small = cc
 IsSmall-with_line image more (line.Needs dependency) e small =
-    IsSmall-needs image more dependency image.request refl e small
+    IsSmall-more (with_dependency dependency) (few-with_dependency dependency) image more image.request refl e small
+IsSmall-with_line image more (line.NeedsOne group) e small =
+    IsSmall-more (with_group group) (few-with_group group) image more image.request refl e small
 IsSmall-with_line image more (line.Request version counter) e small =
-    IsSmall-request image more (request.Entry (new_entry version counter)) image.request (omega arith) e small
+    IsSmall-request image more (request.Entry (new_entry version counter)) image.request few_in_new e small
 IsSmall-with_line image more line.Damaged e small = IsSmall-request image more request.Damaged image.request tt e small
 
 in_last-keeps : (images next : List Image) (said : TableLine) → with_line_in_last images said ≡ Some next
@@ -98,10 +118,12 @@ AreFew-with_line_of_images images next (line.Image number version counter floor)
         length-append images
             (image ∷ []),
       );
-      few = All-push images image few.few (omega arith, tt);
+      few = All-push images image few.few (few_in_new, tt);
     })
 AreFew-with_line_of_images images next (line.Needs dependency) e few =
     AreFew-in_last images next (line.Needs dependency) e few
+AreFew-with_line_of_images images next (line.NeedsOne group) e few =
+    AreFew-in_last images next (line.NeedsOne group) e few
 AreFew-with_line_of_images images next (line.Request version counter) e few =
     AreFew-in_last images next (line.Request version counter) e few
 AreFew-with_line_of_images images next line.Damaged e few = AreFew-in_last images next line.Damaged e few

@@ -5,17 +5,18 @@ use Rattle.std.specs.List.{AllByRecursion}
 use Rattle.std.proofs.Common.{get_or, set, MatchBool}
 use Rattle.std.proofs.lemmas.List.{append-nil}
 use Rattle.std.proofs.lemmas.Bool.{lt-ltb, eq-eqb}
-use Rattle.common.specs.declared.limits.TheConstants.{MOST_DEPENDENCIES, MOST_IMAGES}
+use Rattle.common.specs.declared.limits.TheConstants.{MOST_DEPENDENCIES, MOST_GROUPS, MOST_IMAGES}
 use Rattle.version_order.specs.declared.version.Version.{Version}
 use Rattle.version_order.specs.declared.dependency.Dependency.{Dependency}
+use Rattle.version_order.specs.declared.group.Group.{Group}
 use Rattle.certificate.specs.declared.table.Entry.{Entry}
 use Rattle.certificate.specs.declared.table.Request.{Request}
 use Rattle.certificate.specs.declared.table.Request.TheVariants as request
 use Rattle.certificate.specs.declared.table.Image.{Image}
 use Rattle.certificate.specs.declared.table_line.TableLine.{TableLine}
 use Rattle.certificate.specs.declared.table_line.TableLine.TheVariants as line
-use Rattle.certificate.specs.TableText.{needs_lines, request_lines, image_lines, table_lines, HasFewDependencies, AsksForFew, IsSmall}
-use Rattle.certificate.specs.TableReading.{with_line, with_line_in_last, with_image, with_line_of_images}
+use Rattle.certificate.specs.TableText.{group_lines, needs_lines, request_lines, image_lines, table_lines, HasFewNeeds, AsksForFew, IsSmall}
+use Rattle.certificate.specs.TableReading.{new_entry, with_dependency, with_group, with_line, with_line_in_last, with_image, with_line_of_images}
 use Rattle.common.proofs.ReadingLaws.{run}
 
 in_last-cons : (image last : Image) (front : List Image) (said : TableLine)
@@ -41,68 +42,69 @@ in_last-refused [] last said refused = rw refused refl
 in_last-refused (image ∷ front) last said refused =
     in_last-cons image last front said ∙ rw (in_last-refused front last said refused) refl
 
--- Dependencies that the last image takes one by one.
-run-needs : (put : List Dependency → Image)
-    → ((before : List Dependency) (dependency : Dependency) → length before < MOST_DEPENDENCIES
-    → with_line (put before) (line.Needs dependency) ≡ Some (put (before ++ dependency ∷ [])))
-    → (front : List Image) (before dependencies : List Dependency) (rest : List TableLine)
-    → length before + length dependencies ≤ MOST_DEPENDENCIES
-    → run with_line_of_images (front ++ put before ∷ [])
-    (map (λ dependency. line.Needs dependency) dependencies ++ rest) ≡ run with_line_of_images
-    (front ++ put (before ++ dependencies) ∷ []) rest
+-- Things that the last image takes one by one, a line each.
+run-each : {A : Type 0} (line_of : A → TableLine) (limit : ℕ) (put : List A → Image)
+    → ((images : List Image) (x : A) → with_line_of_images images (line_of x) ≡ with_line_in_last images (line_of x))
+    → ((before : List A) (x : A) → length before < limit
+    → with_line (put before) (line_of x) ≡ Some (put (before ++ x ∷ [])))
+    → (front : List Image) (before xs : List A) (rest : List TableLine) → length before + length xs ≤ limit
+    → run with_line_of_images (front ++ put before ∷ []) (map line_of xs ++ rest) ≡ run with_line_of_images
+    (front ++ put (before ++ xs) ∷ []) rest
+run-each line_of limit put later takes front before [] rest few =
+    ap (λ (xs : List _). run with_line_of_images (front ++ put xs ∷ []) rest) (sym (append-nil before))
+run-each line_of limit put later takes front before (x ∷ xs) rest few =
+    let first = later (front ++ put before ∷ []) x
+    ∙ in_last-push front (put before) (put (before ++ x ∷ [])) (line_of x) (takes before x (omega arith)) in
+    let others = run-each line_of limit put later takes front (before ++ x ∷ []) xs rest
+    (omega (arith, length-append before (x ∷ []))) in
+    rw first (others ∙ ap (λ (xs : List _). run with_line_of_images
+    (front ++ put xs ∷ []) rest) (append_assoc before (x ∷ []) xs))
+
+-- An entry with these needs.
+abbrev entry_with : Version → ℕ → List Dependency → List Group → Entry
+entry_with version counter dependencies groups =
+    record {
+      version = version;
+      counter = counter;
+      dependencies = record { items = dependencies };
+      groups = record { items = groups };
+    }
+
+-- The lines of what an entry needs, where the last image takes them into this entry.
+run-needs : (put : Entry → Image)
+    → ((entry more : Entry) (dependency : Dependency) → with_dependency dependency entry ≡ Some more
+    → with_line (put entry) (line.Needs dependency) ≡ Some (put more))
+    → ((entry more : Entry) (group : Group) → with_group group entry ≡ Some more
+    → with_line (put entry) (line.NeedsOne group) ≡ Some (put more))
+    → (front : List Image) (entry : Entry) (rest : List TableLine) → HasFewNeeds entry
+    → run with_line_of_images (front ++ put (new_entry entry.version entry.counter) ∷ []) (needs_lines entry ++ rest)
+    ≡ run with_line_of_images (front ++ put entry ∷ []) rest
 unfolding with_line_of_images
-run-needs put takes front before [] rest few =
-    ap (λ (ds : List Dependency). run with_line_of_images (front ++ put ds ∷ []) rest) (sym (append-nil before))
-run-needs put takes front before (dependency ∷ dependencies) rest few =
-    let first : with_line_in_last (front ++ put before ∷ []) (line.Needs dependency) ≡ Some
-    (front ++ put (before ++ dependency ∷ []) ∷ []) =
-    in_last-push front (put before) (put (before ++ dependency ∷ [])) (line.Needs dependency)
-    (takes before dependency (omega arith)) in
-    let others = run-needs put takes front (before ++ dependency ∷ []) dependencies rest
-    (omega (arith, length-append before (dependency ∷ []))) in
-    rw first (others ∙ ap (λ (ds : List Dependency). run with_line_of_images
-    (front ++ put ds ∷ []) rest) (append_assoc before (dependency ∷ []) dependencies))
+run-needs put takes_dependency takes_group front entry rest few =
+    let dependencies = entry.dependencies.items in
+    let groups = entry.groups.items in
+    let with_needs = entry_with entry.version entry.counter in
+    let first = run-each (λ dependency. line.Needs dependency) MOST_DEPENDENCIES (λ ds. put (with_needs ds []))
+    (λ images x. refl)
+    (λ before x room. takes_dependency (with_needs before []) (with_needs (before ++ x ∷ []) []) x
+    (rw (lt-ltb (length before) MOST_DEPENDENCIES room) refl))
+    front [] dependencies (group_lines groups ++ rest) (omega (arith, few.dependencies)) in
+    let then = run-each (λ group. line.NeedsOne group) MOST_GROUPS (λ gs. put (with_needs dependencies gs))
+    (λ images x. refl)
+    (λ before x room. takes_group (with_needs dependencies before) (with_needs dependencies (before ++ x ∷ [])) x
+    (rw (lt-ltb (length before) MOST_GROUPS room) refl))
+    front [] groups rest (omega (arith, few.groups)) in
+    ap (λ (ls : List TableLine). run with_line_of_images (front ++ put (with_needs [] []) ∷ []) ls)
+    (append_assoc (map (λ dependency. line.Needs dependency) dependencies) (group_lines groups) rest)
+    ∙ first ∙ then
 
--- An image whose running entry has these dependencies so far, and which has no request yet.
-abbrev running_so_far : Version → ℕ → ℕ → List Dependency → Image
-running_so_far version counter floor dependencies =
-    record {
-      running = record {
-        version = version;
-        counter = counter;
-        dependencies =
-            record { items = dependencies };
-      };
-      request = request.None;
-      floor = floor;
-    }
+-- An image with this running entry, and no request yet.
+abbrev running_so_far : ℕ → Entry → Image
+running_so_far floor entry = record { running = entry; request = request.None; floor = floor }
 
--- An image whose request has these dependencies so far.
-abbrev request_so_far : Entry → ℕ → Version → ℕ → List Dependency → Image
-request_so_far running floor version counter dependencies =
-    record {
-      running = running;
-      request = request.Entry (record {
-        version = version;
-        counter =
-            counter;
-        dependencies = record { items = dependencies };
-      });
-      floor = floor;
-    }
-
-running-takes : (version : Version) (counter floor : ℕ) (before : List Dependency) (dependency : Dependency)
-    → length before < MOST_DEPENDENCIES
-    → with_line (running_so_far version counter floor before) (line.Needs dependency) ≡ Some
-    (running_so_far version counter floor (before ++ dependency ∷ []))
-running-takes version counter floor before dependency few = rw (lt-ltb (length before) MOST_DEPENDENCIES few) refl
-
-request-takes : (running : Entry) (floor : ℕ) (version : Version) (counter : ℕ) (before : List Dependency)
-    (dependency : Dependency) → length before < MOST_DEPENDENCIES
-    → with_line (request_so_far running floor version counter before) (line.Needs dependency) ≡ Some
-    (request_so_far running floor version counter (before ++ dependency ∷ []))
-request-takes running floor version counter before dependency few =
-    rw (lt-ltb (length before) MOST_DEPENDENCIES few) refl
+-- An image with this request.
+abbrev request_so_far : Entry → ℕ → Entry → Image
+request_so_far running floor entry = record { running = running; request = request.Entry entry; floor = floor }
 
 -- The lines of what is requested, after those of the running image.
 run-request : (front : List Image) (image : Image) (asked : Request) (rest : List TableLine)
@@ -119,26 +121,27 @@ run-request front image request.Damaged rest none few =
     in_last-push front image (record image { request = request.Damaged }) line.Damaged (rw none refl) in
     rw first refl
 run-request front image (request.Entry entry) rest none few =
-    let begun = request_so_far image.running image.floor entry.version entry.counter [] in
+    let put = request_so_far image.running image.floor in
+    let begun = put (new_entry entry.version entry.counter) in
     let first : with_line_in_last (front ++ image ∷ []) (line.Request entry.version entry.counter) ≡ Some
     (front ++ begun ∷ []) =
     in_last-push front image begun (line.Request entry.version entry.counter) (rw none refl) in
-    rw first (run-needs (request_so_far image.running image.floor entry.version entry.counter)
-    (request-takes image.running image.floor entry.version entry.counter) front [] entry.dependencies.items rest
-    (omega arith))
+    rw first (run-needs put (λ before more dependency e. rw e refl) (λ before more group e. rw e refl)
+    front entry rest few)
 
 -- The lines of one image.
 run-image : (front : List Image) (image : Image) (rest : List TableLine) → length front < MOST_IMAGES
-    → HasFewDependencies image.running → AsksForFew image.request
+    → HasFewNeeds image.running → AsksForFew image.request
     → run with_line_of_images front (image_lines (length front) image ++ rest) ≡ run with_line_of_images
     (front ++ image ∷ []) rest
 unfolding with_line_of_images
 run-image front image rest room few_running few_request =
-    let begun = running_so_far image.running.version image.running.counter image.floor [] in
+    let put = running_so_far image.floor in
+    let begun = put (new_entry image.running.version image.running.counter) in
     let first : with_image front (length front) begun ≡ Some (front ++ begun ∷ []) =
     rw (eq-eqb (length front) (length front) refl, lt-ltb (length front) MOST_IMAGES room) refl in
-    let needs = run-needs (running_so_far image.running.version image.running.counter image.floor)
-    (running-takes image.running.version image.running.counter image.floor) front [] image.running.dependencies.items (request_lines image.request ++ rest) (omega arith) in
+    let needs = run-needs put (λ before more dependency e. rw e refl) (λ before more group e. rw e refl)
+    front image.running (request_lines image.request ++ rest) few_running in
     let asked = run-request front (record image { request = request.None }) image.request rest refl few_request in
     rw first (ap (λ (ls : List TableLine). run with_line_of_images (front ++ begun ∷ []) ls)
     (append_assoc (needs_lines image.running) (request_lines image.request) rest) ∙ needs ∙ asked)

@@ -1,10 +1,11 @@
 -- Combinations: sets of images, those whose requests are taken. A set is a test of image numbers,
 -- and any test is one: that its members have intact requests is said where it is called valid.
-use Rattle.std.specs.Prelude.{ℕ, ◌≤◌, Bool, false, not, IsTrue, Option, Some, None, unwrap_or, IsSomeAnd, IfSome, slice_get, if◌then◌else◌}
-use Rattle.std.specs.List.{list_all}
+use Rattle.std.specs.Prelude.{ℕ, ◌≤◌, Bool, false, ◌&&◌, not, IsTrue, Option, Some, None, unwrap_or, IsSomeAnd, IfSome, slice_get, if◌then◌else◌}
+use Rattle.std.specs.List.{list_all, list_any}
 use Rattle.std.specs.Option.{option_map_or}
 use Rattle.version_order.specs.declared.version.Version.{Version}
 use Rattle.version_order.specs.declared.dependency.Dependency.{Dependency}
+use Rattle.version_order.specs.declared.group.Group.{Group}
 use Rattle.version_order.specs.Order.{is_older, IsAtLeast}
 use Rattle.certificate.specs.declared.table.Entry.{Entry}
 use Rattle.certificate.specs.declared.table.Request.{Request}
@@ -45,9 +46,16 @@ is_met table taken dependency =
     option_map_or (reaches taken dependency.image dependency.minimum)
     (image_at table dependency.image) false
 
--- Whether a combination meets all dependencies of an entry.
+-- Whether a combination meets a group: one of its alternatives at least, each as a dependency is
+-- met.
+abbrev pub is_group_met : Table → (ℕ → Bool) → Group → Bool
+is_group_met table taken group = list_any (is_met table taken) group.alternatives.items
+
+-- Whether a combination meets all dependencies and all groups of an entry.
 abbrev pub meets_all : Table → (ℕ → Bool) → Entry → Bool
-meets_all table taken entry = list_all (is_met table taken) entry.dependencies.items
+meets_all table taken entry =
+    list_all (is_met table taken) entry.dependencies.items
+    && list_all (is_group_met table taken) entry.groups.items
 
 -- An entry may run in the place of an image: it isn't older, and its security counter isn't below
 -- the floor (MCUboot, downgrade prevention).
@@ -59,14 +67,14 @@ MayReplace image entry =
 abbrev pub IsAcceptable : Table → ℕ → Type 0
 IsAcceptable table j = RequestMeets table j MayReplace
 
--- All dependencies of image j are met: of its requested entry if it is a member, else of its
--- running one.
+-- All dependencies and groups of image j are met: of its requested entry if it is a member, else of
+-- its running one.
 abbrev pub HasMetDependencies : Table → (ℕ → Bool) → ℕ → Type 0
 HasMetDependencies table taken j =
     IfSome (image_at table j) (λ image. IsTrue (meets_all table taken (entry_in image (taken j))))
 
 -- A combination is valid where each member has a request that may run in its place, and the
--- dependencies of each image, member or not, are met (MCUboot, multiple image boot).
+-- dependencies and groups of each image, member or not, are met (MCUboot, multiple image boot).
 pub record IsValid (table : Table) (taken : ℕ → Bool) : Type 0 where
   pub members : (j : ℕ) → IsTrue (taken j) → IsAcceptable table j
   pub met : (j : ℕ) → HasMetDependencies table taken j

@@ -1,8 +1,11 @@
--- The text of a dependency.
-use Rattle.std.specs.Prelude.{◌≡◌, ℕ, ◌^◌, ◌<◌, List, codes, decimal}
+-- The text of a dependency, and of a group.
+use Rattle.std.specs.Prelude.{◌≡◌, ℕ, ◌^◌, ◌<◌, ◌≤◌, List, [], ◌∷◌, ◌++◌, length, codes, decimal}
+use Rattle.std.specs.List.{AllByRecursion}
+use Rattle.common.specs.declared.limits.TheConstants.{MOST_ALTERNATIVES}
 use Rattle.common.specs.Lines.{◌␣◌}
 use Rattle.version_order.specs.declared.version.Version.{Version}
 use Rattle.version_order.specs.declared.dependency.Dependency.{Dependency}
+use Rattle.version_order.specs.declared.group.Group.{Group}
 use Rattle.version_order.specs.VersionText.{FitsFields, version_text, IsVersionText}
 
 -- A dependency as it is printed: `needs J VERSION`.
@@ -24,3 +27,42 @@ IsNeedsText text dependency =
 -- The numbers of a dependency fit their fields.
 abbrev pub FitsDependency : Dependency → Type 0
 FitsDependency dependency = (dependency.image < 2 ^ 8) × FitsFields dependency.minimum
+
+-- A group has one to four alternatives.
+pub record HasFewAlternatives (group : Group) : Type 0 where
+  pub some : 1 ≤ length group.alternatives.items
+  pub most : length group.alternatives.items ≤ MOST_ALTERNATIVES
+
+-- Alternatives as they are printed: for each a space, the number of its image, a space, and its
+-- version.
+unfoldable pub alternatives_text : List Dependency → List ℕ
+alternatives_text [] = []
+alternatives_text (alternative ∷ alternatives) =
+    32 ∷ ((decimal alternative.image ␣ version_text alternative.minimum)
+    ++ alternatives_text alternatives)
+
+-- A group as it is printed: `needs-one J VERSION ..`
+abbrev pub needs_one_text : Group → List ℕ
+needs_one_text group = codes "needs-one" ++ alternatives_text group.alternatives.items
+
+-- A text says these alternatives: for each a space, the number of its image, a space, and any text
+-- of its version.
+unfoldable pub AreAlternativesText : List ℕ → List Dependency → Type 0
+AreAlternativesText text [] = text ≡ []
+AreAlternativesText text (alternative ∷ alternatives) =
+    (alternative.image < 2 ^ 8)
+    × (spelled : List ℕ) × (rest : List ℕ)
+    × IsVersionText spelled alternative.minimum × AreAlternativesText rest alternatives
+    × (text ≡ 32 ∷ ((decimal alternative.image ␣ spelled) ++ rest))
+
+-- A text says a group.
+abbrev pub IsNeedsOneText : List ℕ → Group → Type 0
+IsNeedsOneText text group =
+    HasFewAlternatives group
+    × (spelled : List ℕ) × AreAlternativesText spelled group.alternatives.items
+    × (text ≡ codes "needs-one" ++ spelled)
+
+-- A group has a text: few alternatives, of which the numbers fit their fields.
+abbrev pub FitsGroup : Group → Type 0
+FitsGroup group =
+    HasFewAlternatives group × AllByRecursion FitsDependency group.alternatives.items

@@ -1,12 +1,15 @@
 -- Reading a line from left to right, step by step: words are cut at spaces (32), the first word
 -- tells which line it is, and the last field takes the whole rest of the line.
-use Rattle.std.specs.Prelude.{ℕ, ◌^◌, List, Option, Some, None, codes, option_and_then, if◌then◌else◌}
+use Rattle.std.specs.Prelude.{ℕ, zero, suc, ◌-◌, ◌^◌, List, [], ◌∷◌, ◌++◌, length, Option, Some, None, codes, option_and_then, option_map, if◌then◌else◌}
 use Rattle.std.specs.Str.{bytes_eq}
+use Rattle.common.specs.declared.limits.TheConstants.{MOST_ALTERNATIVES}
 use Rattle.version_order.specs.declared.version.Version.{Version}
+use Rattle.version_order.specs.declared.dependency.Dependency.{Dependency}
+use Rattle.version_order.specs.declared.group.Group.{Group}
 use Rattle.common.specs.Ascii.{number_of, number_below, cut}
 use Rattle.version_order.specs.VersionText.{version_of}
 use Rattle.certificate.specs.declared.report.Reason.{Reason}
-use Rattle.certificate.specs.declared.report.Reason.TheVariants.{Damaged, Older, Counter, NoSuchImage, Needs}
+use Rattle.certificate.specs.declared.report.Reason.TheVariants.{Damaged, Older, Counter, NoSuchImage, Needs, NeedsOne}
 use Rattle.certificate.specs.declared.report_line.ReportLine.{ReportLine}
 use Rattle.certificate.specs.declared.report_line.ReportLine.TheVariants as report_line
 use Rattle.certificate.specs.declared.table_line.TableLine.{TableLine}
@@ -46,6 +49,34 @@ needs_line_of fields = do
   needed ← image_and_version_of fields
   Some (table_line.Needs (record { image = needed.0; minimum = needed.1 }))
 
+-- The alternative that two words say: the number of an image, and the lowest version that will do.
+unfoldable pub alternative_of : List ℕ → List ℕ → Option Dependency
+alternative_of image minimum = do
+  image ← number_below (2 ^ 8) image
+  minimum ← version_of minimum
+  Some (record { image = image; minimum = minimum })
+
+-- These alternatives, and those that the fields after them say, of which there may be so many.
+unfoldable pub more_alternatives : ℕ → List Dependency → Option (List ℕ) → Option (List Dependency)
+more_alternatives room before None = Some before
+more_alternatives zero before (Some fields) = None
+more_alternatives (suc room) before (Some fields) = do
+  let image = cut 32 fields
+  rest ← image.1
+  let minimum = cut 32 rest
+  alternative ← alternative_of image.0 minimum.0
+  more_alternatives room (before ++ alternative ∷ []) minimum.1
+
+-- The group of these alternatives and those that the fields after them say: at most four.
+abbrev pub group_from : List Dependency → Option (List ℕ) → Option Group
+group_from before rest =
+    option_map (λ alternatives. record { alternatives = record { items = alternatives } })
+    (more_alternatives (MOST_ALTERNATIVES - length before) before rest)
+
+-- What follows `needs-one`: one to four alternatives.
+abbrev pub group_of : List ℕ → Option Group
+group_of fields = group_from [] (Some fields)
+
 -- What follows `request`: a version and a counter.
 unfoldable pub request_line_of : List ℕ → Option TableLine
 request_line_of fields = do
@@ -60,7 +91,9 @@ abbrev pub table_line_at : List ℕ → List ℕ → Option TableLine
 table_line_at word fields =
     if bytes_eq word (codes "image") then image_line_of fields
     else (if bytes_eq word (codes "needs") then needs_line_of fields
-    else (if bytes_eq word (codes "request") then request_line_of fields else None))
+    else (if bytes_eq word (codes "needs-one")
+    then option_map (λ group. table_line.NeedsOne group) (group_of fields)
+    else (if bytes_eq word (codes "request") then request_line_of fields else None)))
 
 -- The line of a table that a text says.
 unfoldable pub table_line_of : List ℕ → Option TableLine
@@ -88,7 +121,8 @@ reason_at word fields =
     then option_and_then (λ image. Some (NoSuchImage image)) (number_below (2 ^ 8) fields)
     else (if bytes_eq word (codes "needs")
     then option_and_then (λ needed. Some (Needs needed.0 needed.1)) (image_and_version_of fields)
-    else None)
+    else (if bytes_eq word (codes "needs-one")
+    then option_map (λ group. NeedsOne group) (group_of fields) else None))
 
 -- The reason that a text says.
 unfoldable pub reason_of : List ℕ → Option Reason

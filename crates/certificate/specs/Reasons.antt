@@ -1,16 +1,17 @@
 -- Why a request is refused, judged at its place in a list of refusals.
-use Rattle.std.specs.Prelude.{◌≡◌, ℕ, ◌<◌, ◌==◌, Bool, false, List, take, IsTrue, None, count_by, Contains, IsSomeAnd, IfSome, slice_get, if◌then◌else◌}
+use Rattle.std.specs.Prelude.{◌≡◌, ℕ, ◌<◌, ◌==◌, Bool, false, not, List, take, IsTrue, None, count_by, Contains, IsSomeAnd, IfSome, slice_get, if◌then◌else◌}
 use Rattle.std.specs.List.{list_any}
 use Rattle.std.specs.Option.{option_map_or}
 use Rattle.version_order.specs.declared.version.Version.{Version}
 use Rattle.version_order.specs.declared.dependency.Dependency.{Dependency}
+use Rattle.version_order.specs.declared.group.Group.{Group}
 use Rattle.version_order.specs.Order.{is_older, IsOlder}
 use Rattle.certificate.specs.declared.table.Entry.{Entry}
 use Rattle.certificate.specs.declared.table.Request.TheVariants as request
 use Rattle.certificate.specs.declared.table.Image.{Image}
 use Rattle.certificate.specs.declared.table.Table.{Table}
 use Rattle.certificate.specs.declared.report.Reason.{Reason}
-use Rattle.certificate.specs.declared.report.Reason.TheVariants.{Damaged, Older, Counter, NoSuchImage, Needs}
+use Rattle.certificate.specs.declared.report.Reason.TheVariants.{Damaged, Older, Counter, NoSuchImage, Needs, NeedsOne}
 use Rattle.certificate.specs.declared.report.Refusal.{Refusal}
 use Rattle.certificate.specs.Combination.{image_at, intact_entry, RequestMeets}
 
@@ -53,6 +54,19 @@ is_out_of_reach table before own dependency =
     (λ image. is_older (best_version before own dependency.image image) dependency.minimum)
     (image_at table dependency.image) false
 
+-- Whether, after these refusals, an alternative in a group of the request of image own names an
+-- image that exists and whose best version isn't below the minimum.
+abbrev pub is_in_reach : Table → List Refusal → ℕ → Dependency → Bool
+is_in_reach table before own alternative =
+    option_map_or
+    (λ image. not (is_older (best_version before own alternative.image image) alternative.minimum))
+    (image_at table alternative.image) false
+
+-- Whether, after these refusals, no alternative of a group of the request of image own is in reach.
+abbrev pub is_group_out_of_reach : Table → List Refusal → ℕ → Group → Bool
+is_group_out_of_reach table before own group =
+    not (list_any (is_in_reach table before own) group.alternatives.items)
+
 -- Whether an entry depends on image j, in any version.
 abbrev pub depends_on : Entry → ℕ → Bool
 depends_on entry j = list_any (λ dependency. dependency.image == j) entry.dependencies.items
@@ -68,6 +82,12 @@ NeedsUnreachable table before own dependency entry =
     Contains entry.dependencies.items dependency
     × IsTrue (is_out_of_reach table before own dependency)
 
+-- An entry that is requested of image own has a group of which no alternative is in reach after
+-- these refusals.
+abbrev pub NeedsOneUnreachable : Table → List Refusal → ℕ → Group → Entry → Type 0
+NeedsOneUnreachable table before own group entry =
+    Contains entry.groups.items group × IsTrue (is_group_out_of_reach table before own group)
+
 -- A reason for refusing the request of image i holds after these refusals.
 abbrev pub ReasonHolds : Table → List Refusal → ℕ → Reason → Type 0
 ReasonHolds table before i Damaged =
@@ -81,6 +101,8 @@ ReasonHolds table before i (NoSuchImage j) =
 ReasonHolds table before i (Needs j minimum) =
     RequestMeets table i
     (λ image entry. NeedsUnreachable table before i (record { image = j; minimum = minimum }) entry)
+ReasonHolds table before i (NeedsOne group) =
+    RequestMeets table i (λ image entry. NeedsOneUnreachable table before i group entry)
 
 -- A refusal has a reason that holds after these refusals.
 abbrev pub IsFoundedAfter : Table → List Refusal → Refusal → Type 0

@@ -7,12 +7,12 @@ use Rattle.version_order.specs.VersionText.{FitsFields, version_text}
 use Rattle.certificate.specs.declared.report.TheConstants.{MOST_REFUSALS}
 use Rattle.certificate.specs.declared.report.Refusal.{Refusal}
 use Rattle.certificate.specs.declared.report.Reason.{Reason}
-use Rattle.certificate.specs.declared.report.Reason.TheVariants.{Damaged, Older, Counter, NoSuchImage, Needs}
+use Rattle.certificate.specs.declared.report.Reason.TheVariants.{Damaged, Older, Counter, NoSuchImage, Needs, NeedsOne}
 use Rattle.certificate.specs.declared.report.ReportedImage.{ReportedImage}
 use Rattle.certificate.specs.declared.report.Report.{Report}
 use Rattle.certificate.specs.declared.report_line.ReportLine.{ReportLine}
 use Rattle.certificate.specs.declared.report_line.ReportLine.TheVariants as line
-use Rattle.certificate.specs.DependencyText.{needs_text, FitsDependency, IsNeedsText, IsVersionLine}
+use Rattle.certificate.specs.DependencyText.{needs_one_text, needs_text, FitsDependency, FitsGroup, IsNeedsOneText, IsNeedsText, IsVersionLine}
 
 -- A reason as it is printed.
 abbrev pub reason_text : Reason → List ℕ
@@ -21,6 +21,7 @@ reason_text Older = codes "older"
 reason_text Counter = codes "counter"
 reason_text (NoSuchImage j) = codes "no-such-image" ␣ decimal j
 reason_text (Needs j minimum) = needs_text (record { image = j; minimum = minimum })
+reason_text (NeedsOne group) = needs_one_text group
 
 -- A line as it is printed.
 abbrev pub report_line_text : ReportLine → List ℕ
@@ -36,6 +37,7 @@ IsReasonText text Older = text ≡ codes "older"
 IsReasonText text Counter = text ≡ codes "counter"
 IsReasonText text (NoSuchImage j) = (j < 2 ^ 8) × (text ≡ codes "no-such-image" ␣ decimal j)
 IsReasonText text (Needs j minimum) = IsNeedsText text (record { image = j; minimum = minimum })
+IsReasonText text (NeedsOne group) = IsNeedsOneText text group
 
 -- A text without its line feed says a line.
 abbrev pub IsReportLineText : List ℕ → ReportLine → Type 0
@@ -90,6 +92,7 @@ FitsReason Older = Unit {0}
 FitsReason Counter = Unit {0}
 FitsReason (NoSuchImage j) = j < 2 ^ 8
 FitsReason (Needs j minimum) = FitsDependency (record { image = j; minimum = minimum })
+FitsReason (NeedsOne group) = FitsGroup group
 
 abbrev pub FitsReportLine : ReportLine → Type 0
 FitsReportLine (line.Run number version) = (number < 2 ^ 8) × FitsFields version

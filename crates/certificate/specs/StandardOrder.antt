@@ -1,6 +1,7 @@
 -- The order in which a choice lists its refusals: of all founded lists the one that is printed.
 use Rattle.std.specs.Prelude.{◌≡◌, ℕ, ◌<◌, Bool, false, List, ◌++◌, take, Option, Some, None, option_map, option_and_then, is_none, nat_lt, find, filter_map, IfSome, slice_get, if◌then◌else◌}
 use Rattle.std.specs.List.{enumerate_from}
+use Rattle.std.specs.Option.{option_or}
 use Rattle.version_order.specs.declared.dependency.Dependency.{Dependency}
 use Rattle.version_order.specs.Order.{is_older}
 use Rattle.certificate.specs.declared.table.Entry.{Entry}
@@ -9,10 +10,10 @@ use Rattle.certificate.specs.declared.table.Request.TheVariants as request
 use Rattle.certificate.specs.declared.table.Image.{Image}
 use Rattle.certificate.specs.declared.table.Table.{Table}
 use Rattle.certificate.specs.declared.report.Reason.{Reason}
-use Rattle.certificate.specs.declared.report.Reason.TheVariants.{Damaged, Older, Counter, NoSuchImage, Needs}
+use Rattle.certificate.specs.declared.report.Reason.TheVariants.{Damaged, Older, Counter, NoSuchImage, Needs, NeedsOne}
 use Rattle.certificate.specs.declared.report.Refusal.{Refusal}
 use Rattle.certificate.specs.Combination.{image_at, intact_entry}
-use Rattle.certificate.specs.Reasons.{is_refused, is_out_of_reach}
+use Rattle.certificate.specs.Reasons.{is_refused, is_group_out_of_reach, is_out_of_reach}
 
 -- Whether a dependency is on an image that the table doesn't have.
 abbrev pub is_missing : Table → Dependency → Bool
@@ -50,10 +51,21 @@ own_refusals table =
 
 -- The first dependency of an entry that is requested of image i which is out of reach after these
 -- refusals, as a reason.
-abbrev pub needs_reason_of_entry : Table → List Refusal → ℕ → Entry → Option Reason
-needs_reason_of_entry table before i entry =
+abbrev pub unmet_dependency : Table → List Refusal → ℕ → Entry → Option Reason
+unmet_dependency table before i entry =
     option_map (λ dependency. Needs dependency.image dependency.minimum)
     (find (is_out_of_reach table before i) entry.dependencies.items)
+
+-- The same of its groups.
+abbrev pub unmet_group : Table → List Refusal → ℕ → Entry → Option Reason
+unmet_group table before i entry =
+    option_map (λ group. NeedsOne group)
+    (find (is_group_out_of_reach table before i) entry.groups.items)
+
+-- The first dependency that is out of reach or, where there is none, the first such group.
+abbrev pub needs_reason_of_entry : Table → List Refusal → ℕ → Entry → Option Reason
+needs_reason_of_entry table before i entry =
+    option_or (unmet_dependency table before i entry) (unmet_group table before i entry)
 
 -- The same of the intact request of image i.
 abbrev pub needs_reason : Table → List Refusal → ℕ → Option Reason
@@ -62,8 +74,8 @@ needs_reason table before i =
     (λ image. option_and_then (needs_reason_of_entry table before i) (intact_entry image.request))
     (image_at table i)
 
--- After these refusals comes this one: the lowest request not yet refused of which a dependency is
--- out of reach, with the first such dependency.
+-- After these refusals comes this one: the lowest request not yet refused of which a dependency or
+-- a group is out of reach, with the first such dependency, else the first such group.
 pub record IsNextNeed (table : Table) (before : List Refusal) (refusal : Refusal) : Type 0 where
   pub unrefused : is_refused before refusal.image ≡ false
   pub reason : needs_reason table before refusal.image ≡ Some refusal.reason

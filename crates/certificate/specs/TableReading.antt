@@ -1,10 +1,11 @@
 -- Reading a table line by line: what the lines so far say, and what one more line makes of it. The
 -- reader follows these steps; what they mean is in `TableText`.
 use Rattle.std.specs.Prelude.{ℕ, ◌==◌, ◌&&◌, List, [], ◌∷◌, ◌++◌, length, Option, Some, None, option_map, nat_lt, if◌then◌else◌}
-use Rattle.common.specs.declared.limits.TheConstants.{MOST_DEPENDENCIES, MOST_IMAGES}
+use Rattle.common.specs.declared.limits.TheConstants.{MOST_DEPENDENCIES, MOST_GROUPS, MOST_IMAGES}
 use Rattle.common.specs.Reading.{with_text}
 use Rattle.version_order.specs.declared.version.Version.{Version}
 use Rattle.version_order.specs.declared.dependency.Dependency.{Dependency}
+use Rattle.version_order.specs.declared.group.Group.{Group}
 use Rattle.certificate.specs.declared.table.Entry.{Entry}
 use Rattle.certificate.specs.declared.table.Request.{Request}
 use Rattle.certificate.specs.declared.table.Request.TheVariants as request
@@ -14,32 +15,47 @@ use Rattle.certificate.specs.declared.table_line.TableLine.{TableLine}
 use Rattle.certificate.specs.declared.table_line.TableLine.TheVariants as line
 use Rattle.certificate.specs.LineReading.{table_line_of}
 
--- An entry without dependencies.
+-- An entry without dependencies and groups.
 abbrev pub new_entry : Version → ℕ → Entry
 new_entry version counter =
-    record { version = version; counter = counter; dependencies = record { items = [] } }
+    record {
+      version = version;
+      counter = counter;
+      dependencies = record { items = [] };
+      groups = record { items = [] };
+    }
 
--- An entry with one more dependency.
-abbrev pub with_one_more : Dependency → Entry → Entry
-with_one_more dependency entry =
-    record entry { dependencies = record { items = entry.dependencies.items ++ dependency ∷ [] } }
-
--- The same where there is room: an entry has at most 16.
+-- An entry with one more dependency, where it may stand: before the groups, and at most 16.
 abbrev pub with_dependency : Dependency → Entry → Option Entry
 with_dependency dependency entry =
-    if nat_lt (length entry.dependencies.items) MOST_DEPENDENCIES
-    then Some (with_one_more dependency entry) else None
+    if (length entry.groups.items == 0)
+    && nat_lt (length entry.dependencies.items) MOST_DEPENDENCIES
+    then Some (record entry {
+      dependencies = record { items = entry.dependencies.items ++ dependency ∷ [] };
+    }) else None
 
--- An image whose request is this, with one more dependency: of the request where there is one, else
--- of the running image.
-abbrev pub with_needs : Image → Dependency → Request → Option Image
-with_needs image dependency request.None =
-    option_map (λ entry. record image { running = entry })
-    (with_dependency dependency image.running)
-with_needs image dependency request.Damaged = None
-with_needs image dependency (request.Entry entry) =
-    option_map (λ more. record image { request = request.Entry more })
-    (with_dependency dependency entry)
+-- An entry with one more group, of at most 4.
+abbrev pub with_group : Group → Entry → Option Entry
+with_group group entry =
+    if nat_lt (length entry.groups.items) MOST_GROUPS
+    then Some (record entry { groups = record { items = entry.groups.items ++ group ∷ [] } })
+    else None
+
+-- An image whose request is this, with one more need of its last entry: of the requested one where
+-- there is one, else of the running one.
+abbrev pub in_last_entry : (Entry → Option Entry) → Image → Request → Option Image
+in_last_entry with_one_more image request.None =
+    option_map (λ entry. record image { running = entry }) (with_one_more image.running)
+in_last_entry with_one_more image request.Damaged = None
+in_last_entry with_one_more image (request.Entry entry) =
+    option_map (λ more. record image { request = request.Entry more }) (with_one_more entry)
+
+-- An image with one more dependency, and with one more group.
+abbrev pub with_needs : Dependency → Image → Option Image
+with_needs dependency image = in_last_entry (with_dependency dependency) image image.request
+
+abbrev pub with_needs_one : Group → Image → Option Image
+with_needs_one group image = in_last_entry (with_group group) image image.request
 
 -- An image that had this request, with a new one, of at most one.
 abbrev pub with_request : Image → Request → Request → Option Image
@@ -50,7 +66,8 @@ with_request image new (request.Entry entry) = None
 -- An image with what a line after its first one says.
 abbrev pub with_line : Image → TableLine → Option Image
 with_line image (line.Image number version counter floor) = None
-with_line image (line.Needs dependency) = with_needs image dependency image.request
+with_line image (line.Needs dependency) = with_needs dependency image
+with_line image (line.NeedsOne group) = with_needs_one group image
 with_line image (line.Request version counter) =
     with_request image (request.Entry (new_entry version counter)) image.request
 with_line image line.Damaged = with_request image request.Damaged image.request
@@ -75,6 +92,7 @@ with_line_of_images images (line.Image number version counter floor) =
     (record { running = new_entry version counter; request = request.None; floor = floor })
 with_line_of_images images (line.Needs dependency) =
     with_line_in_last images (line.Needs dependency)
+with_line_of_images images (line.NeedsOne group) = with_line_in_last images (line.NeedsOne group)
 with_line_of_images images (line.Request version counter) =
     with_line_in_last images (line.Request version counter)
 with_line_of_images images line.Damaged = with_line_in_last images line.Damaged

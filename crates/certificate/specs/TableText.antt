@@ -1,9 +1,10 @@
 -- The text of a table.
 use Rattle.std.specs.Prelude.{◌≡◌, ℕ, ◌+◌, ◌^◌, ◌<◌, ◌≤◌, List, [], ◌∷◌, ◌++◌, length, map, codes, decimal}
 use Rattle.std.specs.List.{AllByRecursion, AllZip}
-use Rattle.common.specs.declared.limits.TheConstants.{MOST_DEPENDENCIES, MOST_IMAGES}
+use Rattle.common.specs.declared.limits.TheConstants.{MOST_DEPENDENCIES, MOST_GROUPS, MOST_IMAGES}
 use Rattle.common.specs.Lines.{◌␣◌, lines_of, printed_lines}
 use Rattle.version_order.specs.VersionText.{FitsFields, version_text, IsVersionText}
+use Rattle.version_order.specs.declared.group.Group.{Group}
 use Rattle.certificate.specs.declared.table.Entry.{Entry}
 use Rattle.certificate.specs.declared.table.Request.{Request}
 use Rattle.certificate.specs.declared.table.Request.TheVariants as request
@@ -11,13 +12,14 @@ use Rattle.certificate.specs.declared.table.Image.{Image}
 use Rattle.certificate.specs.declared.table.Table.{Table}
 use Rattle.certificate.specs.declared.table_line.TableLine.{TableLine}
 use Rattle.certificate.specs.declared.table_line.TableLine.TheVariants as line
-use Rattle.certificate.specs.DependencyText.{needs_text, FitsDependency, IsNeedsText}
+use Rattle.certificate.specs.DependencyText.{needs_one_text, needs_text, FitsDependency, FitsGroup, IsNeedsOneText, IsNeedsText}
 
 -- A line as it is printed, of numbers that fit their fields.
 abbrev pub table_line_text : TableLine → List ℕ
 table_line_text (line.Image number version counter floor) =
     codes "image" ␣ decimal number ␣ version_text version ␣ decimal counter ␣ decimal floor
 table_line_text (line.Needs dependency) = needs_text dependency
+table_line_text (line.NeedsOne group) = needs_one_text group
 table_line_text (line.Request version counter) =
     codes "request" ␣ version_text version ␣ decimal counter
 table_line_text line.Damaged = codes "damaged"
@@ -30,23 +32,30 @@ IsTableLineText text (line.Image number version counter floor) =
     × (spelled : List ℕ) × IsVersionText spelled version
     × (text ≡ codes "image" ␣ decimal number ␣ spelled ␣ decimal counter ␣ decimal floor)
 IsTableLineText text (line.Needs dependency) = IsNeedsText text dependency
+IsTableLineText text (line.NeedsOne group) = IsNeedsOneText text group
 IsTableLineText text (line.Request version counter) =
     (counter < 2 ^ 32)
     × (spelled : List ℕ) × IsVersionText spelled version
     × (text ≡ codes "request" ␣ spelled ␣ decimal counter)
 IsTableLineText text line.Damaged = text ≡ codes "damaged"
 
--- The dependencies of an entry, a line each.
-abbrev pub needs_lines : Entry → List TableLine
-needs_lines entry = map (λ dependency. line.Needs dependency) entry.dependencies.items
+-- Groups, a line each.
+abbrev pub group_lines : List Group → List TableLine
+group_lines groups = map (λ group. line.NeedsOne group) groups
 
--- What is requested: nothing, one line, or a line and those of its dependencies.
+-- The dependencies of an entry, a line each, and then its groups.
+abbrev pub needs_lines : Entry → List TableLine
+needs_lines entry =
+    map (λ dependency. line.Needs dependency) entry.dependencies.items
+    ++ group_lines entry.groups.items
+
+-- What is requested: nothing, one line, or a line and those of what it needs.
 abbrev pub request_lines : Request → List TableLine
 request_lines request.None = []
 request_lines request.Damaged = line.Damaged ∷ []
 request_lines (request.Entry entry) = line.Request entry.version entry.counter ∷ needs_lines entry
 
--- The lines of image number n: the running image, its dependencies, and the request.
+-- The lines of image number n: the running image, what it needs, and the request.
 abbrev pub image_lines : ℕ → Image → List TableLine
 image_lines n image =
     line.Image n image.running.version image.running.counter image.floor
@@ -57,21 +66,22 @@ abbrev pub table_lines : ℕ → List Image → List TableLine
 table_lines n [] = []
 table_lines n (image ∷ images) = image_lines n image ++ table_lines (n + 1) images
 
--- An entry has at most 16 dependencies.
-abbrev pub HasFewDependencies : Entry → Type 0
-HasFewDependencies entry = length entry.dependencies.items ≤ MOST_DEPENDENCIES
+-- An entry has at most 16 dependencies and at most 4 groups.
+pub record HasFewNeeds (entry : Entry) : Type 0 where
+  pub dependencies : length entry.dependencies.items ≤ MOST_DEPENDENCIES
+  pub groups : length entry.groups.items ≤ MOST_GROUPS
 
 abbrev pub AsksForFew : Request → Type 0
 AsksForFew request.None = Unit {0}
 AsksForFew request.Damaged = Unit {0}
-AsksForFew (request.Entry entry) = HasFewDependencies entry
+AsksForFew (request.Entry entry) = HasFewNeeds entry
 
--- An image of few dependencies: what runs has few, and so has what is requested.
+-- An image of few needs: what runs has few, and so has what is requested.
 abbrev pub IsSmall : Image → Type 0
-IsSmall image = HasFewDependencies image.running × AsksForFew image.request
+IsSmall image = HasFewNeeds image.running × AsksForFew image.request
 
--- The text of a table: one to eight images with at most 16 dependencies an entry, and the lines say
--- the table's lines, one after the other.
+-- The text of a table: one to eight images with at most 16 dependencies and 4 groups an entry, and
+-- the lines say the table's lines, one after the other.
 pub record IsTableText (bytes : List ℕ) (table : Table) : Type 0 where
   pub some : 1 ≤ length table.images.items
   pub most : length table.images.items ≤ MOST_IMAGES
@@ -91,11 +101,13 @@ abbrev pub FitsTableLine : TableLine → Type 0
 FitsTableLine (line.Image number version counter floor) =
     (number < 2 ^ 8) × FitsFields version × (counter < 2 ^ 32) × (floor < 2 ^ 32)
 FitsTableLine (line.Needs dependency) = FitsDependency dependency
+FitsTableLine (line.NeedsOne group) = FitsGroup group
 FitsTableLine (line.Request version counter) = FitsFields version × (counter < 2 ^ 32)
 FitsTableLine line.Damaged = Unit {0}
 
--- A table that has a text: one to eight images with at most 16 dependencies an entry, and numbers
--- that fit their fields, as those of a table in memory do.
+-- A table that has a text: one to eight images with at most 16 dependencies and 4 groups an entry,
+-- one to four alternatives a group, and numbers that fit their fields, as those of a table in
+-- memory do.
 pub record FitsTable (table : Table) : Type 0 where
   pub some : 1 ≤ length table.images.items
   pub most : length table.images.items ≤ MOST_IMAGES

@@ -1,15 +1,18 @@
-//! Which requests depend on an image.
+//! Which requests depend on an image, or have it as an alternative.
 
 ghost use Rattle.std.specs.Prelude.{◌≡◌, ℕ};
 ghost use Rattle.std.specs.Int.{bit_at};
-ghost use Rattle.certificate.specs.Dependants.{asks_for, is_dependant};
+ghost use Rattle.std.specs.List.{list_any};
+ghost use Rattle.certificate.specs.Dependants.{asks_for, has_alternative, is_dependant, names};
 ghost use Rattle.certificate.specs.Reasons.{depends_on};
 ghost use Rattle.certificate.specs.Rightness.{once_if};
 
 use crate::table::{Entry, Image, Request, Table};
+use version_order::Group;
 
 /// The requests that depend on the image of a number, as a mask: bit i is set exactly where image i
-/// has an intact request with a dependency on it, in any version. The image need not exist.
+/// has an intact request with a dependency on it, or with a group of which it is an alternative, in
+/// any version. The image need not exist.
 pub fn dependants(table: &Table, number: u8) -> u8
     ensures { (i : ℕ) → bit_at result i ≡ once_if (is_dependant table.now number i) }
 {
@@ -22,14 +25,37 @@ pub fn dependants(table: &Table, number: u8) -> u8
     mask
 }
 
-/// Whether the intact request of an image depends on the image of a number.
+/// Whether the intact request of an image names the image of a number.
 fn asks_for(image: &Image, number: u8) -> bool
     ensures { result ≡ asks_for number image.now }
 {
     match &image.request {
-        Request::Entry(entry) => depends_on(entry, number),
+        Request::Entry(entry) => names(entry, number),
         Request::None | Request::Damaged => false,
     }
+}
+
+/// Whether an entry depends on the image of a number, or has a group with it as an alternative.
+fn names(entry: &Entry, number: u8) -> bool
+    ensures { result ≡ names entry.now number }
+{
+    depends_on(entry, number) || is_alternative(&entry.groups, number)
+}
+
+/// Whether one of these groups has the image of a number as an alternative.
+fn is_alternative(groups: &[Group], number: u8) -> bool
+    ensures { result ≡ list_any (has_alternative number) groups.now }
+{
+    groups.iter().any(|group| has_alternative(group, number))
+}
+
+fn has_alternative(group: &Group, number: u8) -> bool
+    ensures { result ≡ has_alternative number group.now }
+{
+    group
+        .alternatives
+        .iter()
+        .any(|alternative| alternative.image == number)
 }
 
 fn depends_on(entry: &Entry, number: u8) -> bool

@@ -36,7 +36,7 @@ pub use laws::{
     greatest_sets_are_equal, greatest_sets_have_the_newest_versions, reports_are_read_back,
     right_reports_are_greatest, right_reports_have_a_text, tables_are_read_back,
 };
-pub use needs::Needs;
+pub use needs::{Needs, NeedsOne};
 pub use report::{MOST_REFUSALS, Reason, Refusal, Report, ReportedImage};
 pub use table::{Entry, Image, Request, Table};
 pub use validity::is_valid;

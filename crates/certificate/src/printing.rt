@@ -4,16 +4,16 @@ ghost use Rattle.std.specs.Fmt.{WritesOnOk};
 ghost use Rattle.std.specs.Prelude.{◌≡◌, ◌≤◌, length, Some};
 ghost use Rattle.common.specs.Lines.{printed_lines};
 ghost use Rattle.certificate.specs.ReportText.{reason_text, refuse_lines, report_line_text, report_text, reported_line, reported_lines};
-ghost use Rattle.certificate.specs.TableText.{image_lines, needs_lines, request_lines, table_line_text, table_lines, table_text};
+ghost use Rattle.certificate.specs.TableText.{group_lines, image_lines, needs_lines, request_lines, table_line_text, table_lines, table_text};
 
-use crate::needs::Needs;
+use crate::needs::{Needs, NeedsOne};
 use crate::report::{Reason, Refusal, Report, ReportedImage};
 use crate::report_line::ReportLine;
 use crate::table::{Entry, Image, Request, Table};
 use crate::table_line::TableLine;
 use common::limits::MOST_IMAGES;
 use std::fmt;
-use version_order::Dependency;
+use version_order::{Dependency, Group};
 
 impl fmt::Display for Table {
     ghost output = { λ table. Some (table_text table) };
@@ -36,14 +36,15 @@ impl fmt::Display for TableLine {
     ghost output = { λ said. Some (table_line_text said) };
 
     fn fmt<W: fmt::Write>(&self, f: &mut fmt::Formatter<W>) -> fmt::Result {
-        match *self {
+        match self {
             TableLine::Image {
                 number,
                 version,
                 counter,
                 floor,
             } => write!(f, "image {number} {version} {counter} {floor}"),
-            TableLine::Needs(dependency) => write!(f, "{}", Needs(dependency)),
+            TableLine::Needs(dependency) => write!(f, "{}", Needs(*dependency)),
+            TableLine::NeedsOne(group) => write!(f, "{}", NeedsOne(group)),
             TableLine::Request { version, counter } => write!(f, "request {version} {counter}"),
             TableLine::Damaged => write!(f, "damaged"),
         }
@@ -54,7 +55,7 @@ impl fmt::Display for ReportLine {
     ghost output = { λ said. Some (report_line_text said) };
 
     fn fmt<W: fmt::Write>(&self, f: &mut fmt::Formatter<W>) -> fmt::Result {
-        match *self {
+        match self {
             ReportLine::Run { number, version } => write!(f, "run {number} {version}"),
             ReportLine::Take { number, version } => write!(f, "take {number} {version}"),
             ReportLine::Refuse(Refusal { image, reason }) => write!(f, "refuse {image} {reason}"),
@@ -66,12 +67,19 @@ impl fmt::Display for Reason {
     ghost output = { λ reason. Some (reason_text reason) };
 
     fn fmt<W: fmt::Write>(&self, f: &mut fmt::Formatter<W>) -> fmt::Result {
-        match *self {
+        match self {
             Reason::Damaged => write!(f, "damaged"),
             Reason::Older => write!(f, "older"),
             Reason::Counter => write!(f, "counter"),
             Reason::NoSuchImage(image) => write!(f, "no-such-image {image}"),
-            Reason::Needs(image, minimum) => write!(f, "{}", Needs(Dependency { image, minimum })),
+            Reason::Needs(image, minimum) => {
+                let dependency = Dependency {
+                    image: *image,
+                    minimum: *minimum,
+                };
+                write!(f, "{}", Needs(dependency))
+            }
+            Reason::NeedsOne(group) => write!(f, "{}", NeedsOne(group)),
         }
     }
 }
@@ -126,13 +134,25 @@ fn write_request<W: fmt::Write>(f: &mut fmt::Formatter<W>, request: &Request) ->
     }
 }
 
-// The dependencies of an entry.
+// The dependencies of an entry, and then its groups.
 fn write_needs<W: fmt::Write>(f: &mut fmt::Formatter<W>, entry: &Entry) -> fmt::Result
     ensures { WritesOnOk W.write_str_gives f.old result
         (printed_lines table_line_text (needs_lines entry.now)) f.new }
 {
     for dependency in entry.dependencies.as_slice() {
         let line = TableLine::Needs(*dependency);
+        writeln!(f, "{line}")?;
+    }
+    write_groups(f, entry.groups.as_slice())
+}
+
+// Groups, a line each.
+fn write_groups<W: fmt::Write>(f: &mut fmt::Formatter<W>, groups: &[Group]) -> fmt::Result
+    ensures { WritesOnOk W.write_str_gives f.old result
+        (printed_lines table_line_text (group_lines groups.now)) f.new }
+{
+    for group in groups {
+        let line = NeedsOne(group);
         writeln!(f, "{line}")?;
     }
     Ok(())
@@ -172,8 +192,8 @@ fn write_refusals<W: fmt::Write>(f: &mut fmt::Formatter<W>, refusals: &[Refusal]
         (printed_lines report_line_text (refuse_lines refusals.now)) f.new }
 {
     for refusal in refusals {
-        let line = ReportLine::Refuse(*refusal);
-        writeln!(f, "{line}")?;
+        let Refusal { image, reason } = refusal;
+        writeln!(f, "refuse {image} {reason}")?;
     }
     Ok(())
 }

@@ -2,13 +2,13 @@
 
 use arrayvec::ArrayVec;
 use common::limits::MOST_IMAGES;
-use version_order::Version;
+use version_order::{Group, Version};
 
 /// How many refusals a report has at most: one an image.
 pub const MOST_REFUSALS: usize = 8;
 
-/// Why a request is refused. The numbers of the reasons are 1 to 5, in this order.
-#[derive(Clone, Copy, Debug, Default, PartialEq, Eq)]
+/// Why a request is refused. The numbers of the reasons are 1 to 6, in this order.
+#[derive(Clone, Debug, Default, Drop, PartialEq, Eq)]
 pub enum Reason {
     /// Its bytes are no intact image.
     #[default]
@@ -22,10 +22,12 @@ pub enum Reason {
     /// It depends on this image with at least this version, and no version of the image that is
     /// still possible reaches it.
     Needs(u8, Version),
+    /// It has this group, and no version that is still possible reaches any of its alternatives.
+    NeedsOne(Group),
 }
 
 /// A request that is refused, and why.
-#[derive(Clone, Copy, Debug, Default, PartialEq, Eq)]
+#[derive(Clone, Debug, Default, Drop, PartialEq, Eq)]
 pub struct Refusal {
     /// The number of the image whose request is refused.
     pub image: u8,

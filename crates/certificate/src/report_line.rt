@@ -4,12 +4,12 @@ ghost use Rattle.std.specs.Prelude.{◌≡◌};
 ghost use Rattle.certificate.specs.LineReading.{reason_at, reason_of, refuse_line_of, report_line_of, run_line_of, take_line_of};
 
 use crate::report::{Reason, Refusal};
-use crate::table_line::{DAMAGED, NEEDS, image_and_version};
+use crate::table_line::{DAMAGED, NEEDS, NEEDS_ONE, group, image_and_version};
 use common::ascii::{cut, number_u8};
 use version_order::Version;
 
 /// What one line of a report says.
-#[derive(Clone, Copy, Debug, PartialEq, Eq)]
+#[derive(Clone, Debug, Drop, PartialEq, Eq)]
 pub enum ReportLine {
     /// `run I VERSION`: image I runs on.
     Run {
@@ -117,6 +117,8 @@ fn reason_with_fields(word: &[u8], fields: &[u8]) -> Option<Reason>
     } else if word == NEEDS {
         let (image, minimum) = image_and_version(fields)?;
         Some(Reason::Needs(image, minimum))
+    } else if word == NEEDS_ONE {
+        Some(Reason::NeedsOne(group(fields)?))
     } else {
         None
     }

@@ -14,10 +14,11 @@ impl Report {
     /// Reads the text of a report.
     ///
     /// For each image in order `run I VERSION` or `take I VERSION`; then for each refusal in order
-    /// `refuse I` followed by `damaged`, `older`, `counter`, `no-such-image J` or `needs J
-    /// VERSION`. One to eight images, at most eight refusals. Words are separated by one space and
-    /// numbers are decimal without leading zeros; the last line's line feed may be missing. A byte
-    /// that isn't ASCII breaks the line that it stands in. Does not allocate.
+    /// `refuse I` followed by `damaged`, `older`, `counter`, `no-such-image J`, `needs J VERSION`
+    /// or `needs-one J VERSION ..` with one to four pairs. One to eight images, at most eight
+    /// refusals. Words are separated by one space and numbers are decimal without leading zeros;
+    /// the last line's line feed may be missing. A byte that isn't ASCII breaks the line that it
+    /// stands in. Does not allocate.
     ///
     /// # Errors
     /// [`BadReport`] names the first line, counted from 1, that no report goes on from.

@@ -1,11 +1,11 @@
 //! Tables: what runs, what is requested, and the floors of the security counters.
 
 use arrayvec::ArrayVec;
-use common::limits::{MOST_DEPENDENCIES, MOST_IMAGES};
-use version_order::{Dependency, Version};
+use common::limits::{MOST_DEPENDENCIES, MOST_GROUPS, MOST_IMAGES};
+use version_order::{Dependency, Group, Version};
 
 /// What the decision knows of one image's bytes: MCUboot's image version, security counter and
-/// dependencies.
+/// dependencies, and its groups.
 #[derive(Clone, Debug, Default, Drop, PartialEq, Eq)]
 pub struct Entry {
     /// The version.
@@ -14,6 +14,8 @@ pub struct Entry {
     pub counter: u32,
     /// What it asks of the images of the device, in the order of the image's entries; at most 16.
     pub dependencies: ArrayVec<Dependency, MOST_DEPENDENCIES>,
+    /// What it asks of one of several images each, in the order of the image's entries; at most 4.
+    pub groups: ArrayVec<Group, MOST_GROUPS>,
 }
 
 /// What stands in an image's secondary slot.

@@ -1,13 +1,13 @@
 //! One line of a table's text.
 
 ghost use Rattle.std.specs.Prelude.{◌≡◌};
-ghost use Rattle.certificate.specs.LineReading.{image_and_version_of, image_line_of, needs_line_of, request_line_of, table_line_of};
+ghost use Rattle.certificate.specs.LineReading.{alternative_of, group_of, image_and_version_of, image_line_of, needs_line_of, request_line_of, table_line_of};
 
 use common::ascii::{cut, number, number_u8};
-use version_order::{Dependency, Version};
+use version_order::{Dependency, Group, Version};
 
 /// What one line of a table says.
-#[derive(Clone, Copy, Debug, PartialEq, Eq)]
+#[derive(Clone, Debug, Drop, PartialEq, Eq)]
 pub enum TableLine {
     /// `image I VERSION COUNTER FLOOR` begins image I: what runs, and the floor.
     Image {
@@ -23,6 +23,9 @@ pub enum TableLine {
     /// `needs J VERSION`, a dependency of the running image or, after `request`, of the requested
     /// one.
     Needs(Dependency),
+    /// `needs-one J VERSION ..`, a group of the running image or, after `request`, of the requested
+    /// one: behind its dependencies.
+    NeedsOne(Group),
     /// `request VERSION COUNTER`, an intact request.
     Request {
         /// The requested version.
@@ -39,6 +42,9 @@ const IMAGE: &[u8] = b"image";
 
 /// The first word of a dependency, and of the reason that one isn't met.
 pub(crate) const NEEDS: &[u8] = b"needs";
+
+/// The first word of a group, and of the reason that one isn't met.
+pub(crate) const NEEDS_ONE: &[u8] = b"needs-one";
 
 const REQUEST: &[u8] = b"request";
 
@@ -60,6 +66,8 @@ impl TableLine {
             image_line(fields)
         } else if word == NEEDS {
             needs_line(fields)
+        } else if word == NEEDS_ONE {
+            Some(TableLine::NeedsOne(group(fields)?))
         } else if word == REQUEST {
             request_line(fields)
         } else {
@@ -117,4 +125,30 @@ pub(crate) fn image_and_version(fields: &[u8]) -> Option<(u8, Version)>
     let image = number_u8(image)?;
     let version = Version::from_ascii(rest?).ok()?;
     Some((image, version))
+}
+
+/// One to four alternatives, `None` where the fields are no such group.
+pub(crate) fn group(fields: &[u8]) -> Option<Group>
+    ensures { result ≡ group_of fields.now }
+{
+    let mut group = Group::default();
+    let mut rest = Some(fields);
+    while let Some(fields) = rest {
+        let (image, after) = cut(fields, b' ');
+        let (minimum, after) = cut(after?, b' ');
+        let alternative = alternative(image, minimum)?;
+        group.alternatives.try_push(alternative).ok()?;
+        rest = after;
+    }
+    Some(group)
+}
+
+// The alternative that two words say.
+#[tactic(auto, unfolding(crate::specs::LineReading::alternative_of))]
+fn alternative(image: &[u8], minimum: &[u8]) -> Option<Dependency>
+    ensures { result ≡ alternative_of image.now minimum.now }
+{
+    let image = number_u8(image)?;
+    let minimum = Version::from_ascii(minimum).ok()?;
+    Some(Dependency { image, minimum })
 }

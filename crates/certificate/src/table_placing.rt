@@ -1,13 +1,13 @@
 //! Placing one more line of a table: what it says of the image that it belongs to.
 
 ghost use Rattle.std.specs.Prelude.{◌≡◌, Some, None, MatchBool};
-ghost use Rattle.certificate.specs.TableReading.{new_entry, with_needs, with_request, with_line, with_line_in_last, with_image, with_line_of_images};
+ghost use Rattle.certificate.specs.TableReading.{new_entry, with_dependency, with_group, with_needs, with_needs_one, with_request, with_line, with_line_in_last, with_image, with_line_of_images};
 
 use crate::table::{Entry, Image, Request};
 use crate::table_line::TableLine;
 use arrayvec::ArrayVec;
 use common::limits::MOST_IMAGES;
-use version_order::{Dependency, Version};
+use version_order::{Dependency, Group, Version};
 
 /// Adds what a line says to the images that the lines before it told. `false` where no table has
 /// such a line there; the images are of no use then.
@@ -46,6 +46,7 @@ fn new_entry(version: Version, counter: u32) -> Entry
         version,
         counter,
         dependencies: ArrayVec::new(),
+        groups: ArrayVec::new(),
     }
 }
 
@@ -72,6 +73,7 @@ fn place_in_image(image: &mut Image, line: TableLine) -> bool
     match line {
         TableLine::Image { .. } => false,
         TableLine::Needs(dependency) => place_needs(image, dependency),
+        TableLine::NeedsOne(group) => place_needs_one(image, group),
         TableLine::Request { version, counter } => {
             place_request(image, Request::Entry(new_entry(version, counter)))
         }
@@ -80,14 +82,39 @@ fn place_in_image(image: &mut Image, line: TableLine) -> bool
 }
 
 fn place_needs(image: &mut Image, dependency: Dependency) -> bool
-    ensures { MatchBool result (with_needs image.old dependency image.old.request ≡ Some image.new)
-        (with_needs image.old dependency image.old.request ≡ None) }
+    ensures { MatchBool result (with_needs dependency image.old ≡ Some image.new)
+        (with_needs dependency image.old ≡ None) }
 {
     match &mut image.request {
-        Request::None => image.running.dependencies.try_push(dependency).is_ok(),
+        Request::None => place_dependency(&mut image.running, dependency),
         Request::Damaged => false,
-        Request::Entry(entry) => entry.dependencies.try_push(dependency).is_ok(),
+        Request::Entry(entry) => place_dependency(entry, dependency),
     }
+}
+
+fn place_dependency(entry: &mut Entry, dependency: Dependency) -> bool
+    ensures { MatchBool result (with_dependency dependency entry.old ≡ Some entry.new)
+        (with_dependency dependency entry.old ≡ None) }
+{
+    entry.groups.is_empty() && entry.dependencies.try_push(dependency).is_ok()
+}
+
+fn place_needs_one(image: &mut Image, group: Group) -> bool
+    ensures { MatchBool result (with_needs_one group image.old ≡ Some image.new)
+        (with_needs_one group image.old ≡ None) }
+{
+    match &mut image.request {
+        Request::None => place_group(&mut image.running, group),
+        Request::Damaged => false,
+        Request::Entry(entry) => place_group(entry, group),
+    }
+}
+
+fn place_group(entry: &mut Entry, group: Group) -> bool
+    ensures { MatchBool result (with_group group entry.old ≡ Some entry.new)
+        (with_group group entry.old ≡ None) }
+{
+    entry.groups.try_push(group).is_ok()
 }
 
 fn place_request(image: &mut Image, request: Request) -> bool

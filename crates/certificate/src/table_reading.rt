@@ -15,11 +15,13 @@ impl Table {
     /// Reads the text of a table.
     ///
     /// `image I VERSION COUNTER FLOOR` begins image I, which is the number of image lines before
-    /// it. After it come `needs J VERSION` for the running image; then at most one of `request
-    /// VERSION COUNTER`, followed by `needs J VERSION` for the request, and `damaged`. One to eight
-    /// images, at most 16 `needs` each. Words are separated by one space and numbers are decimal
-    /// without leading zeros; the last line's line feed may be missing. A byte that isn't ASCII
-    /// breaks the line that it stands in. Does not allocate.
+    /// it. After it come `needs J VERSION` and then `needs-one J VERSION ..` for the running image;
+    /// then at most one of `request VERSION COUNTER`, followed by `needs` and then `needs-one` for
+    /// the request, and `damaged`. One to eight images; at most 16 `needs` and at most four
+    /// `needs-one` each for what runs and for what is requested; one to four pairs `J VERSION` in a
+    /// `needs-one`. Words are separated by one space and numbers are decimal without leading zeros;
+    /// the last line's line feed may be missing. A byte that isn't ASCII breaks the line that it
+    /// stands in. Does not allocate.
     ///
     /// # Errors
     /// [`BadTable`] names the first line, counted from 1, that no table goes on from.

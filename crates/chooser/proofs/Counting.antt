@@ -1,5 +1,5 @@
 -- How many drops and looks a choice makes.
-use Rattle.std.proofs.Common.{◌≡◌, ℕ, zero, suc, ◌+◌, ◌-◌, ◌≤◌, true, false, List, [], ◌∷◌, ◌++◌, length, Option, Some, None, refl, sym, ap, subst, ◌∙◌, add-one, append_assoc, length-append, arith}
+use Rattle.std.proofs.Common.{◌≡◌, ℕ, zero, suc, ◌+◌, ◌-◌, ◌≤◌, true, false, List, [], ◌∷◌, ◌++◌, length, Option, Some, None, inl, inr, refl, sym, ap, subst, ◌∙◌, add-one, append_assoc, length-append, arith}
 use Rattle.std.specs.Prelude.{◌==◌, IfSome, find, filter_map, nat_lt, option_map}
 use Rattle.std.specs.List.{cons_option, enumerate_from, list_any}
 use Rattle.std.proofs.lemmas.Bool.{cond_both, ne_eqb, or_from}
@@ -17,8 +17,8 @@ use Rattle.certificate.specs.declared.report.Reason.{Reason}
 use Rattle.certificate.specs.declared.report.Reason.TheVariants.{Damaged, Older, Counter, NoSuchImage}
 use Rattle.certificate.specs.declared.report.Refusal.{Refusal}
 use Rattle.certificate.specs.Combination.{image_at, intact_entry}
-use Rattle.certificate.specs.Dependants.{asks_for, is_dependant}
-use Rattle.certificate.specs.Reasons.{depends_on, is_refused}
+use Rattle.certificate.specs.Dependants.{asks_for, is_dependant, names}
+use Rattle.certificate.specs.Reasons.{is_refused}
 use Rattle.certificate.specs.Rightness.{has_request, once_if}
 use Rattle.certificate.specs.StandardOrder.{is_missing, own_reason, own_refusal, own_refusals, IsNextNeed}
 use Rattle.common.proofs.Options.{option_map_or-true}
@@ -76,7 +76,10 @@ pub drops_in-push : (table : Table) (refusals : List Refusal) (refusal : Refusal
     → drops_in (refusals ++ refusal ∷ []) ≡ drops_in refusals + 1
 drops_in-push table refusals refusal need =
     let has = HasNeed-from_reason table refusals refusal.image refusal.reason need.reason in
-    let drop : is_drop refusal ≡ true = ap (λ reason. nat_lt 4 (reason_number reason)) (sym has.names) in
+    let drop : is_drop refusal ≡ true = elim has.unmet [
+      | inl unmet ↦ ap (λ reason. nat_lt 4 (reason_number reason)) (sym unmet.names)
+      | inr unmet ↦ ap (λ reason. nat_lt 4 (reason_number reason)) (sym unmet.names)
+    ] in
     sum_by_push (λ (any_refusal : Refusal). once_if (is_drop any_refusal)) refusals refusal
     ∙ ap (λ passes. drops_in refusals + once_if passes) drop
 
@@ -131,7 +134,7 @@ has_request-dependant : (table : Table) (j i : ℕ) → is_dependant table j i �
 has_request-dependant table j i dependant =
     let (image, has_image, asks) = option_map_or-true (asks_for j) (image_at table i) dependant in
     let (entry, has_entry, _) =
-    option_map_or-true (λ (any_entry : Entry). depends_on any_entry j) (intact_entry image.request) asks in
+    option_map_or-true (λ (any_entry : Entry). names any_entry j) (intact_entry image.request) asks in
     has_request-intact table i image entry has_image has_entry
 
 -- a look at image n

@@ -13,10 +13,10 @@ use Rattle.certificate.specs.declared.table.Request.TheVariants as request
 use Rattle.certificate.specs.declared.table.Image.{Image}
 use Rattle.certificate.specs.declared.table.Table.{Table}
 use Rattle.certificate.specs.declared.report.Reason.{Reason}
-use Rattle.certificate.specs.declared.report.Reason.TheVariants.{Damaged, Older, Counter, NoSuchImage, Needs}
+use Rattle.certificate.specs.declared.report.Reason.TheVariants.{Damaged, Older, Counter, NoSuchImage, Needs, NeedsOne}
 use Rattle.certificate.specs.declared.report.Refusal.{Refusal}
 use Rattle.certificate.specs.Combination.{image_at, intact_entry, RequestMeets}
-use Rattle.certificate.specs.Reasons.{is_out_of_reach, ReasonHolds, IsFounded}
+use Rattle.certificate.specs.Reasons.{is_group_out_of_reach, is_out_of_reach, ReasonHolds, IsFounded}
 use Rattle.certificate.specs.StandardOrder.{missing_image, own_reason, own_reason_of_entry, own_refusal, own_refusals, needs_reason, IsInStandardOrder}
 use Rattle.common.proofs.Options.{IfSome-from, IsSomeAnd-from, no_value, option_map-Some}
 use Rattle.common.proofs.Lists.{StandsIn, find-Some, Contains-from_stands, filter_map-source, each-append}
@@ -105,14 +105,26 @@ need-holds : (table : Table) (before : List Refusal) (i : ℕ) (reason : Reason)
     → needs_reason table before i ≡ Some reason → ReasonHolds table before i reason
 need-holds table before i reason is =
     let need = HasNeed-from_reason table before i reason is in
-    let dependency = need.dependency in
-    let (stands, out_of_reach) =
-    find-Some (is_out_of_reach table before i) need.entry.dependencies.items dependency need.found in
-    holds_as table before i (Needs dependency.image dependency.minimum) reason need.names
-    (meets table before i need.image need.has_image
-    (λ (any_image : Image) (any_entry : Entry). Contains any_entry.dependencies.items dependency
-    × IsTrue (is_out_of_reach table before i dependency)) need.entry need.has_entry
-    (Contains-from_stands need.entry.dependencies.items dependency stands, out_of_reach))
+    elim need.unmet [
+      | inl unmet ↦
+          let dependency = unmet.dependency in
+          let (stands, out_of_reach) =
+          find-Some (is_out_of_reach table before i) need.entry.dependencies.items dependency unmet.found in
+          holds_as table before i (Needs dependency.image dependency.minimum) reason unmet.names
+          (meets table before i need.image need.has_image
+          (λ (any_image : Image) (any_entry : Entry). Contains any_entry.dependencies.items dependency
+          × IsTrue (is_out_of_reach table before i dependency)) need.entry need.has_entry
+          (Contains-from_stands need.entry.dependencies.items dependency stands, out_of_reach))
+      | inr unmet ↦
+          let group = unmet.group in
+          let (stands, out_of_reach) =
+          find-Some (is_group_out_of_reach table before i) need.entry.groups.items group unmet.found in
+          holds_as table before i (NeedsOne group) reason unmet.names
+          (meets table before i need.image need.has_image
+          (λ (any_image : Image) (any_entry : Entry). Contains any_entry.groups.items group
+          × IsTrue (is_group_out_of_reach table before i group)) need.entry need.has_entry
+          (Contains-from_stands need.entry.groups.items group stands, out_of_reach))
+    ]
 
 -- a list in the standard order is founded
 pub IsFounded-from_standard : (table : Table) (refusals : List Refusal) → IsInStandardOrder table refusals

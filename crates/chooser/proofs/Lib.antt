@@ -4,4 +4,5 @@ pub mod Marking
 pub mod Order
 pub mod OwnRefusals
 pub mod Right
+pub mod Searches
 pub mod Taken

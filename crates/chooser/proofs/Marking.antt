@@ -1,29 +1,31 @@
 -- What a pass, a look and a drop make of the marks.
 use Rattle.std.proofs.Common.{◌≡◌, ℕ, zero, suc, ◌+◌, ◌<◌, ◌≤◌, Bool, true, false, cond, not, ◌&&◌, ◌||◌, eqb, List, [], ◌∷◌, ◌++◌, length, get_or, set, get_or-set_same, get_or-set_other, Option, Some, None, inl, inr, refl, sym, ap, ◌∙◌, arith}
-use Rattle.std.specs.Prelude.{◌==◌, find, is_some, nat_lt, option_and_then, option_map, position}
+use Rattle.std.specs.Prelude.{◌==◌, is_some, nat_lt, option_and_then, option_map, position}
 use Rattle.std.specs.List.{list_any, position_or_len}
-use Rattle.std.specs.Option.{option_map_or}
+use Rattle.std.specs.Option.{option_map_or, option_or}
 use Rattle.std.proofs.lemmas.Bool.{false≢true, and_left, and_parts, and_right, cases_Bool, cases_eq, cases_lt, eqb-false, eqb-true, eq-eqb, ltb-false, ne_eqb, not-true, not_from_true, or_left, or_parts, or_right}
 use Rattle.std.proofs.lemmas.List.Folds.{list_any-append}
 use Rattle.std.proofs.lemmas.List.Quantifiers.{position-Some}
 use Rattle.std.proofs.lemmas.List.Sums.{fails_before_first}
 use Rattle.std.proofs.lemmas.Option.{none-some, slice_get_past, slice_get_within}
 use Rattle.version_order.specs.declared.dependency.Dependency.{Dependency}
+use Rattle.version_order.specs.declared.group.Group.{Group}
 use Rattle.version_order.specs.Order.{is_older}
 use Rattle.certificate.specs.declared.table.Entry.{Entry}
 use Rattle.certificate.specs.declared.table.Image.{Image}
 use Rattle.certificate.specs.declared.table.Table.{Table}
 use Rattle.certificate.specs.declared.report.Reason.{Reason}
-use Rattle.certificate.specs.declared.report.Reason.TheVariants.{Needs}
+use Rattle.certificate.specs.declared.report.Reason.TheVariants.{Needs, NeedsOne}
 use Rattle.certificate.specs.declared.report.Refusal.{Refusal}
 use Rattle.certificate.specs.Combination.{image_at, intact_entry}
-use Rattle.certificate.specs.Dependants.{asks_for, is_dependant}
-use Rattle.certificate.specs.Reasons.{depends_on, is_out_of_reach, is_refused, newest_version, requested_version}
+use Rattle.certificate.specs.Dependants.{asks_for, has_alternative, is_dependant, names}
+use Rattle.certificate.specs.Reasons.{depends_on, is_group_out_of_reach, is_in_reach, is_out_of_reach, is_refused, newest_version, requested_version}
 use Rattle.certificate.specs.Rightness.{once_if}
-use Rattle.certificate.specs.StandardOrder.{needs_reason, needs_reason_of_entry, IsNextNeed}
+use Rattle.certificate.specs.StandardOrder.{needs_reason, needs_reason_of_entry, unmet_dependency, unmet_group, IsNextNeed}
 use Rattle.certificate.proofs.DependantLaws.{is_dependant-past}
 use Rattle.chooser.specs.Marks.{AreMarks, AreMarksApartFrom, has_need, is_left_dependant}
 use Rattle.chooser.proofs.Order.{HasNeed-from_reason}
+use Rattle.chooser.proofs.Searches.{find-same, list_any-same}
 
 -- behind the last image no request needs anything
 pub has_need-past : (table : Table) (refusals : List Refusal) (i : ℕ) → length table.images.items ≤ i
@@ -211,39 +213,63 @@ is_refused-push_same refusals refusal =
     ∙ or_right (is_refused refusals refusal.image) _
     (or_left (refusal.image == refusal.image) false (eq-eqb refusal.image refusal.image refl))
 
--- two searches that agree but where a third test passes, which passes nowhere
-find-same : {X : Type 0} (p q other : X → Bool) → ((x : X) → other x ≡ false → p x ≡ q x) → (xs : List X)
-    → list_any other xs ≡ false → find p xs ≡ find q xs
-find-same p q other same [] none = refl
-find-same p q other same (x ∷ xs) none =
-    let parts = or_parts (other x) (list_any other xs) none in
-    ap (λ b. cond b (Some x) (find p xs)) (same x parts.0)
-    ∙ ap (λ found. cond (q x) (Some x) found) (find-same p q other same xs parts.1)
-
 module _ (table : Table) (refusals : List Refusal) (refusal : Refusal) (i : ℕ) where
+  -- another image is refused as it was before
+  is_refused-push : (j : ℕ) → (j == refusal.image) ≡ false
+      → is_refused (refusals ++ refusal ∷ []) j ≡ is_refused refusals j
+  is_refused-push j other =
+      is_refused-push_other refusals refusal j
+      (ne_eqb refusal.image j (λ same. eqb-false j refusal.image other (sym same)))
+
   -- a dependency on another image is as far out of reach as before
   is_out_of_reach-push : (dependency : Dependency) → (dependency.image == refusal.image) ≡ false
       → is_out_of_reach table (refusals ++ refusal ∷ []) i dependency ≡ is_out_of_reach table refusals i dependency
   is_out_of_reach-push dependency other =
       let j = dependency.image in
-      let apart : (refusal.image == j) ≡ false =
-      ne_eqb refusal.image j (λ same. eqb-false j refusal.image other (sym same)) in
       ap (λ refused. option_map_or
       (λ image. is_older (cond (eqb j i) (requested_version image)
       (cond refused image.running.version (newest_version image))) dependency.minimum) (image_at table j) false)
-      (is_refused-push_other refusals refusal j apart)
+      (is_refused-push j other)
 
-  -- an entry that doesn't depend on the dropped image needs what it needed
+  -- and such an alternative is as much in reach
+  is_in_reach-push : (alternative : Dependency) → (alternative.image == refusal.image) ≡ false
+      → is_in_reach table (refusals ++ refusal ∷ []) i alternative ≡ is_in_reach table refusals i alternative
+  is_in_reach-push alternative other =
+      let j = alternative.image in
+      ap (λ refused. option_map_or
+      (λ image. not (is_older (cond (eqb j i) (requested_version image)
+      (cond refused image.running.version (newest_version image))) alternative.minimum)) (image_at table j) false)
+      (is_refused-push j other)
+
+  -- a group without the dropped image is as far out of reach as before
+  is_group_out_of_reach-push : (group : Group) → has_alternative refusal.image group ≡ false
+      → is_group_out_of_reach table (refusals ++ refusal ∷ []) i group ≡ is_group_out_of_reach table refusals i group
+  is_group_out_of_reach-push group other =
+      ap not (list_any-same (is_in_reach table (refusals ++ refusal ∷ []) i) (is_in_reach table refusals i)
+      (λ (alternative : Dependency). alternative.image == refusal.image) is_in_reach-push group.alternatives.items
+      other)
+
+  -- an entry that doesn't name the dropped image needs what it needed
   reason_of_entry-push : (requested : Option Entry)
-      → option_map_or (λ (entry : Entry). depends_on entry refusal.image) requested false ≡ false
+      → option_map_or (λ (entry : Entry). names entry refusal.image) requested false ≡ false
       → option_and_then (needs_reason_of_entry table (refusals ++ refusal ∷ []) i) requested
       ≡ option_and_then (needs_reason_of_entry table refusals i) requested
   reason_of_entry-push None independent = refl
   reason_of_entry-push (Some entry) independent =
-      ap (option_map (λ (dependency : Dependency). Needs dependency.image dependency.minimum))
-      (find-same (is_out_of_reach table (refusals ++ refusal ∷ []) i) (is_out_of_reach table refusals i)
+      let parts = or_parts (depends_on entry refusal.image)
+      (list_any (has_alternative refusal.image) entry.groups.items) independent in
+      let dependencies =
+      find-same (is_out_of_reach table (refusals ++ refusal ∷ []) i) (is_out_of_reach table refusals i)
       (λ (dependency : Dependency). dependency.image == refusal.image) is_out_of_reach-push entry.dependencies.items
-      independent)
+      parts.0 in
+      let groups =
+      find-same (is_group_out_of_reach table (refusals ++ refusal ∷ []) i) (is_group_out_of_reach table refusals i)
+      (has_alternative refusal.image) is_group_out_of_reach-push entry.groups.items parts.1 in
+      ap (λ found. option_or
+      (option_map (λ (dependency : Dependency). Needs dependency.image dependency.minimum) found)
+      (unmet_group table (refusals ++ refusal ∷ []) i entry)) dependencies
+      ∙ ap (λ found. option_or (unmet_dependency table refusals i entry)
+      (option_map (λ (group : Group). NeedsOne group) found)) groups
 
   -- nor does what is requested of an image
   reason_of_image-push : (found : Option Image) → option_map_or (asks_for refusal.image) found false ≡ false
@@ -254,7 +280,7 @@ module _ (table : Table) (refusals : List Refusal) (refusal : Refusal) (i : ℕ)
   reason_of_image-push None independent = refl
   reason_of_image-push (Some image) independent = reason_of_entry-push (intact_entry image.request) independent
 
-  -- a request that doesn't depend on the dropped image needs what it needed
+  -- a request that doesn't name the dropped image needs what it needed
   needs_reason-push : is_dependant table refusal.image i ≡ false
       → needs_reason table (refusals ++ refusal ∷ []) i ≡ needs_reason table refusals i
   needs_reason-push independent = reason_of_image-push (image_at table i) independent

@@ -1,24 +1,26 @@
 -- The standard order: how it begins, and how it goes on.
-use Rattle.std.proofs.Common.{◌≡◌, ℕ, ◌<◌, length, arith, false, List, [], ◌∷◌, ◌++◌, eqb, Some, None, sym, ap, ◌∙◌, subst}
+use Rattle.std.proofs.Common.{◌≡◌, ◌⊎◌, ℕ, ◌<◌, length, arith, false, List, [], ◌∷◌, ◌++◌, eqb, Some, None, inl, inr, sym, ap, ◌∙◌, subst}
 use Rattle.std.specs.Prelude.{find}
 use Rattle.std.proofs.lemmas.Bool.{or_parts}
 use Rattle.std.proofs.lemmas.List.{append-nil, append_assoc, length_push}
 use Rattle.std.proofs.lemmas.List.Folds.{list_any-append}
 use Rattle.std.proofs.lemmas.Option.{option_and_then_some}
 use Rattle.version_order.specs.declared.dependency.Dependency.{Dependency}
+use Rattle.version_order.specs.declared.group.Group.{Group}
 use Rattle.certificate.specs.declared.table.Entry.{Entry}
 use Rattle.certificate.specs.declared.table.Image.{Image}
 use Rattle.certificate.specs.declared.table.Table.{Table}
 use Rattle.certificate.specs.declared.report.Reason.{Reason}
-use Rattle.certificate.specs.declared.report.Reason.TheVariants.{Needs}
+use Rattle.certificate.specs.declared.report.Reason.TheVariants.{Needs, NeedsOne}
 use Rattle.certificate.specs.declared.report.Refusal.{Refusal}
 use Rattle.certificate.specs.Combination.{image_at, intact_entry}
-use Rattle.certificate.specs.Reasons.{is_refused, is_out_of_reach}
-use Rattle.certificate.specs.StandardOrder.{own_reason, own_refusals, needs_reason, IsNextNeed, IsInStandardOrder}
+use Rattle.certificate.specs.Reasons.{is_refused, is_group_out_of_reach, is_out_of_reach}
+use Rattle.certificate.specs.StandardOrder.{own_reason, own_refusals, needs_reason, needs_reason_of_entry, unmet_dependency, unmet_group, IsNextNeed, IsInStandardOrder}
 use Rattle.common.proofs.Options.{option_map-Some}
 use Rattle.common.proofs.Lists.{each-push}
 use Rattle.certificate.proofs.Requests.{has_request-intact}
 use Rattle.certificate.proofs.Counts.{IsOnce, IsOnce-push, length-once}
+use Rattle.chooser.proofs.Searches.{option_or-Some}
 use Rattle.chooser.proofs.OwnRefusals.{IsOnce-own_refusals, own_reason-unlisted}
 
 -- it begins with the requests that are refused by themselves
@@ -38,37 +40,57 @@ standard-push table refusals refusal (later, is, each) need =
           (subst (λ (before : List Refusal). IsNextNeed table before refusal) is need),
     )
 
--- the first dependency of the request of image i that is out of reach
-pub record HasNeed (table : Table) (before : List Refusal) (i : ℕ) (reason : Reason) : Type 0 where
-  pub image : Image
-  pub entry : Entry
+-- the first dependency of an entry that is out of reach
+pub record IsUnmetDependency
+    (table : Table) (before : List Refusal) (i : ℕ) (entry : Entry) (reason : Reason) : Type 0 where
   pub dependency : Dependency
-  pub has_image : image_at table i ≡ Some image
-  pub has_entry : intact_entry image.request ≡ Some entry
   pub found : find (is_out_of_reach table before i) entry.dependencies.items ≡ Some dependency
   pub names : Needs dependency.image dependency.minimum ≡ reason
 
--- a need has a dependency
+-- the first group of an entry that is out of reach
+pub record IsUnmetGroup
+    (table : Table) (before : List Refusal) (i : ℕ) (entry : Entry) (reason : Reason) : Type 0 where
+  pub group : Group
+  pub found : find (is_group_out_of_reach table before i) entry.groups.items ≡ Some group
+  pub names : NeedsOne group ≡ reason
+
+-- what the request of image i needs that is out of reach
+pub record HasNeed (table : Table) (before : List Refusal) (i : ℕ) (reason : Reason) : Type 0 where
+  pub image : Image
+  pub entry : Entry
+  pub has_image : image_at table i ≡ Some image
+  pub has_entry : intact_entry image.request ≡ Some entry
+  pub unmet : IsUnmetDependency table before i entry reason ⊎ IsUnmetGroup table before i entry reason
+
+-- a need of an entry is a dependency or a group
+unmet-of_entry : (table : Table) (before : List Refusal) (i : ℕ) (entry : Entry) (reason : Reason)
+    → needs_reason_of_entry table before i entry ≡ Some reason
+    → IsUnmetDependency table before i entry reason ⊎ IsUnmetGroup table before i entry reason
+unmet-of_entry table before i entry reason is =
+    elim (option_or-Some (unmet_dependency table before i entry) (unmet_group table before i entry) reason is) [
+      | inl of_dependency ↦
+          let (dependency, found, names) =
+          option_map-Some _ (find (is_out_of_reach table before i) entry.dependencies.items) reason of_dependency in
+          inl (record { dependency = dependency; found = found; names = names })
+      | inr of_group ↦
+          let (group, found, names) =
+          option_map-Some _ (find (is_group_out_of_reach table before i) entry.groups.items) reason of_group in
+          inr (record { group = group; found = found; names = names })
+    ]
+
+-- a need has a request
 pub HasNeed-from_reason : (table : Table) (before : List Refusal) (i : ℕ) (reason : Reason)
     → needs_reason table before i ≡ Some reason → HasNeed table before i reason
 HasNeed-from_reason table before i reason is =
     option_and_then_some _ (image_at table i) reason is
     (λ image has_image of_image.
     option_and_then_some _ (intact_entry image.request) reason of_image
-    (λ entry has_entry of_entry.
-    let (dependency, found, names) =
-    option_map-Some _ (find (is_out_of_reach table before i) entry.dependencies.items) reason of_entry in
-    record {
-      image =
-          image;
-      entry =
-          entry;
-      dependency =
-          dependency;
+    (λ entry has_entry of_entry. record {
+      image = image;
+      entry = entry;
       has_image = has_image;
       has_entry = has_entry;
-      found = found;
-      names = names;
+      unmet = unmet-of_entry table before i entry reason of_entry;
     }))
 
 -- a list of refusals as the choice makes it: in the standard order, each request once at most

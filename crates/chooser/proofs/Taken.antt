@@ -3,9 +3,10 @@ use Rattle.std.proofs.Common.{◌≡◌, ℕ, ◌≤◌, Bool, true, false, cond
 use Rattle.std.specs.Prelude.{⊤, IfSome, find, is_none, is_some, nat_lt, unwrap_or}
 use Rattle.std.specs.List.{list_all}
 use Rattle.std.specs.Option.{option_map_or}
-use Rattle.std.proofs.lemmas.Bool.{false≢true, and_parts, and_right, cases_Bool, cond-false, cond_both, eqb-true, ltb-false, not-true, not_from_false, not_from_true}
+use Rattle.std.proofs.lemmas.Bool.{false≢true, and_from, and_parts, and_right, cases_Bool, cond-false, cond_both, eqb-true, ltb-false, not-false, not-true, not_from_false, not_from_true}
 use Rattle.std.proofs.lemmas.Option.{MatchOption-at_some, none-some, same_Some}
 use Rattle.version_order.specs.declared.dependency.Dependency.{Dependency}
+use Rattle.version_order.specs.declared.group.Group.{Group}
 use Rattle.version_order.specs.Order.{is_older, IsAtLeast}
 use Rattle.certificate.specs.declared.table.Entry.{Entry}
 use Rattle.certificate.specs.declared.table.Request.{Request}
@@ -14,11 +15,12 @@ use Rattle.certificate.specs.declared.table.Image.{Image}
 use Rattle.certificate.specs.declared.table.Table.{Table}
 use Rattle.certificate.specs.declared.report.Reason.TheVariants.{Damaged, Older, Counter}
 use Rattle.certificate.specs.declared.report.Refusal.{Refusal}
-use Rattle.certificate.specs.Combination.{image_at, intact_entry, entry_in, is_met, IsValid, running_set}
-use Rattle.certificate.specs.Reasons.{is_refused, best_version, is_out_of_reach}
+use Rattle.certificate.specs.Combination.{image_at, intact_entry, entry_in, is_group_met, is_met, meets_all, IsValid, running_set}
+use Rattle.certificate.specs.Reasons.{is_refused, best_version, is_group_out_of_reach, is_in_reach, is_out_of_reach}
 use Rattle.certificate.specs.Rightness.{has_request, is_requested}
-use Rattle.certificate.specs.StandardOrder.{own_reason, own_reason_of_entry, needs_reason}
+use Rattle.certificate.specs.StandardOrder.{own_reason, own_reason_of_entry, needs_reason, unmet_dependency, unmet_group}
 use Rattle.chooser.specs.Reported.{is_taken_unless_refused}
+use Rattle.chooser.proofs.Searches.{list_any-weaker, option_or-None}
 use Rattle.common.proofs.Options.{IfSome-from, IsSomeAnd-from, is_some_value, some_value, option_map-None, option_and_then-None, option_map_or-true}
 use Rattle.common.proofs.Lists.{list_all-from_finds, list_all-weaker}
 use Rattle.certificate.proofs.Members.{entry_in-member}
@@ -158,6 +160,22 @@ module _ (table : Table) (refusals : List Refusal) (taken : ℕ → Bool)
   accepted j image entry has_image has_entry unrefused =
       IsAccepted-from_none table image image.request entry has_entry (settled.own j image has_image unrefused)
 
+  -- what is in reach is met
+  is_met-in_reach : (own : ℕ) → taken own ≡ true → (dependency : Dependency)
+      → is_in_reach table refusals own dependency ≡ true → is_met table taken dependency ≡ true
+  is_met-in_reach own is dependency in_reach =
+      let j = dependency.image in
+      let (image, has_image, enough) = option_map_or-true _ (image_at table j) in_reach in
+      let best = best_version refusals own j image in
+      let reached =
+      best-reached (intact_entry image.request) image.running (eqb j own) (is_refused refusals j) (taken j)
+      (λ same. ap taken (eqb-true j own same) ∙ is) (taken-at j image has_image)
+      (IfSome-from (intact_entry image.request) _
+      (λ entry has_entry unrefused. (accepted j image entry has_image has_entry unrefused).at_least_running)) in
+      ap (λ found. option_map_or (λ any_image. not
+      (is_older (entry_in any_image (taken j)).version dependency.minimum)) found false) has_image
+      ∙ IsAtLeast_trans (entry_in image (taken j)).version best dependency.minimum reached enough
+
   -- a dependency on an image that exists is met where it isn't out of reach
   is_met-within_reach : (own : ℕ) → taken own ≡ true → (dependency : Dependency)
       → is_none (image_at table dependency.image) ≡ false → is_out_of_reach table refusals own dependency ≡ false
@@ -165,37 +183,47 @@ module _ (table : Table) (refusals : List Refusal) (taken : ℕ → Bool)
   is_met-within_reach own is dependency exists within =
       let j = dependency.image in
       let (image, has_image) = some_value (image_at table j) exists in
-      let best = best_version refusals own j image in
-      let reached =
-      best-reached (intact_entry image.request) image.running (eqb j own) (is_refused refusals j) (taken j)
-      (λ same. ap taken (eqb-true j own same) ∙ is) (taken-at j image has_image)
-      (IfSome-from (intact_entry image.request) _
-      (λ entry has_entry unrefused. (accepted j image entry has_image has_entry unrefused).at_least_running)) in
-      let enough : IsAtLeast best dependency.minimum =
+      let enough : IsAtLeast (best_version refusals own j image) dependency.minimum =
       not_from_false _ (sym (ap (λ found. option_map_or
       (λ any_image. is_older (best_version refusals own j any_image) dependency.minimum) found false) has_image)
       ∙ within) in
-      ap (λ found. option_map_or (λ any_image. not
-      (is_older (entry_in any_image (taken j)).version dependency.minimum)) found false) has_image
-      ∙ IsAtLeast_trans (entry_in image (taken j)).version best dependency.minimum reached enough
+      is_met-in_reach own is dependency
+      (ap (λ found. option_map_or (λ any_image. not
+      (is_older (best_version refusals own j any_image) dependency.minimum)) found false) has_image ∙ enough)
 
-  -- no dependency of an unrefused request is out of reach
+  -- a group is met where it isn't out of reach
+  is_group_met-in_reach : (own : ℕ) → taken own ≡ true → (group : Group)
+      → is_group_out_of_reach table refusals own group ≡ false → is_group_met table taken group ≡ true
+  is_group_met-in_reach own is group within =
+      list_any-weaker (is_in_reach table refusals own) (is_met table taken) (is_met-in_reach own is)
+      group.alternatives.items (not-false _ within)
+
+  -- no dependency and no group of an unrefused request is out of reach
   none_out_of_reach : (j : ℕ) (image : Image) (entry : Entry) → IsTaken table refusals j image entry
-      → find (is_out_of_reach table refusals j) entry.dependencies.items ≡ None
+      → (find (is_out_of_reach table refusals j) entry.dependencies.items ≡ None)
+      × (find (is_group_out_of_reach table refusals j) entry.groups.items ≡ None)
   none_out_of_reach j image entry is =
-      let none = option_and_then-None _ (intact_entry image.request) entry is.has_entry
-      (option_and_then-None _ (image_at table j) image is.has_image (settled.needs j is.unrefused)) in
-      option_map-None _ (find (is_out_of_reach table refusals j) entry.dependencies.items) none
+      let none = option_or-None (unmet_dependency table refusals j entry) (unmet_group table refusals j entry)
+      (option_and_then-None _ (intact_entry image.request) entry is.has_entry
+      (option_and_then-None _ (image_at table j) image is.has_image (settled.needs j is.unrefused))) in (
+        option_map-None _ (find (is_out_of_reach table refusals j) entry.dependencies.items) none.0,
+        option_map-None _ (find (is_group_out_of_reach table refusals j) entry.groups.items) none.1,
+      )
 
-  -- the dependencies of what is taken are met
+  -- the dependencies and groups of what is taken are met
   met-taken : (j : ℕ) (image : Image) (entry : Entry) → taken j ≡ true → IsTaken table refusals j image entry
-      → list_all (is_met table taken) entry.dependencies.items ≡ true
+      → meets_all table taken entry ≡ true
   met-taken j image entry is_taken is =
-      list_all-from_finds (λ (any_dependency : Dependency). is_none (image_at table any_dependency.image))
+      let none = none_out_of_reach j image entry is in
+      let out_of_reach = is_group_out_of_reach table refusals j in
+      and_from (list_all (is_met table taken) entry.dependencies.items)
+      (list_all (is_group_met table taken) entry.groups.items)
+      (list_all-from_finds (λ (any_dependency : Dependency). is_none (image_at table any_dependency.image))
       (is_out_of_reach table refusals j) (is_met table taken)
       (is_met-within_reach j is_taken) entry.dependencies.items
-      (accepted j image entry is.has_image is.has_entry is.unrefused).none_missing
-      (none_out_of_reach j image entry is)
+      (accepted j image entry is.has_image is.has_entry is.unrefused).none_missing none.0)
+      (list_all-from_finds out_of_reach out_of_reach (is_group_met table taken)
+      (λ group within _. is_group_met-in_reach j is_taken group within) entry.groups.items none.1 none.1)
 
   -- what runs then is at least what ran
   entry_in-at_least_running : (j : ℕ) (image : Image) → image_at table j ≡ Some image
@@ -222,6 +250,23 @@ module _ (table : Table) (refusals : List Refusal) (taken : ℕ → Bool)
       ∙ IsAtLeast_trans (entry_in image (taken j)).version image.running.version dependency.minimum
       (entry_in-at_least_running j image has_image) enough
 
+  -- and so does a group
+  is_group_met-running : (group : Group) → is_group_met table running_set group ≡ true
+      → is_group_met table taken group ≡ true
+  is_group_met-running group met =
+      list_any-weaker (is_met table running_set) (is_met table taken) is_met-running group.alternatives.items met
+
+  -- all that the running images ask stays met
+  meets_all-running : (entry : Entry) → meets_all table running_set entry ≡ true → meets_all table taken entry ≡ true
+  meets_all-running entry met =
+      let parts = and_parts (list_all (is_met table running_set) entry.dependencies.items)
+      (list_all (is_group_met table running_set) entry.groups.items) met in
+      and_from (list_all (is_met table taken) entry.dependencies.items)
+      (list_all (is_group_met table taken) entry.groups.items)
+      (list_all-weaker (is_met table running_set) (is_met table taken) is_met-running entry.dependencies.items parts.0)
+      (list_all-weaker (is_group_met table running_set) (is_group_met table taken) is_group_met-running
+      entry.groups.items parts.1)
+
   -- the combination is valid
   pub IsValid-taken : IsValid table running_set → IsValid table taken
   IsValid-taken running = record {
@@ -234,7 +279,7 @@ module _ (table : Table) (refusals : List Refusal) (taken : ℕ → Bool)
     met = λ j.
         IfSome-from (image_at table j) _
         (λ image has_image.
-        let P : Entry → Type 0 = λ entry. list_all (is_met table taken) entry.dependencies.items ≡ true in
+        let P : Entry → Type 0 = λ entry. meets_all table taken entry ≡ true in
         elim (cases_Bool (taken j)) [
           | inl is ↦
               let (entry, is_taken) = IsTaken-at j image has_image is in
@@ -242,9 +287,7 @@ module _ (table : Table) (refusals : List Refusal) (taken : ℕ → Bool)
               (met-taken j image entry is is_taken)
           | inr runs_on ↦
               subst P (sym (cond-false (taken j) _ image.running runs_on))
-              (list_all-weaker (is_met table running_set)
-              (is_met table taken) is_met-running image.running.dependencies.items
-              (MatchOption-at_some ⊤ _ image has_image (running.met j)))
+              (meets_all-running image.running (MatchOption-at_some ⊤ _ image has_image (running.met j)))
         ]);
   }
 

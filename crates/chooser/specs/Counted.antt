@@ -1,7 +1,7 @@
 -- What a choice adds to the counts of its steps.
 use Rattle.std.specs.Prelude.{ℕ, ◌+◌, ◌^◌, ◌<◌, ◌≤◌, Bool, List, nat_lt, count_by}
 use Rattle.certificate.specs.declared.report.Reason.{Reason}
-use Rattle.certificate.specs.declared.report.Reason.TheVariants.{Damaged, Older, Counter, NoSuchImage, Needs}
+use Rattle.certificate.specs.declared.report.Reason.TheVariants.{Damaged, Older, Counter, NoSuchImage, Needs, NeedsOne}
 use Rattle.certificate.specs.declared.report.Refusal.{Refusal}
 use Rattle.chooser.specs.declared.steps.Steps.{Steps}
 
@@ -12,6 +12,7 @@ reason_number Older = 2
 reason_number Counter = 3
 reason_number (NoSuchImage j) = 4
 reason_number (Needs j minimum) = 5
+reason_number (NeedsOne group) = 6
 
 -- Whether a refusal is a drop: its reason depends on what is refused before.
 abbrev pub is_drop : Refusal → Bool

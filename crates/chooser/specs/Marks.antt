@@ -6,7 +6,8 @@ use Rattle.certificate.specs.Dependants.{is_dependant}
 use Rattle.certificate.specs.Reasons.{is_refused}
 use Rattle.certificate.specs.StandardOrder.{needs_reason}
 
--- Whether the request of image i isn't refused so far, and a dependency of it is out of reach.
+-- Whether the request of image i isn't refused so far, and a dependency or a group of it is out of
+-- reach.
 abbrev pub has_need : Table → List Refusal → ℕ → Bool
 has_need table refusals i = not (is_refused refusals i) && is_some (needs_reason table refusals i)
 
@@ -14,11 +15,12 @@ has_need table refusals i = not (is_refused refusals i) && is_some (needs_reason
 pub record AreMarks (table : Table) (refusals : List Refusal) (marks : List Bool) : Type 0 where
   pub each : (i : ℕ) → slice_index_or marks i false ≡ has_need table refusals i
 
--- Whether image i has a request that depends on image j and isn't refused so far.
+-- Whether image i has a request that names image j, as a dependency or an alternative, and isn't
+-- refused so far.
 abbrev pub is_left_dependant : Table → List Refusal → ℕ → ℕ → Bool
 is_left_dependant table refusals j i = is_dependant table j i && not (is_refused refusals i)
 
--- The same of all images but those whose requests remain and depend on image j.
+-- The same of all images but those whose requests remain and name image j.
 pub record AreMarksApartFrom
     (table : Table) (refusals : List Refusal) (j : ℕ) (marks : List Bool) : Type 0 where
   pub others :

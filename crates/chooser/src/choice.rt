@@ -32,9 +32,10 @@ pub fn choose(table: &Table) -> Report
 }
 
 /// The same choice, which adds to a count of its steps: one pass over all requests at most, a drop
-/// for each refusal with a reason above 4 (`Needs`), and after each drop a look at the remaining
-/// requests that depend on what was dropped. Each count has to be below 2^31, so that it has room:
-/// a count that began with `Steps::default()` is, over the first seventy million choices.
+/// for each refusal with a reason above 4 (`Needs` and `NeedsOne`), and after each drop a look at
+/// the remaining requests that depend on what was dropped, or have it as an alternative. Each count
+/// has to be below 2^31, so that it has room: a count that began with `Steps::default()` is, over
+/// the first seventy million choices.
 pub fn choose_counted(table: &Table, steps: &mut Steps) -> Report
     requires running { IsValid table.now running_set }
     requires room { HasRoom steps.old }
@@ -53,7 +54,8 @@ pub fn choose_counted(table: &Table, steps: &mut Steps) -> Report
 
 /// All refusals of a table. First come those of the requests that are refused by themselves. One
 /// pass then marks the requests that need what can't come; again and again the lowest marked one is
-/// refused, and those that depend on it are marked anew, until no mark is left.
+/// refused, and those that depend on it or have it as an alternative are marked anew, until no mark
+/// is left.
 fn all_refusals(table: &Table, steps: &mut Steps) -> ArrayVec<Refusal, MOST_REFUSALS>
     requires { HasRoom steps.old }
     ensures standard { IsInStandardOrder table.now result.items }
@@ -72,10 +74,11 @@ fn all_refusals(table: &Table, steps: &mut Steps) -> ArrayVec<Refusal, MOST_REFU
     while let Some(refusal) = next_need(table, &refusals, &marks) {
         // No image is refused twice, so there is room for one more.
         prove!(refusals.len() < table.images.len());
+        let dropped = refusal.image;
         refusals.push(refusal);
         steps.drops += 1;
-        marks[usize::from(refusal.image)] = false;
-        mark_dependants(table, &refusals, refusal.image, &mut marks, steps);
+        marks[usize::from(dropped)] = false;
+        mark_dependants(table, &refusals, dropped, &mut marks, steps);
     }
     refusals
 }

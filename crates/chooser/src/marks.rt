@@ -6,7 +6,7 @@ ghost use Rattle.certificate.specs.Reasons.{times_refused};
 ghost use Rattle.certificate.specs.Rightness.{has_request, once_if};
 ghost use Rattle.chooser.specs.Marks.{AreMarks, AreMarksApartFrom, has_need};
 
-use crate::needs::{is_refused, needs_reason};
+use crate::needs::{has_unmet, is_refused};
 use crate::steps::Steps;
 use certificate::{Refusal, Table, dependants};
 use common::limits::MOST_IMAGES;
@@ -26,11 +26,12 @@ pub(crate) fn marks_after(table: &Table, refusals: &[Refusal]) -> [bool; MOST_IM
 fn has_need(table: &Table, refusals: &[Refusal], number: u8) -> bool
     ensures { result ≡ has_need table.now refusals.now number }
 {
-    !is_refused(refusals, number) && needs_reason(table, refusals, number).is_some()
+    !is_refused(refusals, number) && has_unmet(table, refusals, number)
 }
 
-/// Marks anew the remaining requests that depend on an image, now that its request is refused, and
-/// counts the looks. The marks of all others are right: what they need can come as it could before.
+/// Marks anew the remaining requests that depend on an image or have it as an alternative, now that
+/// its request is refused, and counts the looks. The marks of all others are right: what they need
+/// can come as it could before.
 pub(crate) fn mark_dependants(
     table: &Table,
     refusals: &[Refusal],
@@ -51,7 +52,7 @@ pub(crate) fn mark_dependants(
     for number in 0..table.images.len() as u8 {
         if is_member(dependants, number) && !is_refused(refusals, number) {
             steps.looks += 1;
-            marks[usize::from(number)] = needs_reason(table, refusals, number).is_some();
+            marks[usize::from(number)] = has_unmet(table, refusals, number);
         }
     }
 }

@@ -1,18 +1,19 @@
 //! Requests that need what can't come, given those that are refused so far.
 
+ghost use Rattle.std.specs.List.{list_any};
 ghost use Rattle.std.specs.Option.{option_copied};
-ghost use Rattle.std.specs.Prelude.{◌≡◌, ℕ, false, IfNone, IfSome, None, find, position};
+ghost use Rattle.std.specs.Prelude.{◌≡◌, ℕ, false, IfNone, IfSome, None, find, is_some, position};
 ghost use Rattle.certificate.specs.Combination.{intact_entry};
-ghost use Rattle.certificate.specs.Reasons.{best_version, is_out_of_reach, is_refused, newest_version, requested_version};
-ghost use Rattle.certificate.specs.StandardOrder.{IsNextNeed, needs_reason};
+ghost use Rattle.certificate.specs.Reasons.{best_version, is_group_out_of_reach, is_in_reach, is_out_of_reach, is_refused, newest_version, requested_version};
+ghost use Rattle.certificate.specs.StandardOrder.{IsNextNeed, needs_reason, needs_reason_of_entry, unmet_dependency, unmet_group};
 ghost use Rattle.chooser.specs.Marks.{AreMarks};
 
 use certificate::{Entry, Image, Reason, Refusal, Request, Table};
 use common::limits::MOST_IMAGES;
-use version_order::{Dependency, Version};
+use version_order::{Dependency, Group, Version};
 
 /// After these refusals comes this one: the lowest request that is marked, with the first of its
-/// dependencies that is out of reach. `None` where no request is marked.
+/// dependencies that is out of reach, else the first such group. `None` where no request is marked.
 pub(crate) fn next_need(
     table: &Table,
     before: &[Refusal],
@@ -45,15 +46,87 @@ pub(crate) fn is_refused(refusals: &[Refusal], number: u8) -> bool
     refusals.iter().any(|refusal| refusal.image == number)
 }
 
+/// Whether the intact request of an image has a dependency or a group that is out of reach after
+/// these refusals. Unlike `needs_reason` it copies no group.
+pub(crate) fn has_unmet(table: &Table, before: &[Refusal], number: u8) -> bool
+    ensures { result ≡ is_some (needs_reason table.now before.now number) }
+{
+    let Some(image) = table.images.get(usize::from(number)) else {
+        return false;
+    };
+    match &image.request {
+        Request::Entry(entry) => is_unmet(table, before, number, entry),
+        Request::None | Request::Damaged => false,
+    }
+}
+
+/// Whether an entry that is requested of image `own` has a dependency or a group that is out of
+/// reach.
+fn is_unmet(table: &Table, before: &[Refusal], own: u8, entry: &Entry) -> bool
+    ensures { result ≡ is_some (needs_reason_of_entry table.now before.now own entry.now) }
+{
+    has_unmet_dependency(table, before, own, &entry.dependencies)
+        || has_unmet_group(table, before, own, &entry.groups)
+}
+
+fn has_unmet_dependency(
+    table: &Table,
+    before: &[Refusal],
+    own: u8,
+    dependencies: &[Dependency],
+) -> bool
+    ensures { result ≡ list_any (is_out_of_reach table.now before.now own) dependencies.now }
+{
+    dependencies.iter().any(|dependency| is_out_of_reach(table, before, own, dependency))
+}
+
+fn has_unmet_group(table: &Table, before: &[Refusal], own: u8, groups: &[Group]) -> bool
+    ensures { result ≡ list_any (is_group_out_of_reach table.now before.now own) groups.now }
+{
+    groups
+        .iter()
+        .any(|group| is_group_out_of_reach(table, before, own, group))
+}
+
 /// The first dependency of the intact request of an image that is out of reach after these
-/// refusals, as a reason.
-pub(crate) fn needs_reason(table: &Table, before: &[Refusal], number: u8) -> Option<Reason>
+/// refusals, as a reason; where there is none, the first such group.
+fn needs_reason(table: &Table, before: &[Refusal], number: u8) -> Option<Reason>
     ensures { result ≡ needs_reason table.now before.now number }
 {
     let image = table.images.get(usize::from(number))?;
     let entry = requested_entry(image)?;
-    let dependency = first_out_of_reach(table, before, number, &entry.dependencies)?;
+    needs_reason_of_entry(table, before, number, entry)
+}
+
+fn needs_reason_of_entry(
+    table: &Table,
+    before: &[Refusal],
+    own: u8,
+    entry: &Entry,
+) -> Option<Reason>
+    ensures { result ≡ needs_reason_of_entry table.now before.now own entry.now }
+{
+    match unmet_dependency(table, before, own, entry) {
+        Some(reason) => Some(reason),
+        None => unmet_group(table, before, own, entry),
+    }
+}
+
+/// The first dependency of an entry that is requested of image `own` which is out of reach, as a
+/// reason.
+fn unmet_dependency(table: &Table, before: &[Refusal], own: u8, entry: &Entry) -> Option<Reason>
+    ensures { result ≡ unmet_dependency table.now before.now own entry.now }
+{
+    let dependency = first_out_of_reach(table, before, own, &entry.dependencies)?;
     Some(Reason::Needs(dependency.image, dependency.minimum))
+}
+
+/// The same of its groups.
+fn unmet_group(table: &Table, before: &[Refusal], own: u8, entry: &Entry) -> Option<Reason>
+    ensures { result ≡ unmet_group table.now before.now own entry.now }
+{
+    let group = first_group_out_of_reach(table, before, own, &entry.groups)?;
+    Some(Reason::NeedsOne(group.copied()))
 }
 
 fn first_out_of_reach<'a>(
@@ -66,6 +139,46 @@ fn first_out_of_reach<'a>(
         ≡ find (is_out_of_reach table.now before.now own) dependencies.now }
 {
     dependencies.iter().find(|dependency| is_out_of_reach(table, before, own, dependency))
+}
+
+fn first_group_out_of_reach<'a>(
+    table: &Table,
+    before: &[Refusal],
+    own: u8,
+    groups: &'a [Group],
+) -> Option<&'a Group>
+    ensures { option_copied result
+        ≡ find (is_group_out_of_reach table.now before.now own) groups.now }
+{
+    groups
+        .iter()
+        .find(|group| is_group_out_of_reach(table, before, own, group))
+}
+
+/// Whether no alternative of a group of the request of image `own` is in reach.
+fn is_group_out_of_reach(table: &Table, before: &[Refusal], own: u8, group: &Group) -> bool
+    ensures { result ≡ is_group_out_of_reach table.now before.now own group.now }
+{
+    !is_one_in_reach(table, before, own, &group.alternatives)
+}
+
+fn is_one_in_reach(table: &Table, before: &[Refusal], own: u8, alternatives: &[Dependency]) -> bool
+    ensures { result ≡ list_any (is_in_reach table.now before.now own) alternatives.now }
+{
+    alternatives
+        .iter()
+        .any(|alternative| is_in_reach(table, before, own, alternative))
+}
+
+/// Whether an alternative in a group of the request of image `own` names an image that exists and
+/// whose best version isn't below the minimum.
+fn is_in_reach(table: &Table, before: &[Refusal], own: u8, alternative: &Dependency) -> bool
+    ensures { result ≡ is_in_reach table.now before.now own alternative.now }
+{
+    match table.images.get(usize::from(alternative.image)) {
+        Some(image) => best_version(before, own, alternative.image, image) >= alternative.minimum,
+        None => false,
+    }
 }
 
 /// Whether a dependency of the request of image `own` names an image that exists and whose best

@@ -7,7 +7,7 @@ pub const MOST_LOOKS: u32 = 28;
 /// How much work choices have done. Each choice adds to it.
 #[derive(Clone, Copy, Debug, Default, PartialEq, Eq)]
 pub struct Steps {
-    /// How often the dependencies of all remaining requests were looked at.
+    /// How often the dependencies and groups of all remaining requests were looked at.
     pub passes: u32,
     /// How many requests were dropped because something that they need can't come any more.
     pub drops: u32,

@@ -1,13 +1,14 @@
 //! The combination that a report takes.
 
+ghost use Rattle.std.specs.List.{list_all};
 ghost use Rattle.std.specs.Prelude.{◌≡◌, ◌↔◌, ℕ, IsTrue};
-ghost use Rattle.certificate.specs.Combination.{entry_in, is_met, meets_all, HasMetDependencies, IsAcceptable, IsValid};
+ghost use Rattle.certificate.specs.Combination.{entry_in, is_group_met, is_met, meets_all, HasMetDependencies, IsAcceptable, IsValid};
 ghost use Rattle.certificate.specs.Rightness.{taken_in};
 
 use crate::checking::images::{entry_in, is_taken};
 use crate::report::Report;
 use crate::table::{Image, Request, Table};
-use version_order::Dependency;
+use version_order::{Dependency, Group};
 
 /// Whether what a report takes is a valid combination.
 pub(super) fn takes_a_valid_combination(table: &Table, report: &Report) -> bool
@@ -42,8 +43,8 @@ fn is_acceptable(table: &Table, number: usize) -> bool
     }
 }
 
-/// Whether all dependencies of all images, those taken and those that run on, are met by what a
-/// report takes.
+/// Whether all dependencies and groups of all images, those taken and those that run on, are met by
+/// what a report takes.
 fn meets_all_dependencies(table: &Table, report: &Report) -> bool
     ensures { IsTrue result
         ↔ ((j : ℕ) → HasMetDependencies table.now (taken_in report.now) j) }
@@ -55,16 +56,42 @@ fn meets_all_dependencies(table: &Table, report: &Report) -> bool
         .all(|(number, image)| can_run_on(table, report, number, image))
 }
 
-/// Whether all dependencies of image `number`, taken or running on, are met by what a report takes.
+/// Whether all dependencies and groups of image `number`, taken or running on, are met by what a
+/// report takes.
 fn can_run_on(table: &Table, report: &Report, number: usize, image: &Image) -> bool
     ensures { result
         ≡ meets_all table.now (taken_in report.now)
         (entry_in image.now (taken_in report.now number)) }
 {
-    entry_in(image, is_taken(report, number))
-        .dependencies
+    let entry = entry_in(image, is_taken(report, number));
+    meets_dependencies(table, report, &entry.dependencies)
+        && meets_groups(table, report, &entry.groups)
+}
+
+fn meets_dependencies(table: &Table, report: &Report, dependencies: &[Dependency]) -> bool
+    ensures { result ≡ list_all (is_met table.now (taken_in report.now)) dependencies.now }
+{
+    dependencies
         .iter()
         .all(|dependency| is_met(table, report, dependency))
+}
+
+fn meets_groups(table: &Table, report: &Report, groups: &[Group]) -> bool
+    ensures { result ≡ list_all (is_group_met table.now (taken_in report.now)) groups.now }
+{
+    groups
+        .iter()
+        .all(|group| is_group_met(table, report, group))
+}
+
+/// Whether what a report takes meets one alternative of a group at least.
+fn is_group_met(table: &Table, report: &Report, group: &Group) -> bool
+    ensures { result ≡ is_group_met table.now (taken_in report.now) group.now }
+{
+    group
+        .alternatives
+        .iter()
+        .any(|alternative| is_met(table, report, alternative))
 }
 
 /// Whether what a report takes meets a dependency.

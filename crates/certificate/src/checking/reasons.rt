@@ -1,19 +1,20 @@
 //! The refusals of a report, each with a reason that holds at its place.
 
+ghost use Rattle.std.specs.List.{list_any};
 ghost use Rattle.std.specs.Prelude.{◌≡◌, ◌↔◌, None, Contains, IsTrue};
 ghost use Rattle.certificate.specs.Combination.{image_at};
-ghost use Rattle.certificate.specs.Reasons.{best_version, depends_on, is_out_of_reach, is_refused, newest_version, requested_version, IsFounded, ReasonHolds};
+ghost use Rattle.certificate.specs.Reasons.{best_version, depends_on, is_group_out_of_reach, is_in_reach, is_out_of_reach, is_refused, newest_version, requested_version, IsFounded, ReasonHolds};
 
 use crate::report::{Reason, Refusal};
 use crate::table::{Entry, Image, Request, Table};
-use version_order::{Dependency, Version};
+use version_order::{Dependency, Group, Version};
 
 /// Whether each refusal of a list has a reason that holds at its place, after those before it.
 pub(super) fn is_founded(table: &Table, refusals: &[Refusal]) -> bool
     ensures { IsTrue result ↔ IsFounded table.now refusals.now }
 {
     for (place, refusal) in refusals.iter().enumerate() {
-        if !reason_holds(table, &refusals[..place], refusal.image, refusal.reason) {
+        if !reason_holds(table, &refusals[..place], refusal.image, &refusal.reason) {
             return false;
         }
     }
@@ -21,8 +22,8 @@ pub(super) fn is_founded(table: &Table, refusals: &[Refusal]) -> bool
 }
 
 /// Whether a reason for refusing the request of image `own` holds after these refusals.
-fn reason_holds(table: &Table, before: &[Refusal], own: u8, reason: Reason) -> bool
-    ensures { IsTrue result ↔ ReasonHolds table.now before.now own reason }
+fn reason_holds(table: &Table, before: &[Refusal], own: u8, reason: &Reason) -> bool
+    ensures { IsTrue result ↔ ReasonHolds table.now before.now own reason.now }
 {
     let Some(image) = table.images.get(usize::from(own)) else {
         return false;
@@ -34,14 +35,17 @@ fn reason_holds(table: &Table, before: &[Refusal], own: u8, reason: Reason) -> b
             Reason::Damaged => false,
             Reason::Older => entry.version < image.running.version,
             Reason::Counter => entry.counter < image.floor,
-            Reason::NoSuchImage(number) => depends_on(entry, number) && is_missing(table, number),
+            Reason::NoSuchImage(number) => depends_on(entry, *number) && is_missing(table, *number),
             Reason::Needs(number, minimum) => {
                 let dependency = Dependency {
-                    image: number,
-                    minimum,
+                    image: *number,
+                    minimum: *minimum,
                 };
                 has_dependency(entry, &dependency)
                     && is_out_of_reach(table, before, own, &dependency)
+            }
+            Reason::NeedsOne(group) => {
+                has_group(entry, group) && is_group_out_of_reach(table, before, own, group)
             }
         },
     }
@@ -63,6 +67,12 @@ fn has_dependency(entry: &Entry, dependency: &Dependency) -> bool
     entry.dependencies.contains(dependency)
 }
 
+fn has_group(entry: &Entry, group: &Group) -> bool
+    ensures { IsTrue result ↔ Contains entry.now.groups.items group.now }
+{
+    entry.groups.contains(group)
+}
+
 /// Whether a table doesn't have an image `number`.
 fn is_missing(table: &Table, number: u8) -> bool
     ensures { IsTrue result ↔ (image_at table.now number ≡ None) }
@@ -77,6 +87,33 @@ fn is_out_of_reach(table: &Table, before: &[Refusal], own: u8, dependency: &Depe
 {
     match table.images.get(usize::from(dependency.image)) {
         Some(image) => best_version(before, own, dependency.image, image) < dependency.minimum,
+        None => false,
+    }
+}
+
+/// Whether, after these refusals, no alternative of a group of the request of image `own` is in
+/// reach.
+fn is_group_out_of_reach(table: &Table, before: &[Refusal], own: u8, group: &Group) -> bool
+    ensures { result ≡ is_group_out_of_reach table.now before.now own group.now }
+{
+    !is_one_in_reach(table, before, own, &group.alternatives)
+}
+
+fn is_one_in_reach(table: &Table, before: &[Refusal], own: u8, alternatives: &[Dependency]) -> bool
+    ensures { result ≡ list_any (is_in_reach table.now before.now own) alternatives.now }
+{
+    alternatives
+        .iter()
+        .any(|alternative| is_in_reach(table, before, own, alternative))
+}
+
+/// Whether, after these refusals, an alternative in a group of the request of image `own` names an
+/// image that exists and whose best version isn't below the minimum.
+fn is_in_reach(table: &Table, before: &[Refusal], own: u8, alternative: &Dependency) -> bool
+    ensures { result ≡ is_in_reach table.now before.now own alternative.now }
+{
+    match table.images.get(usize::from(alternative.image)) {
+        Some(image) => best_version(before, own, alternative.image, image) >= alternative.minimum,
         None => false,
     }
 }

@@ -1,9 +1,7 @@
 use Rattle.std.proofs.Common.{rules, ◌≡◌, ◌+◌, ◌<◌, ◌≤◌, Bool, false, List, length, set, sym, ap, subst, ◌∙◌}
-use Rattle.std.specs.Prelude.{is_some}
 use Rattle.std.proofs.lemmas.Bool.{and_left, and_right, not_from_true}
 use Rattle.certificate.specs.Dependants.{is_dependant}
 use Rattle.certificate.specs.Reasons.{is_refused}
-use Rattle.certificate.specs.StandardOrder.{needs_reason}
 use Rattle.chooser.specs.declared.steps.Steps.{Steps}
 use Rattle.chooser.specs.Marks.{is_left_dependant}
 use Rattle.chooser.proofs.Counting.{AreLooks, AreLooks-look, AreLooks-skip, counts_only_looks, looks-le}
@@ -27,13 +25,11 @@ loop-number-preserved c =
     elim c.if-is_member.branch [
       | then-is_member+then-not-is_refused w ↦
           let unrefused : is_refused refusals number ≡ false = sym w.is_refused.ensures ∙ w.if-not-is_refused.true in
-          let mark : w.is_some.result ≡ is_some (needs_reason table refusals number) =
-          w.is_some.ensures ∙ ap is_some w.needs_reason.ensures in
           record {
             marked =
                 subst (λ (next : List Bool). AreMarksUpTo table refusals dropped (number + 1) next)
-                (sym (w.marks-is ∙ ap (λ place. set marks place w.is_some.result) w.from.ensures
-                ∙ ap (set marks number) mark))
+                (sym (w.marks-is ∙ ap (λ place. set marks place w.has_unmet.result) w.from.ensures
+                ∙ ap (set marks number) w.has_unmet.ensures))
                 (AreMarksUpTo-look table refusals dropped number marks within unrefused so_far.marked);
             looked =
                 subst (λ (next : Steps). AreLooks table refusals (number + 1) before.looks next.looks) (sym w.steps-is)
