@@ -3,7 +3,7 @@ use Rattle.std.specs.Prelude.{ℕ, List, ◌++◌, codes, decimal}
 use Rattle.hex.specs.Hex.{encode_lower}
 use Rattle.common.specs.Lines.{printed_lines}
 use Rattle.version_order.specs.VersionText.{version_text}
-use Rattle.certificate.specs.DependencyText.{needs_text}
+use Rattle.certificate.specs.DependencyText.{needs_one_text, needs_text}
 use Rattle.tlv.specs.declared.desc.Desc.{Desc}
 use Rattle.tlv.specs.declared.error.ImageError.{ImageError}
 use Rattle.tlv.specs.Codes.{code_of, name_of}
@@ -17,13 +17,14 @@ lines_of description digits =
     ++ (line_text (codes "length") (decimal description.length)
     ++ (line_text (codes "counter") (decimal description.counter)
     ++ (line_text (codes "digest") digits
-    ++ printed_lines needs_text description.dependencies.items)))
+    ++ (printed_lines needs_text description.dependencies.items
+    ++ printed_lines needs_one_text description.groups.items))))
 
 abbrev pub described_text : Described → List ℕ
 described_text described = lines_of described.description.now described.digest.now
 
--- What an image says of itself: a line for each field, the digest in lower case digits, and one for each
--- dependency.
+-- What an image says of itself: a line for each field, the digest in lower case digits, one for
+-- each dependency, and one for each group.
 abbrev pub description_text : Desc → List ℕ
 description_text description = lines_of description (encode_lower description.digest)
 

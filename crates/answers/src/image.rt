@@ -3,17 +3,17 @@ ghost use Rattle.std.specs.Fmt.{WritesOnOk};
 ghost use Rattle.std.specs.Prelude.{◌≡◌, IfOk, Some, string_bytes};
 ghost use Rattle.answers.specs.DescribeEnd.{Tells};
 ghost use Rattle.answers.specs.ImageText.{described_text, description_text, refusal_text};
-ghost use Rattle.certificate.specs.DependencyText.{needs_text};
+ghost use Rattle.certificate.specs.DependencyText.{needs_one_text, needs_text};
 ghost use Rattle.common.specs.Lines.{printed_lines};
 
 use crate::refusals::refused_text;
 use crate::streams::write_all;
-use certificate::Needs;
+use certificate::{Needs, NeedsOne};
 use std::alloc::{AllocError, Allocator};
 use std::fmt;
 use std::io::Write;
 use tlv::{Desc, ImageError, describe};
-use version_order::Dependency;
+use version_order::{Dependency, Group};
 
 /// How a description ended.
 #[derive(Clone, Copy, Debug, PartialEq, Eq)]
@@ -88,7 +88,8 @@ impl fmt::Display for Described<'_, '_> {
             f,
             "version {version}\nlength {length}\ncounter {counter}\ndigest {digest}\n"
         )?;
-        write_needs(f, self.description.dependencies.as_slice())
+        write_needs(f, self.description.dependencies.as_slice())?;
+        write_groups(f, self.description.groups.as_slice())
     }
 }
 
@@ -99,6 +100,18 @@ fn write_needs<W: fmt::Write>(f: &mut fmt::Formatter<W>, dependencies: &[Depende
 {
     for dependency in dependencies {
         let needs = Needs(*dependency);
+        writeln!(f, "{needs}")?;
+    }
+    Ok(())
+}
+
+// A line for each group.
+fn write_groups<W: fmt::Write>(f: &mut fmt::Formatter<W>, groups: &[Group]) -> fmt::Result
+    ensures { WritesOnOk W.write_str_gives f.old result
+        (printed_lines needs_one_text groups.now) f.new }
+{
+    for group in groups {
+        let needs = NeedsOne(group);
         writeln!(f, "{needs}")?;
     }
     Ok(())

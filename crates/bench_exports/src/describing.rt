@@ -14,8 +14,8 @@ use tlv::describe;
 /// The answer above which a refusal has the number of its check.
 const REFUSED: u64 = 1 << 63;
 
-/// Whether bytes are an intact image: its length in bytes, which is below 2^63, where they are one, else 2^63 and
-/// the number, 1 to 14, of the first check that fails. Does not allocate.
+/// Whether bytes are an intact image: its length in bytes, which is below 2^63, where they are one,
+/// else 2^63 and the number, 1 to 15, of the first check that fails. Does not allocate.
 #[unsafe(no_mangle)]
 pub extern "C" fn bench_describe(bytes: &[u8]) -> u64
     // What the answer says of the bytes.
@@ -30,7 +30,8 @@ pub extern "C" fn bench_describe(bytes: &[u8]) -> u64
     }
 }
 
-/// The first eight bytes of the SHA-256 of bytes, as a number, the highest byte first. Does not allocate.
+/// The first eight bytes of the SHA-256 of bytes, as a number, the highest byte first. Does not
+/// allocate.
 #[unsafe(no_mangle)]
 pub extern "C" fn bench_digest(bytes: &[u8]) -> u64
     ensures { result ≡ big_number 8 (sha256 bytes.now) }

@@ -31,6 +31,7 @@ pub(crate) fn entry_of(description: Desc) -> Entry
         version: description.version,
         counter: description.counter,
         dependencies: description.dependencies,
+        groups: description.groups,
     }
 }
 
@@ -78,7 +79,8 @@ fn read_request<F: Flash>(flash: &mut F, map: &SectorMap, image: u8) -> Result<R
     }
 }
 
-/// The row of an image at rest: what its primary slot begins with runs. There is none where that isn't intact.
+/// The row of an image at rest: what its primary slot begins with runs. There is none where that
+/// isn't intact.
 fn read_row_at_rest<F: Flash>(
     flash: &mut F,
     map: &SectorMap,
@@ -107,8 +109,8 @@ fn read_row_at_rest<F: Flash>(
     }
 }
 
-/// The row of an image whose slots are swapped: what its secondary slot begins with ran, and what its primary slot
-/// begins with was requested. There is none where either isn't intact.
+/// The row of an image whose slots are swapped: what its secondary slot begins with ran, and what
+/// its primary slot begins with was requested. There is none where either isn't intact.
 fn read_swapped_row<F: Flash>(
     flash: &mut F,
     map: &SectorMap,
@@ -161,8 +163,8 @@ fn read_row<F: Flash>(
     }
 }
 
-/// The table of a device, where the slots of the images of a mask are swapped, with these floors. Each slot is read
-/// once, and a secondary one at rest only where something is requested.
+/// The table of a device, where the slots of the images of a mask are swapped, with these floors.
+/// Each slot is read once, and a secondary one at rest only where something is requested.
 ///
 /// # Errors
 /// `Off` where the flash was off. Nothing changes in any case.

@@ -69,6 +69,9 @@ A table has 1 to 8 images, in these lines:
   needs IMAGE VERSION
       the running or requested image above needs that image, with at least that
       version; at most 16 for what runs, and 16 for what is requested
+  needs-one IMAGE VERSION ..
+      it needs one of these images, one to four, with at least its version; at
+      most 4 such lines, after those with `needs`
   request VERSION COUNTER
       this intact image is requested in place of the running one
   damaged
@@ -121,6 +124,9 @@ it takes is then the greatest valid set. The reasons:
   no-such-image IMAGE  it needs an image that the table does not have
   needs IMAGE VERSION  it needs an image with at least a version that no request
                        still possible reaches
+  needs-one IMAGE VERSION ..
+                       it needs one of these images, and none of them can reach
+                       its version any more
 
 A report for a table of three images:
   run 0 1.0.0+0
@@ -156,6 +162,9 @@ that needs another one:
   counter 5
   digest d972280151bc22f533247969edbfb7596c1b97815061e90b65f3d2641146fc05
   needs 1 2.0.0+0
+
+A line `needs-one IMAGE VERSION ..` follows for each group of images of which it
+needs one.
 
 Of a file that is no intact image it prints the first check that fails, by its
 number and its name: `refused CODE NAME`, such as `refused 10 BadDigest`.",

@@ -1,16 +1,17 @@
 -- What runs stays intact and valid, through every step.
 use Rattle.std.proofs.Common.{◌≡◌, ℕ, Bool, true, false, not, List, [], ◌∷◌, length, Option, Some, None}
 use Rattle.std.proofs.Common.{refl, sym, ◌∙◌, ap, subst, zero, suc, slice_get, slice_index}
-use Rattle.std.specs.Prelude.{IfSome, IsTrue, ◌&&◌}
-use Rattle.std.specs.List.{list_all}
+use Rattle.std.specs.Prelude.{IfSome, IsTrue, ◌&&◌, ◌||◌}
+use Rattle.std.specs.List.{list_all, list_any}
 use Rattle.std.specs.Option.{option_map_or}
 use Rattle.version_order.specs.declared.dependency.Dependency.{Dependency}
+use Rattle.version_order.specs.declared.group.Group.{Group}
 use Rattle.version_order.specs.Order.{is_older}
 use Rattle.certificate.specs.declared.table.Table.{Table}
 use Rattle.certificate.specs.declared.table.Image.{Image}
 use Rattle.certificate.specs.declared.table.Entry.{Entry}
 use Rattle.certificate.specs.declared.table.Request.{Request}
-use Rattle.certificate.specs.Combination.{HasMetDependencies, IsValid, entry_in, is_met, meets_all, reaches}
+use Rattle.certificate.specs.Combination.{HasMetDependencies, IsValid, entry_in, is_group_met, is_met, meets_all, reaches}
 use Rattle.certificate.specs.Combination.{running_set}
 use Rattle.upload.specs.Device.{DeviceState}
 use Rattle.machine.specs.Boots.{IsEntryOf, IsRequestOf, IsRowOf, IsSound, IsTableOf}
@@ -80,11 +81,13 @@ of_some : {X : Type 0} (o : Option X) (P : X → Type 0) (x : X) → o ≡ Some 
 of_some None P x e all = absurd (none_some x e)
 of_some (Some y) P x e all = subst P (the_one y x e) all
 
-same_all : (p q : Dependency → Bool) (ds : List Dependency) → ((d : Dependency) → p d ≡ q d)
-    → list_all p ds ≡ list_all q ds
+same_all : {X : Type 0} (p q : X → Bool) (xs : List X) → ((x : X) → p x ≡ q x) → list_all p xs ≡ list_all q xs
 same_all p q [] same = refl
-same_all p q (d ∷ ds) same = ap (λ b. b && list_all p ds) (same d)
-    ∙ ap (λ b. q d && b) (same_all p q ds same)
+same_all p q (x ∷ xs) same = ap (λ b. b && list_all p xs) (same x) ∙ ap (λ b. q x && b) (same_all p q xs same)
+
+same_any : {X : Type 0} (p q : X → Bool) (xs : List X) → ((x : X) → p x ≡ q x) → list_any p xs ≡ list_any q xs
+same_any p q [] same = refl
+same_any p q (x ∷ xs) same = ap (λ b. b || list_any p xs) (same x) ∙ ap (λ b. q x || b) (same_any p q xs same)
 
 same_option : (o p : Option Image) (f g : Image → Bool)
     → ((x : Image) → o ≡ Some x → (y : Image) × (p ≡ Some y) × (f x ≡ g y))
@@ -111,6 +114,21 @@ module _ (table : Table) (taken : ℕ → Bool) (t : DeviceState) (ys : List Ima
       (found.0, found.1, ap (λ (e : Entry). not (is_older e.version d.minimum)) (sym found.2.0)))
       (λ y at. let found = made.back d.image y at in (found.0, found.1))
 
+  same_group_met : (g : Group)
+      → is_group_met table taken g ≡ is_group_met (record { images = record { items = ys } }) running_set g
+  same_group_met g = same_any (is_met table taken) (is_met (record { images = record { items = ys } }) running_set)
+      g.alternatives.items same_met
+
+  same_meets : (e : Entry)
+      → meets_all table taken e ≡ meets_all (record { images = record { items = ys } }) running_set e
+  same_meets e =
+      ap (λ b. b && list_all (is_group_met table taken) e.groups.items)
+      (same_all (is_met table taken) (is_met (record { images = record { items = ys } }) running_set)
+      e.dependencies.items same_met)
+      ∙ ap (λ b. list_all (is_met (record { images = record { items = ys } }) running_set) e.dependencies.items && b)
+      (same_all (is_group_met table taken) (is_group_met (record { images = record { items = ys } }) running_set)
+      e.groups.items same_group_met)
+
   valid_after : ((j : ℕ) → HasMetDependencies table taken j)
       → IsValid (record { images = record { items = ys } }) running_set
   valid_after met = record {
@@ -121,9 +139,7 @@ module _ (table : Table) (taken : ℕ → Bool) (t : DeviceState) (ys : List Ima
         let found = made.back j y at in
         let had = of_some (slice_get table.images.items j)
         (λ x. IsTrue (meets_all table taken (entry_in x (taken j)))) found.0 found.1 (met j) in
-        sym (same_all (is_met table taken) (is_met (record { images = record { items = ys } }) running_set)
-        y.running.dependencies.items same_met)
-        ∙ ap (λ (e : Entry). list_all (is_met table taken) e.dependencies.items) found.2.0 ∙ had);
+        sym (same_meets y.running) ∙ ap (meets_all table taken) found.2.0 ∙ had);
   }
 
 -- a state that runs what a combination of another had, where that is valid

@@ -13,6 +13,7 @@ entry_of description = record {
   version = description.version;
   counter = description.counter;
   dependencies = description.dependencies;
+  groups = description.groups;
 }
 
 -- The sessions are closed, and the device isn't up.
@@ -27,7 +28,8 @@ wanted_bytes wanted = option_and_then (λ w. w.bytes) wanted
 pub record IsConfirmed (s : DeviceState) (trial : Trial) : Type 0 where
   pub each : (i : ℕ) → i < s.images → is_member trial.set i ≡ true → trial.confirmed i ≡ true
 
--- Floors are raised to the counters of what runs, where those are greater. A damaged image raises nothing.
+-- Floors are raised to the counters of what runs, where those are greater. A damaged image raises
+-- nothing.
 pub record IsRaised (images : ℕ) (running : ℕ → Option (List ℕ)) (old new : List ℕ) : Type 0 where
   pub size : length new ≡ length old
   pub raised : (i : ℕ) (bytes : List ℕ) (description : Desc) → i < images
@@ -66,8 +68,8 @@ taken_on_trial s mask trial = record s {
   trial = Some trial;
 }
 
--- A trial of this set begins, of so many boots: nothing is confirmed, and what ran is kept. The boot that begins it
--- is the first of them.
+-- A trial of this set begins, of so many boots: nothing is confirmed, and what ran is kept. The
+-- boot that begins it is the first of them.
 pub record IsBegun (s : DeviceState) (mask boots : ℕ) (trial : Trial) : Type 0 where
   pub set : trial.set ≡ mask
   pub confirmed : (i : ℕ) → trial.confirmed i ≡ false

@@ -3,6 +3,7 @@
 mod agreement;
 mod checking;
 mod errors;
+mod groups;
 mod headers;
 mod printing;
 mod random_tables;

@@ -24,6 +24,7 @@ fn spec(body: &[u8]) -> ImageSpec<'_> {
         version: version(1),
         counter: None,
         dependencies: &[],
+        groups: &[],
         body,
     }
 }

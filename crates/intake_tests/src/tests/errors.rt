@@ -21,12 +21,21 @@ fn faults_of_images_have_numbers_names_and_texts(rt: HostRuntime) -> Result<(), 
         &text.as_str(),
         &"more than 16 dependencies",
     );
+    same(
+        &rt,
+        "the last number",
+        &ImageError::TooManyGroups.code(),
+        &15,
+    );
+    let text = ImageError::TooManyGroups.to_string(rt.alloc())?;
+    same(&rt, "the text", &text.as_str(), &"more than 4 groups");
     Ok(())
 }
 
 #[test]
 fn faults_of_making_have_numbers_names_and_texts(rt: HostRuntime) -> Result<(), Fail> {
     same(&rt, "the number", &MakeError::NoMemory.code(), &5);
+    same(&rt, "the last number", &MakeError::BadGroups.code(), &6);
     same(&rt, "the name", &MakeError::TooBig.name(), &"TooBig");
     let text = MakeError::TooBig.to_string(rt.alloc())?;
     same(

@@ -29,8 +29,8 @@ const FULL_DIGEST: [u8; 32] = [
     0xa3, 0x24, 0x99, 0xba, 0x9e, 0x8c, 0x94, 0x57, 0x1b, 0x9c, 0x84, 0x7a, 0xec, 0x83, 0x17, 0x92,
 ];
 
-/// The digest of version 1.0.0+0 with the body ABCD that needs each of the images 0 to 15 at 2.0.0+0, as `sha256sum`
-/// gives it.
+/// The digest of version 1.0.0+0 with the body ABCD that needs each of the images 0 to 15 at
+/// 2.0.0+0, as `sha256sum` gives it.
 const SIXTEEN_DIGEST: [u8; 32] = [
     0x42, 0xd0, 0xdc, 0xc7, 0xde, 0xe9, 0x43, 0x29, 0xc0, 0x7f, 0x7f, 0x11, 0xe4, 0x09, 0xee, 0xaf,
     0x2d, 0x45, 0x59, 0x93, 0xc8, 0x1c, 0xca, 0x12, 0x3b, 0xea, 0x2b, 0xe1, 0x7a, 0xbc, 0xd3, 0x90,
@@ -188,6 +188,7 @@ fn an_image_of_every_limit_is_made_in_room_for_one(rt: HostRuntime) -> Result<()
         },
         counter: Some(4294967295),
         dependencies: &dependencies,
+        groups: &[],
         body: body.as_slice(),
     };
     let heap = LocalHeap::new(rt.alloc(), 3_065_843 + 4096)?;

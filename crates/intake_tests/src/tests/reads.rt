@@ -108,7 +108,7 @@ fn bytes_read(rt: &impl Abort, alloc: Global, image: &[u8]) -> Result<(u64, usiz
 }
 
 /// Asserts how many bytes of a slot with this image are read, and how many at once at most.
-fn expect_read(
+pub(super) fn expect_read(
     rt: &impl Abort,
     alloc: Global,
     image: &[u8],

@@ -12,7 +12,7 @@ use std::process::Abort;
 use std::test::Fail;
 
 /// How many tables are made.
-const TABLES: u32 = 600;
+const TABLES: u32 = 3000;
 
 /// In how many of the tables something was seen, and of the reasons how many.
 #[derive(Clone, Copy, Debug, Default)]
@@ -28,6 +28,7 @@ struct Seen {
     counter: u32,
     no_such_image: u32,
     needs: u32,
+    needs_one: u32,
 }
 
 impl Seen {
@@ -41,17 +42,18 @@ impl Seen {
             self.together = self.together.saturating_add(1);
         }
         for refusal in report.refusals.iter() {
-            self.count_reason(refusal.reason);
+            self.count_reason(&refusal.reason);
         }
     }
 
-    fn count_reason(&mut self, reason: Reason) {
+    fn count_reason(&mut self, reason: &Reason) {
         let count = match reason {
             Reason::Damaged => &mut self.damaged,
             Reason::Older => &mut self.older,
             Reason::Counter => &mut self.counter,
             Reason::NoSuchImage(_) => &mut self.no_such_image,
             Reason::Needs(..) => &mut self.needs,
+            Reason::NeedsOne(_) => &mut self.needs_one,
         };
         *count = count.saturating_add(1);
     }
@@ -77,7 +79,8 @@ fn with_one_more(table: &Table, set: ImageSet) -> ImageSet {
     set
 }
 
-/// Asserts that the choice takes the greatest valid set of this table, and reports its images and versions.
+/// Asserts that the choice takes the greatest valid set of this table, and reports its images and
+/// versions.
 fn expect_agreement(rt: &impl Abort, table: &Table, seen: &mut Seen)
     requires { IsValid table.now running_set }
 {
@@ -119,5 +122,6 @@ fn the_choice_is_the_greatest_of_all_valid_sets(rt: HostRuntime) -> Result<(), F
     assert!(rt; seen.counter >= 10, "{seen:?}");
     assert!(rt; seen.no_such_image >= 10, "{seen:?}");
     assert!(rt; seen.needs >= 10, "{seen:?}");
+    assert!(rt; seen.needs_one >= 10, "{seen:?}");
     Ok(())
 }

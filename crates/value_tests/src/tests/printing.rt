@@ -2,10 +2,12 @@
 
 use super::same::same;
 use arrayvec::ArrayVec;
-use certificate::{Entry, Image, Needs, Reason, Refusal, Report, ReportedImage, Request, Table};
+use certificate::{
+    Entry, Image, Needs, NeedsOne, Reason, Refusal, Report, ReportedImage, Request, Table,
+};
 use std::alloc::Global;
 use std::test::Fail;
-use version_order::{Dependency, Version};
+use version_order::{Dependency, Group, Version};
 
 // A version with only a major number.
 fn version(major: u8) -> Version {
@@ -15,17 +17,35 @@ fn version(major: u8) -> Version {
     }
 }
 
-// An image that depends on image 1 in the version of its own.
-fn dependent(major: u8, counter: u32) -> Entry {
+// A group of image 1 in a version, and image 255 in the largest one.
+fn group(major: u8) -> Group {
+    let mut alternatives = ArrayVec::new();
+    alternatives.push(Dependency {
+        image: 1,
+        minimum: version(major),
+    });
+    alternatives.push(Dependency {
+        image: 255,
+        minimum: LARGEST,
+    });
+    Group { alternatives }
+}
+
+// An image that depends on image 1 in the version of its own, and has two groups.
+fn grouped(major: u8, counter: u32) -> Entry {
     let mut dependencies = ArrayVec::new();
     dependencies.push(Dependency {
         image: 1,
         minimum: version(major),
     });
+    let mut groups = ArrayVec::new();
+    groups.push(group(3));
+    groups.push(group(4));
     Entry {
         version: version(major),
         counter,
         dependencies,
+        groups,
     }
 }
 
@@ -33,8 +53,8 @@ fn dependent(major: u8, counter: u32) -> Entry {
 fn a_table_is_printed(rt: HostRuntime) -> Result<(), Fail> {
     let mut images = ArrayVec::new();
     images.push(Image {
-        running: dependent(1, 5),
-        request: Request::Entry(dependent(2, 6)),
+        running: grouped(1, 5),
+        request: Request::Entry(grouped(2, 6)),
         floor: 4,
     });
     images.push(Image {
@@ -47,6 +67,7 @@ fn a_table_is_printed(rt: HostRuntime) -> Result<(), Fail> {
             },
             counter: 4294967295,
             dependencies: ArrayVec::new(),
+            groups: ArrayVec::new(),
         },
         request: Request::Damaged,
         floor: 0,
@@ -55,8 +76,12 @@ fn a_table_is_printed(rt: HostRuntime) -> Result<(), Fail> {
     let text = format!(in rt.alloc(); "{}", Table { images })?;
     let expected = "image 0 1.0.0+0 5 4\n\
         needs 1 1.0.0+0\n\
+        needs-one 1 3.0.0+0 255 255.255.65535+4294967295\n\
+        needs-one 1 4.0.0+0 255 255.255.65535+4294967295\n\
         request 2.0.0+0 6\n\
         needs 1 2.0.0+0\n\
+        needs-one 1 3.0.0+0 255 255.255.65535+4294967295\n\
+        needs-one 1 4.0.0+0 255 255.255.65535+4294967295\n\
         image 1 255.254.65535+4294967295 4294967295 0\n\
         damaged\n\
         image 2 0.0.0+0 0 0\n";
@@ -82,11 +107,12 @@ fn a_report_is_printed(rt: HostRuntime) -> Result<(), Fail> {
         Reason::Counter,
         Reason::NoSuchImage(255),
         Reason::Needs(0, version(3)),
+        Reason::NeedsOne(group(3)),
     ];
     for (index, reason) in reasons.iter().enumerate() {
         refusals.try_push(Refusal {
             image: index as u8 + 1,
-            reason: *reason,
+            reason: reason.clone()?,
         })?;
     }
     let text = Report { images, refusals }.to_string(rt.alloc())?;
@@ -96,7 +122,8 @@ fn a_report_is_printed(rt: HostRuntime) -> Result<(), Fail> {
         refuse 2 older\n\
         refuse 3 counter\n\
         refuse 4 no-such-image 255\n\
-        refuse 5 needs 0 3.0.0+0\n";
+        refuse 5 needs 0 3.0.0+0\n\
+        refuse 6 needs-one 1 3.0.0+0 255 255.255.65535+4294967295\n";
     same(&rt, "the text", &text.as_str(), &expected);
     Ok(())
 }
@@ -126,16 +153,35 @@ const REQUEST_LINE: &str = "request 255.255.65535+4294967295 4294967295\n";
 /// What each full entry needs, sixteen times.
 const NEEDS_LINE: &str = "needs 255 255.255.65535+4294967295\n";
 
-/// An entry with the largest number in each field, and as many dependencies as there is room for.
+/// The text of each full group, and the line of it.
+const NEEDS_ONE: &str = "needs-one 255 255.255.65535+4294967295 255 255.255.65535+4294967295 255 \
+    255.255.65535+4294967295 255 255.255.65535+4294967295";
+
+/// What asks for the last image in the largest version.
+const LAST: Dependency = Dependency {
+    image: 255,
+    minimum: LARGEST,
+};
+
+/// A group of as many alternatives as there is room for.
+fn full_group() -> Result<Group, Fail> {
+    Ok(Group {
+        alternatives: ArrayVec::try_from([LAST; 4].as_slice())?,
+    })
+}
+
+/// An entry with the largest number in each field, and as many dependencies and groups as there is
+/// room for.
 fn full_entry() -> Result<Entry, Fail> {
-    let dependency = Dependency {
-        image: 255,
-        minimum: LARGEST,
-    };
+    let mut groups = ArrayVec::new();
+    for _ in 0..4 {
+        groups.try_push(full_group()?)?;
+    }
     Ok(Entry {
         version: LARGEST,
         counter: 4294967295,
-        dependencies: ArrayVec::try_from([dependency; 16].as_slice())?,
+        dependencies: ArrayVec::try_from([LAST; 16].as_slice())?,
+        groups,
     })
 }
 
@@ -157,15 +203,23 @@ fn full_table_text(alloc: Global) -> Result<String, Fail> {
     let mut text = String::new(alloc);
     for line in IMAGE_LINES {
         text.push_str(line)?;
-        for _ in 0..16 {
-            text.push_str(NEEDS_LINE)?;
-        }
+        push_needs(&mut text)?;
         text.push_str(REQUEST_LINE)?;
-        for _ in 0..16 {
-            text.push_str(NEEDS_LINE)?;
-        }
+        push_needs(&mut text)?;
     }
     Ok(text)
+}
+
+/// The lines of what a full entry needs.
+fn push_needs(text: &mut String) -> Result<(), Fail> {
+    for _ in 0..16 {
+        text.push_str(NEEDS_LINE)?;
+    }
+    for _ in 0..4 {
+        text.push_str(NEEDS_ONE)?;
+        text.push('\n')?;
+    }
+    Ok(())
 }
 
 #[test]
@@ -198,13 +252,17 @@ fn full_report() -> Result<Report, Fail> {
         refusal(253, Reason::Counter),
         refusal(252, Reason::NoSuchImage(255)),
         refusal(251, Reason::Needs(255, LARGEST)),
-        refusal(250, Reason::NoSuchImage(0)),
+        refusal(250, Reason::NeedsOne(full_group()?)),
         refusal(249, Reason::Older),
         refusal(248, Reason::Damaged),
     ];
+    let mut listed = ArrayVec::new();
+    for refusal in refusals {
+        listed.try_push(refusal)?;
+    }
     Ok(Report {
         images: ArrayVec::try_from([run, take, run, take, run, take, run, take].as_slice())?,
-        refusals: ArrayVec::try_from(refusals.as_slice())?,
+        refusals: listed,
     })
 }
 
@@ -223,7 +281,8 @@ fn a_full_report_is_printed_and_read_back(rt: HostRuntime) -> Result<(), Fail> {
         refuse 253 counter\n\
         refuse 252 no-such-image 255\n\
         refuse 251 needs 255 255.255.65535+4294967295\n\
-        refuse 250 no-such-image 0\n\
+        refuse 250 needs-one 255 255.255.65535+4294967295 255 255.255.65535+4294967295 255 \
+        255.255.65535+4294967295 255 255.255.65535+4294967295\n\
         refuse 249 older\n\
         refuse 248 damaged\n";
     let text = full_report()?.to_string(rt.alloc())?;
@@ -235,16 +294,20 @@ fn a_full_report_is_printed_and_read_back(rt: HostRuntime) -> Result<(), Fail> {
 
 #[test]
 fn a_dependency_is_printed_as_in_a_table(rt: HostRuntime) -> Result<(), Fail> {
-    let needs = Needs(Dependency {
-        image: 255,
-        minimum: LARGEST,
-    });
-    let text = needs.to_string(rt.alloc())?;
+    let text = Needs(LAST).to_string(rt.alloc())?;
     same(
         &rt,
         "the text",
         &text.as_str(),
         &"needs 255 255.255.65535+4294967295",
     );
+    Ok(())
+}
+
+#[test]
+fn a_group_is_printed_as_in_a_table(rt: HostRuntime) -> Result<(), Fail> {
+    let group = full_group()?;
+    let text = NeedsOne(&group).to_string(rt.alloc())?;
+    same(&rt, "the text", &text.as_str(), &NEEDS_ONE);
     Ok(())
 }

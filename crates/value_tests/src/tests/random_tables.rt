@@ -1,11 +1,12 @@
-//! Tables at random, with so few versions, counters and dependencies that requests meet and miss each other.
+//! Tables at random, with so few versions, counters, dependencies and groups that requests meet and
+//! miss each other.
 ghost use Rattle.std.specs.Prelude.{◌<◌};
 
 use arrayvec::ArrayVec;
 use certificate::{Entry, Image, Request, Table};
 use random_numbers::Random;
 use std::test::Fail;
-use version_order::{Dependency, Version};
+use version_order::{Dependency, Group, Version};
 
 /// The number of a version in the list of all that occur, from the lowest.
 type Rank = u8;
@@ -41,24 +42,30 @@ pub fn table_at_random(random: &mut Random) -> Result<Table, Fail> {
 /// One image of a table of the images up to the last.
 fn image_at_random(random: &mut Random, last: u8) -> Result<Image, Fail> {
     Ok(Image {
-        running: running_entry(random, last),
+        running: running_entry(random, last)?,
         request: request_at_random(random, last)?,
         floor: u32::from(random.below(3)),
     })
 }
 
-/// An image that runs: one of the lower versions, and in one case of four it needs another image.
-fn running_entry(random: &mut Random, last: u8) -> Entry {
+/// An image that runs: one of the lower versions, and in one case of four it needs another image,
+/// and in one of eight one of several.
+fn running_entry(random: &mut Random, last: u8) -> Result<Entry, Fail> {
     let version = version_of(1 + random.below(3));
     let mut dependencies = ArrayVec::new();
     if random.below(4) == 0 {
         dependencies.push(dependency_at_random(random, last, 0, 3));
     }
-    Entry {
+    let mut groups = ArrayVec::new();
+    if random.below(8) == 0 {
+        groups.try_push(group_at_random(random, last, 0)?)?;
+    }
+    Ok(Entry {
         version,
         counter: u32::from(random.below(4)),
         dependencies,
-    }
+        groups,
+    })
 }
 
 /// What is requested: nothing, something damaged, or mostly an image.
@@ -70,23 +77,38 @@ fn request_at_random(random: &mut Random, last: u8) -> Result<Request, Fail> {
     }
 }
 
-/// An image that is requested: mostly the highest version, and up to two dependencies, which are seldom met by
-/// what runs.
+/// An image that is requested: mostly the highest version, and up to two dependencies and one
+/// group, which are seldom met by what runs.
 fn requested_entry(random: &mut Random, last: u8) -> Result<Entry, Fail> {
     let version = version_of(1 + random.below(9));
     let mut dependencies = ArrayVec::new();
     for _ in 0..random.below(3) {
         dependencies.try_push(dependency_at_random(random, last, 2, 4))?;
     }
+    let mut groups = ArrayVec::new();
+    for _ in 0..random.below(2) {
+        groups.try_push(group_at_random(random, last, 2)?)?;
+    }
     Ok(Entry {
         version,
         counter: 1 + u32::from(random.below(6)),
         dependencies,
+        groups,
     })
 }
 
-/// A dependency on one of the images up to the last, or seldom on the one after it, with a version of one of
-/// so many ranks from the lowest.
+/// A group of one to three alternatives, each with a version of one of four ranks from the lowest.
+fn group_at_random(random: &mut Random, last: u8, lowest: Rank) -> Result<Group, Fail> {
+    let mut group = Group::default();
+    for _ in 0..=random.below(3) {
+        let alternative = dependency_at_random(random, last, lowest, 4);
+        group.alternatives.try_push(alternative)?;
+    }
+    Ok(group)
+}
+
+/// A dependency on one of the images up to the last, or seldom on the one after it, with a version
+/// of one of so many ranks from the lowest.
 fn dependency_at_random(random: &mut Random, last: u8, lowest: Rank, ranks: u8) -> Dependency
     requires { 0 < ranks }
 {

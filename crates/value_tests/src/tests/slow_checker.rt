@@ -1,7 +1,7 @@
 //! Right reports by their definition, line by line, over the sets of `slow_chooser`.
 use super::slow_chooser::{ImageSet, NO_IMAGE, is_member, is_valid_set, reaches, version_in};
 use certificate::{Reason, Refusal, Report, Request, Table};
-use version_order::{Dependency, Version};
+use version_order::{Dependency, Group, Version};
 
 /// Whether a report is right for a table.
 pub fn is_right_report(table: &Table, report: &Report) -> bool {
@@ -57,31 +57,50 @@ fn holds_at(table: &Table, refusals: &[Refusal], place: usize) -> bool {
     let Some(image) = table.images.get(refusal.image as usize) else {
         return false;
     };
-    match (&image.request, refusal.reason) {
+    match (&image.request, &refusal.reason) {
         (Request::Damaged, Reason::Damaged) => true,
         (Request::Entry(entry), Reason::Older) => !reaches(entry.version, image.running.version),
         (Request::Entry(entry), Reason::Counter) => entry.counter < image.floor,
         (Request::Entry(entry), Reason::NoSuchImage(other)) => {
-            table.images.get(other as usize).is_none()
+            table.images.get(*other as usize).is_none()
                 && entry
                     .dependencies
                     .iter()
-                    .any(|needed| needed.image == other)
+                    .any(|needed| needed.image == *other)
         }
         (Request::Entry(entry), Reason::Needs(other, minimum)) => {
-            let is_needed = |needed: &Dependency| needed.image == other
-                && needed.minimum == minimum;
+            let is_needed = |needed: &Dependency| needed.image == *other
+                && needed.minimum == *minimum;
             entry.dependencies.iter().any(is_needed)
-                && best_version(table, refusals, place, other).is_some_and(|best| !reaches(
-                    best, minimum,
+                && best_version(table, refusals, place, *other).is_some_and(|best| !reaches(
+                    best, *minimum,
                 ))
+        }
+        (Request::Entry(entry), Reason::NeedsOne(group)) => {
+            entry.groups.iter().any(|own| own == group)
+                && can_have_none(table, refusals, place, group)
         }
         _ => false,
     }
 }
 
-/// The best version of an image that is still possible at a place of the refusals: of the refused request's own
-/// image the requested one, of any other the newer of what runs and of an intact request that isn't yet refused.
+/// Whether of each image that a group names no version that is still possible reaches the one that
+/// is asked for.
+fn can_have_none(table: &Table, refusals: &[Refusal], place: usize, group: &Group) -> bool {
+    group.alternatives.iter().all(|needed| match best_version(
+        table,
+        refusals,
+        place,
+        needed.image,
+    ) {
+        Some(best) => !reaches(best, needed.minimum),
+        None => true,
+    })
+}
+
+/// The best version of an image that is still possible at a place of the refusals: of the refused
+/// request's own image the requested one, of any other the newer of what runs and of an intact
+/// request that isn't yet refused.
 fn best_version(table: &Table, refusals: &[Refusal], place: usize, number: u8) -> Option<Version> {
     let image = table.images.get(number as usize)?;
     let running = image.running.version;

@@ -1,6 +1,6 @@
 //! The choice by its definition: every set of requests is tried.
 use certificate::{Entry, Image, Request, Table};
-use version_order::{Dependency, Version};
+use version_order::{Dependency, Group, Version};
 
 /// A set of image numbers: 2 to the power of each member, added up.
 pub type ImageSet = u32;
@@ -39,7 +39,8 @@ pub fn is_member(set: ImageSet, number: u32) -> bool {
     set.checked_shr(number).is_some_and(|rest| rest % 2 == 1)
 }
 
-/// The version that an image has where these requests are taken, `None` where there is no such image.
+/// The version that an image has where these requests are taken, `None` where there is no such
+/// image.
 pub fn version_in(table: &Table, set: ImageSet, number: u32) -> Option<Version> {
     let image = table.images.get(number as usize)?;
     let entry = entry_in(image, is_member(set, number))?;
@@ -70,12 +71,25 @@ fn may_be_taken(image: &Image) -> bool {
 /// Whether all that an image needs is there.
 fn has_its_needs(table: &Table, set: ImageSet, image: &Image, is_taken: bool) -> bool {
     match entry_in(image, is_taken) {
-        Some(entry) => entry
-            .dependencies
-            .iter()
-            .all(|dependency| is_there(table, set, dependency)),
+        Some(entry) => {
+            let has_each = entry
+                .dependencies
+                .iter()
+                .all(|dependency| is_there(table, set, dependency));
+            has_each && entry.groups.iter().all(|group| has_one(table, set, group))
+        }
         None => false,
     }
+}
+
+/// Whether one of the images that a group names is there with at least its version.
+fn has_one(table: &Table, set: ImageSet, group: &Group) -> bool {
+    let there = group
+        .alternatives
+        .iter()
+        .filter(|alternative| is_there(table, set, alternative))
+        .count();
+    there > 0
 }
 
 /// Whether an image is there with at least the version that is needed.
@@ -86,8 +100,8 @@ fn is_there(table: &Table, set: ImageSet, dependency: &Dependency) -> bool {
     ))
 }
 
-/// What runs of an image: the requested entry where it is taken, and else the running one. `None` where no
-/// intact entry is requested that could be taken.
+/// What runs of an image: the requested entry where it is taken, and else the running one. `None`
+/// where no intact entry is requested that could be taken.
 fn entry_in(image: &Image, is_taken: bool) -> Option<&Entry> {
     if !is_taken {
         return Some(&image.running);

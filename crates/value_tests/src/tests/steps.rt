@@ -99,6 +99,7 @@ fn image_that_needs(first: u8, minimum: Version) -> Result<Image, Fail> {
             version: version(2),
             counter: 0,
             dependencies,
+            groups: ArrayVec::new(),
         }),
         floor: 0,
     })

@@ -8,13 +8,15 @@ use arrayvec::ArrayVec;
 use certificate::{Image, Reason, Refusal, Report, ReportedImage, Request, Table, check};
 use random_numbers::Random;
 use std::test::Fail;
+use version_order::Group;
 
 /// How many tables are made, and how many reports of each.
 const TABLES: u32 = 150;
 
 const REPORTS: u32 = 12;
 
-/// A report that takes this set, with a reason at random for each request that it leaves, in an order at random.
+/// A report that takes this set, with a reason at random for each request that it leaves, in an
+/// order at random.
 fn report_at_random(random: &mut Random, table: &Table, set: ImageSet) -> Result<Report, Fail> {
     let mut report = Report::default();
     let mut left = ArrayVec::new();
@@ -51,6 +53,9 @@ fn shuffled(random: &mut Random, refusals: ArrayVec<Refusal, 8>) -> ArrayVec<Ref
 /// A reason at random, mostly one that fits the request.
 fn reason_at_random(random: &mut Random, image: &Image) -> Reason {
     let kind = random.below(8);
+    if let (4 | 5, Some(group)) = (kind, requested_group(image)) {
+        return Reason::NeedsOne(group.copied());
+    }
     match &image.request {
         Request::Entry(entry) => match (
             kind,
@@ -63,6 +68,14 @@ fn reason_at_random(random: &mut Random, image: &Image) -> Reason {
             (_, None) => Reason::Damaged,
         },
         _ => Reason::Damaged,
+    }
+}
+
+/// The first group of what is requested.
+fn requested_group(image: &Image) -> Option<&Group> {
+    match &image.request {
+        Request::Entry(entry) => entry.groups.first(),
+        _ => None,
     }
 }
 
