@@ -18,17 +18,25 @@ COUNTER = (0x50, little(7, 4))
 DEPENDENCY = (0x40, bytes([1, 0, 0, 0, 2, 3, 4, 0, 5, 0, 0, 0]))
 
 
+def group(alternatives, last=b""):
+    """The entry of a group of so many alternatives, each laid out as that dependency, with bytes behind them."""
+    return (0xA0, alternatives * DEPENDENCY[1] + last)
+
+
 def image(protected=(COUNTER, DEPENDENCY), body=b"ABCD", digests=1, digest_kind=0x10, **fields):
-    """An image of version 1.2.3+4, with these protected entries, so many entries of its digest, and these fields."""
+    """An image, of version 1.2.3+4 where none is given, with these protected entries, so many entries of its digest, and these fields."""
     inner = area(0x6908, protected) if protected else b""
     hashed = header(len(inner), len(body), **fields) + body + inner
     return hashed + area(0x6907, digests * [(digest_kind, hashlib.sha256(hashed).digest())])
 
 
-def header(protected_size, body_size, magic=0x96F3B83D, header_size=32, flags=0):
+def version(major, minor=0, revision=0, build=0):
+    return bytes([major, minor]) + little(revision, 2) + little(build, 4)
+
+
+def header(protected_size, body_size, magic=0x96F3B83D, header_size=32, flags=0, own=version(1, 2, 3, 4)):
     lengths = little(header_size, 2) + little(protected_size, 2) + little(body_size, 4)
-    version = bytes([1, 2, 3, 0, 4, 0, 0, 0])
-    return little(magic, 4) + little(0, 4) + lengths + little(flags, 4) + version + little(0, 4)
+    return little(magic, 4) + little(0, 4) + lengths + little(flags, 4) + own + little(0, 4)
 
 
 VENDOR, CLASS = "886313e1-3b8a-5372-9b90-0c9aee199e5d", "11111111-2222-5333-8444-555555555555"

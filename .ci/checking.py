@@ -1,5 +1,6 @@
 """Runs the built program for the checks of `./gate`, and counts those that it passes."""
 
+import json
 import os
 import resource
 import subprocess
@@ -111,5 +112,6 @@ def report(name):
 def flash_of(checks, device=PAIR):
     """Provisions the file `flash` with the same image in all slots, and returns its bytes: none where that fails."""
     flash = f"{checks.folder}/{checks.file('flash', b'')}"
-    checks.run(["provision", device, "flash", ONE, ONE])
+    images = len(json.loads(read(device))["sectors"])
+    checks.run(["provision", device, "flash", *images * [ONE]])
     return read(flash)

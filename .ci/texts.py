@@ -2,8 +2,9 @@
 
 import json
 import os
+import struct
 
-from builders import ABC, COUNTER, DEPENDENCY, VENDOR, component, device, image, little, manifest
+from builders import ABC, COUNTER, DEPENDENCY, VENDOR, component, device, group, image, little, manifest
 from checking import EXAMPLES, ONE, PAIR, flash_of, names_in, read, report, short, shown, table
 
 
@@ -46,12 +47,22 @@ BAD_TABLES = [
     ("a byte that isn't ASCII", b"image 0 1.0.0+0 0 0\nneeds 0 \xff\n", "table line 2"),
     ("a ninth image", b"".join(b"image %d 1 0 0\n" % it for it in range(9)), "table line 9"),
     ("a seventeenth dependency", b"image 0 1 0 0\n" + 17 * b"needs 0 1\n", "table line 18"),
+    ("a fifth group", b"image 0 1 0 0\n" + 5 * b"needs-one 0 1\n", "table line 6"),
+    ("a fifth alternative", b"image 0 1 0 0\nneeds-one" + 5 * b" 0 1" + b"\n", "table line 2"),
+    ("a group without alternatives", b"image 0 1 0 0\nneeds-one\n", "table line 2"),
+    ("an alternative without a version", b"image 0 1 0 0\nneeds-one 0 1 0\n", "table line 2"),
+    ("a group that ends with a space", b"image 0 1 0 0\nneeds-one 0 1 \n", "table line 2"),
+    ("a dependency behind a group", b"image 0 1 0 0\nneeds-one 0 1\nneeds 0 1\n", "table line 3"),
+    ("a group of a damaged request", b"image 0 1 0 0\ndamaged\nneeds-one 0 1\n", "table line 3"),
     ("a line of a megabyte", b"image 0 1 0 0\nneeds " + 2**20 * b"1" + b"\n", "table line 2"),
+    ("a group of a megabyte", b"image 0 1 0 0\nneeds-one" + 2**18 * b" 0 1" + b"\n", "table line 2"),
     ("the running images don't fit", b"image 0 1.0.0+0 0 0\nneeds 0 1.0.0+1\n", "running set not valid"),
+    ("nor do these", b"image 0 1.0.0+0 0 0\nneeds-one 0 1.0.0+1 1 1.0.0+0\n", "running set not valid"),
 ]
 
 # Reports that the program didn't make: what is odd of each, the table's name, the lines, and whether it is right.
 THREE = "run 0 1.0.0+0, take 1 2.0.0+0, run 2 1.0.0+0"
+EITHER, NEITHER = "run 0 1.0.0+0, run 1 1.0.0+0, run 2 2.0.0+0", "run 0 1.0.0+0, run 1 1.0.0+0, run 2 1.0.0+0"
 REPORTS = [
     ("the refusals in another order", "three", f"{THREE}, refuse 2 needs 0 1.0.0+1, refuse 0 older", True),
     ("a reason that doesn't hold", "three", f"{THREE}, refuse 0 counter, refuse 2 needs 0 1.0.0+1", False),
@@ -65,6 +76,12 @@ REPORTS = [
     ("requests neither taken nor refused", "pair", "run 0 1.0.0+0, run 1 1.0.0+0", False),
     ("half of a pair", "pair", "take 0 2.0.0+0, run 1 1.0.0+0, refuse 1 needs 0 2.0.0+0", False),
     ("another version than the requested one", "pair", "take 0 2.0.0+0, take 1 2.0.0+1", False),
+    ("a group of which an alternative runs", "either", f"{EITHER}, refuse 0 needs-one 1 2.0.0+0 2 2.0.0+0", False),
+    ("a group that the request doesn't have", "neither", f"{NEITHER}, refuse 0 needs-one 1 2.0.0+0", False),
+    ("its alternatives in another order", "neither", f"{NEITHER}, refuse 0 needs-one 2 2.0.0+0 1 2.0.0+0", False),
+    ("an alternative as a dependency", "neither", f"{NEITHER}, refuse 0 needs 1 2.0.0+0", False),
+    ("a group that isn't met is taken", "neither", "take 0 2.0.0+0, run 1 1.0.0+0, run 2 1.0.0+0", False),
+    ("a group in shorter words", "neither", f"{NEITHER}, refuse 0 needs-one 1 2 2 2.0", True),
     ("an image that the table doesn't have", "pair", "take 0 2.0.0+0, take 1 2.0.0+0, refuse 9 damaged", False),
 ]
 
@@ -85,10 +102,23 @@ def check_tables(checks):
     checks.expect("report: it is bad", ["check", table("pair"), bad], 1, err=b"error: report line 3\n")
 
 
-def described(whole, counter, dependencies):
-    """What is printed of an image that `image` made."""
+def needs_one(value):
+    """The line of a group, by the value of its entry."""
+    pairs = (struct.unpack_from("<B3xBBHI", value, at) for at in range(0, len(value), 12))
+    return "needs-one" + "".join(" {} {}.{}.{}+{}".format(*it) for it in pairs)
+
+
+def described(whole, counter, dependencies, groups=()):
+    """What is printed of an image that `image` made, with these groups."""
     front = f"version 1.2.3+4\nlength {len(whole)}\ncounter {counter}\ndigest {whole[-32:].hex()}"
-    return front + dependencies * "\nneeds 1 2.3.4+5"
+    lines = dependencies * ["needs 1 2.3.4+5"] + [needs_one(value) for _, value in groups]
+    return "\n".join([front, *lines])
+
+
+def changed_value(entry, place):
+    """An entry with another byte at this place of its value."""
+    kind, value = entry
+    return kind, value[:place] + b"\7" + value[place + 1 :]
 
 
 def cases_of_images():
@@ -113,9 +143,25 @@ def cases_of_images():
     yield "a byte too many", whole + b"\0", "refused 13 TrailingBytes"
     yield "a counter of 3 bytes", image([(0x50, b"\0\0\0")]), "refused 14 BadCounter"
     yield "two counters and a byte too many", image([COUNTER, COUNTER]) + b"\0", "refused 14 BadCounter"
+    yield "a group of 25 bytes", image([group(2, b"\0")]), "refused 11 BadDependency"
+    yield "a group of no alternative", image([group(0)]), "refused 11 BadDependency"
+    yield "a group of five alternatives", image([group(5)]), "refused 11 BadDependency"
+    yield "five groups", image(5 * [group(1)]), "refused 15 TooManyGroups"
+    yield "17 dependencies and five groups", image(17 * [DEPENDENCY] + 5 * [group(1)]), "refused 12 TooManyDependencies"
+    yield "17 dependencies and a group of 13 bytes", image(17 * [DEPENDENCY] + [group(1, b"\0")]), "refused 11 BadDependency"
+    yield "five groups and two counters", image([*5 * [group(1)], COUNTER, COUNTER]), "refused 15 TooManyGroups"
+    for place in range(4 * 12):
+        entry = changed_value(group(4), place)
+        damaged = image([entry])
+        wanted = "refused 11 BadDependency" if place % 12 in (1, 2, 3) else described(damaged, 0, 0, [entry])
+        yield f"a group with another byte {place}", damaged, wanted
     yield "three megabytes, the last byte of the body changed", big.replace(b"end", b"enD"), "refused 10 BadDigest"
     yield "three megabytes and 16 dependencies, intact", big, described(big, 7, 16)
     yield "no body and no protected area, intact", bare, described(bare, 0, 0)
+    grouped = image([group(4), COUNTER, group(1), *16 * [DEPENDENCY], group(3), group(2)])
+    yield "as many dependencies and groups as there may be, intact", grouped, described(grouped, 7, 16, [group(4), group(1), group(3), group(2)])
+    alone = image([group(1)])
+    yield "a group alone, intact", alone, described(alone, 0, 0, [group(1)])
 
 
 def check_images(checks):

@@ -1,5 +1,8 @@
-"""The worked run of a device with a cut at each of its writes: what has to be said, and that the program says it."""
+"""Worked runs of devices, two of them with a cut at each write: what has to be said, and that the program says it."""
 
+import hashlib
+
+from builders import component, device, image, manifest, version
 from checking import EXAMPLES, ONE, PAIR, flash_of, read, short
 
 # The worked run: two images are tried, one is confirmed, and both go back. For each of its events how many writes it
@@ -83,6 +86,89 @@ def check_cuts(checks):
     checks.expect("a cut behind the last write", words, 0, out, given=cut_script(SUM_OF_WRITES + 1, "hex:00"))
 
 
+# A device of three images whose request for image 0 needs one of the others: its run, and what a boot may say.
+EITHER = f"{EXAMPLES}/devices/either.json"
+OLD, NEW = ["run 0 1.0.0+0", "run 1 1.0.0+0", "run 2 1.0.0+0"], ["run 0 2.0.0+0", "run 1 1.0.0+0", "run 2 2.0.0+0"]
+BOOTS = {
+    "nothing is requested": ["plain", *OLD],
+    "image 0 alone is requested": ["plain", *OLD, "refuse 0 needs-one 1 2.0.0+0 2 2.0.0+0"],
+    "image 2 alone is requested": ["plain", *OLD, "refuse 2 needs 0 2.0.0+0"],
+    "both are taken": ["trial", "take 0 2.0.0+0", "run 1 1.0.0+0", "take 2 2.0.0+0"],
+    "both go back": ["reverted 0 2"],
+    "both stay": ["plain", *NEW],
+}
+
+
+def boots_in(said):
+    """The replies of a run's boots, each as its lines without the event's number."""
+    replies = []
+    for line in said.decode().splitlines():
+        if line[0].isdigit():
+            replies.append([line.split(" ", 1)[1]])
+        else:
+            replies[-1].append(line)
+    return [it for it in replies if it[0].split()[0] in ("plain", "trial", "reverted")]
+
+
+def check_alternatives(checks):
+    """A request that is met by its second alternative, with a cut at each write: both are taken, or neither."""
+    whole, script = flash_of(checks, device=EITHER), read(f"{EXAMPLES}/scripts/either.txt")
+    for torn in TORN:
+        faults, seen, ends, number = [], set(), [], 0
+        while not ends or "cut" in ends:
+            number += 1
+            checks.file("flash", whole)
+            _, said, _ = checks.run(["run", EITHER, "flash", "-"], given=f"cut {number} {torn}\n".encode() + script)
+            ends = [line.split(" ", 1)[1] for line in said.decode().splitlines() if line[0].isdigit()]
+            _, then, _ = checks.run(["run", EITHER, "flash", "-"], given=b"boot\nreset\nboot\n")
+            for boot in boots_in(said) + boots_in(then):
+                name = next((name for name, lines in BOOTS.items() if lines == boot), None)
+                seen.add(name)
+                if name is None:
+                    faults.append(f"write {number}: {short(boot)}")
+            if len(boots_in(then)) != 2:
+                faults.append(f"write {number}, no boot afterwards: {short(then)}")
+        # Image 2 is never requested alone: image 0 is finished before it.
+        missed = set(BOOTS) - seen - {"image 2 alone is requested"}
+        faults += [f"never seen: {missed}"] if missed else []
+        checks.tell(f"one of several, a cut at each of {number - 1} writes: {torn}", faults[:5])
+
+
+def asked(image, major):
+    """What asks for an image in a version, in a dependency or as an alternative."""
+    return bytes([image, 0, 0, 0]) + version(major)
+
+
+def fullest(number, major):
+    """An image that needs as much as one may: what runs needs the others as they run, what comes one of them as it comes."""
+    dependencies = [(0x40, asked(it % 8, 1)) for it in range(16)]
+    absent = [asked(it, major) for it in (200, 201, 202)]
+    groups = [(0xA0, b"".join([*absent, asked((number + it + 1) % 8, major)])) for it in range(4)]
+    return image([*dependencies, *groups], own=version(major))
+
+
+def check_fullest(checks):
+    """Eight images, each with as many dependencies and groups as it may have, come, are tried together, and stay."""
+    own = checks.file("eight.json", device(sectors=8 * [2]))
+    running, coming = ([fullest(it, major) for it in range(8)] for major in (1, 2))
+    words = [checks.file(f"running{it}", whole) for it, whole in enumerate(running)]
+    checks.expect("eight images that need the most: provision", ["provision", own, "flash", *words], 0, b"done\n")
+    components = [
+        component(component_id=it, size=len(whole), payload_digest=hashlib.sha256(whole).hexdigest())
+        for it, whole in enumerate(coming)
+    ]
+    checks.file("eight", manifest(components=components))
+    events = ["boot", "accept eight"]
+    for number, whole in enumerate(coming):
+        events += [f"piece {number} {checks.file(f'coming{number}', whole)}", f"finish {number}"]
+    events += ["boot", *(f"confirm {number}" for number in range(8)), "boot"]
+    lines = lambda word, major: "".join(f"|{word} {number} {major}.0.0+0" for number in range(8))
+    replies = ["plain" + lines("run", 1), *17 * ["done"], "trial" + lines("take", 2), *8 * ["done"]]
+    wanted = numbered([*replies, "plain" + lines("run", 2)])
+    script = checks.file("script", "\n".join(events).encode())
+    checks.expect("eight images that need the most: run", ["run", own, "flash", script], 0, wanted)
+
+
 def check_flash_files(checks):
     """A flash file that takes no more bytes from some place on: the device's power fails, and the program says why."""
     whole = flash_of(checks)
@@ -103,3 +189,6 @@ def check_flash_files(checks):
     for limit in (0, 8191):
         words = ["provision", PAIR, f"new{limit}", ONE, ONE]
         checks.expect(f"a flash file of at most {limit} bytes can't be made", words, 4, err=fault, most=limit)
+
+
+CHECKS = (check_cuts, check_alternatives, check_fullest, check_flash_files)

@@ -86,14 +86,18 @@ fn time_slot() -> f64 {
     ratio
 }
 
-/// Prints how many bytes are read to describe a slot with the image of the most dependencies, and answers whether each
-/// slot is read as much as it has to be, and no more.
+/// Prints how many bytes are read to describe a slot with the images of the most dependencies and groups, and answers
+/// whether each slot is read as much as it has to be, and no more.
 fn counts_reads() -> bool {
     let full = inputs::full_image();
     let read = proved::slot_reads(&full.bytes);
     println!("{:<36} {read:6}", "16 dependencies: bytes read");
+    let grouped = inputs::full_image_with_groups();
+    let read = proved::slot_reads(&grouped.bytes);
+    println!("{:<36} {read:6}", "and 4 groups of 4: bytes read");
     let images = [
         full,
+        grouped,
         inputs::image(0),
         inputs::image(1),
         inputs::image(MEGABYTE),
@@ -138,7 +142,7 @@ fn expect_same_answers() {
     }
     let mut random = Random::new();
     // How often each answer came: 0 for an intact image, else the number of the check that fails.
-    let mut seen = [0; 15];
+    let mut seen = [0; 16];
     for _ in 0..RANDOM_INPUTS {
         let bytes = inputs::damaged_image(&mut random);
         let answer = proved::describe(&bytes);
@@ -160,8 +164,10 @@ fn expect_same_answers() {
 fn expect_same_choices() {
     let table = inputs::full_table();
     let all_refused = 8 * 256;
-    assert_eq!(proved::choose(table.as_bytes()), all_refused);
-    assert_eq!(plain_choice::answer(table.as_bytes()), all_refused);
+    for table in [&table, &inputs::full_table_with_groups()] {
+        assert_eq!(proved::choose(table.as_bytes()), all_refused);
+        assert_eq!(plain_choice::answer(table.as_bytes()), all_refused);
+    }
     let report = inputs::full_report();
     assert!(proved::check(table.as_bytes(), report.as_bytes()));
     assert!(!proved::check(table.as_bytes(), table.as_bytes()));
@@ -226,6 +232,15 @@ fn time_choice() {
     ]);
     print_ratio("full table: choose / plain choose", rounds.ratio(0, 1));
     print_ratio("full table: check / choose", rounds.ratio(2, 0));
+    let table = inputs::full_table_with_groups();
+    let table = table.as_bytes();
+    let rounds = Rounds::of([&|| proved::choose(black_box(table)), &|| {
+        plain_choice::answer(black_box(table))
+    }]);
+    print_ratio(
+        "full table with groups: choose / plain choose",
+        rounds.ratio(0, 1),
+    );
 }
 
 /// Prints the ratio of the proved digest to the machine's `sha256sum`, where there is one.

@@ -2,7 +2,8 @@
 
 use crate::plain_digest::sha256;
 use crate::plain_image::{
-    COUNTER_KIND, DEPENDENCY_KIND, DIGEST_KIND, MAGIC, PROTECTED_MAGIC, UNPROTECTED_MAGIC,
+    COUNTER_KIND, DEPENDENCY_KIND, DIGEST_KIND, GROUP_KIND, MAGIC, PROTECTED_MAGIC,
+    UNPROTECTED_MAGIC,
 };
 use std::fmt::Write;
 
@@ -32,20 +33,39 @@ pub struct Image {
 
 /// An intact image with a body of so many bytes, a security counter and two dependencies.
 pub fn image(body_size: usize) -> Image {
-    image_of(body_size, 1, 2, 1)
+    image_of(body_size, 1, 2, 0, 1)
 }
 
 /// An intact image without a body, with a security counter and as many dependencies as an image may have.
 pub fn full_image() -> Image {
-    image_of(0, 1, 16, 1)
+    image_of(0, 1, 16, 0, 1)
+}
+
+/// The same with as many groups, each of as many alternatives, as an image may have.
+pub fn full_image_with_groups() -> Image {
+    image_of(0, 1, 16, 4, 1)
 }
 
 /// An image with a body of so many bytes, and so many entries of each type that is read.
-fn image_of(body_size: usize, counters: usize, dependencies: usize, digests: usize) -> Image {
+fn image_of(
+    body_size: usize,
+    counters: usize,
+    dependencies: usize,
+    groups: usize,
+    digests: usize,
+) -> Image {
     let mut random = Random::new();
     let counter: (u16, &[u8]) = (COUNTER_KIND, &7_u32.to_le_bytes());
-    let dependency: (u16, &[u8]) = (DEPENDENCY_KIND, &[1, 0, 0, 0, 1, 2, 3, 0, 4, 0, 0, 0]);
-    let entries = [vec![counter; counters], vec![dependency; dependencies]].concat();
+    let asked = [1, 0, 0, 0, 1, 2, 3, 0, 4, 0, 0, 0];
+    let dependency: (u16, &[u8]) = (DEPENDENCY_KIND, &asked);
+    let alternatives = [asked; 4].concat();
+    let group: (u16, &[u8]) = (GROUP_KIND, &alternatives);
+    let entries = [
+        vec![counter; counters],
+        vec![dependency; dependencies],
+        vec![group; groups],
+    ]
+    .concat();
     let protected = area(PROTECTED_MAGIC, &entries);
     let mut bytes = header(body_size as u32, protected.len() as u16);
     bytes.extend((0..body_size).map(|_| random.below(256) as u8));
@@ -90,7 +110,8 @@ pub fn damaged_image(random: &mut Random) -> Vec<u8> {
         0 => random.below(other) as usize,
         _ => usual,
     };
-    let Image { mut bytes, hashed } = image_of(0, rarely(1, 4), rarely(2, 20), rarely(1, 4));
+    let Image { mut bytes, hashed } =
+        image_of(0, rarely(1, 4), rarely(2, 20), rarely(1, 7), rarely(1, 4));
     for _ in 0..random.below(4) {
         let place = random.below(bytes.len() as u64) as usize;
         bytes[place] = random.below(256) as u8;
@@ -140,6 +161,45 @@ pub fn full_table() -> String {
     table
 }
 
+/// The full table with four groups of four alternatives of each running and each requested image. Of each group the
+/// first three alternatives can't come. Each request but the last needs by its last group, and by nothing else, the
+/// request after it, so that all eight are refused, one after the other.
+pub fn full_table_with_groups() -> String {
+    let mut table = String::new();
+    for image in 0..8 {
+        line(&mut table, format_args!("image {image} 10.20.300+4000 5 5"));
+        sixteen_needs(&mut table);
+        for _ in 0..4 {
+            group(&mut table, image, "10.20.300+4000");
+        }
+        line(&mut table, format_args!("request 11.21.301+4001 6"));
+        sixteen_needs(&mut table);
+        for _ in 0..3 {
+            group(&mut table, image, "10.20.300+4000");
+        }
+        match image {
+            7 => group(&mut table, 0, "12.0.0+0"),
+            _ => group(&mut table, image + 1, "11.21.301+4001"),
+        }
+    }
+    table
+}
+
+/// A line for each dependency that an image may have, each met by what runs.
+fn sixteen_needs(table: &mut String) {
+    for needed in 0..16 {
+        line(table, format_args!("needs {} 10.20.300+4000", needed % 8));
+    }
+}
+
+/// A group of which the last alternative alone can be met, by this image in this version.
+fn group(table: &mut String, image: u64, minimum: &str) {
+    line(
+        table,
+        format_args!("needs-one 9 1.0.0+0 0 13.0.0+0 1 13.0.0+0 {image} {minimum}"),
+    );
+}
+
 /// The report that is right for the full table.
 pub fn full_report() -> String {
     let mut report = String::new();
@@ -187,10 +247,12 @@ pub fn random_table(random: &mut Random) -> String {
             "damaged ",
             "image 1 1+2 0 0",
             "needs 256 1",
+            "needs-one",
+            "needs-one 0 1 0 1 0 1 0 1 0 1",
         ];
         line(
             &mut table,
-            format_args!("{}", wrong[random.below(6) as usize]),
+            format_args!("{}", wrong[random.below(8) as usize]),
         );
     }
     table
@@ -208,6 +270,14 @@ fn needs(table: &mut String, random: &mut Random, images: u64, highest: u64) {
             _ => 1 + random.below(highest),
         };
         line(table, format_args!("needs {image} {minimum}"));
+    }
+    for _ in 0..random.below(16) / 12 {
+        let mut words = String::from("needs-one");
+        for _ in 0..1 + random.below(4) {
+            let minimum = 1 + random.below(highest + 1);
+            write!(words, " {} {minimum}", random.below(images + 1)).expect("a string takes all");
+        }
+        line(table, format_args!("{words}"));
     }
 }
 

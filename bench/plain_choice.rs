@@ -6,9 +6,12 @@ const NOT_VALID: u64 = NO_TABLE + 1;
 
 const MOST_IMAGES: usize = 8;
 const MOST_DEPENDENCIES: usize = 16;
+const MOST_GROUPS: usize = 4;
+const MOST_ALTERNATIVES: usize = 4;
 
 type Version = (u8, u8, u16, u32);
 
+#[derive(Clone)]
 struct Dependency {
     image: u8,
     minimum: Version,
@@ -18,7 +21,11 @@ struct Entry {
     version: Version,
     counter: u32,
     dependencies: Vec<Dependency>,
+    groups: Vec<Group>,
 }
+
+/// Dependencies of which one is enough.
+type Group = Vec<Dependency>;
 
 enum Request {
     None,
@@ -40,6 +47,7 @@ enum Reason {
     Counter,
     NoSuchImage(u8),
     Needs(u8, Version),
+    NeedsOne(Group),
 }
 
 #[allow(dead_code, reason = "as of `Reason`")]
@@ -90,24 +98,46 @@ fn add_line(images: &mut Vec<Image>, line: &str) -> Option<()> {
             });
         }
         "needs" => {
-            let image = number(words.next()?)?;
-            let minimum = version(words.next()?)?;
-            let last = images.last_mut()?;
-            let entry = match &mut last.request {
-                Request::None => &mut last.running,
-                Request::Damaged => return None,
-                Request::Entry(entry) => entry,
-            };
-            if entry.dependencies.len() == MOST_DEPENDENCIES {
+            let needed = dependency(words.next()?, words.next()?)?;
+            let entry = last_entry(images)?;
+            if !entry.groups.is_empty() || entry.dependencies.len() == MOST_DEPENDENCIES {
                 return None;
             }
-            entry.dependencies.push(Dependency { image, minimum });
+            entry.dependencies.push(needed);
+        }
+        "needs-one" => {
+            let mut group = vec![dependency(words.next()?, words.next()?)?];
+            while let Some(word) = words.next() {
+                group.push(dependency(word, words.next()?)?);
+            }
+            let entry = last_entry(images)?;
+            if group.len() > MOST_ALTERNATIVES || entry.groups.len() == MOST_GROUPS {
+                return None;
+            }
+            entry.groups.push(group);
         }
         "request" => request(images, Request::Entry(entry(words.next()?, words.next()?)?))?,
         "damaged" => request(images, Request::Damaged)?,
         _ => return None,
     }
     words.next().is_none().then_some(())
+}
+
+/// The entry that a line after its first one speaks of.
+fn last_entry(images: &mut [Image]) -> Option<&mut Entry> {
+    let last = images.last_mut()?;
+    match &mut last.request {
+        Request::None => Some(&mut last.running),
+        Request::Damaged => None,
+        Request::Entry(entry) => Some(entry),
+    }
+}
+
+fn dependency(image: &str, minimum: &str) -> Option<Dependency> {
+    Some(Dependency {
+        image: number(image)?,
+        minimum: version(minimum)?,
+    })
 }
 
 fn request(images: &mut [Image], request: Request) -> Option<()> {
@@ -124,6 +154,7 @@ fn entry(version: &str, counter: &str) -> Option<Entry> {
         version: self::version(version)?,
         counter: number(counter)?,
         dependencies: Vec::new(),
+        groups: Vec::new(),
     })
 }
 
@@ -155,10 +186,14 @@ fn number<N: std::str::FromStr>(text: &str) -> Option<N> {
 }
 
 fn is_valid(images: &[Image]) -> bool {
-    let needs = images.iter().flat_map(|image| &image.running.dependencies);
-    needs.into_iter().all(|needed| {
+    let is_met = |needed: &Dependency| {
         let image = images.get(usize::from(needed.image));
         image.is_some_and(|image| image.running.version >= needed.minimum)
+    };
+    images.iter().all(|image| {
+        let mut groups = image.running.groups.iter();
+        image.running.dependencies.iter().all(is_met)
+            && groups.all(|group| group.iter().any(is_met))
     })
 }
 
@@ -201,20 +236,32 @@ fn next_refusal(images: &[Image], refusals: &[Refusal]) -> Option<Refusal> {
         if is_refused(refusals, image) {
             return None;
         }
-        // A request that isn't refused is at least the running version, so it is the best that can come.
-        let mut needs = entry.dependencies.iter();
-        let unmet = needs.find(|needed| {
-            let number = usize::from(needed.image);
-            match &images[number].request {
-                Request::Entry(best) if !is_refused(refusals, number) => {
-                    best.version < needed.minimum
-                }
-                _ => images[number].running.version < needed.minimum,
-            }
-        })?;
-        let reason = Reason::Needs(unmet.image, unmet.minimum);
+        let reason = needs_reason(images, refusals, entry)?;
         Some(Refusal { image, reason })
     })
+}
+
+fn needs_reason(images: &[Image], refusals: &[Refusal], entry: &Entry) -> Option<Reason> {
+    // A request that isn't refused is at least the running version, so it is the best that can come.
+    let is_reached = |needed: &Dependency| {
+        let number = usize::from(needed.image);
+        images
+            .get(number)
+            .is_some_and(|image| match &image.request {
+                Request::Entry(best) if !is_refused(refusals, number) => {
+                    best.version >= needed.minimum
+                }
+                _ => image.running.version >= needed.minimum,
+            })
+    };
+    if let Some(unmet) = entry.dependencies.iter().find(|it| !is_reached(it)) {
+        return Some(Reason::Needs(unmet.image, unmet.minimum));
+    }
+    let unmet = entry
+        .groups
+        .iter()
+        .find(|group| !group.iter().any(is_reached))?;
+    Some(Reason::NeedsOne(unmet.clone()))
 }
 
 fn is_refused(refusals: &[Refusal], number: usize) -> bool {

@@ -8,6 +8,7 @@ pub const UNPROTECTED_MAGIC: u16 = 0x6907;
 pub const DIGEST_KIND: u16 = 0x10;
 pub const DEPENDENCY_KIND: u16 = 0x40;
 pub const COUNTER_KIND: u16 = 0x50;
+pub const GROUP_KIND: u16 = 0xa0;
 const ACCEPTED_FLAGS: u32 = 0x111;
 
 /// What is added to the number of a check to answer that it failed.
@@ -30,7 +31,11 @@ pub enum Fault {
     TooManyDependencies,
     TrailingBytes,
     BadCounter,
+    TooManyGroups,
 }
+
+/// The number of an image, and the bytes of a version.
+type Dependency = (u8, [u8; 8]);
 
 /// What an intact image says of itself.
 #[allow(dead_code, reason = "it holds what the proved description holds")]
@@ -38,7 +43,8 @@ pub struct Description {
     version: [u8; 8],
     counter: u32,
     flags: u32,
-    dependencies: Vec<(u8, [u8; 8])>,
+    dependencies: Vec<Dependency>,
+    groups: Vec<Vec<Dependency>>,
     digest: [u8; 32],
     length: u64,
 }
@@ -76,7 +82,7 @@ pub fn describe(bytes: &[u8]) -> Result<Description, Fault> {
     let hashed_end = protected_at + usize::from(protected_size);
     let unprotected = area(bytes, hashed_end, UNPROTECTED_MAGIC, None)?;
     let digest = digest(&unprotected, &bytes[..hashed_end])?;
-    let dependencies = dependencies(&protected)?;
+    let (dependencies, groups) = needs(&protected)?;
     let counter = counter(&protected)?;
     let length = hashed_end + usize::from(read_u16(bytes, hashed_end + 2));
     if length < bytes.len() {
@@ -87,6 +93,7 @@ pub fn describe(bytes: &[u8]) -> Result<Description, Fault> {
         counter,
         flags,
         dependencies,
+        groups,
         digest,
         length: length as u64,
     })
@@ -102,7 +109,7 @@ pub fn needed_reads(bytes: &[u8]) -> u64 {
         0 => 0,
         size => area_reads(
             &bytes[protected_at..][..size],
-            &[DEPENDENCY_KIND, COUNTER_KIND],
+            &[DEPENDENCY_KIND, GROUP_KIND, COUNTER_KIND],
         ),
     };
     let unprotected = area_reads(&bytes[hashed_end..], &[DIGEST_KIND]);
@@ -174,19 +181,34 @@ fn digest(entries: &[(u16, &[u8])], hashed: &[u8]) -> Result<[u8; 32], Fault> {
     }
 }
 
-fn dependencies(entries: &[(u16, &[u8])]) -> Result<Vec<(u8, [u8; 8])>, Fault> {
-    let mut dependencies = Vec::new();
-    for value in values(entries, DEPENDENCY_KIND) {
-        let [image, 0, 0, 0, minimum @ ..] = value else {
-            return Err(Fault::BadDependency);
-        };
-        let minimum = minimum.try_into().map_err(|_| Fault::BadDependency)?;
-        dependencies.push((*image, minimum));
-    }
+/// The dependencies and the groups.
+fn needs(entries: &[(u16, &[u8])]) -> Result<(Vec<Dependency>, Vec<Vec<Dependency>>), Fault> {
+    let dependencies = values(entries, DEPENDENCY_KIND).map(dependency).collect();
+    let groups = values(entries, GROUP_KIND).map(group).collect();
+    let (dependencies, groups): (Option<Vec<_>>, Option<Vec<_>>) = (dependencies, groups);
+    let dependencies = dependencies.ok_or(Fault::BadDependency)?;
+    let groups = groups.ok_or(Fault::BadDependency)?;
     if dependencies.len() > 16 {
         return Err(Fault::TooManyDependencies);
     }
-    Ok(dependencies)
+    if groups.len() > 4 {
+        return Err(Fault::TooManyGroups);
+    }
+    Ok((dependencies, groups))
+}
+
+fn dependency(value: &[u8]) -> Option<Dependency> {
+    let [image, 0, 0, 0, minimum @ ..] = value else {
+        return None;
+    };
+    Some((*image, minimum.try_into().ok()?))
+}
+
+fn group(value: &[u8]) -> Option<Vec<Dependency>> {
+    if value.is_empty() || value.len() > 4 * 12 {
+        return None;
+    }
+    value.chunks(12).map(dependency).collect()
 }
 
 fn counter(entries: &[(u16, &[u8])]) -> Result<u32, Fault> {

@@ -1,8 +1,8 @@
 #!/usr/bin/env python3
 """Makes the intact images of this folder by their format: examples/make_images.py FOLDER
 
-An image is a header of 32 bytes, a body, a protected area where the image has a security counter or needs others, and
-an unprotected area with the SHA-256 of what stands before it. docs/FORMATS.md has the whole format.
+An image is a header of 32 bytes, a body, a protected area where the image has a security counter or needs others (each
+of some, or one of several), and an unprotected area with the SHA-256 of what stands before it. docs/FORMATS.md has the whole format.
 """
 
 import hashlib
@@ -22,10 +22,16 @@ def area(magic, entries):
     return struct.pack("<HH", magic, 4 + len(filled)) + filled
 
 
-def image(own, counter=None, needs=()):
-    """An image of this version, with this security counter, that needs each image at a version."""
+def asked(other, least):
+    """What asks for an image at a version, in a dependency or as an alternative of a group."""
+    return bytes([other, 0, 0, 0]) + least
+
+
+def image(own, counter=None, needs=(), groups=()):
+    """An image of this version, with this security counter, that needs each image at a version, and one of each group."""
     entries = [] if counter is None else [(0x50, struct.pack("<I", counter))]
-    entries += [(0x40, bytes([other, 0, 0, 0]) + least) for other, least in needs]
+    entries += [(0x40, asked(*it)) for it in needs]
+    entries += [(0xA0, b"".join(asked(*it) for it in group)) for group in groups]
     protected = area(0x6908, entries) if entries else b""
     lengths = struct.pack("<HHI", 32, len(protected), len(BODY))
     digested = struct.pack("<II", 0x96F3B83D, 0) + lengths + bytes(4) + own + bytes(4) + BODY + protected
@@ -41,6 +47,7 @@ IMAGES = {
     "counted": image(version(1, 0), counter=5, needs=[(1, version(2, 0))]),
     "patched": image(version(1, 1), counter=5),
     "stale": image(version(1, 2), counter=4),
+    "either": image(version(2, 0), groups=[[(1, version(2, 0)), (2, version(2, 0))]]),
 }
 
 
