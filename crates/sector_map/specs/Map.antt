@@ -78,6 +78,16 @@ pub record IsLaidOut (map : SectorMap) (chip : Chip) : Type 0 where
   pub whole : length chip.bytes ≡ size_of chip
   pub size : size_of chip < 2 ^ 32
 
+-- It is, and has the image.
+pub record HasImage (map : SectorMap) (image : ℕ) (chip : Chip) : Type 0 where
+  pub laid_out : IsLaidOut map chip
+  pub there : image < map.images
+
+-- It is, and has each image of the mask.
+pub record HasImages (map : SectorMap) (mask : ℕ) (chip : Chip) : Type 0 where
+  pub laid_out : IsLaidOut map chip
+  pub within : IsWithin map mask
+
 -- The bytes of a part.
 unfoldable pub part_of : SectorMap → Chip → Part → List ℕ
 part_of map chip part =
