@@ -1,10 +1,11 @@
 -- A flash over a file: what a contract sees of it, and what a write of it leaves.
-use Rattle.std.specs.Prelude.{◌≡◌, ◌↔◌, ℕ, ◌+◌, true, false, Bool, List, None, Some, Result, IsOk, IsErrOf}
+use Rattle.std.specs.Prelude.{◌≡◌, ◌↔◌, ℕ, ◌+◌, ◌*◌, true, false, Bool, List, replicate}
+use Rattle.std.specs.Prelude.{None, Some, Result, IsOk, IsErrOf}
 use Rattle.flash_model.specs.declared.error.FlashError.{FlashError}
 use Rattle.flash_model.specs.declared.error.FlashError.TheVariants.{Cut, Off}
 use Rattle.flash_model.specs.declared.torn.Torn.{Torn}
 use Rattle.flash_model.specs.Chip.{Chip}
-use Rattle.flash_model.specs.Memory.{Memory, memory_of, next_torn, torn}
+use Rattle.flash_model.specs.Memory.{Memory, memory_of, erased, next_torn, programmed, torn}
 use Rattle.file_flash.specs.declared.flash.FileFlash.{FileFlash}
 
 -- A flash over a file: the flash itself, the one in memory that has its bytes, and whether a write
@@ -68,3 +69,15 @@ pub record WritesThrough (result : Result Unit FlashError) (at : ℕ) (range : L
   pub armed : (left : Torn) → old.chip.is_on ≡ true → old.has_failed ≡ false
       → next_torn old.memory ≡ Some left
       → (new.memory ≡ torn at range left old.memory) × IsErrOf result Cut
+
+-- A program of these bytes ends so.
+abbrev pub ProgramsThrough : ℕ → List ℕ → OverFile → OverFile → Result Unit FlashError → Type 0
+ProgramsThrough at range old new result =
+    WritesThrough result at range (programmed at range old.memory) old new
+
+-- An erase of a sector ends so.
+abbrev pub ErasesThrough : ℕ → OverFile → OverFile → Result Unit FlashError → Type 0
+ErasesThrough sector old new result =
+    let at = sector * old.chip.sector_size in
+    let blank = replicate old.chip.sector_size 0xff in
+    WritesThrough result at blank (erased at blank old.memory) old new

@@ -1,10 +1,11 @@
 //! A flash in memory that is written through to a file.
 
-ghost use Rattle.std.specs.Prelude.{◌≡◌, ◌+◌, ◌*◌, ◌%◌, ◌<◌, ◌≤◌, ◌⊎◌, ℕ, length, false, true, replicate, slice_range, option_map, IfSome, IsErrOf, OnErr, OnOk};
+ghost use Rattle.std.specs.Prelude.{◌≡◌, ◌+◌, ◌<◌, ◌≤◌, ◌⊎◌, length, false, true, slice_range, option_map, IfSome, IsErrOf, OnOk};
 ghost use Rattle.std.specs.Bool.{OnFalse};
 ghost use Rattle.std.specs.Option.{ForSome};
-ghost use Rattle.flash_model.specs.Chip.{size_of, Reads, IsErased, SameOutside, Ends};
-ghost use Rattle.flash_model.specs.Memory.{erased, memory_of, programmed};
+ghost use Rattle.flash_model.specs.Chip.{size_of};
+ghost use Rattle.flash_model.specs.Calls.{CanProgram, Erases, Programs, ReadsBytes};
+ghost use Rattle.flash_model.specs.Memory.{memory_of};
 ghost use Rattle.flash_model.specs.Torn.{replaced};
 
 use crate::file::FlashFile;
@@ -34,7 +35,8 @@ use std::sync::ledger::{Blank, Book, Ledger, Share};
 /// nothing. So it is made in a function that is generic in both ledgers:
 ///
 /// ```text
-/// fn helper<L: Ledger, M: Ledger>(alloc: Global, blanks: (Blank, Blank), ..) -> Result<(), AllocError>
+/// fn helper<L: Ledger, M: Ledger>(alloc: Global, blanks: (Blank, Blank), ..)
+///     -> Result<(), AllocError>
 ///     requires name { blanks.0.name ≡ L.name }
 ///     requires parts { blanks.0.parts ≡ L.parts }
 ///     requires two { L.parts ≡ 2 }
@@ -161,7 +163,7 @@ impl<F: FlashFile, L: Ledger, M: Ledger> FileFlash<F, L, M> {
 }
 
 impl<F: FlashFile, L: Ledger, M: Ledger> Flash for FileFlash<F, L, M> {
-    ghost use Rattle.file_flash.specs.FileFlash.{chip_of, file_of, over_file, restarted, WritesThrough};
+    ghost use Rattle.file_flash.specs.FileFlash.{chip_of, file_of, over_file, restarted, ErasesThrough, ProgramsThrough};
 
     ghost chip = { chip_of };
 
@@ -181,11 +183,7 @@ impl<F: FlashFile, L: Ledger, M: Ledger> Flash for FileFlash<F, L, M> {
 
     fn read(&mut self, at: u32, out: &mut [u8]) -> Result<(), FlashError>
         requires { at + length out.old ≤ size_of (chip_of self.old) }
-        ensures same { chip_of self.new ≡ chip_of self.old }
-        ensures ok { OnOk result (Reads (chip_of self.old) at out.new) }
-        ensures on { OnOk result ((chip_of self.old).is_on ≡ true) }
-        ensures erases { OnOk result ((chip_of self.new).erases ≡ (chip_of self.old).erases) }
-        ensures ends { Ends result (chip_of self.old) (chip_of self.new) }
+        ensures chip { ReadsBytes at out.new (chip_of self.old) (chip_of self.new) result }
         ensures flash { over_file self.new ≡ over_file self.old }
         ensures file { file_of self.new ≡ file_of self.old }
     {
@@ -196,19 +194,10 @@ impl<F: FlashFile, L: Ledger, M: Ledger> Flash for FileFlash<F, L, M> {
     }
 
     fn program(&mut self, at: u32, bytes: &[u8]) -> Result<(), FlashError>
-        requires inside { at + length bytes.now ≤ size_of (chip_of self.old) }
-        requires erased { IsErased (chip_of self.old) at (length bytes.now) }
-        requires place { at % 8 ≡ 0 }
-        requires units { length bytes.now % 8 ≡ 0 }
-        requires some { 8 ≤ length bytes.now }
-        ensures outside { SameOutside at (length bytes.now) (chip_of self.old) (chip_of self.new) }
-        ensures ok { OnOk result (Reads (chip_of self.new) at bytes.now) }
-        ensures on { OnOk result ((chip_of self.old).is_on ≡ true) }
-        ensures erases { (chip_of self.new).erases ≡ (chip_of self.old).erases }
-        ensures ends { Ends result (chip_of self.old) (chip_of self.new) }
-        ensures flash { let old = over_file self.old in
-            WritesThrough result at bytes.now (programmed at bytes.now old.memory)
-            old (over_file self.new) }
+        requires { CanProgram at (length bytes.now) (chip_of self.old) }
+        ensures chip { Programs at bytes.now (chip_of self.old) (chip_of self.new) result }
+        ensures flash { ProgramsThrough at bytes.now (over_file self.old) (over_file self.new)
+            result }
         ensures file { ((chip_of self.old).is_on ≡ false ⊎ (over_file self.old).has_failed ≡ true)
             → file_of self.new ≡ file_of self.old }
     {
@@ -228,18 +217,8 @@ impl<F: FlashFile, L: Ledger, M: Ledger> Flash for FileFlash<F, L, M> {
 
     fn erase(&mut self, sector: u32) -> Result<(), FlashError>
         requires { sector < (chip_of self.old).sectors }
-        ensures outside { SameOutside (sector * (chip_of self.old).sector_size)
-            (chip_of self.old).sector_size (chip_of self.old) (chip_of self.new) }
-        ensures ok { OnOk result (IsErased (chip_of self.new)
-            (sector * (chip_of self.old).sector_size) (chip_of self.old).sector_size) }
-        ensures on { OnOk result ((chip_of self.old).is_on ≡ true) }
-        ensures erases { OnOk result ((chip_of self.new).erases ≡ (chip_of self.old).erases + 1) }
-        ensures uncounted { OnErr result ((chip_of self.new).erases ≡ (chip_of self.old).erases) }
-        ensures ends { Ends result (chip_of self.old) (chip_of self.new) }
-        ensures flash { let old = over_file self.old in
-            let at = sector * old.chip.sector_size in
-            let blank = replicate old.chip.sector_size 0xff in
-            WritesThrough result at blank (erased at blank old.memory) old (over_file self.new) }
+        ensures chip { Erases sector (chip_of self.old) (chip_of self.new) result }
+        ensures flash { ErasesThrough sector (over_file self.old) (over_file self.new) result }
         ensures file { ((chip_of self.old).is_on ≡ false ⊎ (over_file self.old).has_failed ≡ true)
             → file_of self.new ≡ file_of self.old }
     {

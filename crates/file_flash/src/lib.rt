@@ -3,8 +3,8 @@
 //!
 //! Promises, over any file and any cuts: `FileFlash` keeps the trait `Flash`, also where a write of
 //! the file fails, which is a cut for good. Until one fails, what the file is known to hold is what
-//! the flash holds. Does not allocate. `boot_cli` calls it; the layers below see a flash, and don't
-//! know of the file.
+//! the flash holds. Does not allocate. A program that keeps a device in a file may call it; the
+//! layers below see a flash, and don't know of the file.
 #![tactic(auto)]
 
 mod file;

@@ -3,3 +3,4 @@ pub mod Codes
 pub mod Memory
 pub mod Torn
 pub mod Units
+pub mod Calls

@@ -1,6 +1,6 @@
 -- A flash in memory: what a contract sees of it, and what a write of it leaves.
-use Rattle.std.specs.Prelude.{◌≡◌, ℕ, ◌+◌, ◌-◌, ◌^◌, true, false, List, min}
-use Rattle.std.specs.Prelude.{Option, Some, None, Result, IsOk, IsErrOf}
+use Rattle.std.specs.Prelude.{◌≡◌, ℕ, ◌+◌, ◌-◌, ◌*◌, ◌^◌, ◌++◌, ◌∷◌, [], true, false, List, min, replicate}
+use Rattle.std.specs.Prelude.{Option, Some, None, Result, IsOk, IsErrOf, OnErr, OnOk}
 use Rattle.flash_model.specs.declared.error.FlashError.{FlashError}
 use Rattle.flash_model.specs.declared.error.FlashError.TheVariants.{Cut, Off}
 use Rattle.flash_model.specs.declared.memory.MemFlash.{MemFlash}
@@ -83,9 +83,33 @@ torn at range left old = record {
 
 -- A write of these bytes ends as the flash was armed. A flash that is off refuses it, and doesn't
 -- count it; one that isn't armed is done; one that is armed is cut, and leaves what was armed.
-pub record Writes (result : Result Unit FlashError) (at : ℕ) (range : List ℕ) (done old new : Memory)
-    : Type 0 where
+pub record Writes (result : Result Unit FlashError) (at : ℕ) (range : List ℕ)
+    (done old new : Memory) : Type 0 where
   pub off : old.chip.is_on ≡ false → IsErrOf result Off × (new ≡ old)
   pub on : old.chip.is_on ≡ true → next_torn old ≡ None → IsOk result × (new ≡ done)
   pub armed : (left : Torn) → old.chip.is_on ≡ true → next_torn old ≡ Some left
       → IsErrOf result Cut × (new ≡ torn at range left old)
+
+-- A program of these bytes ends so.
+abbrev pub ProgramsAsArmed : ℕ → List ℕ → Memory → Memory → Result Unit FlashError → Type 0
+ProgramsAsArmed at range old new result =
+    Writes result at range (programmed at range old) old new
+
+-- An erase of a sector ends so.
+abbrev pub ErasesAsArmed : ℕ → Memory → Memory → Result Unit FlashError → Type 0
+ErasesAsArmed sector old new result =
+    let at = sector * old.chip.sector_size in
+    let blank = replicate old.chip.sector_size 0xff in
+    Writes result at blank (erased at blank old) old new
+
+-- A call arms one write more, the k-th, and says what its cut leaves.
+pub record Arms (k : ℕ) (left : Torn) (old new : Memory) {T E : Type 0} (result : Result T E)
+    : Type 0 where
+  -- The flash itself stays as it is,
+  pub chip : new.chip ≡ old.chip
+  -- and so does the count.
+  pub writes : new.writes ≡ old.writes
+  -- The write is armed behind the others where the call ends,
+  pub armed : OnOk result (new.armed ≡ old.armed ++ record { at = k; torn = left } ∷ [])
+  -- and isn't where it fails.
+  pub same : OnErr result (new.armed ≡ old.armed)

@@ -1,7 +1,8 @@
 //! What a driver of a flash has to do.
 
-ghost use Rattle.std.specs.Prelude.{◌≡◌, ◌^◌, ◌+◌, ◌*◌, ◌%◌, ◌<◌, ◌≤◌, ℕ, length, slice_index, true, OnOk, OnErr};
-ghost use Rattle.flash_model.specs.Chip.{Chip, size_of, Reads, IsErased, SameOutside, Ends};
+ghost use Rattle.std.specs.Prelude.{◌≡◌, ◌^◌, ◌+◌, ◌*◌, ◌%◌, ◌<◌, ◌≤◌, ℕ, length, slice_index, true};
+ghost use Rattle.flash_model.specs.Chip.{Chip, size_of, IsErased};
+ghost use Rattle.flash_model.specs.Calls.{Erases, Programs, ReadsBytes};
 
 use crate::error::FlashError;
 
@@ -39,11 +40,7 @@ pub trait Flash {
     /// `Off` where the flash was off.
     fn read(&mut self, at: u32, out: &mut [u8]) -> Result<(), FlashError>
         requires { at + length out.old ≤ size_of (chip self.old) }
-        ensures same { chip self.new ≡ chip self.old }
-        ensures ok { OnOk result (Reads (chip self.old) at out.new) }
-        ensures on { OnOk result ((chip self.old).is_on ≡ true) }
-        ensures erases { OnOk result ((chip self.new).erases ≡ (chip self.old).erases) }
-        ensures ends { Ends result (chip self.old) (chip self.new) };
+        ensures { ReadsBytes at out.new (chip self.old) (chip self.new) result };
 
     /// Writes whole units, one at least, into a range that is erased throughout. Address and
     /// length, in bytes, are multiples of 8.
@@ -57,11 +54,7 @@ pub trait Flash {
         requires place { at % 8 ≡ 0 }
         requires units { length bytes.now % 8 ≡ 0 }
         requires some { 8 ≤ length bytes.now }
-        ensures outside { SameOutside at (length bytes.now) (chip self.old) (chip self.new) }
-        ensures ok { OnOk result (Reads (chip self.new) at bytes.now) }
-        ensures on { OnOk result ((chip self.old).is_on ≡ true) }
-        ensures erases { (chip self.new).erases ≡ (chip self.old).erases }
-        ensures ends { Ends result (chip self.old) (chip self.new) };
+        ensures { Programs at bytes.now (chip self.old) (chip self.new) result };
 
     /// Erases a sector, given by its number from 0: each of its bytes is 0xFF then.
     ///
@@ -71,14 +64,7 @@ pub trait Flash {
     /// was off before: nothing changed.
     fn erase(&mut self, sector: u32) -> Result<(), FlashError>
         requires { sector < (chip self.old).sectors }
-        ensures outside { SameOutside (sector * (chip self.old).sector_size)
-            (chip self.old).sector_size (chip self.old) (chip self.new) }
-        ensures ok { OnOk result (IsErased (chip self.new)
-            (sector * (chip self.old).sector_size) (chip self.old).sector_size) }
-        ensures on { OnOk result ((chip self.old).is_on ≡ true) }
-        ensures erases { OnOk result ((chip self.new).erases ≡ (chip self.old).erases + 1) }
-        ensures uncounted { OnErr result ((chip self.new).erases ≡ (chip self.old).erases) }
-        ensures ends { Ends result (chip self.old) (chip self.new) };
+        ensures { Erases sector (chip self.old) (chip self.new) result };
 
     /// Gives the flash power again. No byte changes.
     fn restart(&mut self)

@@ -19,17 +19,17 @@
 //! parts, not addresses.
 #![tactic(auto)]
 
+mod erased_ranges;
 mod error;
 mod flash;
 mod memory;
-mod reading;
 mod tearing;
 mod torn;
 mod unit;
 
+pub use erased_ranges::is_erased;
 pub use error::FlashError;
 pub use flash::Flash;
 pub use memory::MemFlash;
-pub use reading::is_erased;
 pub use torn::{Armed, Torn};
 pub use unit::{FLAG, UNIT, is_unit_erased, set_unit};

@@ -1,6 +1,6 @@
 //! A flash in memory, of which any write can be cut.
 
-ghost use Rattle.std.specs.Prelude.{◌≡◌, ◌+◌, ◌-◌, ◌*◌, ◌/◌, ◌%◌, ◌^◌, ◌<◌, ◌≤◌, ◌++◌, ◌∷◌, [], ℕ, All, length, min, replicate, slice_index, true, vec_len, IfOk, IsTrue, OnErr, OnOk};
+ghost use Rattle.std.specs.Prelude.{◌≡◌, ◌+◌, ◌-◌, ◌*◌, ◌/◌, ◌%◌, ◌^◌, ◌<◌, [], ℕ, All, length, min, replicate, slice_index, vec_len, IfOk};
 
 use crate::error::FlashError;
 use crate::flash::Flash;
@@ -71,7 +71,7 @@ pub struct MemFlash<L: Ledger> {
 }
 
 impl<L: Ledger> MemFlash<L> {
-    ghost use Rattle.flash_model.specs.Memory.{chip_of, memory_of, new_chip};
+    ghost use Rattle.flash_model.specs.Memory.{chip_of, memory_of, new_chip, Arms};
 
     /// A flash of so many sectors of `sector_size` bytes each, all erased, and on. Nothing is
     /// armed.
@@ -164,11 +164,7 @@ impl<L: Ledger> MemFlash<L> {
     /// Where memory for one more is refused: the flash is as it was.
     pub fn arm(&mut self, k: u64, torn: Torn) -> Result<(), AllocError>
         requires { k < 2 ^ 64 - 1 }
-        ensures chip { chip_of self.new ≡ chip_of self.old }
-        ensures writes { (memory_of self.new).writes ≡ (memory_of self.old).writes }
-        ensures armed { OnOk result ((memory_of self.new).armed
-            ≡ (memory_of self.old).armed ++ record { at = k; torn = torn } ∷ []) }
-        ensures same { OnErr result ((memory_of self.new).armed ≡ (memory_of self.old).armed) }
+        ensures { Arms k torn (memory_of self.old) (memory_of self.new) result }
     {
         self.armed.push(Armed { at: k, torn })?;
         Ok(())
@@ -197,9 +193,10 @@ impl<L: Ledger> MemFlash<L> {
 }
 
 impl<L: Ledger> Flash for MemFlash<L> {
-    ghost use Rattle.std.specs.Prelude.{◌≡◌, ◌+◌, ◌*◌, ◌<◌, ◌≤◌, ◌^◌, ℕ, length, true, slice_index};
-    ghost use Rattle.flash_model.specs.Chip.{size_of, Reads, IsErased, SameOutside, Ends};
-    ghost use Rattle.flash_model.specs.Memory.{chip_of, erased, memory_of, programmed, Writes};
+    ghost use Rattle.std.specs.Prelude.{◌≡◌, ◌+◌, ◌<◌, ◌≤◌, length, true};
+    ghost use Rattle.flash_model.specs.Chip.{size_of};
+    ghost use Rattle.flash_model.specs.Calls.{CanProgram, Erases, Programs, ReadsBytes};
+    ghost use Rattle.flash_model.specs.Memory.{chip_of, memory_of, ErasesAsArmed, ProgramsAsArmed};
 
     ghost chip = { chip_of };
 
@@ -219,11 +216,7 @@ impl<L: Ledger> Flash for MemFlash<L> {
 
     fn read(&mut self, at: u32, out: &mut [u8]) -> Result<(), FlashError>
         requires { at + length out.old ≤ size_of (chip_of self.old) }
-        ensures same { chip_of self.new ≡ chip_of self.old }
-        ensures ok { OnOk result (Reads (chip_of self.old) at out.new) }
-        ensures on { OnOk result ((chip_of self.old).is_on ≡ true) }
-        ensures erases { OnOk result ((chip_of self.new).erases ≡ (chip_of self.old).erases) }
-        ensures ends { Ends result (chip_of self.old) (chip_of self.new) }
+        ensures chip { ReadsBytes at out.new (chip_of self.old) (chip_of self.new) result }
         ensures memory { memory_of self.new ≡ memory_of self.old }
     {
         if !self.is_on {
@@ -235,18 +228,10 @@ impl<L: Ledger> Flash for MemFlash<L> {
     }
 
     fn program(&mut self, at: u32, bytes: &[u8]) -> Result<(), FlashError>
-        requires inside { at + length bytes.now ≤ size_of (chip_of self.old) }
-        requires erased { IsErased (chip_of self.old) at (length bytes.now) }
-        requires place { at % 8 ≡ 0 }
-        requires units { length bytes.now % 8 ≡ 0 }
-        requires some { 8 ≤ length bytes.now }
-        ensures outside { SameOutside at (length bytes.now) (chip_of self.old) (chip_of self.new) }
-        ensures ok { OnOk result (Reads (chip_of self.new) at bytes.now) }
-        ensures on { OnOk result ((chip_of self.old).is_on ≡ true) }
-        ensures erases { (chip_of self.new).erases ≡ (chip_of self.old).erases }
-        ensures ends { Ends result (chip_of self.old) (chip_of self.new) }
-        ensures memory { let old = memory_of self.old in
-            Writes result at bytes.now (programmed at bytes.now old) old (memory_of self.new) }
+        requires { CanProgram at (length bytes.now) (chip_of self.old) }
+        ensures chip { Programs at bytes.now (chip_of self.old) (chip_of self.new) result }
+        ensures memory { ProgramsAsArmed at bytes.now (memory_of self.old) (memory_of self.new)
+            result }
     {
         if !self.is_on {
             return Err(FlashError::Off);
@@ -269,18 +254,8 @@ impl<L: Ledger> Flash for MemFlash<L> {
 
     fn erase(&mut self, sector: u32) -> Result<(), FlashError>
         requires { sector < (chip_of self.old).sectors }
-        ensures outside { SameOutside (sector * (chip_of self.old).sector_size)
-            (chip_of self.old).sector_size (chip_of self.old) (chip_of self.new) }
-        ensures ok { OnOk result (IsErased (chip_of self.new)
-            (sector * (chip_of self.old).sector_size) (chip_of self.old).sector_size) }
-        ensures on { OnOk result ((chip_of self.old).is_on ≡ true) }
-        ensures erases { OnOk result ((chip_of self.new).erases ≡ (chip_of self.old).erases + 1) }
-        ensures uncounted { OnErr result ((chip_of self.new).erases ≡ (chip_of self.old).erases) }
-        ensures ends { Ends result (chip_of self.old) (chip_of self.new) }
-        ensures memory { let old = memory_of self.old in
-            let at = sector * old.chip.sector_size in
-            let blank = replicate old.chip.sector_size 0xff in
-            Writes result at blank (erased at blank old) old (memory_of self.new) }
+        ensures chip { Erases sector (chip_of self.old) (chip_of self.new) result }
+        ensures memory { ErasesAsArmed sector (memory_of self.old) (memory_of self.new) result }
     {
         let n = self.sector_size as usize;
         let at = sector as usize * n;

@@ -1,12 +1,12 @@
 //! Units: eight bytes that are programmed together, after they were erased.
 
-ghost use Rattle.std.specs.Prelude.{◌≡◌, ◌+◌, ◌%◌, ◌≤◌, ◌↔◌, false, true, IfOk, IsOk, IsErrOf, IsTrue, OnOk};
-ghost use Rattle.flash_model.specs.Chip.{size_of, Ends, IsErased, Reads, SameOutside};
-ghost use Rattle.flash_model.specs.Units.{IsSet};
+ghost use Rattle.std.specs.Prelude.{◌≡◌, ◌+◌, ◌%◌, ◌≤◌};
+ghost use Rattle.flash_model.specs.Chip.{size_of, IsErased};
+ghost use Rattle.flash_model.specs.Calls.{SetsUnit, TellsUnitErased};
 
+use crate::erased_ranges::is_erased;
 use crate::error::FlashError;
 use crate::flash::Flash;
-use crate::reading::is_erased;
 
 /// The length of a unit in bytes.
 pub const UNIT: u32 = 8;
@@ -22,12 +22,7 @@ pub const FLAG: [u8; 8] = [0x01, 0xff, 0xff, 0xff, 0xff, 0xff, 0xff, 0xff];
 /// `Off` where the flash is off.
 pub fn is_unit_erased<F: Flash>(flash: &mut F, at: u32) -> Result<bool, FlashError>
     requires { at + 8 ≤ size_of (F.chip flash.old) }
-    ensures same { F.chip flash.new ≡ F.chip flash.old }
-    ensures ok { IfOk result (λ yes. IsTrue yes ↔ IsErased (F.chip flash.old) at 8) }
-    ensures answers { (F.chip flash.old).is_on ≡ true → IsOk result }
-    ensures refuses { (F.chip flash.old).is_on ≡ false → IsErrOf result FlashError.Off }
-    ensures erases { (F.chip flash.new).erases ≡ (F.chip flash.old).erases }
-    ensures ends { Ends result (F.chip flash.old) (F.chip flash.new) }
+    ensures { TellsUnitErased at (F.chip flash.old) (F.chip flash.new) result }
 {
     is_erased(flash, at, UNIT)
 }
@@ -43,12 +38,7 @@ pub fn set_unit<F: Flash>(flash: &mut F, at: u32) -> Result<(), FlashError>
     requires inside { at + 8 ≤ size_of (F.chip flash.old) }
     requires erased { IsErased (F.chip flash.old) at 8 }
     requires place { at % 8 ≡ 0 }
-    ensures outside { SameOutside at 8 (F.chip flash.old) (F.chip flash.new) }
-    ensures ok { OnOk result (IsSet (F.chip flash.new) at) }
-    ensures flag { OnOk result (Reads (F.chip flash.new) at FLAG) }
-    ensures on { OnOk result ((F.chip flash.old).is_on ≡ true) }
-    ensures erases { (F.chip flash.new).erases ≡ (F.chip flash.old).erases }
-    ensures ends { Ends result (F.chip flash.old) (F.chip flash.new) }
+    ensures { SetsUnit at FLAG (F.chip flash.old) (F.chip flash.new) result }
 {
     flash.program(at, &FLAG)
 }

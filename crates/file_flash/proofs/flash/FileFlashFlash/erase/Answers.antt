@@ -5,12 +5,12 @@ use Rattle.file_flash.proofs.flash.FileFlashFlash.erase.Goals as goal
 pub invariant_of-self-then-not-self-2-clause-written : goal.invariant_of-self-then-not-self-2-clause-written
 invariant_of-self-then-not-self-2-clause-written g c = still_written c.write_through.result _ _ _ _ _ _ _
     c.is_err-self.ensures.value (rw c.sector_size-n.ensures at c.write_through.ensures)
-    c.erase.ensures.outside (search rules) (c.args.self.now.written c.if-self.false)
+    c.erase.ensures.chip.outside (search rules) (c.args.self.now.written c.if-self.false)
 
 pub invariant_of-self-2-clause-written : goal.invariant_of-self-2-clause-written
 invariant_of-self-2-clause-written g c = still_written c.write_through.result _ _ _ _ _ _ _
     c.is_err-self.ensures.value (rw c.sector_size-n.ensures at c.write_through.ensures)
-    c.erase.ensures.outside (search rules) (c.args.self.now.written c.if-self.false)
+    c.erase.ensures.chip.outside (search rules) (c.args.self.now.written c.if-self.false)
 
 pub returns-clause-flash : goal.returns-clause-flash
 returns-clause-flash g c = done_through c.erase.result _ _ _ _ _ c.erase.ensures.memory

@@ -4,7 +4,7 @@ use Rattle.file_flash.proofs.flash.FileFlashFlash.program.Goals as goal
 
 pub invariant_of-self-clause-written : goal.invariant_of-self-clause-written
 invariant_of-self-clause-written g c = still_written c.write_through.result _ _ _ _ _ _ _
-    c.is_err-self.ensures.value c.write_through.ensures c.program.ensures.outside (search rules)
+    c.is_err-self.ensures.value c.write_through.ensures c.program.ensures.chip.outside (search rules)
     (c.args.self.now.written c.if-self.false)
 
 pub returns-clause-flash : goal.returns-clause-flash

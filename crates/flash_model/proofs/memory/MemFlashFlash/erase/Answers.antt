@@ -14,14 +14,21 @@ returns-in-None-clause-memory g c =
     (items_after _ _ _ _ (rw c.deref_mut.ensures.value at c.blank.ensures.bytes) (length-replaced _ _ _ inside) (search rules))
     refl (search rules) (search rules))
 
-pub returns-in-Some-clause-outside : goal.returns-in-Some-clause-outside
-returns-in-Some-clause-outside g c =
+pub returns-in-Some-clause-chip : goal.returns-in-Some-clause-chip
+returns-in-Some-clause-chip g c =
     let flash = c.args.self.now in
     let inside = blank_inside c.args.sector flash.sectors flash.sector_size flash.bytes.items c.requires flash.whole in
-    outside_of_torn c.in-Some.torn.now _ _ _ _ _ (length-replicate {A = ℕ} flash.sector_size 255) inside
-    (items_after_torn_blank c.in-Some.torn.now _ _ _ _ _
-    (rw c.deref_mut-in-Some.ensures.value at c.tear_erase.ensures.bytes) inside (search rules))
-    refl refl
+    record {
+      outside = outside_of_torn c.in-Some.torn.now _ _ _ _ _ (length-replicate {A = ℕ} flash.sector_size 255) inside
+          (items_after_torn_blank c.in-Some.torn.now _ _ _ _ _
+          (rw c.deref_mut-in-Some.ensures.value at c.tear_erase.ensures.bytes) inside (search rules))
+          refl refl;
+      ok = search rules;
+      on = search rules;
+      erases = search rules;
+      uncounted = search rules;
+      ends = search rules;
+    }
 
 pub returns-in-Some-clause-memory : goal.returns-in-Some-clause-memory
 returns-in-Some-clause-memory g c =

@@ -12,13 +12,19 @@ returns-in-None-clause-memory g c =
     (items_after _ _ _ _ (rw c.deref_mut.ensures.value at c.put.ensures.bytes) (length-replaced _ _ _ inside) (search rules))
     refl refl (search rules))
 
-pub returns-in-Some-clause-outside : goal.returns-in-Some-clause-outside
-returns-in-Some-clause-outside g c =
+pub returns-in-Some-clause-chip : goal.returns-in-Some-clause-chip
+returns-in-Some-clause-chip g c =
     let inside : c.args.at + length c.args.bytes.now ≤ length c.args.self.now.bytes.items = search rules in
-    outside_of_torn c.in-Some.torn.now _ _ _ _ _ refl inside
-    (items_after _ _ _ _ (rw c.deref_mut-in-Some.ensures.value at c.tear_program.ensures.bytes)
-    (length-torn_at c.in-Some.torn.now _ _ _ inside) (search rules))
-    refl refl
+    record {
+      outside = outside_of_torn c.in-Some.torn.now _ _ _ _ _ refl inside
+          (items_after _ _ _ _ (rw c.deref_mut-in-Some.ensures.value at c.tear_program.ensures.bytes)
+          (length-torn_at c.in-Some.torn.now _ _ _ inside) (search rules))
+          refl refl;
+      ok = search rules;
+      on = search rules;
+      erases = search rules;
+      ends = search rules;
+    }
 
 pub returns-in-Some-clause-memory : goal.returns-in-Some-clause-memory
 returns-in-Some-clause-memory g c =

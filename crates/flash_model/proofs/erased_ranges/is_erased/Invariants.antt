@@ -1,6 +1,6 @@
 use Rattle.std.proofs.Common.{true, ◌≡◌, ◌-◌, ◌<◌, ◌≤◌}
 use Rattle.flash_model.specs.Chip.{IsErased}
-use Rattle.flash_model.proofs.reading.is_erased.Given as goal
+use Rattle.flash_model.proofs.erased_ranges.is_erased.Given as goal
 
 abbrev pub invariant-loop-done : goal.invariant-loop-done
 invariant-loop-done g l = record {

@@ -1,7 +1,8 @@
 //! Whether a range of a flash is erased.
 
-ghost use Rattle.std.specs.Prelude.{◌≡◌, ◌+◌, ◌<◌, ◌≤◌, ◌↔◌, false, true, length, slice_index, EachIndex, IfOk, IsOk, IsErrOf, IsTrue, OnOk};
-ghost use Rattle.flash_model.specs.Chip.{size_of, Ends, IsErased};
+ghost use Rattle.std.specs.Prelude.{◌≡◌, ◌+◌, ◌≤◌, ◌↔◌, length, slice_index, EachIndex, IsTrue};
+ghost use Rattle.flash_model.specs.Chip.{size_of};
+ghost use Rattle.flash_model.specs.Calls.{TellsErased, TellsPieceErased};
 
 use crate::error::FlashError;
 use crate::flash::Flash;
@@ -20,11 +21,7 @@ fn is_all_erased(bytes: &[u8]) -> bool
 #[tactic(auto, using(crate::proofs::Erased::erased_of_reads, crate::proofs::Erased::reads_of_erased))]
 fn is_piece_erased<F: Flash>(flash: &mut F, at: u32, piece: &mut [u8]) -> Result<bool, FlashError>
     requires { at + length piece.old ≤ size_of (F.chip flash.old) }
-    ensures same { F.chip flash.new ≡ F.chip flash.old }
-    ensures ok { IfOk result (λ yes. IsTrue yes
-        ↔ IsErased (F.chip flash.old) at (length piece.old)) }
-    ensures on { OnOk result ((F.chip flash.old).is_on ≡ true) }
-    ensures ends { Ends result (F.chip flash.old) (F.chip flash.new) }
+    ensures { TellsPieceErased at (length piece.old) (F.chip flash.old) (F.chip flash.new) result }
 {
     flash.read(at, piece)?;
     Ok(is_all_erased(piece))
@@ -41,12 +38,7 @@ fn is_piece_erased<F: Flash>(flash: &mut F, at: u32, piece: &mut [u8]) -> Result
 #[tactic(auto, using(crate::proofs::Erased::erased_joined, crate::proofs::Erased::erased_narrower))]
 pub fn is_erased<F: Flash>(flash: &mut F, at: u32, len: u32) -> Result<bool, FlashError>
     requires { at + len ≤ size_of (F.chip flash.old) }
-    ensures same { F.chip flash.new ≡ F.chip flash.old }
-    ensures ok { IfOk result (λ yes. IsTrue yes ↔ IsErased (F.chip flash.old) at len) }
-    ensures answers { (F.chip flash.old).is_on ≡ true → IsOk result }
-    ensures refuses { (F.chip flash.old).is_on ≡ false → 0 < len → IsErrOf result FlashError.Off }
-    ensures erases { (F.chip flash.new).erases ≡ (F.chip flash.old).erases }
-    ensures ends { Ends result (F.chip flash.old) (F.chip flash.new) }
+    ensures { TellsErased at len (F.chip flash.old) (F.chip flash.new) result }
 {
     let mut buffer = [0u8; PIECE];
     let mut done = 0;

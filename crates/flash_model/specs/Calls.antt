@@ -1,0 +1,112 @@
+-- What a call on a flash leaves: each record is one call.
+use Rattle.std.specs.Prelude.{◌≡◌, ℕ, ◌+◌, ◌*◌, ◌%◌, ◌<◌, ◌≤◌, ◌↔◌, Bool, true, false, List, length}
+use Rattle.std.specs.Prelude.{Result, IfOk, IsErrOf, IsOk, IsTrue, OnErr, OnOk}
+use Rattle.flash_model.specs.declared.error.FlashError.{FlashError}
+use Rattle.flash_model.specs.declared.error.FlashError.TheVariants.{Off}
+use Rattle.flash_model.specs.Chip.{Chip, size_of, Ends, IsErased, Reads, SameOutside}
+use Rattle.flash_model.specs.Units.{IsSet}
+
+-- A call reads these bytes from an address on.
+pub record ReadsBytes (at : ℕ) (bytes : List ℕ) (old new : Chip) {T : Type 0}
+    (result : Result T FlashError) : Type 0 where
+  -- Nothing changes,
+  pub same : new ≡ old
+  -- and where the call ends, these bytes stand there,
+  pub ok : OnOk result (Reads old at bytes)
+  -- and the flash was on.
+  pub on : OnOk result (old.is_on ≡ true)
+  pub erases : OnOk result (new.erases ≡ old.erases)
+  pub ends : Ends result old new
+
+-- So many bytes can be programmed from an address on: whole units, one at least, that lie in the
+-- flash and are erased.
+pub record CanProgram (at n : ℕ) (chip : Chip) : Type 0 where
+  pub inside : at + n ≤ size_of chip
+  pub erased : IsErased chip at n
+  pub place : at % 8 ≡ 0
+  pub units : n % 8 ≡ 0
+  pub some : 8 ≤ n
+
+-- A call programs these bytes from an address on.
+pub record Programs (at : ℕ) (bytes : List ℕ) (old new : Chip) {T : Type 0}
+    (result : Result T FlashError) : Type 0 where
+  -- Nothing else is written,
+  pub outside : SameOutside at (length bytes) old new
+  -- and where the call ends, these bytes stand there,
+  pub ok : OnOk result (Reads new at bytes)
+  -- and the flash was on.
+  pub on : OnOk result (old.is_on ≡ true)
+  -- No sector is erased.
+  pub erases : new.erases ≡ old.erases
+  pub ends : Ends result old new
+
+-- A call erases a sector.
+pub record Erases (sector : ℕ) (old new : Chip) {T : Type 0} (result : Result T FlashError)
+    : Type 0 where
+  -- No other sector is written,
+  pub outside : SameOutside (sector * old.sector_size) old.sector_size old new
+  -- and where the call ends, this one is erased,
+  pub ok : OnOk result (IsErased new (sector * old.sector_size) old.sector_size)
+  -- and the flash was on.
+  pub on : OnOk result (old.is_on ≡ true)
+  -- Such an erase is counted,
+  pub erases : OnOk result (new.erases ≡ old.erases + 1)
+  -- and no other is.
+  pub uncounted : OnErr result (new.erases ≡ old.erases)
+  pub ends : Ends result old new
+
+-- A call reads a piece of so many bytes from an address on, and tells whether it is erased.
+pub record TellsPieceErased (at n : ℕ) (old new : Chip) (result : Result Bool FlashError)
+    : Type 0 where
+  -- Nothing changes,
+  pub same : new ≡ old
+  -- the answer is exact,
+  pub ok : IfOk result (λ yes. IsTrue yes ↔ IsErased old at n)
+  -- and where the call ends, the flash was on.
+  pub on : OnOk result (old.is_on ≡ true)
+  pub ends : Ends result old new
+
+-- A call tells whether so many bytes from an address on are erased.
+pub record TellsErased (at n : ℕ) (old new : Chip) (result : Result Bool FlashError)
+    : Type 0 where
+  -- Nothing changes,
+  pub same : new ≡ old
+  -- and the answer is exact.
+  pub ok : IfOk result (λ yes. IsTrue yes ↔ IsErased old at n)
+  -- There is one where the flash is on,
+  pub answers : old.is_on ≡ true → IsOk result
+  -- and none where it is off, but of no bytes.
+  pub refuses : old.is_on ≡ false → 0 < n → IsErrOf result Off
+  -- No sector is erased.
+  pub erases : new.erases ≡ old.erases
+  pub ends : Ends result old new
+
+-- A call tells whether the unit at an address is erased.
+pub record TellsUnitErased (at : ℕ) (old new : Chip) (result : Result Bool FlashError)
+    : Type 0 where
+  -- Nothing changes,
+  pub same : new ≡ old
+  -- and the answer is exact.
+  pub ok : IfOk result (λ yes. IsTrue yes ↔ IsErased old at 8)
+  -- There is one where the flash is on,
+  pub answers : old.is_on ≡ true → IsOk result
+  -- and none where it is off.
+  pub refuses : old.is_on ≡ false → IsErrOf result Off
+  -- No sector is erased.
+  pub erases : new.erases ≡ old.erases
+  pub ends : Ends result old new
+
+-- A call sets the unit at an address, by programming these bytes.
+pub record SetsUnit (at : ℕ) (bytes : List ℕ) (old new : Chip) {T : Type 0}
+    (result : Result T FlashError) : Type 0 where
+  -- Nothing else is written,
+  pub outside : SameOutside at 8 old new
+  -- and where the call ends, the unit is set,
+  pub ok : OnOk result (IsSet new at)
+  -- holds these bytes,
+  pub flag : OnOk result (Reads new at bytes)
+  -- and the flash was on.
+  pub on : OnOk result (old.is_on ≡ true)
+  -- No sector is erased.
+  pub erases : new.erases ≡ old.erases
+  pub ends : Ends result old new
