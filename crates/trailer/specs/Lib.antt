@@ -3,3 +3,9 @@ pub mod Standing
 pub mod SwapTable
 pub mod Settled
 pub mod Status
+pub mod Reads
+pub mod Writes
+pub mod Erases
+pub mod Requests
+pub mod Withdraws
+pub mod Settles

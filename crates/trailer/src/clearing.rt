@@ -1,10 +1,9 @@
 //! Erasing trailers.
 
-ghost use Rattle.std.specs.Prelude.{◌≡◌, ℕ, ◌+◌, ◌<◌, true, OnOk, IfOk, if◌then◌else◌};
-ghost use Rattle.flash_model.specs.Chip.{Chip, Ends};
-ghost use Rattle.sector_map.specs.Map.{IsLaidOut, Keeps};
-ghost use Rattle.sector_map.specs.Part.{TrailerOf, only};
-ghost use Rattle.trailer.specs.Fields.{are_erased, erased_fields, fields_at, trailer_bytes};
+ghost use Rattle.sector_map.specs.Map.{HasImage};
+ghost use Rattle.trailer.specs.Fields.{are_erased, trailer_bytes};
+ghost use Rattle.trailer.specs.Reads.{Tells};
+ghost use Rattle.trailer.specs.Erases.{Clears, ErasesTrailer};
 
 use flash_model::{Flash, FlashError, is_erased};
 use sector_map::{SectorMap, Side};
@@ -17,13 +16,9 @@ fn is_trailer_erased<F: Flash>(
     image: u8,
     side: Side,
 ) -> Result<bool, FlashError>
-    requires laid_out { IsLaidOut map.now (F.chip flash.old) }
-    requires there { image < map.now.images }
-    ensures same { F.chip flash.new ≡ F.chip flash.old }
-    ensures ok { IfOk result
-        (λ yes. yes ≡ are_erased (trailer_bytes map.now (F.chip flash.old) image side)) }
-    ensures erases { OnOk result ((F.chip flash.new).erases ≡ (F.chip flash.old).erases) }
-    ensures ends { Ends result (F.chip flash.old) (F.chip flash.new) }
+    requires { HasImage map.now image (F.chip flash.old) }
+    ensures { Tells (are_erased (trailer_bytes map.now (F.chip flash.old) image side))
+        (F.chip flash.old) (F.chip flash.new) result }
 {
     let erased = is_erased(flash, map.trailer_start(image, side), map.sector_size)?;
     Ok(erased)
@@ -37,15 +32,8 @@ pub(crate) fn erase_trailer<F: Flash>(
     image: u8,
     side: Side,
 ) -> Result<(), FlashError>
-    requires laid_out { IsLaidOut map.now (F.chip flash.old) }
-    requires there { image < map.now.images }
-    ensures outside { Keeps map.now (only (TrailerOf image side))
-        (F.chip flash.old) (F.chip flash.new) }
-    ensures bytes { OnOk result
-        (are_erased (trailer_bytes map.now (F.chip flash.new) image side) ≡ true) }
-    ensures ok { OnOk result (fields_at map.now (F.chip flash.new) image side ≡ erased_fields) }
-    ensures erases { OnOk result ((F.chip flash.new).erases ≡ (F.chip flash.old).erases + 1) }
-    ensures ends { Ends result (F.chip flash.old) (F.chip flash.new) }
+    requires { HasImage map.now image (F.chip flash.old) }
+    ensures { ErasesTrailer map.now image side (F.chip flash.old) (F.chip flash.new) result }
 {
     flash.erase(map.trailer(image, side))
 }
@@ -64,19 +52,8 @@ pub fn clear<F: Flash>(
     image: u8,
     side: Side,
 ) -> Result<(), FlashError>
-    requires laid_out { IsLaidOut map.now (F.chip flash.old) }
-    requires there { image < map.now.images }
-    ensures outside { Keeps map.now (only (TrailerOf image side))
-        (F.chip flash.old) (F.chip flash.new) }
-    // Nothing is written to a trailer that is erased.
-    ensures idle { are_erased (trailer_bytes map.now (F.chip flash.old) image side) ≡ true
-        → F.chip flash.new ≡ F.chip flash.old }
-    ensures bytes { OnOk result
-        (are_erased (trailer_bytes map.now (F.chip flash.new) image side) ≡ true) }
-    ensures ok { OnOk result (fields_at map.now (F.chip flash.new) image side ≡ erased_fields) }
-    ensures erases { OnOk result ((F.chip flash.new).erases ≡ (F.chip flash.old).erases
-        + (if are_erased (trailer_bytes map.now (F.chip flash.old) image side) then 0 else 1)) }
-    ensures ends { Ends result (F.chip flash.old) (F.chip flash.new) }
+    requires { HasImage map.now image (F.chip flash.old) }
+    ensures { Clears map.now image side (F.chip flash.old) (F.chip flash.new) result }
 {
     if is_trailer_erased(flash, map, image, side)? {
         return Ok(());

@@ -1,11 +1,10 @@
 //! Writing one field of a trailer.
 
-ghost use Rattle.std.specs.Prelude.{◌≡◌, ℕ, ◌+◌, ◌<◌, true, false, OnOk};
-ghost use Rattle.flash_model.specs.Chip.{Chip, Ends, SameOutside};
-ghost use Rattle.sector_map.specs.Map.{IsLaidOut, Keeps};
-ghost use Rattle.sector_map.specs.Part.{TrailerOf, only};
-ghost use Rattle.trailer.specs.Fields.{bytes_at, fields_at, flag, place_of};
+ghost use Rattle.std.specs.Prelude.{◌≡◌, true, false};
+ghost use Rattle.sector_map.specs.Map.{HasImage};
+ghost use Rattle.trailer.specs.Fields.{fields_at, flag, good_magic};
 ghost use Rattle.trailer.specs.declared.kinds.Magic.TheVariants.{Good, Unset};
+ghost use Rattle.trailer.specs.Writes.{WritesField};
 
 use crate::format::{IMAGE_OK, MAGIC, MAGIC_PLACE, WITHDRAWN};
 use crate::units::write_units;
@@ -20,21 +19,11 @@ pub(crate) fn set_image_ok<F: Flash>(
     image: u8,
     side: Side,
 ) -> Result<(), FlashError>
-    requires laid_out { IsLaidOut map.now (F.chip flash.old) }
-    requires there { image < map.now.images }
+    requires image { HasImage map.now image (F.chip flash.old) }
     requires erased { (fields_at map.now (F.chip flash.old) image side).image_ok ≡ false }
-    ensures outside { Keeps map.now (only (TrailerOf image side))
-        (F.chip flash.old) (F.chip flash.new) }
-    ensures unit { SameOutside (place_of map.now image side 24) 8
-        (F.chip flash.old) (F.chip flash.new) }
-    ensures own { fields_at map.now (F.chip flash.new) image side
-        ≡ record (fields_at map.now (F.chip flash.old) image side)
-        { image_ok = (fields_at map.now (F.chip flash.new) image side).image_ok } }
-    ensures ok { OnOk result
-        ((fields_at map.now (F.chip flash.new) image side).image_ok ≡ true) }
-    ensures flag { OnOk result (bytes_at map.now (F.chip flash.new) image side 24 8 ≡ flag) }
-    ensures erases { OnOk result ((F.chip flash.new).erases ≡ (F.chip flash.old).erases) }
-    ensures ends { Ends result (F.chip flash.old) (F.chip flash.new) }
+    ensures { WritesField map.now image side 24 flag (λ fields. fields.image_ok ≡ true)
+        (λ was now. record was { image_ok = now.image_ok })
+        (F.chip flash.old) (F.chip flash.new) result }
 {
     write_units(flash, map, image, side, IMAGE_OK, &FLAG)
 }
@@ -47,20 +36,11 @@ pub(crate) fn set_withdrawn<F: Flash>(
     image: u8,
     side: Side,
 ) -> Result<(), FlashError>
-    requires laid_out { IsLaidOut map.now (F.chip flash.old) }
-    requires there { image < map.now.images }
+    requires image { HasImage map.now image (F.chip flash.old) }
     requires erased { (fields_at map.now (F.chip flash.old) image side).withdrawn ≡ false }
-    ensures outside { Keeps map.now (only (TrailerOf image side))
-        (F.chip flash.old) (F.chip flash.new) }
-    ensures unit { SameOutside (place_of map.now image side 56) 8
-        (F.chip flash.old) (F.chip flash.new) }
-    ensures own { fields_at map.now (F.chip flash.new) image side
-        ≡ record (fields_at map.now (F.chip flash.old) image side)
-        { withdrawn = (fields_at map.now (F.chip flash.new) image side).withdrawn } }
-    ensures ok { OnOk result
-        ((fields_at map.now (F.chip flash.new) image side).withdrawn ≡ true) }
-    ensures erases { OnOk result ((F.chip flash.new).erases ≡ (F.chip flash.old).erases) }
-    ensures ends { Ends result (F.chip flash.old) (F.chip flash.new) }
+    ensures { WritesField map.now image side 56 flag (λ fields. fields.withdrawn ≡ true)
+        (λ was now. record was { withdrawn = now.withdrawn })
+        (F.chip flash.old) (F.chip flash.new) result }
 {
     write_units(flash, map, image, side, WITHDRAWN, &FLAG)
 }
@@ -73,19 +53,11 @@ pub(crate) fn write_magic<F: Flash>(
     image: u8,
     side: Side,
 ) -> Result<(), FlashError>
-    requires laid_out { IsLaidOut map.now (F.chip flash.old) }
-    requires there { image < map.now.images }
+    requires image { HasImage map.now image (F.chip flash.old) }
     requires unset { (fields_at map.now (F.chip flash.old) image side).magic ≡ Unset }
-    ensures outside { Keeps map.now (only (TrailerOf image side))
-        (F.chip flash.old) (F.chip flash.new) }
-    ensures unit { SameOutside (place_of map.now image side 16) 16
-        (F.chip flash.old) (F.chip flash.new) }
-    ensures own { fields_at map.now (F.chip flash.new) image side
-        ≡ record (fields_at map.now (F.chip flash.old) image side)
-        { magic = (fields_at map.now (F.chip flash.new) image side).magic } }
-    ensures ok { OnOk result ((fields_at map.now (F.chip flash.new) image side).magic ≡ Good) }
-    ensures erases { OnOk result ((F.chip flash.new).erases ≡ (F.chip flash.old).erases) }
-    ensures ends { Ends result (F.chip flash.old) (F.chip flash.new) }
+    ensures { WritesField map.now image side 16 good_magic (λ fields. fields.magic ≡ Good)
+        (λ was now. record was { magic = now.magic })
+        (F.chip flash.old) (F.chip flash.new) result }
 {
     write_units(flash, map, image, side, MAGIC_PLACE, &MAGIC)
 }

@@ -3,7 +3,8 @@
 //! Promises: each field is read as its bytes say; after a call each trailer is as asked, and after
 //! a cut a request, a withdrawal and a confirmation stand as before or as asked, and any other
 //! write leaves its own unit (an erase its sector) with any bytes and all else as it was. Does not
-//! allocate. `upload`, `swap_scratch`, `boot_core` and `answers` call it.
+//! allocate. `swap_scratch`, `upload`, `boot_core` and `answers` may call it; a program changes
+//! trailers through `boot_core` alone.
 #![tactic(auto)]
 
 mod clearing;
@@ -11,23 +12,23 @@ mod fields;
 mod format;
 mod kinds;
 mod marking;
-mod reading;
 mod requesting;
-mod requests;
 mod settling;
 mod sizes;
+mod standing_request;
 mod statuses;
 mod table;
+mod trailer_reading;
 mod units;
 mod withdrawing;
 
 pub use clearing::clear;
 pub use kinds::{Kind, Magic, Settling, SwapType, Trailer};
-pub use reading::read_trailer;
 pub use requesting::{request, set_ok};
-pub use requests::standing;
 pub use settling::settle;
 pub use sizes::{read_size, write_size};
+pub use standing_request::standing;
 pub use statuses::{push_status, status_count};
 pub use table::swap_type;
+pub use trailer_reading::read_trailer;
 pub use withdrawing::withdraw;

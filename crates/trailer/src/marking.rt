@@ -1,11 +1,11 @@
 //! Writing the units of a primary trailer that settling asks for, each unless it holds its value.
 
-ghost use Rattle.std.specs.Prelude.{◌≡◌, ℕ, ◌+◌, ◌%◌, ◌<◌, ◌≤◌, true, false, length, OnOk};
-ghost use Rattle.flash_model.specs.Chip.{Chip, Ends, SameOutside};
-ghost use Rattle.sector_map.specs.Map.{IsLaidOut, Keeps};
-ghost use Rattle.sector_map.specs.Part.{TrailerOf, only};
-ghost use Rattle.trailer.specs.Fields.{bytes_at, flag, place_of};
-ghost use Rattle.trailer.specs.Settled.{HasMarks, IsFree, IsOkFree, IsWhole};
+ghost use Rattle.std.specs.Prelude.{length};
+ghost use Rattle.sector_map.specs.Map.{HasImage};
+ghost use Rattle.trailer.specs.Fields.{bytes_at};
+ghost use Rattle.trailer.specs.Settled.{IsFree, IsOkFree, IsWhole};
+ghost use Rattle.trailer.specs.Writes.{HasUnits, WritesUnits};
+ghost use Rattle.trailer.specs.Settles.{MarksOk, MarksTrailer};
 
 use crate::format::{COPY_DONE, IMAGE_OK, MAGIC, MAGIC_PLACE};
 use crate::units::{are_units_erased, write_units};
@@ -23,21 +23,11 @@ fn mark<F: Flash>(
     from_end: u32,
     units: &[u8],
 ) -> Result<(), FlashError>
-    requires laid_out { IsLaidOut map.now (F.chip flash.old) }
-    requires there { image < map.now.images }
-    requires some { 8 ≤ length units.now }
-    requires whole { length units.now % 8 ≡ 0 }
-    requires place { from_end % 8 ≡ 0 }
-    requires room { length units.now ≤ from_end }
-    requires within { from_end ≤ 56 }
+    requires units { HasUnits map.now image from_end (length units.now) (F.chip flash.old) }
     requires free { IsFree
         (bytes_at map.now (F.chip flash.old) image side from_end (length units.now)) units.now }
-    ensures outside { SameOutside (place_of map.now image side from_end) (length units.now)
-        (F.chip flash.old) (F.chip flash.new) }
-    ensures ok { OnOk result (bytes_at map.now (F.chip flash.new) image side from_end
-        (length units.now) ≡ units.now) }
-    ensures erases { OnOk result ((F.chip flash.new).erases ≡ (F.chip flash.old).erases) }
-    ensures ends { Ends result (F.chip flash.old) (F.chip flash.new) }
+    ensures { WritesUnits map.now image side from_end units.now
+        (F.chip flash.old) (F.chip flash.new) result }
 {
     if !are_units_erased(flash, map, image, side, from_end, units.len() as u32)? {
         return Ok(());
@@ -53,16 +43,9 @@ fn mark_ok<F: Flash>(
     side: Side,
     confirmed: bool,
 ) -> Result<(), FlashError>
-    requires laid_out { IsLaidOut map.now (F.chip flash.old) }
-    requires there { image < map.now.images }
+    requires image { HasImage map.now image (F.chip flash.old) }
     requires free { IsOkFree confirmed (bytes_at map.now (F.chip flash.old) image side 24 8) }
-    ensures outside { SameOutside (place_of map.now image side 24) 8
-        (F.chip flash.old) (F.chip flash.new) }
-    ensures ok { OnOk result
-        (confirmed ≡ true → bytes_at map.now (F.chip flash.new) image side 24 8 ≡ flag) }
-    ensures tried { confirmed ≡ false → F.chip flash.new ≡ F.chip flash.old }
-    ensures erases { OnOk result ((F.chip flash.new).erases ≡ (F.chip flash.old).erases) }
-    ensures ends { Ends result (F.chip flash.old) (F.chip flash.new) }
+    ensures { MarksOk map.now image side confirmed (F.chip flash.old) (F.chip flash.new) result }
 {
     if !confirmed {
         return Ok(());
@@ -78,16 +61,10 @@ pub(crate) fn mark_trailer<F: Flash>(
     side: Side,
     confirmed: bool,
 ) -> Result<(), FlashError>
-    requires laid_out { IsLaidOut map.now (F.chip flash.old) }
-    requires there { image < map.now.images }
+    requires image { HasImage map.now image (F.chip flash.old) }
     requires whole { IsWhole map.now (F.chip flash.old) image side confirmed }
-    ensures outside { Keeps map.now (only (TrailerOf image side))
-        (F.chip flash.old) (F.chip flash.new) }
-    ensures units { SameOutside (place_of map.now image side 32) 32
-        (F.chip flash.old) (F.chip flash.new) }
-    ensures ok { OnOk result (HasMarks map.now (F.chip flash.new) image side confirmed) }
-    ensures erases { OnOk result ((F.chip flash.new).erases ≡ (F.chip flash.old).erases) }
-    ensures ends { Ends result (F.chip flash.old) (F.chip flash.new) }
+    ensures { MarksTrailer map.now image side confirmed
+        (F.chip flash.old) (F.chip flash.new) result }
 {
     mark(flash, map, image, side, COPY_DONE, &FLAG)?;
     mark_ok(flash, map, image, side, confirmed)?;

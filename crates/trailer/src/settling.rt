@@ -1,15 +1,12 @@
 //! Settling the trailers of an image after a swap.
 
-ghost use Rattle.std.specs.Prelude.{◌≡◌, ℕ, ◌+◌, ◌<◌, ◌≤◌, ◌↔◌, ◌||◌, true, IsTrue, OnOk, IfOk};
+ghost use Rattle.std.specs.Prelude.{◌≡◌, ◌||◌};
 ghost use Rattle.std.specs.Str.{bytes_eq};
-ghost use Rattle.flash_model.specs.Chip.{Chip, Ends};
-ghost use Rattle.sector_map.specs.Map.{IsLaidOut, Keeps};
-ghost use Rattle.sector_map.specs.Part.{TrailerOf, only, trailers_of};
-ghost use Rattle.sector_map.specs.declared.layout.Side.TheVariants.{Primary, Secondary};
-ghost use Rattle.trailer.specs.Fields.{are_erased, bytes_at, fields_at, flag, good_magic, trailer_bytes};
-ghost use Rattle.trailer.specs.Settled.{HasMarks, IsFree, IsOkFree, IsSettled, IsSpared, IsWhole};
-ghost use Rattle.trailer.specs.Settled.{before_marks, is_confirmed, is_whole_magic};
-ghost use Rattle.trailer.specs.declared.kinds.Settling.{Settling};
+ghost use Rattle.sector_map.specs.Map.{HasImage};
+ghost use Rattle.trailer.specs.Fields.{are_erased, bytes_at, flag, good_magic};
+ghost use Rattle.trailer.specs.Settled.{IsFree, IsOkFree, IsWhole, is_confirmed, is_whole_magic};
+ghost use Rattle.trailer.specs.Reads.{Decides, HasPlace};
+ghost use Rattle.trailer.specs.Settles.{MakesWhole, Settles};
 
 use crate::clearing::erase_trailer;
 use crate::format::{COPY_DONE, IMAGE_OK};
@@ -55,15 +52,9 @@ fn is_flag_free<F: Flash>(
     side: Side,
     from_end: u32,
 ) -> Result<bool, FlashError>
-    requires laid_out { IsLaidOut map.now (F.chip flash.old) }
-    requires there { image < map.now.images }
-    requires unit { 8 ≤ from_end }
-    requires within { from_end ≤ 56 }
-    ensures same { F.chip flash.new ≡ F.chip flash.old }
-    ensures ok { IfOk result (λ free. IsTrue free
-        ↔ IsFree (bytes_at map.now (F.chip flash.old) image side from_end 8) flag) }
-    ensures erases { OnOk result ((F.chip flash.new).erases ≡ (F.chip flash.old).erases) }
-    ensures ends { Ends result (F.chip flash.old) (F.chip flash.new) }
+    requires { HasPlace map.now image from_end 8 (F.chip flash.old) }
+    ensures { Decides (IsFree (bytes_at map.now (F.chip flash.old) image side from_end 8) flag)
+        (F.chip flash.old) (F.chip flash.new) result }
 {
     let unit = read_unit(flash, map, image, side, from_end)?;
     Ok(is_flag_or_erased(&unit))
@@ -77,13 +68,9 @@ fn is_magic_free<F: Flash>(
     image: u8,
     side: Side,
 ) -> Result<bool, FlashError>
-    requires laid_out { IsLaidOut map.now (F.chip flash.old) }
-    requires there { image < map.now.images }
-    ensures same { F.chip flash.new ≡ F.chip flash.old }
-    ensures ok { IfOk result (λ free. IsTrue free
-        ↔ IsFree (bytes_at map.now (F.chip flash.old) image side 16 16) good_magic) }
-    ensures erases { OnOk result ((F.chip flash.new).erases ≡ (F.chip flash.old).erases) }
-    ensures ends { Ends result (F.chip flash.old) (F.chip flash.new) }
+    requires { HasImage map.now image (F.chip flash.old) }
+    ensures { Decides (IsFree (bytes_at map.now (F.chip flash.old) image side 16 16) good_magic)
+        (F.chip flash.old) (F.chip flash.new) result }
 {
     let magic = read_magic(flash, map, image, side)?;
     Ok(is_whole_magic(magic))
@@ -97,13 +84,9 @@ fn is_ok_free<F: Flash>(
     side: Side,
     confirmed: bool,
 ) -> Result<bool, FlashError>
-    requires laid_out { IsLaidOut map.now (F.chip flash.old) }
-    requires there { image < map.now.images }
-    ensures same { F.chip flash.new ≡ F.chip flash.old }
-    ensures ok { IfOk result (λ free. IsTrue free
-        ↔ IsOkFree confirmed (bytes_at map.now (F.chip flash.old) image side 24 8)) }
-    ensures erases { OnOk result ((F.chip flash.new).erases ≡ (F.chip flash.old).erases) }
-    ensures ends { Ends result (F.chip flash.old) (F.chip flash.new) }
+    requires { HasImage map.now image (F.chip flash.old) }
+    ensures { Decides (IsOkFree confirmed (bytes_at map.now (F.chip flash.old) image side 24 8))
+        (F.chip flash.old) (F.chip flash.new) result }
 {
     if confirmed {
         let free = is_flag_free(flash, map, image, side, IMAGE_OK)?;
@@ -121,13 +104,9 @@ fn is_trailer_whole<F: Flash>(
     side: Side,
     confirmed: bool,
 ) -> Result<bool, FlashError>
-    requires laid_out { IsLaidOut map.now (F.chip flash.old) }
-    requires there { image < map.now.images }
-    ensures same { F.chip flash.new ≡ F.chip flash.old }
-    ensures ok { IfOk result
-        (λ whole. IsTrue whole ↔ IsWhole map.now (F.chip flash.old) image side confirmed) }
-    ensures erases { OnOk result ((F.chip flash.new).erases ≡ (F.chip flash.old).erases) }
-    ensures ends { Ends result (F.chip flash.old) (F.chip flash.new) }
+    requires { HasImage map.now image (F.chip flash.old) }
+    ensures { Decides (IsWhole map.now (F.chip flash.old) image side confirmed)
+        (F.chip flash.old) (F.chip flash.new) result }
 {
     let copy_done = is_flag_free(flash, map, image, side, COPY_DONE)?;
     let image_ok = is_ok_free(flash, map, image, side, confirmed)?;
@@ -144,20 +123,8 @@ fn make_whole<F: Flash>(
     side: Side,
     settling: Settling,
 ) -> Result<(), FlashError>
-    requires laid_out { IsLaidOut map.now (F.chip flash.old) }
-    requires there { image < map.now.images }
-    ensures outside { Keeps map.now (only (TrailerOf image side))
-        (F.chip flash.old) (F.chip flash.new) }
-    ensures ok { OnOk result
-        (IsWhole map.now (F.chip flash.new) image side (is_confirmed settling)) }
-    ensures back { OnOk result (settling ≡ Settling.Back
-        → are_erased (trailer_bytes map.now (F.chip flash.new) image side) ≡ true) }
-    ensures erases { OnOk result ((F.chip flash.new).erases ≤ (F.chip flash.old).erases + 1) }
-    ensures spares { OnOk result (IsSpared map.now (F.chip flash.old) image side settling
-        → F.chip flash.new ≡ F.chip flash.old) }
-    ensures must { OnOk result ((IsSpared map.now (F.chip flash.old) image side settling → ⊥)
-        → (F.chip flash.new).erases ≡ (F.chip flash.old).erases + 1) }
-    ensures ends { Ends result (F.chip flash.old) (F.chip flash.new) }
+    requires { HasImage map.now image (F.chip flash.old) }
+    ensures { MakesWhole map.now image side settling (F.chip flash.old) (F.chip flash.new) result }
 {
     if settling != Settling::Back
         && is_trailer_whole(flash, map, image, side, settling == Settling::Permanent)?
@@ -186,28 +153,8 @@ pub fn settle<F: Flash>(
     image: u8,
     settling: Settling,
 ) -> Result<(), FlashError>
-    requires laid_out { IsLaidOut map.now (F.chip flash.old) }
-    requires there { image < map.now.images }
-    ensures outside { Keeps map.now (trailers_of image) (F.chip flash.old) (F.chip flash.new) }
-    ensures ok { OnOk result (IsSettled (is_confirmed settling)
-        (fields_at map.now (F.chip flash.new) image Primary)
-        (fields_at map.now (F.chip flash.new) image Secondary)) }
-    // No unit is left torn.
-    ensures marks { OnOk result
-        (HasMarks map.now (F.chip flash.new) image Primary (is_confirmed settling)) }
-    // Byte for byte: the secondary trailer is erased, and after a swap back all of the primary one
-    // but its marks.
-    ensures erased { OnOk result
-        (are_erased (trailer_bytes map.now (F.chip flash.new) image Secondary) ≡ true) }
-    ensures back { OnOk result (settling ≡ Settling.Back → are_erased
-        (before_marks map.now (trailer_bytes map.now (F.chip flash.new) image Primary)) ≡ true) }
-    ensures erases { OnOk result ((F.chip flash.new).erases ≤ (F.chip flash.old).erases + 2) }
-    // The primary trailer is erased where it must be, and nowhere else.
-    ensures spares { OnOk result (IsSpared map.now (F.chip flash.old) image Primary settling
-        → (F.chip flash.new).erases ≡ (F.chip flash.old).erases + 1) }
-    ensures must { OnOk result ((IsSpared map.now (F.chip flash.old) image Primary settling → ⊥)
-        → (F.chip flash.new).erases ≡ (F.chip flash.old).erases + 2) }
-    ensures ends { Ends result (F.chip flash.old) (F.chip flash.new) }
+    requires { HasImage map.now image (F.chip flash.old) }
+    ensures { Settles map.now image settling (F.chip flash.old) (F.chip flash.new) result }
 {
     erase_trailer(flash, map, image, Side::Secondary)?;
     make_whole(flash, map, image, Side::Primary, settling)?;

@@ -1,10 +1,10 @@
 //! The size of a swap.
 
-ghost use Rattle.std.specs.Prelude.{◌≡◌, ℕ, ◌+◌, ◌*◌, ◌<◌, ◌≤◌, true, Some, OnOk, IfOk};
-ghost use Rattle.flash_model.specs.Chip.{Chip, Ends, SameOutside};
-ghost use Rattle.sector_map.specs.Map.{IsLaidOut, Keeps, slot_sectors};
-ghost use Rattle.sector_map.specs.Part.{TrailerOf, only};
-ghost use Rattle.trailer.specs.Fields.{are_erased, bytes_at, fields_at, place_of, size_bytes, size_in};
+ghost use Rattle.std.specs.Prelude.{◌≡◌, true};
+ghost use Rattle.sector_map.specs.Map.{HasImage};
+ghost use Rattle.trailer.specs.Fields.{are_erased, bytes_at, fields_at, size_bytes, size_in};
+ghost use Rattle.trailer.specs.Reads.{Tells};
+ghost use Rattle.trailer.specs.Writes.{WritesSize};
 
 use crate::format::SWAP_SIZE;
 use crate::units::{read_unit, write_units};
@@ -49,22 +49,9 @@ pub fn write_size<F: Flash>(
     side: Side,
     size: u32,
 ) -> Result<(), FlashError>
-    requires laid_out { IsLaidOut map.now (F.chip flash.old) }
-    requires there { image < map.now.images }
+    requires image { HasImage map.now image (F.chip flash.old) }
     requires erased { are_erased (bytes_at map.now (F.chip flash.old) image side 48 8) ≡ true }
-    ensures outside { Keeps map.now (only (TrailerOf image side))
-        (F.chip flash.old) (F.chip flash.new) }
-    ensures unit { SameOutside (place_of map.now image side 48) 8
-        (F.chip flash.old) (F.chip flash.new) }
-    ensures own { fields_at map.now (F.chip flash.new) image side
-        ≡ record (fields_at map.now (F.chip flash.old) image side)
-        { size = (fields_at map.now (F.chip flash.new) image side).size } }
-    ensures bytes { OnOk result
-        (bytes_at map.now (F.chip flash.new) image side 48 8 ≡ size_bytes size) }
-    ensures ok { OnOk result (0 < size → size ≤ slot_sectors map.now image * map.now.sector_size
-        → (fields_at map.now (F.chip flash.new) image side).size ≡ Some size) }
-    ensures erases { OnOk result ((F.chip flash.new).erases ≡ (F.chip flash.old).erases) }
-    ensures ends { Ends result (F.chip flash.old) (F.chip flash.new) }
+    ensures { WritesSize map.now image side size (F.chip flash.old) (F.chip flash.new) result }
 {
     write_units(flash, map, image, side, SWAP_SIZE, &size_unit(size))
 }
@@ -84,13 +71,9 @@ pub fn read_size<F: Flash>(
     image: u8,
     side: Side,
 ) -> Result<Option<u32>, FlashError>
-    requires laid_out { IsLaidOut map.now (F.chip flash.old) }
-    requires there { image < map.now.images }
-    ensures same { F.chip flash.new ≡ F.chip flash.old }
-    ensures ok { IfOk result
-        (λ size. size ≡ (fields_at map.now (F.chip flash.old) image side).size) }
-    ensures erases { OnOk result ((F.chip flash.new).erases ≡ (F.chip flash.old).erases) }
-    ensures ends { Ends result (F.chip flash.old) (F.chip flash.new) }
+    requires { HasImage map.now image (F.chip flash.old) }
+    ensures { Tells (fields_at map.now (F.chip flash.old) image side).size
+        (F.chip flash.old) (F.chip flash.new) result }
 {
     let unit = read_unit(flash, map, image, side, SWAP_SIZE)?;
     Ok(size_in(&unit, map.slot_length(image)))

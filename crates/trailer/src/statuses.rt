@@ -1,11 +1,11 @@
 //! How far a swap has come.
 
-ghost use Rattle.std.specs.Prelude.{◌≡◌, ℕ, ◌+◌, ◌*◌, ◌<◌, ◌≤◌, OnOk, IfOk};
-ghost use Rattle.flash_model.specs.Chip.{Chip, Ends, Reads, SameOutside};
-ghost use Rattle.sector_map.specs.Map.{IsLaidOut, Keeps, slot_sectors, start_of};
-ghost use Rattle.sector_map.specs.Part.{TrailerOf, only};
-ghost use Rattle.trailer.specs.Fields.{are_erased, fields_at, flag, trailer_bytes};
+ghost use Rattle.std.specs.Prelude.{◌≡◌, ◌+◌, ◌*◌, ◌<◌, ◌≤◌};
+ghost use Rattle.sector_map.specs.Map.{HasImage, slot_sectors};
+ghost use Rattle.trailer.specs.Fields.{are_erased, trailer_bytes};
 ghost use Rattle.trailer.specs.Status.{status_count_of, status_unit};
+ghost use Rattle.trailer.specs.Reads.{HasStatus, Tells};
+ghost use Rattle.trailer.specs.Writes.{PushesStatus};
 
 use flash_model::{Flash, FlashError, UNIT, is_unit_erased, set_unit};
 use sector_map::{SectorMap, Side};
@@ -29,14 +29,10 @@ fn is_status_erased<F: Flash>(
     side: Side,
     status: u32,
 ) -> Result<bool, FlashError>
-    requires laid_out { IsLaidOut map.now (F.chip flash.old) }
-    requires there { image < map.now.images }
-    requires below { status < 3 * slot_sectors map.now image }
-    ensures same { F.chip flash.new ≡ F.chip flash.old }
-    ensures ok { IfOk result (λ erased. erased
-        ≡ are_erased (status_unit (trailer_bytes map.now (F.chip flash.old) image side) status)) }
-    ensures erases { OnOk result ((F.chip flash.new).erases ≡ (F.chip flash.old).erases) }
-    ensures ends { Ends result (F.chip flash.old) (F.chip flash.new) }
+    requires { HasStatus map.now image status (F.chip flash.old) }
+    ensures { Tells (are_erased
+        (status_unit (trailer_bytes map.now (F.chip flash.old) image side) status))
+        (F.chip flash.old) (F.chip flash.new) result }
 {
     let erased = is_unit_erased(flash, map.trailer_start(image, side) + UNIT * status)?;
     Ok(erased)
@@ -56,13 +52,9 @@ pub fn status_count<F: Flash>(
     image: u8,
     side: Side,
 ) -> Result<u32, FlashError>
-    requires laid_out { IsLaidOut map.now (F.chip flash.old) }
-    requires there { image < map.now.images }
-    ensures same { F.chip flash.new ≡ F.chip flash.old }
-    ensures ok { IfOk result
-        (λ count. count ≡ status_count_of map.now (F.chip flash.old) image side) }
-    ensures erases { OnOk result ((F.chip flash.new).erases ≡ (F.chip flash.old).erases) }
-    ensures ends { Ends result (F.chip flash.old) (F.chip flash.new) }
+    requires { HasImage map.now image (F.chip flash.old) }
+    ensures { Tells (status_count_of map.now (F.chip flash.old) image side)
+        (F.chip flash.old) (F.chip flash.new) result }
 {
     let all = status_units(map, image);
     for status in 0..all {
@@ -88,24 +80,10 @@ pub fn push_status<F: Flash>(
     image: u8,
     side: Side,
 ) -> Result<(), FlashError>
-    requires laid_out { IsLaidOut map.now (F.chip flash.old) }
-    requires there { image < map.now.images }
+    requires image { HasImage map.now image (F.chip flash.old) }
     requires room { status_count_of map.now (F.chip flash.old) image side
         < 3 * slot_sectors map.now image }
-    ensures outside { Keeps map.now (only (TrailerOf image side))
-        (F.chip flash.old) (F.chip flash.new) }
-    ensures unit { SameOutside (start_of map.now (TrailerOf image side)
-        + 8 * status_count_of map.now (F.chip flash.old) image side) 8
-        (F.chip flash.old) (F.chip flash.new) }
-    ensures own { fields_at map.now (F.chip flash.new) image side
-        ≡ record (fields_at map.now (F.chip flash.old) image side)
-        { is_fresh = (fields_at map.now (F.chip flash.new) image side).is_fresh } }
-    ensures ok { OnOk result (status_count_of map.now (F.chip flash.old) image side
-        < status_count_of map.now (F.chip flash.new) image side) }
-    ensures flag { OnOk result (Reads (F.chip flash.new) (start_of map.now (TrailerOf image side)
-        + 8 * status_count_of map.now (F.chip flash.old) image side) flag) }
-    ensures erases { OnOk result ((F.chip flash.new).erases ≡ (F.chip flash.old).erases) }
-    ensures ends { Ends result (F.chip flash.old) (F.chip flash.new) }
+    ensures { PushesStatus map.now image side (F.chip flash.old) (F.chip flash.new) result }
 {
     let count = status_count(flash, map, image, side)?;
     set_unit(flash, map.trailer_start(image, side) + UNIT * count)?;

@@ -1,10 +1,10 @@
 //! The units of a trailer, read and written by their places.
 
-ghost use Rattle.std.specs.Prelude.{◌≡◌, ℕ, ◌+◌, ◌-◌, ◌*◌, ◌%◌, ◌<◌, ◌≤◌, true, length, OnOk, IfOk};
-ghost use Rattle.flash_model.specs.Chip.{Chip, Ends, IsErased, SameOutside};
-ghost use Rattle.sector_map.specs.Map.{IsLaidOut, Keeps};
-ghost use Rattle.sector_map.specs.Part.{TrailerOf, only};
+ghost use Rattle.std.specs.Prelude.{◌≡◌, ◌<◌, ◌≤◌, true, length};
+ghost use Rattle.sector_map.specs.Map.{HasImage};
 ghost use Rattle.trailer.specs.Fields.{are_erased, bytes_at, is_set, magic_in, place_of};
+ghost use Rattle.trailer.specs.Reads.{HasPlace, Tells};
+ghost use Rattle.trailer.specs.Writes.{HasUnits, WritesUnits};
 
 use crate::format::{MAGIC, MAGIC_PLACE};
 use crate::kinds::Magic;
@@ -30,15 +30,9 @@ pub(crate) fn read_unit<F: Flash>(
     side: Side,
     from_end: u32,
 ) -> Result<[u8; 8], FlashError>
-    requires laid_out { IsLaidOut map.now (F.chip flash.old) }
-    requires there { image < map.now.images }
-    requires unit { 8 ≤ from_end }
-    requires within { from_end ≤ 56 }
-    ensures same { F.chip flash.new ≡ F.chip flash.old }
-    ensures ok { IfOk result
-        (λ unit. unit ≡ bytes_at map.now (F.chip flash.old) image side from_end 8) }
-    ensures erases { OnOk result ((F.chip flash.new).erases ≡ (F.chip flash.old).erases) }
-    ensures ends { Ends result (F.chip flash.old) (F.chip flash.new) }
+    requires { HasPlace map.now image from_end 8 (F.chip flash.old) }
+    ensures { Tells (bytes_at map.now (F.chip flash.old) image side from_end 8)
+        (F.chip flash.old) (F.chip flash.new) result }
 {
     let mut unit = [0u8; 8];
     flash.read(place_of(map, image, side, from_end), &mut unit)?;
@@ -60,15 +54,9 @@ pub(crate) fn is_unit_set<F: Flash>(
     side: Side,
     from_end: u32,
 ) -> Result<bool, FlashError>
-    requires laid_out { IsLaidOut map.now (F.chip flash.old) }
-    requires there { image < map.now.images }
-    requires unit { 8 ≤ from_end }
-    requires within { from_end ≤ 56 }
-    ensures same { F.chip flash.new ≡ F.chip flash.old }
-    ensures ok { IfOk result
-        (λ yes. yes ≡ is_set (bytes_at map.now (F.chip flash.old) image side from_end 8)) }
-    ensures erases { OnOk result ((F.chip flash.new).erases ≡ (F.chip flash.old).erases) }
-    ensures ends { Ends result (F.chip flash.old) (F.chip flash.new) }
+    requires { HasPlace map.now image from_end 8 (F.chip flash.old) }
+    ensures { Tells (is_set (bytes_at map.now (F.chip flash.old) image side from_end 8))
+        (F.chip flash.old) (F.chip flash.new) result }
 {
     Ok(!are_erased(&read_unit(flash, map, image, side, from_end)?))
 }
@@ -94,13 +82,9 @@ pub(crate) fn read_magic<F: Flash>(
     image: u8,
     side: Side,
 ) -> Result<Magic, FlashError>
-    requires laid_out { IsLaidOut map.now (F.chip flash.old) }
-    requires there { image < map.now.images }
-    ensures same { F.chip flash.new ≡ F.chip flash.old }
-    ensures ok { IfOk result
-        (λ magic. magic ≡ magic_in (bytes_at map.now (F.chip flash.old) image side 16 16)) }
-    ensures erases { OnOk result ((F.chip flash.new).erases ≡ (F.chip flash.old).erases) }
-    ensures ends { Ends result (F.chip flash.old) (F.chip flash.new) }
+    requires { HasImage map.now image (F.chip flash.old) }
+    ensures { Tells (magic_in (bytes_at map.now (F.chip flash.old) image side 16 16))
+        (F.chip flash.old) (F.chip flash.new) result }
 {
     let mut magic = [0u8; 16];
     flash.read(place_of(map, image, side, MAGIC_PLACE), &mut magic)?;
@@ -117,16 +101,9 @@ pub(crate) fn are_units_erased<F: Flash>(
     from_end: u32,
     length: u32,
 ) -> Result<bool, FlashError>
-    requires laid_out { IsLaidOut map.now (F.chip flash.old) }
-    requires there { image < map.now.images }
-    requires room { length ≤ from_end }
-    requires within { from_end ≤ 56 }
-    ensures same { F.chip flash.new ≡ F.chip flash.old }
-    ensures ok { IfOk result
-        (λ erased. erased
-        ≡ are_erased (bytes_at map.now (F.chip flash.old) image side from_end length)) }
-    ensures erases { OnOk result ((F.chip flash.new).erases ≡ (F.chip flash.old).erases) }
-    ensures ends { Ends result (F.chip flash.old) (F.chip flash.new) }
+    requires { HasPlace map.now image from_end length (F.chip flash.old) }
+    ensures { Tells (are_erased (bytes_at map.now (F.chip flash.old) image side from_end length))
+        (F.chip flash.old) (F.chip flash.new) result }
 {
     let erased = is_erased(flash, place_of(map, image, side, from_end), length)?;
     Ok(erased)
@@ -142,21 +119,11 @@ pub(crate) fn write_units<F: Flash>(
     from_end: u32,
     units: &[u8],
 ) -> Result<(), FlashError>
-    requires laid_out { IsLaidOut map.now (F.chip flash.old) }
-    requires there { image < map.now.images }
-    requires some { 8 ≤ length units.now }
-    requires whole { length units.now % 8 ≡ 0 }
-    requires place { from_end % 8 ≡ 0 }
-    requires room { length units.now ≤ from_end }
-    requires within { from_end ≤ 56 }
+    requires units { HasUnits map.now image from_end (length units.now) (F.chip flash.old) }
     requires erased { are_erased
         (bytes_at map.now (F.chip flash.old) image side from_end (length units.now)) ≡ true }
-    ensures outside { SameOutside (place_of map.now image side from_end) (length units.now)
-        (F.chip flash.old) (F.chip flash.new) }
-    ensures ok { OnOk result (bytes_at map.now (F.chip flash.new) image side from_end
-        (length units.now) ≡ units.now) }
-    ensures erases { OnOk result ((F.chip flash.new).erases ≡ (F.chip flash.old).erases) }
-    ensures ends { Ends result (F.chip flash.old) (F.chip flash.new) }
+    ensures { WritesUnits map.now image side from_end units.now
+        (F.chip flash.old) (F.chip flash.new) result }
 {
     flash.program(place_of(map, image, side, from_end), units)
 }

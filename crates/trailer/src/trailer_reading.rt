@@ -1,9 +1,8 @@
 //! Reading the fields of a trailer.
 
-ghost use Rattle.std.specs.Prelude.{◌≡◌, ℕ, ◌<◌, OnOk, IfOk};
-ghost use Rattle.flash_model.specs.Chip.{Chip, Ends};
-ghost use Rattle.sector_map.specs.Map.{IsLaidOut};
+ghost use Rattle.sector_map.specs.Map.{HasImage};
 ghost use Rattle.trailer.specs.Fields.{fields_at, trailer_of};
+ghost use Rattle.trailer.specs.Reads.{Tells};
 
 use crate::format::{COPY_DONE, IMAGE_OK, WITHDRAWN};
 use crate::kinds::Trailer;
@@ -19,13 +18,9 @@ pub(crate) fn is_image_ok_set<F: Flash>(
     image: u8,
     side: Side,
 ) -> Result<bool, FlashError>
-    requires laid_out { IsLaidOut map.now (F.chip flash.old) }
-    requires there { image < map.now.images }
-    ensures same { F.chip flash.new ≡ F.chip flash.old }
-    ensures ok { IfOk result
-        (λ yes. yes ≡ (fields_at map.now (F.chip flash.old) image side).image_ok) }
-    ensures erases { OnOk result ((F.chip flash.new).erases ≡ (F.chip flash.old).erases) }
-    ensures ends { Ends result (F.chip flash.old) (F.chip flash.new) }
+    requires { HasImage map.now image (F.chip flash.old) }
+    ensures { Tells (fields_at map.now (F.chip flash.old) image side).image_ok
+        (F.chip flash.old) (F.chip flash.new) result }
 {
     is_unit_set(flash, map, image, side, IMAGE_OK)
 }
@@ -43,13 +38,9 @@ pub fn read_trailer<F: Flash>(
     image: u8,
     side: Side,
 ) -> Result<Trailer, FlashError>
-    requires laid_out { IsLaidOut map.now (F.chip flash.old) }
-    requires there { image < map.now.images }
-    ensures same { F.chip flash.new ≡ F.chip flash.old }
-    ensures ok { IfOk result
-        (λ trailer. trailer ≡ trailer_of (fields_at map.now (F.chip flash.old) image side)) }
-    ensures erases { OnOk result ((F.chip flash.new).erases ≡ (F.chip flash.old).erases) }
-    ensures ends { Ends result (F.chip flash.old) (F.chip flash.new) }
+    requires { HasImage map.now image (F.chip flash.old) }
+    ensures { Tells (trailer_of (fields_at map.now (F.chip flash.old) image side))
+        (F.chip flash.old) (F.chip flash.new) result }
 {
     let magic = read_magic(flash, map, image, side)?;
     let copy_done = is_unit_set(flash, map, image, side, COPY_DONE)?;

@@ -1,13 +1,13 @@
 //! The request that stands for an image.
 
-ghost use Rattle.std.specs.Prelude.{◌≡◌, ℕ, ◌<◌, OnOk, IfOk};
-ghost use Rattle.flash_model.specs.Chip.{Chip, Ends};
-ghost use Rattle.sector_map.specs.Map.{IsLaidOut, part_of};
+ghost use Rattle.std.specs.Prelude.{◌≡◌};
+ghost use Rattle.sector_map.specs.Map.{HasImage, part_of};
 ghost use Rattle.sector_map.specs.Part.{Slot};
 ghost use Rattle.trailer.specs.Standing.{first_is_set, standing_kind, standing_of};
+ghost use Rattle.trailer.specs.Reads.{Tells};
 
 use crate::kinds::{Kind, Magic, Trailer};
-use crate::reading::read_trailer;
+use crate::trailer_reading::read_trailer;
 use flash_model::{Flash, FlashError, is_unit_erased};
 use sector_map::{SectorMap, Side};
 
@@ -19,13 +19,9 @@ pub(crate) fn is_front_set<F: Flash>(
     image: u8,
     side: Side,
 ) -> Result<bool, FlashError>
-    requires laid_out { IsLaidOut map.now (F.chip flash.old) }
-    requires there { image < map.now.images }
-    ensures same { F.chip flash.new ≡ F.chip flash.old }
-    ensures ok { IfOk result
-        (λ yes. yes ≡ first_is_set (part_of map.now (F.chip flash.old) (Slot image side))) }
-    ensures erases { OnOk result ((F.chip flash.new).erases ≡ (F.chip flash.old).erases) }
-    ensures ends { Ends result (F.chip flash.old) (F.chip flash.new) }
+    requires { HasImage map.now image (F.chip flash.old) }
+    ensures { Tells (first_is_set (part_of map.now (F.chip flash.old) (Slot image side)))
+        (F.chip flash.old) (F.chip flash.new) result }
 {
     let erased = is_unit_erased(flash, map.slot_start(image, side))?;
     Ok(!erased)
@@ -58,12 +54,9 @@ pub fn standing<F: Flash>(
     map: &SectorMap,
     image: u8,
 ) -> Result<Option<Kind>, FlashError>
-    requires laid_out { IsLaidOut map.now (F.chip flash.old) }
-    requires there { image < map.now.images }
-    ensures same { F.chip flash.new ≡ F.chip flash.old }
-    ensures ok { IfOk result (λ kind. kind ≡ standing_of map.now (F.chip flash.old) image) }
-    ensures erases { OnOk result ((F.chip flash.new).erases ≡ (F.chip flash.old).erases) }
-    ensures ends { Ends result (F.chip flash.old) (F.chip flash.new) }
+    requires { HasImage map.now image (F.chip flash.old) }
+    ensures { Tells (standing_of map.now (F.chip flash.old) image)
+        (F.chip flash.old) (F.chip flash.new) result }
 {
     let trailer = read_trailer(flash, map, image, Side::Secondary)?;
     let is_filled = is_front_set(flash, map, image, Side::Secondary)?;

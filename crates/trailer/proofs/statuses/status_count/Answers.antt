@@ -1,0 +1,17 @@
+use Rattle.std.proofs.Common.{rules, arith, ◌≡◌, true, sym}
+use Rattle.trailer.specs.Fields.{are_erased, trailer_bytes}
+use Rattle.trailer.specs.Status.{status_unit}
+use Rattle.trailer.proofs.StatusUnits.{units_are}
+use Rattle.trailer.proofs.statuses.status_count.Goals as goal
+
+pub returns-then-branch : goal.returns-then-branch
+returns-then-branch g c =
+    let free : are_erased (status_unit (trailer_bytes c.args.map.now (g.F.Flash.chip c.args.flash.now)
+    c.args.image c.args.side) c.loop-status.status) ≡ true = search rules in
+    record {
+      same = search rules;
+      ok = sym (units_are (trailer_bytes c.args.map.now (g.F.Flash.chip c.args.flash.now) c.args.image c.args.side)
+          _ _ (omega arith) c.loop-status.invariant.set (λ lt. free));
+      erases = search rules;
+      ends = search rules;
+    }

@@ -1,0 +1,34 @@
+-- What a call does that erases a trailer.
+use Rattle.std.specs.Prelude.{◌≡◌, ℕ, ◌+◌, true, if◌then◌else◌, Result, OnOk}
+use Rattle.flash_model.specs.declared.error.FlashError.{FlashError}
+use Rattle.flash_model.specs.Chip.{Chip, Ends}
+use Rattle.sector_map.specs.declared.layout.SectorMap.{SectorMap}
+use Rattle.sector_map.specs.declared.layout.Side.{Side}
+use Rattle.sector_map.specs.Map.{Keeps}
+use Rattle.sector_map.specs.Part.{TrailerOf, only}
+use Rattle.trailer.specs.Fields.{are_erased, erased_fields, fields_at, trailer_bytes}
+
+-- A call erases a trailer.
+pub record ErasesTrailer (map : SectorMap) (image : ℕ) (side : Side) (old new : Chip)
+    {T : Type 0} (result : Result T FlashError) : Type 0 where
+  -- No other part is written,
+  pub outside : Keeps map (only (TrailerOf image side)) old new
+  -- and this one is erased where the call ends.
+  pub bytes : OnOk result (are_erased (trailer_bytes map new image side) ≡ true)
+  pub ok : OnOk result (fields_at map new image side ≡ erased_fields)
+  pub erases : OnOk result (new.erases ≡ old.erases + 1)
+  pub ends : Ends result old new
+
+-- A call erases a trailer, unless it is all erased.
+pub record Clears (map : SectorMap) (image : ℕ) (side : Side) (old new : Chip)
+    {T : Type 0} (result : Result T FlashError) : Type 0 where
+  -- No other part is written,
+  pub outside : Keeps map (only (TrailerOf image side)) old new
+  -- and nothing where the trailer is erased.
+  pub idle : are_erased (trailer_bytes map old image side) ≡ true → new ≡ old
+  -- It is erased where the call ends.
+  pub bytes : OnOk result (are_erased (trailer_bytes map new image side) ≡ true)
+  pub ok : OnOk result (fields_at map new image side ≡ erased_fields)
+  pub erases : OnOk result (new.erases ≡ old.erases
+      + (if are_erased (trailer_bytes map old image side) then 0 else 1))
+  pub ends : Ends result old new

@@ -1,0 +1,41 @@
+-- What a call does that reads a trailer: each record is what many calls promise alike.
+use Rattle.std.specs.Prelude.{◌≡◌, ◌↔◌, ℕ, ◌*◌, ◌<◌, ◌≤◌, Bool, IsTrue, Result, OnOk, IfOk}
+use Rattle.flash_model.specs.declared.error.FlashError.{FlashError}
+use Rattle.flash_model.specs.Chip.{Chip, Ends}
+use Rattle.sector_map.specs.declared.layout.SectorMap.{SectorMap}
+use Rattle.sector_map.specs.Map.{IsLaidOut, slot_sectors}
+
+-- The map is laid out on the flash, has the image, and its trailers have n bytes that begin so many
+-- bytes before their end, among the last 56.
+pub record HasPlace (map : SectorMap) (image from_end n : ℕ) (chip : Chip) : Type 0 where
+  pub laid_out : IsLaidOut map chip
+  pub there : image < map.images
+  pub room : n ≤ from_end
+  pub within : from_end ≤ 56
+
+-- The map is laid out on the flash, has the image, and its trailers have that status unit: there are
+-- three for each sector of the slot.
+pub record HasStatus (map : SectorMap) (image status : ℕ) (chip : Chip) : Type 0 where
+  pub laid_out : IsLaidOut map chip
+  pub there : image < map.images
+  pub below : status < 3 * slot_sectors map image
+
+-- A call tells a value that it reads.
+pub record Tells {V : Type 0} (value : V) (old new : Chip) (result : Result V FlashError)
+    : Type 0 where
+  -- Nothing changes,
+  pub same : new ≡ old
+  -- and the answer is the value.
+  pub ok : IfOk result (λ answer. answer ≡ value)
+  pub erases : OnOk result (new.erases ≡ old.erases)
+  pub ends : Ends result old new
+
+-- A call tells whether something holds.
+pub record Decides (fact : Type 0) (old new : Chip) (result : Result Bool FlashError)
+    : Type 0 where
+  -- Nothing changes,
+  pub same : new ≡ old
+  -- and the answer is yes where it holds, and nowhere else.
+  pub ok : IfOk result (λ answer. IsTrue answer ↔ fact)
+  pub erases : OnOk result (new.erases ≡ old.erases)
+  pub ends : Ends result old new

@@ -1,0 +1,76 @@
+-- What a call does that settles the trailers of an image after a swap.
+use Rattle.std.specs.Prelude.{◌≡◌, ℕ, ◌+◌, ◌≤◌, Bool, true, false, Result, OnOk}
+use Rattle.flash_model.specs.declared.error.FlashError.{FlashError}
+use Rattle.flash_model.specs.Chip.{Chip, Ends, SameOutside}
+use Rattle.sector_map.specs.declared.layout.SectorMap.{SectorMap}
+use Rattle.sector_map.specs.declared.layout.Side.{Side}
+use Rattle.sector_map.specs.declared.layout.Side.TheVariants.{Primary, Secondary}
+use Rattle.sector_map.specs.Map.{Keeps}
+use Rattle.sector_map.specs.Part.{TrailerOf, only, trailers_of}
+use Rattle.trailer.specs.declared.kinds.Settling.{Settling}
+use Rattle.trailer.specs.declared.kinds.Settling.TheVariants.{Back}
+use Rattle.trailer.specs.Fields.{are_erased, bytes_at, fields_at, flag, place_of, trailer_bytes}
+use Rattle.trailer.specs.Settled.{HasMarks, IsSettled, IsSpared, IsWhole, before_marks, is_confirmed}
+
+-- A call sets image_ok of a trailer, where the image is to be confirmed.
+pub record MarksOk (map : SectorMap) (image : ℕ) (side : Side) (confirmed : Bool)
+    (old new : Chip) {T : Type 0} (result : Result T FlashError) : Type 0 where
+  -- No other unit is written;
+  pub outside : SameOutside (place_of map image side 24) 8 old new
+  -- where the call ends it holds the flag,
+  pub ok : OnOk result (confirmed ≡ true → bytes_at map new image side 24 8 ≡ flag)
+  -- and nothing is written where the image isn't to be confirmed.
+  pub tried : confirmed ≡ false → new ≡ old
+  pub erases : OnOk result (new.erases ≡ old.erases)
+  pub ends : Ends result old new
+
+-- A call writes copy_done, image_ok where the image is to be confirmed, and the magic.
+pub record MarksTrailer (map : SectorMap) (image : ℕ) (side : Side) (confirmed : Bool)
+    (old new : Chip) {T : Type 0} (result : Result T FlashError) : Type 0 where
+  -- No other part is written,
+  pub outside : Keeps map (only (TrailerOf image side)) old new
+  -- and of the trailer its last four units;
+  pub units : SameOutside (place_of map image side 32) 32 old new
+  -- where the call ends these hold their values.
+  pub ok : OnOk result (HasMarks map new image side confirmed)
+  pub erases : OnOk result (new.erases ≡ old.erases)
+  pub ends : Ends result old new
+
+-- A call erases a trailer where the units that settling writes can't be written.
+pub record MakesWhole (map : SectorMap) (image : ℕ) (side : Side) (settling : Settling)
+    (old new : Chip) {T : Type 0} (result : Result T FlashError) : Type 0 where
+  -- No other part is written;
+  pub outside : Keeps map (only (TrailerOf image side)) old new
+  -- where the call ends these units can be written,
+  pub ok : OnOk result (IsWhole map new image side (is_confirmed settling))
+  -- and after a swap back all of the trailer is erased.
+  pub back : OnOk result (settling ≡ Back → are_erased (trailer_bytes map new image side) ≡ true)
+  -- It is erased where it must be, and nowhere else.
+  pub erases : OnOk result (new.erases ≤ old.erases + 1)
+  pub spares : OnOk result (IsSpared map old image side settling → new ≡ old)
+  pub must : OnOk result ((IsSpared map old image side settling → ⊥)
+      → new.erases ≡ old.erases + 1)
+  pub ends : Ends result old new
+
+-- A call settles the trailers of an image.
+pub record Settles (map : SectorMap) (image : ℕ) (settling : Settling) (old new : Chip)
+    {T : Type 0} (result : Result T FlashError) : Type 0 where
+  -- No other part is written;
+  pub outside : Keeps map (trailers_of image) old new
+  -- where the call ends the trailers say what they are to say,
+  pub ok : OnOk result (IsSettled (is_confirmed settling) (fields_at map new image Primary)
+      (fields_at map new image Secondary))
+  -- and no unit is left torn.
+  pub marks : OnOk result (HasMarks map new image Primary (is_confirmed settling))
+  -- Byte for byte: the secondary trailer is erased, and after a swap back all of the primary one
+  -- but its marks.
+  pub erased : OnOk result (are_erased (trailer_bytes map new image Secondary) ≡ true)
+  pub back : OnOk result (settling ≡ Back
+      → are_erased (before_marks map (trailer_bytes map new image Primary)) ≡ true)
+  -- The primary trailer is erased where it must be, and nowhere else.
+  pub erases : OnOk result (new.erases ≤ old.erases + 2)
+  pub spares : OnOk result (IsSpared map old image Primary settling
+      → new.erases ≡ old.erases + 1)
+  pub must : OnOk result ((IsSpared map old image Primary settling → ⊥)
+      → new.erases ≡ old.erases + 2)
+  pub ends : Ends result old new

@@ -1,0 +1,88 @@
+-- What a call does that writes units of a trailer.
+use Rattle.std.specs.Prelude.{◌≡◌, ℕ, ◌+◌, ◌*◌, ◌%◌, ◌<◌, ◌≤◌, List, length, Some, Result, OnOk}
+use Rattle.flash_model.specs.declared.error.FlashError.{FlashError}
+use Rattle.flash_model.specs.Chip.{Chip, Ends, Reads, SameOutside}
+use Rattle.sector_map.specs.declared.layout.SectorMap.{SectorMap}
+use Rattle.sector_map.specs.declared.layout.Side.{Side}
+use Rattle.sector_map.specs.Map.{IsLaidOut, Keeps, slot_sectors, start_of}
+use Rattle.sector_map.specs.Part.{TrailerOf, only}
+use Rattle.trailer.specs.Fields.{Fields, bytes_at, fields_at, flag, place_of, size_bytes}
+use Rattle.trailer.specs.Status.{status_count_of}
+
+-- The map is laid out on the flash, has the image, and its trailers have whole units of n bytes
+-- together that begin so many bytes before their end, among the last 56.
+pub record HasUnits (map : SectorMap) (image from_end n : ℕ) (chip : Chip) : Type 0 where
+  pub laid_out : IsLaidOut map chip
+  pub there : image < map.images
+  pub some : 8 ≤ n
+  pub whole : n % 8 ≡ 0
+  pub place : from_end % 8 ≡ 0
+  pub room : n ≤ from_end
+  pub within : from_end ≤ 56
+
+-- A call writes units that begin so many bytes before the end of a trailer.
+pub record WritesUnits (map : SectorMap) (image : ℕ) (side : Side) (from_end : ℕ)
+    (units : List ℕ) (old new : Chip) {T : Type 0} (result : Result T FlashError)
+    : Type 0 where
+  -- Nothing else is written,
+  pub outside : SameOutside (place_of map image side from_end) (length units) old new
+  -- and they are there where the call ends.
+  pub ok : OnOk result (bytes_at map new image side from_end (length units) ≡ units)
+  pub erases : OnOk result (new.erases ≡ old.erases)
+  pub ends : Ends result old new
+
+-- A call writes one field of a trailer, in units that begin so many bytes before its end. What the
+-- field then says is told by `is_said`; `joined` takes it from the new fields, and the others from
+-- the old ones.
+pub record WritesField (map : SectorMap) (image : ℕ) (side : Side) (from_end : ℕ)
+    (units : List ℕ) (is_said : Fields → Type 0) (joined : Fields → Fields → Fields)
+    (old new : Chip) {T : Type 0} (result : Result T FlashError) : Type 0 where
+  -- No other part is written,
+  pub outside : Keeps map (only (TrailerOf image side)) old new
+  -- no other unit,
+  pub unit : SameOutside (place_of map image side from_end) (length units) old new
+  -- and no other field;
+  pub own : fields_at map new image side
+      ≡ joined (fields_at map old image side) (fields_at map new image side)
+  -- where the call ends the field says what it is to say, and the units are there.
+  pub ok : OnOk result (is_said (fields_at map new image side))
+  pub bytes : OnOk result (bytes_at map new image side from_end (length units) ≡ units)
+  pub erases : OnOk result (new.erases ≡ old.erases)
+  pub ends : Ends result old new
+
+-- A call writes the unit of swap_size.
+pub record WritesSize (map : SectorMap) (image : ℕ) (side : Side) (swap_size : ℕ)
+    (old new : Chip) {T : Type 0} (result : Result T FlashError) : Type 0 where
+  -- No other part is written,
+  pub outside : Keeps map (only (TrailerOf image side)) old new
+  -- no other unit,
+  pub unit : SameOutside (place_of map image side 48) 8 old new
+  -- and no other field;
+  pub own : fields_at map new image side
+      ≡ record (fields_at map old image side) { size = (fields_at map new image side).size }
+  -- where the call ends the unit is there,
+  pub bytes : OnOk result (bytes_at map new image side 48 8 ≡ size_bytes swap_size)
+  -- and is a size, if the number is from 1 to the slot's length.
+  pub ok : OnOk result (0 < swap_size → swap_size ≤ slot_sectors map image * map.sector_size
+      → (fields_at map new image side).size ≡ Some swap_size)
+  pub erases : OnOk result (new.erases ≡ old.erases)
+  pub ends : Ends result old new
+
+-- A call sets the first status unit that is erased.
+pub record PushesStatus (map : SectorMap) (image : ℕ) (side : Side) (old new : Chip)
+    {T : Type 0} (result : Result T FlashError) : Type 0 where
+  -- No other part is written,
+  pub outside : Keeps map (only (TrailerOf image side)) old new
+  -- no other unit,
+  pub unit : SameOutside (start_of map (TrailerOf image side)
+      + 8 * status_count_of map old image side) 8 old new
+  -- and no other field;
+  pub own : fields_at map new image side
+      ≡ record (fields_at map old image side)
+      { is_fresh = (fields_at map new image side).is_fresh }
+  -- where the call ends the count has gone up, and the unit holds the flag.
+  pub ok : OnOk result (status_count_of map old image side < status_count_of map new image side)
+  pub flag : OnOk result (Reads new (start_of map (TrailerOf image side)
+      + 8 * status_count_of map old image side) flag)
+  pub erases : OnOk result (new.erases ≡ old.erases)
+  pub ends : Ends result old new
