@@ -3,3 +3,7 @@ pub mod Record
 pub mod Ring
 pub mod Log
 pub mod Written
+pub mod Places
+pub mod Reading
+pub mod Writing
+pub mod States

@@ -3,14 +3,15 @@
 //! Promises: the state is a function of the bytes of the log's three sectors, and `read_state` is
 //! that function; an append that power cuts leaves the old state or the new one, over any bytes
 //! that it tears; nothing but the log is touched; and how many sectors are erased is known exactly.
-//! Does not allocate. `upload`, `boot_core` and `answers` call it.
+//! Does not allocate. `upload`, `boot_core` and `answers` may call it; a program changes the log
+//! through `boot_core` alone.
 #![tactic(auto)]
 
+mod active_sector;
 mod error;
 mod laws;
 mod log;
 mod places;
-mod reading;
 mod record;
 mod state;
 mod writing;

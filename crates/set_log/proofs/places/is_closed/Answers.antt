@@ -1,11 +1,16 @@
-use Rattle.std.proofs.Common.{ap, not}
+use Rattle.std.proofs.Common.{rules, ap, not}
 use Rattle.set_log.specs.Ring.{is_closed}
 use Rattle.set_log.proofs.View.{at_closing, log_tells}
 use Rattle.set_log.proofs.places.is_closed.Goals as goal
 
-pub returns-clause-ok : goal.returns-clause-ok
+pub returns : goal.returns
 unfolding is_closed
-returns-clause-ok g c =
+returns g c =
     let map = c.args.map.now in
-    ap not (log_tells map _ _ _ 8 _ c.requires.laid_out c.in_ok-erased.ensures.ok
-    (at_closing map _ c.args.sector c.requires.laid_out.is_map c.requires.sector c.closing_unit.ensures))
+    record {
+      same = search rules;
+      ok = ap not (log_tells map _ _ _ 8 _ c.requires.laid_out c.in_ok-erased.ensures.ok
+          (at_closing map _ c.args.sector c.requires.laid_out.is_map c.requires.sector c.closing_unit.ensures));
+      on = search rules;
+      ends = search rules;
+    }

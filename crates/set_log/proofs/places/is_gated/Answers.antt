@@ -1,4 +1,4 @@
-use Rattle.std.proofs.Common.{◌≡◌, Bool, true, false, not, refl, sym, ◌∙◌, ap, ◌+◌}
+use Rattle.std.proofs.Common.{rules, ◌≡◌, Bool, true, false, not, refl, sym, ◌∙◌, ap, ◌+◌}
 use Rattle.set_log.proofs.View.{at_gate, log_tells}
 use Rattle.set_log.proofs.places.is_gated.Goals as goal
 
@@ -6,9 +6,13 @@ twice : (b : Bool) → b ≡ not (not b)
 twice true = refl
 twice false = refl
 
-pub returns-clause-ok : goal.returns-clause-ok
-returns-clause-ok g c =
+pub returns : goal.returns
+returns g c =
     let map = c.args.map.now in
-    sym (log_tells map _ _ _ 8 _ c.requires.laid_out c.in_ok-erased.ensures.ok
-    (at_gate map _ c.args.sector c.args.place c.requires.laid_out.is_map c.requires.sector c.requires.place
-    (ap (λ a. a + 56) c.record_start.ensures))) ∙ twice _
+    record {
+      same = search rules;
+      ok = sym (log_tells map _ _ _ 8 _ c.requires.laid_out c.in_ok-erased.ensures.ok
+          (at_gate map _ c.args.sector c.args.place c.requires.laid_out.is_map c.requires.sector c.requires.place
+          (ap (λ a. a + 56) c.record_start.ensures))) ∙ twice _;
+      ends = search rules;
+    }

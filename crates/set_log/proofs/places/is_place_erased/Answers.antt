@@ -1,9 +1,14 @@
+use Rattle.std.proofs.Common.{rules}
 use Rattle.set_log.proofs.View.{at_place, log_tells}
 use Rattle.set_log.proofs.places.is_place_erased.Goals as goal
 
-pub returns-clause-ok : goal.returns-clause-ok
-returns-clause-ok g c =
+pub returns : goal.returns
+returns g c =
     let map = c.args.map.now in
-    log_tells map _ _ _ 64 _ c.requires.laid_out c.in_ok-erased.ensures.ok
-    (at_place map _ c.args.sector c.args.place c.requires.laid_out.is_map c.requires.sector c.requires.place
-    c.record_start.ensures)
+    record {
+      same = search rules;
+      ok = log_tells map _ _ _ 64 _ c.requires.laid_out c.in_ok-erased.ensures.ok
+          (at_place map _ c.args.sector c.args.place c.requires.laid_out.is_map c.requires.sector c.requires.place
+          c.record_start.ensures);
+      ends = search rules;
+    }

@@ -1,11 +1,15 @@
-use Rattle.std.proofs.Common.{◌≡◌, arith, length}
+use Rattle.std.proofs.Common.{rules, ◌≡◌, arith, length}
 use Rattle.set_log.proofs.View.{at_body, log_range}
 use Rattle.set_log.proofs.places.read_place.Goals as goal
 
-pub returns-clause-ok : goal.returns-clause-ok
-returns-clause-ok g c =
+pub returns : goal.returns
+returns g c =
     let map = c.args.map.now in
     let long : length c.read.new.out ≡ 56 = omega arith in
-    log_range map _ _ _ 56 _ c.requires.laid_out c.in_ok-read.ensures.ok
-    (at_body map _ c.args.sector c.args.place c.requires.laid_out.is_map c.requires.sector c.requires.place
-    c.record_start.ensures) long
+    record {
+      same = search rules;
+      ok = log_range map _ _ _ 56 _ c.requires.laid_out c.in_ok-read.ensures.ok
+          (at_body map _ c.args.sector c.args.place c.requires.laid_out.is_map c.requires.sector c.requires.place
+          c.record_start.ensures) long;
+      ends = search rules;
+    }

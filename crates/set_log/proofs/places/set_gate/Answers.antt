@@ -1,4 +1,4 @@
-use Rattle.std.proofs.Common.{◌+◌, arith, ap, refl}
+use Rattle.std.proofs.Common.{rules, ◌+◌, arith, ap, refl}
 use Rattle.flash_model.specs.Chip.{Reads}
 use Rattle.flash_model.specs.declared.unit.TheConstants.{FLAG}
 use Rattle.flash_model.specs.Units.{IsSet}
@@ -29,36 +29,23 @@ set_unit-requires-clause-place g c =
       place_aligned c.args.map.now c.args.sector c.args.place c.requires.laid_out.is_map,
     )
 
-pub returns-clause-outside : goal.returns-clause-outside
-returns-clause-outside g c =
+pub returns : goal.returns
+returns g c =
     let map = c.args.map.now in
-    log_alone map _ _ _ _ 8 c.requires.laid_out c.set_unit.ensures.outside
-    (at_gate map _ c.args.sector c.args.place c.requires.laid_out.is_map c.requires.sector c.requires.place
-    (ap (λ a. a + 56) c.record_start.ensures))
-
-pub returns-clause-within : goal.returns-clause-within
-returns-clause-within g c =
-    let map = c.args.map.now in
-    log_same map _ _ _ _ 8 c.requires.laid_out c.set_unit.ensures.outside
-    (at_gate map _ c.args.sector c.args.place c.requires.laid_out.is_map c.requires.sector c.requires.place
-    (ap (λ a. a + 56) c.record_start.ensures))
-
-pub returns-clause-ok : goal.returns-clause-ok
-returns-clause-ok g c =
-    let map = c.args.map.now in
-    on_ok_weaker c.set_unit.result
-    (λ (set : IsSet (g.F.Flash.chip c.set_unit.new.flash) (c.record_start.result + 56)). log_set map _ _ _
-    (laid_out_kept map _ _ _ c.requires.laid_out (returns-clause-outside g c)) set
-    (at_gate map _ c.args.sector c.args.place c.requires.laid_out.is_map c.requires.sector c.requires.place
-    (ap (λ a. a + 56) c.record_start.ensures)))
-    c.set_unit.ensures.ok
-
-pub returns-clause-flag : goal.returns-clause-flag
-returns-clause-flag g c =
-    let map = c.args.map.now in
-    on_ok_weaker c.set_unit.result
-    (λ (reads : Reads (g.F.Flash.chip c.set_unit.new.flash) (c.record_start.result + 56) FLAG). log_reads map _ _ _ 8
-    FLAG reads
-    (at_gate map _ c.args.sector c.args.place c.requires.laid_out.is_map c.requires.sector c.requires.place
-    (ap (λ a. a + 56) c.record_start.ensures)) refl)
-    c.set_unit.ensures.flag
+    let here = at_gate map (c.record_start.result + 56) c.args.sector c.args.place c.requires.laid_out.is_map
+    c.requires.sector c.requires.place (ap (λ a. a + 56) c.record_start.ensures) in
+    let alone = log_alone map _ _ _ _ 8 c.requires.laid_out c.set_unit.ensures.outside here in
+    record {
+      outside = alone;
+      within = log_same map _ _ _ _ 8 c.requires.laid_out c.set_unit.ensures.outside here;
+      ok = on_ok_weaker c.set_unit.result
+          (λ (set : IsSet (g.F.Flash.chip c.set_unit.new.flash) (c.record_start.result + 56)).
+          log_set map _ _ _ (laid_out_kept map _ _ _ c.requires.laid_out alone) set here)
+          c.set_unit.ensures.ok;
+      flag = on_ok_weaker c.set_unit.result
+          (λ (reads : Reads (g.F.Flash.chip c.set_unit.new.flash) (c.record_start.result + 56) FLAG).
+          log_reads map _ _ _ 8 FLAG reads here refl)
+          c.set_unit.ensures.flag;
+      erases = search rules;
+      ends = search rules;
+    }

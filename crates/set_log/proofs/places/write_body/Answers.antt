@@ -1,4 +1,4 @@
-use Rattle.std.proofs.Common.{arith, sym, subst}
+use Rattle.std.proofs.Common.{rules, arith, sym, subst}
 use Rattle.flash_model.specs.Chip.{IsErased, Reads, SameOutside}
 use Rattle.std.proofs.lemmas.Result.{on_ok_weaker}
 use Rattle.set_log.proofs.View.{at_body, at_inside, flash_erased, place_aligned, log_alone, log_same, log_reads}
@@ -27,30 +27,20 @@ program-requires-clause-place g c =
       place_aligned c.args.map.now c.args.sector c.args.place c.requires.laid_out.is_map,
     )
 
-pub returns-clause-outside : goal.returns-clause-outside
-returns-clause-outside g c =
+pub returns : goal.returns
+returns g c =
     let map = c.args.map.now in
-    log_alone map _ _ _ _ 56 c.requires.laid_out
-    (subst (λ n. SameOutside c.record_start.result n (g.F.Flash.chip c.args.flash.now)
-    (g.F.Flash.chip c.program.new.self)) c.told-body c.program.ensures.outside)
-    (at_body map _ c.args.sector c.args.place c.requires.laid_out.is_map c.requires.sector c.requires.place
-    c.record_start.ensures)
-
-pub returns-clause-within : goal.returns-clause-within
-returns-clause-within g c =
-    let map = c.args.map.now in
-    log_same map _ _ _ _ 56 c.requires.laid_out
-    (subst (λ n. SameOutside c.record_start.result n (g.F.Flash.chip c.args.flash.now)
-    (g.F.Flash.chip c.program.new.self)) c.told-body c.program.ensures.outside)
-    (at_body map _ c.args.sector c.args.place c.requires.laid_out.is_map c.requires.sector c.requires.place
-    c.record_start.ensures)
-
-pub returns-clause-ok : goal.returns-clause-ok
-returns-clause-ok g c =
-    let map = c.args.map.now in
-    on_ok_weaker c.program.result
-    (λ (reads : Reads (g.F.Flash.chip c.program.new.self) c.record_start.result c.args.body.now).
-    log_reads map _ _ _ 56 _ reads
-    (at_body map _ c.args.sector c.args.place c.requires.laid_out.is_map c.requires.sector c.requires.place
-    c.record_start.ensures) c.told-body)
-    c.program.ensures.ok
+    let here = at_body map c.record_start.result c.args.sector c.args.place c.requires.laid_out.is_map
+    c.requires.sector c.requires.place c.record_start.ensures in
+    let same = subst (λ n. SameOutside c.record_start.result n (g.F.Flash.chip c.args.flash.now)
+    (g.F.Flash.chip c.program.new.self)) c.told-body c.program.ensures.outside in
+    record {
+      outside = log_alone map _ _ _ _ 56 c.requires.laid_out same here;
+      within = log_same map _ _ _ _ 56 c.requires.laid_out same here;
+      ok = on_ok_weaker c.program.result
+          (λ (reads : Reads (g.F.Flash.chip c.program.new.self) c.record_start.result c.args.body.now).
+          log_reads map _ _ _ 56 _ reads here c.told-body)
+          c.program.ensures.ok;
+      erases = search rules;
+      ends = search rules;
+    }

@@ -1,167 +1,104 @@
-use Rattle.std.proofs.Common.{◌∙◌, inr}
+use Rattle.std.proofs.Common.{rules, ◌≡◌, ◌∙◌, inr, false}
 use Rattle.set_log.proofs.Turns.{register_none}
 use Rattle.set_log.proofs.Moves.{place_torn, place_put, erases_free, erases_full}
-use Rattle.set_log.specs.Log.{log_of}
+use Rattle.set_log.specs.Log.{log_bytes, log_of}
+use Rattle.set_log.specs.Ring.{has_room}
 use Rattle.set_log.specs.Written.{IsFirstFree}
 use Rattle.set_log.proofs.Placing.{put_within, put_written, not_full, no_place, next_beside, next_moved}
 use Rattle.set_log.proofs.writing.append_record.Goals as goal
 
-pub returns-in_default-clause-ok : goal.returns-in_default-clause-ok
-returns-in_default-clause-ok g c =
-    let none = rw c.in_default.is at c.in_ok-active.ensures.ok in
-    absurd (c.requires.has_record (register_none _ _ none))
+pub returns-in_default : goal.returns-in_default
+returns-in_default g c =
+    absurd (c.requires.has_record (register_none _ _ (rw c.in_default.is at c.in_ok-active.ensures.ok)))
 
-pub returns-in_default-clause-erases : goal.returns-in_default-clause-erases
-returns-in_default-clause-erases g c =
-    let none = rw c.in_default.is at c.in_ok-active.ensures.ok in
-    absurd (c.requires.has_record (register_none _ _ none))
+pub returns-in_err-write_record-in-Some-2 : goal.returns-in_err-write_record-in-Some-2
+returns-in_err-write_record-in-Some-2 g c =
+    let map = c.args.map.now in
+    let same = c.free_place.ensures.same ∙ c.find_active.ensures.same in
+    let active = rw c.in-Some.is at c.in_ok-active.ensures.ok in
+    let first : IsFirstFree map.sector_size (log_of map (g.F.Flash.chip c.free_place.new.flash)) c.in-Some.active
+    c.in-Some-2.place = rw c.free_place.ensures.same (rw c.in-Some-2.is at c.in_ok-place.ensures.ok) in
+    record {
+      outside = search rules;
+      either = place_torn map c.in-Some.active c.in-Some-2.place _ _ _ _ same c.requires.laid_out.is_map active
+          first.free c.write_record.ensures.within c.write_record.ensures.either;
+      ok = search rules;
+      within = put_within map _ _ _ same c.in-Some.active c.in-Some-2.place active first
+          c.write_record.ensures.within;
+      written = search rules;
+      beside = λ sector is full.
+          absurd (not_full map _ _ (g.F.Flash.chip c.free_place.new.flash) same c.in-Some.active c.in-Some-2.place active first full);
+      moved = search rules;
+      erases = search rules;
+      ends = search rules;
+    }
 
-pub returns-in_err-write_record-in-Some-2-clause-either : goal.returns-in_err-write_record-in-Some-2-clause-either
-returns-in_err-write_record-in-Some-2-clause-either g c =
-    let first : IsFirstFree c.args.map.now.sector_size
-    (log_of c.args.map.now (g.F.Flash.chip c.free_place.new.flash)) c.in-Some.active c.in-Some-2.place =
-    rw c.free_place.ensures.same (rw c.in-Some-2.is at c.in_ok-place.ensures.ok) in
-    place_torn c.args.map.now c.in-Some.active c.in-Some-2.place _ (g.F.Flash.chip c.args.flash.now)
-    (g.F.Flash.chip c.free_place.new.flash) _ (c.free_place.ensures.same ∙ c.find_active.ensures.same)
-    c.requires.laid_out.is_map (rw c.in-Some.is at c.in_ok-active.ensures.ok)
-    first.free
-    c.write_record.ensures.within c.write_record.ensures.either
+pub returns-in_ok-write_record-in-Some-2 : goal.returns-in_ok-write_record-in-Some-2
+returns-in_ok-write_record-in-Some-2 g c =
+    let map = c.args.map.now in
+    let same = c.free_place.ensures.same ∙ c.find_active.ensures.same in
+    let active = rw c.in-Some.is at c.in_ok-active.ensures.ok in
+    let first : IsFirstFree map.sector_size (log_of map (g.F.Flash.chip c.free_place.new.flash)) c.in-Some.active
+    c.in-Some-2.place = rw c.free_place.ensures.same (rw c.in-Some-2.is at c.in_ok-place.ensures.ok) in
+    let stands = place_put map c.in-Some.active c.in-Some-2.place _ _ _ _ same c.requires.laid_out.is_map active
+    first.free c.write_record.ensures.within c.in_ok-write_record-in-Some-2.ensures.ok in
+    record {
+      outside = search rules;
+      either = inr stands;
+      ok = stands;
+      within = put_within map _ _ _ same c.in-Some.active c.in-Some-2.place active first
+          c.write_record.ensures.within;
+      written = put_written map _ _ _ same c.in-Some.active c.in-Some-2.place active first c.args.body.now
+          c.in_ok-write_record-in-Some-2.ensures.written;
+      beside = λ sector is full.
+          absurd (not_full map _ _ (g.F.Flash.chip c.free_place.new.flash) same c.in-Some.active c.in-Some-2.place active first full);
+      moved = λ sector is full.
+          absurd (not_full map _ _ (g.F.Flash.chip c.free_place.new.flash) same c.in-Some.active c.in-Some-2.place active first full);
+      erases = erases_free map c.in-Some.active c.in-Some-2.place _ _ _ same active first.free
+          c.in_ok-write_record-in-Some-2.ensures.erases;
+      ends = search rules;
+    }
 
-pub returns-in_ok-write_record-in-Some-2-clause-ok : goal.returns-in_ok-write_record-in-Some-2-clause-ok
-returns-in_ok-write_record-in-Some-2-clause-ok g c =
-    let first : IsFirstFree c.args.map.now.sector_size
-    (log_of c.args.map.now (g.F.Flash.chip c.free_place.new.flash)) c.in-Some.active c.in-Some-2.place =
-    rw c.free_place.ensures.same (rw c.in-Some-2.is at c.in_ok-place.ensures.ok) in
-    place_put c.args.map.now c.in-Some.active c.in-Some-2.place _ (g.F.Flash.chip c.args.flash.now)
-    (g.F.Flash.chip c.free_place.new.flash) _ (c.free_place.ensures.same ∙ c.find_active.ensures.same)
-    c.requires.laid_out.is_map (rw c.in-Some.is at c.in_ok-active.ensures.ok)
-    first.free
-    c.write_record.ensures.within c.in_ok-write_record-in-Some-2.ensures.ok
+pub returns-in_err-move_on-in-None : goal.returns-in_err-move_on-in-None
+returns-in_err-move_on-in-None g c =
+    let map = c.args.map.now in
+    let same = c.free_place.ensures.same ∙ c.find_active.ensures.same in
+    let active = rw c.in-Some.is at c.in_ok-active.ensures.ok in
+    let full : has_room map.sector_size (log_bytes map (g.F.Flash.chip c.free_place.new.flash)) c.in-Some.active
+    ≡ false = rw c.free_place.ensures.same (rw c.in-None.is at c.in_ok-place.ensures.ok) in
+    record {
+      outside = search rules;
+      either = search rules;
+      ok = search rules;
+      within = λ sector place is first.
+          absurd (no_place map _ _ (g.F.Flash.chip c.free_place.new.flash) same c.in-Some.active active full sector place is first);
+      written = search rules;
+      beside = λ sector is _. next_beside map _ _ _ same c.in-Some.active active c.move_on.ensures.beside sector is;
+      moved = search rules;
+      erases = search rules;
+      ends = search rules;
+    }
 
-pub returns-in_ok-write_record-in-Some-2-clause-either : goal.returns-in_ok-write_record-in-Some-2-clause-either
-returns-in_ok-write_record-in-Some-2-clause-either g c = inr (returns-in_ok-write_record-in-Some-2-clause-ok g c)
-
-pub returns-in_ok-write_record-in-Some-2-clause-erases : goal.returns-in_ok-write_record-in-Some-2-clause-erases
-returns-in_ok-write_record-in-Some-2-clause-erases g c =
-    let first : IsFirstFree c.args.map.now.sector_size
-    (log_of c.args.map.now (g.F.Flash.chip c.free_place.new.flash)) c.in-Some.active c.in-Some-2.place =
-    rw c.free_place.ensures.same (rw c.in-Some-2.is at c.in_ok-place.ensures.ok) in
-    erases_free c.args.map.now c.in-Some.active c.in-Some-2.place _ (g.F.Flash.chip c.args.flash.now)
-    (g.F.Flash.chip c.free_place.new.flash) (c.free_place.ensures.same ∙ c.find_active.ensures.same)
-    (rw c.in-Some.is at c.in_ok-active.ensures.ok)
-    first.free
-    c.in_ok-write_record-in-Some-2.ensures.erases
-
-pub returns-in_ok-move_on-in-None-clause-erases : goal.returns-in_ok-move_on-in-None-clause-erases
-returns-in_ok-move_on-in-None-clause-erases g c =
-    erases_full c.args.map.now c.in-Some.active _ (g.F.Flash.chip c.args.flash.now)
-    (g.F.Flash.chip c.find_active.new.flash) (g.F.Flash.chip c.free_place.new.flash) c.find_active.ensures.same
-    c.free_place.ensures.same (rw c.in-Some.is at c.in_ok-active.ensures.ok)
-    (rw c.in-None.is at c.in_ok-place.ensures.ok) c.in_ok-move_on-in-None.ensures.erases
-
-pub returns-in_err-write_record-in-Some-2-clause-within : goal.returns-in_err-write_record-in-Some-2-clause-within
-returns-in_err-write_record-in-Some-2-clause-within g c =
-    let first : IsFirstFree c.args.map.now.sector_size
-    (log_of c.args.map.now (g.F.Flash.chip c.free_place.new.flash)) c.in-Some.active c.in-Some-2.place =
-    rw c.free_place.ensures.same (rw c.in-Some-2.is at c.in_ok-place.ensures.ok) in
-    put_within c.args.map.now (g.F.Flash.chip c.args.flash.now) (g.F.Flash.chip c.free_place.new.flash) _
-    (c.free_place.ensures.same ∙ c.find_active.ensures.same) c.in-Some.active c.in-Some-2.place
-    (rw c.in-Some.is at c.in_ok-active.ensures.ok) first c.write_record.ensures.within
-
-pub returns-in_err-write_record-in-Some-2-clause-beside : goal.returns-in_err-write_record-in-Some-2-clause-beside
-returns-in_err-write_record-in-Some-2-clause-beside g c =
-    let first : IsFirstFree c.args.map.now.sector_size
-    (log_of c.args.map.now (g.F.Flash.chip c.free_place.new.flash)) c.in-Some.active c.in-Some-2.place =
-    rw c.free_place.ensures.same (rw c.in-Some-2.is at c.in_ok-place.ensures.ok) in
-    λ sector is full. absurd
-    (not_full c.args.map.now (g.F.Flash.chip c.args.flash.now) (g.F.Flash.chip c.free_place.new.flash) (g.F.Flash.chip c.free_place.new.flash)
-    (c.free_place.ensures.same ∙ c.find_active.ensures.same) c.in-Some.active c.in-Some-2.place
-    (rw c.in-Some.is at c.in_ok-active.ensures.ok) first full)
-
-pub returns-in_ok-write_record-in-Some-2-clause-within : goal.returns-in_ok-write_record-in-Some-2-clause-within
-returns-in_ok-write_record-in-Some-2-clause-within g c =
-    let first : IsFirstFree c.args.map.now.sector_size
-    (log_of c.args.map.now (g.F.Flash.chip c.free_place.new.flash)) c.in-Some.active c.in-Some-2.place =
-    rw c.free_place.ensures.same (rw c.in-Some-2.is at c.in_ok-place.ensures.ok) in
-    put_within c.args.map.now (g.F.Flash.chip c.args.flash.now) (g.F.Flash.chip c.free_place.new.flash) _
-    (c.free_place.ensures.same ∙ c.find_active.ensures.same) c.in-Some.active c.in-Some-2.place
-    (rw c.in-Some.is at c.in_ok-active.ensures.ok) first c.write_record.ensures.within
-
-pub returns-in_ok-write_record-in-Some-2-clause-beside : goal.returns-in_ok-write_record-in-Some-2-clause-beside
-returns-in_ok-write_record-in-Some-2-clause-beside g c =
-    let first : IsFirstFree c.args.map.now.sector_size
-    (log_of c.args.map.now (g.F.Flash.chip c.free_place.new.flash)) c.in-Some.active c.in-Some-2.place =
-    rw c.free_place.ensures.same (rw c.in-Some-2.is at c.in_ok-place.ensures.ok) in
-    λ sector is full. absurd
-    (not_full c.args.map.now (g.F.Flash.chip c.args.flash.now) (g.F.Flash.chip c.free_place.new.flash) (g.F.Flash.chip c.free_place.new.flash)
-    (c.free_place.ensures.same ∙ c.find_active.ensures.same) c.in-Some.active c.in-Some-2.place
-    (rw c.in-Some.is at c.in_ok-active.ensures.ok) first full)
-
-pub returns-in_ok-write_record-in-Some-2-clause-written : goal.returns-in_ok-write_record-in-Some-2-clause-written
-returns-in_ok-write_record-in-Some-2-clause-written g c =
-    let first : IsFirstFree c.args.map.now.sector_size
-    (log_of c.args.map.now (g.F.Flash.chip c.free_place.new.flash)) c.in-Some.active c.in-Some-2.place =
-    rw c.free_place.ensures.same (rw c.in-Some-2.is at c.in_ok-place.ensures.ok) in
-    put_written c.args.map.now (g.F.Flash.chip c.args.flash.now) (g.F.Flash.chip c.free_place.new.flash) _
-    (c.free_place.ensures.same ∙ c.find_active.ensures.same) c.in-Some.active c.in-Some-2.place
-    (rw c.in-Some.is at c.in_ok-active.ensures.ok) first c.args.body.now
-    c.in_ok-write_record-in-Some-2.ensures.written
-
-pub returns-in_ok-write_record-in-Some-2-clause-moved : goal.returns-in_ok-write_record-in-Some-2-clause-moved
-returns-in_ok-write_record-in-Some-2-clause-moved g c =
-    let first : IsFirstFree c.args.map.now.sector_size
-    (log_of c.args.map.now (g.F.Flash.chip c.free_place.new.flash)) c.in-Some.active c.in-Some-2.place =
-    rw c.free_place.ensures.same (rw c.in-Some-2.is at c.in_ok-place.ensures.ok) in
-    λ sector is full. absurd
-    (not_full c.args.map.now (g.F.Flash.chip c.args.flash.now) (g.F.Flash.chip c.free_place.new.flash) (g.F.Flash.chip c.free_place.new.flash)
-    (c.free_place.ensures.same ∙ c.find_active.ensures.same) c.in-Some.active c.in-Some-2.place
-    (rw c.in-Some.is at c.in_ok-active.ensures.ok) first full)
-
-pub returns-in_err-move_on-in-None-clause-within : goal.returns-in_err-move_on-in-None-clause-within
-returns-in_err-move_on-in-None-clause-within g c =
-    λ sector place is first. absurd
-    (no_place c.args.map.now (g.F.Flash.chip c.args.flash.now) (g.F.Flash.chip c.free_place.new.flash) (g.F.Flash.chip c.free_place.new.flash)
-    (c.free_place.ensures.same ∙ c.find_active.ensures.same) c.in-Some.active
-    (rw c.in-Some.is at c.in_ok-active.ensures.ok) (rw c.free_place.ensures.same (rw c.in-None.is at c.in_ok-place.ensures.ok)) sector place is first)
-
-pub returns-in_err-move_on-in-None-clause-beside : goal.returns-in_err-move_on-in-None-clause-beside
-returns-in_err-move_on-in-None-clause-beside g c =
-    λ sector is full. next_beside c.args.map.now (g.F.Flash.chip c.args.flash.now) (g.F.Flash.chip c.free_place.new.flash) _
-    (c.free_place.ensures.same ∙ c.find_active.ensures.same) c.in-Some.active
-    (rw c.in-Some.is at c.in_ok-active.ensures.ok) c.move_on.ensures.beside sector is
-
-pub returns-in_ok-move_on-in-None-clause-within : goal.returns-in_ok-move_on-in-None-clause-within
-returns-in_ok-move_on-in-None-clause-within g c =
-    λ sector place is first. absurd
-    (no_place c.args.map.now (g.F.Flash.chip c.args.flash.now) (g.F.Flash.chip c.free_place.new.flash) (g.F.Flash.chip c.free_place.new.flash)
-    (c.free_place.ensures.same ∙ c.find_active.ensures.same) c.in-Some.active
-    (rw c.in-Some.is at c.in_ok-active.ensures.ok) (rw c.free_place.ensures.same (rw c.in-None.is at c.in_ok-place.ensures.ok)) sector place is first)
-
-pub returns-in_ok-move_on-in-None-clause-beside : goal.returns-in_ok-move_on-in-None-clause-beside
-returns-in_ok-move_on-in-None-clause-beside g c =
-    λ sector is full. next_beside c.args.map.now (g.F.Flash.chip c.args.flash.now) (g.F.Flash.chip c.free_place.new.flash) _
-    (c.free_place.ensures.same ∙ c.find_active.ensures.same) c.in-Some.active
-    (rw c.in-Some.is at c.in_ok-active.ensures.ok) c.move_on.ensures.beside sector is
-
-pub returns-in_ok-move_on-in-None-clause-written : goal.returns-in_ok-move_on-in-None-clause-written
-returns-in_ok-move_on-in-None-clause-written g c =
-    λ sector place is first. absurd
-    (no_place c.args.map.now (g.F.Flash.chip c.args.flash.now) (g.F.Flash.chip c.free_place.new.flash) (g.F.Flash.chip c.free_place.new.flash)
-    (c.free_place.ensures.same ∙ c.find_active.ensures.same) c.in-Some.active
-    (rw c.in-Some.is at c.in_ok-active.ensures.ok) (rw c.free_place.ensures.same (rw c.in-None.is at c.in_ok-place.ensures.ok)) sector place is first)
-
-pub returns-in_ok-move_on-in-None-clause-moved : goal.returns-in_ok-move_on-in-None-clause-moved
-returns-in_ok-move_on-in-None-clause-moved g c =
-    λ sector is full. next_moved c.args.map.now (g.F.Flash.chip c.args.flash.now) (g.F.Flash.chip c.free_place.new.flash) _
-    (c.free_place.ensures.same ∙ c.find_active.ensures.same) c.in-Some.active
-    (rw c.in-Some.is at c.in_ok-active.ensures.ok) c.args.body.now c.in_ok-move_on-in-None.ensures.moved sector is
-
-pub returns-in_default-clause-written : goal.returns-in_default-clause-written
-returns-in_default-clause-written g c =
-    let none = rw c.in_default.is at c.in_ok-active.ensures.ok in
-    absurd (c.requires.has_record (register_none _ _ none))
-
-pub returns-in_default-clause-moved : goal.returns-in_default-clause-moved
-returns-in_default-clause-moved g c =
-    let none = rw c.in_default.is at c.in_ok-active.ensures.ok in
-    absurd (c.requires.has_record (register_none _ _ none))
+pub returns-in_ok-move_on-in-None : goal.returns-in_ok-move_on-in-None
+returns-in_ok-move_on-in-None g c =
+    let map = c.args.map.now in
+    let same = c.free_place.ensures.same ∙ c.find_active.ensures.same in
+    let active = rw c.in-Some.is at c.in_ok-active.ensures.ok in
+    let full : has_room map.sector_size (log_bytes map (g.F.Flash.chip c.free_place.new.flash)) c.in-Some.active
+    ≡ false = rw c.free_place.ensures.same (rw c.in-None.is at c.in_ok-place.ensures.ok) in
+    record {
+      outside = search rules;
+      either = search rules;
+      ok = search rules;
+      within = λ sector place is first.
+          absurd (no_place map _ _ (g.F.Flash.chip c.free_place.new.flash) same c.in-Some.active active full sector place is first);
+      written = λ sector place is first.
+          absurd (no_place map _ _ (g.F.Flash.chip c.free_place.new.flash) same c.in-Some.active active full sector place is first);
+      beside = λ sector is _. next_beside map _ _ _ same c.in-Some.active active c.move_on.ensures.beside sector is;
+      moved = λ sector is _. next_moved map _ _ _ same c.in-Some.active active c.args.body.now
+          c.in_ok-move_on-in-None.ensures.moved sector is;
+      erases = erases_full map c.in-Some.active _ _ _ _ c.find_active.ensures.same
+          c.free_place.ensures.same active
+          (rw c.in-None.is at c.in_ok-place.ensures.ok) c.in_ok-move_on-in-None.ensures.erases;
+      ends = search rules;
+    }

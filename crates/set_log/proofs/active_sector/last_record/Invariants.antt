@@ -1,7 +1,7 @@
 use Rattle.std.proofs.Common.{◌*◌, ◌≤◌, ◌≡◌}
 use Rattle.set_log.specs.Log.{log_bytes}
 use Rattle.set_log.specs.Ring.{last_gated, last_of, places_in}
-use Rattle.set_log.proofs.reading.last_record.Given as goal
+use Rattle.set_log.proofs.active_sector.last_record.Given as goal
 
 abbrev pub invariant-loop-place : goal.invariant-loop-place
 invariant-loop-place g l = record {

@@ -1,11 +1,9 @@
 //! Which sector of the log is active, and what stands in it.
 
-ghost use Rattle.std.specs.Prelude.{◌≡◌, ℕ, ◌+◌, ◌-◌, ◌*◌, ◌/◌, ◌%◌, ◌<◌, ◌≤◌, false, true, None, MatchOption, OnOk, IfOk, length};
-ghost use Rattle.flash_model.specs.Chip.{Chip, Ends, IsErased};
+ghost use Rattle.std.specs.Prelude.{◌≡◌, ◌<◌, ◌≤◌, MatchOption};
 ghost use Rattle.sector_map.specs.Map.{IsLaidOut};
-ghost use Rattle.set_log.specs.Log.{log_bytes, log_of, record_of};
-ghost use Rattle.set_log.specs.Written.{IsFirstFree};
-ghost use Rattle.set_log.specs.Ring.{IsActive, active_of, has_room, is_active, last_gated, last_of, next_of, places_in, previous_of};
+ghost use Rattle.set_log.specs.Reading.{FindsActive, FindsFree, ReadsLast, ReadsRecord, TellsActive};
+ghost use Rattle.set_log.specs.Ring.{next_of, previous_of};
 
 use crate::places::{is_closed, is_gated, is_place_erased, read_place};
 use crate::record::RECORD;
@@ -35,11 +33,7 @@ fn previous_of(sector: u32) -> u32
 fn is_active<F: Flash>(flash: &mut F, map: &SectorMap, sector: u32) -> Result<bool, FlashError>
     requires laid_out { IsLaidOut map.now (F.chip flash.old) }
     requires sector { sector < 3 }
-    ensures same { F.chip flash.new ≡ F.chip flash.old }
-    ensures ok { IfOk result (λ yes. yes
-        ≡ is_active map.now.sector_size (log_bytes map.now (F.chip flash.old)) sector) }
-    ensures on { OnOk result ((F.chip flash.old).is_on ≡ true) }
-    ensures ends { Ends result (F.chip flash.old) (F.chip flash.new) }
+    ensures { TellsActive map.now sector (F.chip flash.old) (F.chip flash.new) result }
 {
     let closed = is_closed(flash, map, sector)?;
     let follows_closed = is_closed(flash, map, previous_of(sector))?;
@@ -52,13 +46,7 @@ pub(crate) fn find_active<F: Flash>(
     map: &SectorMap,
 ) -> Result<Option<u32>, FlashError>
     requires { IsLaidOut map.now (F.chip flash.old) }
-    ensures same { F.chip flash.new ≡ F.chip flash.old }
-    ensures ok { IfOk result (λ found. MatchOption found
-        (active_of map.now.sector_size (log_bytes map.now (F.chip flash.old)) ≡ None)
-        (λ sector. IsActive map.now.sector_size
-        (log_bytes map.now (F.chip flash.old)) sector)) }
-    ensures on { OnOk result ((F.chip flash.old).is_on ≡ true) }
-    ensures ends { Ends result (F.chip flash.old) (F.chip flash.new) }
+    ensures { FindsActive map.now (F.chip flash.old) (F.chip flash.new) result }
 {
     for sector in 0..SECTORS {
         if is_active(flash, map, sector)? {
@@ -76,10 +64,7 @@ fn last_record<F: Flash>(
 ) -> Result<Option<[u8; RECORD]>, FlashError>
     requires laid_out { IsLaidOut map.now (F.chip flash.old) }
     requires sector { sector < 3 }
-    ensures same { F.chip flash.new ≡ F.chip flash.old }
-    ensures ok { IfOk result (λ found. found
-        ≡ last_of map.now.sector_size (log_bytes map.now (F.chip flash.old)) sector) }
-    ensures ends { Ends result (F.chip flash.old) (F.chip flash.new) }
+    ensures { ReadsLast map.now sector (F.chip flash.old) (F.chip flash.new) result }
 {
     let mut place = map.record_places();
     while place > 0 {
@@ -98,10 +83,7 @@ pub(crate) fn read_record<F: Flash>(
     map: &SectorMap,
 ) -> Result<Option<[u8; RECORD]>, FlashError>
     requires { IsLaidOut map.now (F.chip flash.old) }
-    ensures same { F.chip flash.new ≡ F.chip flash.old }
-    ensures ok { IfOk result (λ found. found ≡ record_of map.now (F.chip flash.old)) }
-    ensures on { OnOk result ((F.chip flash.old).is_on ≡ true) }
-    ensures ends { Ends result (F.chip flash.old) (F.chip flash.new) }
+    ensures { ReadsRecord map.now (F.chip flash.old) (F.chip flash.new) result }
 {
     let Some(active) = find_active(flash, map)? else {
         return Ok(None);
@@ -128,12 +110,7 @@ pub(crate) fn free_place<F: Flash>(
 ) -> Result<Option<u32>, FlashError>
     requires laid_out { IsLaidOut map.now (F.chip flash.old) }
     requires sector { sector < 3 }
-    ensures same { F.chip flash.new ≡ F.chip flash.old }
-    ensures ok { IfOk result (λ found. MatchOption found
-        (has_room map.now.sector_size (log_bytes map.now (F.chip flash.old)) sector ≡ false)
-        (λ place. IsFirstFree map.now.sector_size (log_of map.now (F.chip flash.old)) sector
-        place)) }
-    ensures ends { Ends result (F.chip flash.old) (F.chip flash.new) }
+    ensures { FindsFree map.now sector (F.chip flash.old) (F.chip flash.new) result }
 {
     let places = map.record_places();
     let mut place = places;

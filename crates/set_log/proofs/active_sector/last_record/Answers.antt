@@ -1,8 +1,8 @@
-use Rattle.std.proofs.Common.{◌≡◌, ◌*◌, ◌+◌, ◌-◌, arith, ap, refl, sym, ◌∙◌, not, true, false, suc, Some}
+use Rattle.std.proofs.Common.{rules, ◌≡◌, ◌*◌, ◌+◌, ◌-◌, arith, ap, refl, sym, ◌∙◌, not, true, false, suc, Some}
 use Rattle.set_log.specs.Log.{log_bytes}
 use Rattle.set_log.specs.Ring.{reads_erased}
 use Rattle.set_log.proofs.Last.{last_step, last_here, last_of_is}
-use Rattle.set_log.proofs.reading.last_record.Goals as goal
+use Rattle.set_log.proofs.active_sector.last_record.Goals as goal
 
 pub loop-place-init : goal.loop-place-init
 loop-place-init g c = record {
@@ -24,12 +24,16 @@ loop-place-preserved g c =
       last = c.loop-place.invariant.last ∙ last_step _ _ _ _ next reads;
     }
 
-pub returns-then-branch-clause-ok : goal.returns-then-branch-clause-ok
-returns-then-branch-clause-ok g c =
+pub returns-then-branch : goal.returns-then-branch
+returns-then-branch g c =
     let map = c.args.map.now in
     let reads : reads_erased (log_bytes map (g.F.Flash.chip c.args.flash.now))
     (c.args.sector * map.sector_size + 64 * (c.loop-place.place - 1) + 56) 8 ≡ false =
     rw c.loop-place.invariant.same at (c.in_ok-is_gated.ensures.ok ∙ ap not c.if-branch.true) in
     let next : c.loop-place.place ≡ suc (c.loop-place.place - 1) = omega arith in
     let body = rw (c.is_gated.ensures.same, c.loop-place.invariant.same) at c.in_ok-body.ensures.ok in
-    sym (c.loop-place.invariant.last ∙ last_here _ _ _ _ next reads ∙ ap Some (sym body))
+    record {
+      same = search rules;
+      ok = sym (c.loop-place.invariant.last ∙ last_here _ _ _ _ next reads ∙ ap Some (sym body));
+      ends = search rules;
+    }

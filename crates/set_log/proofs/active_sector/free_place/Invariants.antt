@@ -2,7 +2,7 @@ use Rattle.std.proofs.Common.{◌*◌, ◌+◌, ◌-◌, ◌≤◌, ◌≡◌}
 use Rattle.flash_model.specs.Chip.{IsErased}
 use Rattle.set_log.specs.Log.{log_of}
 use Rattle.set_log.specs.Ring.{places_in}
-use Rattle.set_log.proofs.reading.free_place.Given as goal
+use Rattle.set_log.proofs.active_sector.free_place.Given as goal
 
 abbrev pub invariant-loop-place : goal.invariant-loop-place
 invariant-loop-place g l = record {

@@ -1,7 +1,7 @@
 use Rattle.std.proofs.Common.{◌≡◌, ◌<◌, ℕ, true, false}
 use Rattle.set_log.specs.Log.{log_bytes}
 use Rattle.set_log.specs.Ring.{is_active}
-use Rattle.set_log.proofs.reading.find_active.Given as goal
+use Rattle.set_log.proofs.active_sector.find_active.Given as goal
 
 abbrev pub invariant-loop-sector : goal.invariant-loop-sector
 invariant-loop-sector g l = record {
