@@ -1,7 +1,8 @@
 //! Copies of sectors, piece by piece.
 
-ghost use Rattle.std.specs.Prelude.{◌≡◌, ◌≢◌, ◌⊎◌, ◌+◌, ◌*◌, ◌/◌, ◌%◌, ◌<◌, ◌≤◌, ◌^◌, length, OnOk};
-ghost use Rattle.flash_model.specs.Chip.{size_of, Ends, IsCopy, IsErased, SameOutside};
+ghost use Rattle.std.specs.Prelude.{◌⊎◌, ◌+◌, ◌<◌, ◌≤◌, ◌^◌, length};
+ghost use Rattle.flash_model.specs.Chip.{size_of};
+ghost use Rattle.swap_scratch.specs.Copies.{CanCopy, CanCopySector, Copies, CopiesSector};
 
 use flash_model::{Flash, FlashError};
 
@@ -16,17 +17,9 @@ fn copy_piece<F: Flash>(
     to: u32,
     piece: &mut [u8],
 ) -> Result<(), FlashError>
-    requires from_inside { from + length piece.old ≤ size_of (F.chip flash.old) }
-    requires to_inside { to + length piece.old ≤ size_of (F.chip flash.old) }
-    requires erased { IsErased (F.chip flash.old) to (length piece.old) }
-    requires place { to % 8 ≡ 0 }
-    requires units { length piece.old % 8 ≡ 0 }
+    requires range { CanCopy from to (length piece.old) (F.chip flash.old) }
     requires some { 8 ≤ length piece.old }
-    ensures outside { SameOutside to (length piece.old) (F.chip flash.old) (F.chip flash.new) }
-    ensures ok { OnOk result
-        (IsCopy from to (length piece.old) (F.chip flash.old) (F.chip flash.new)) }
-    ensures erases { OnOk result ((F.chip flash.new).erases ≡ (F.chip flash.old).erases) }
-    ensures ends { Ends result (F.chip flash.old) (F.chip flash.new) }
+    ensures { Copies from to (length piece.old) (F.chip flash.old) (F.chip flash.new) result }
 {
     flash.read(from, piece)?;
     flash.program(to, piece)?;
@@ -36,17 +29,10 @@ fn copy_piece<F: Flash>(
 /// Copies a range to an erased one that lies apart.
 #[tactic(auto, using(flash_model::proofs::Copies::copied_more, flash_model::proofs::Erased::erased_after))]
 fn copy_range<F: Flash>(flash: &mut F, from: u32, to: u32, len: u32) -> Result<(), FlashError>
-    requires from_inside { from + len ≤ size_of (F.chip flash.old) }
-    requires to_inside { to + len ≤ size_of (F.chip flash.old) }
+    requires range { CanCopy from to len (F.chip flash.old) }
     requires addressed { size_of (F.chip flash.old) < 2 ^ 32 }
     requires apart { (from + len ≤ to) ⊎ (to + len ≤ from) }
-    requires erased { IsErased (F.chip flash.old) to len }
-    requires place { to % 8 ≡ 0 }
-    requires units { len % 8 ≡ 0 }
-    ensures outside { SameOutside to len (F.chip flash.old) (F.chip flash.new) }
-    ensures ok { OnOk result (IsCopy from to len (F.chip flash.old) (F.chip flash.new)) }
-    ensures erases { OnOk result ((F.chip flash.new).erases ≡ (F.chip flash.old).erases) }
-    ensures ends { Ends result (F.chip flash.old) (F.chip flash.new) }
+    ensures { Copies from to len (F.chip flash.old) (F.chip flash.new) result }
 {
     let mut buffer = [0u8; PIECE];
     let mut done = 0;
@@ -62,18 +48,8 @@ fn copy_range<F: Flash>(flash: &mut F, from: u32, to: u32, len: u32) -> Result<(
 /// Erases a sector and copies another one to it.
 #[tactic(auto, using(flash_model::proofs::Frame::product_le, flash_model::proofs::Frame::products_apart, flash_model::proofs::Units::aligned))]
 pub(crate) fn copy_sector<F: Flash>(flash: &mut F, from: u32, to: u32) -> Result<(), FlashError>
-    requires from_inside { from < (F.chip flash.old).sectors }
-    requires to_inside { to < (F.chip flash.old).sectors }
-    requires apart { from ≢ to }
-    requires addressed { size_of (F.chip flash.old) < 2 ^ 32 }
-    requires units { 8 * ((F.chip flash.old).sector_size / 8) ≡ (F.chip flash.old).sector_size }
-    ensures outside { SameOutside (to * (F.chip flash.old).sector_size)
-        (F.chip flash.old).sector_size (F.chip flash.old) (F.chip flash.new) }
-    ensures ok { OnOk result (IsCopy (from * (F.chip flash.old).sector_size)
-        (to * (F.chip flash.old).sector_size) (F.chip flash.old).sector_size
-        (F.chip flash.old) (F.chip flash.new)) }
-    ensures erases { OnOk result ((F.chip flash.new).erases ≡ (F.chip flash.old).erases + 1) }
-    ensures ends { Ends result (F.chip flash.old) (F.chip flash.new) }
+    requires { CanCopySector from to (F.chip flash.old) }
+    ensures { CopiesSector from to (F.chip flash.old) (F.chip flash.new) result }
 {
     let size = flash.sector_size();
     flash.erase(to)?;

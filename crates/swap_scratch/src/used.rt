@@ -1,9 +1,9 @@
 //! How much of each slot a swap moves.
 
-ghost use Rattle.std.specs.Prelude.{◌≡◌, ◌+◌, ◌*◌, ◌<◌, ◌≤◌, OnOk, IfOk, IfSome, Option};
-ghost use Rattle.flash_model.specs.Chip.{Ends};
-ghost use Rattle.sector_map.specs.Map.{IsLaidOut, slot_sectors};
-ghost use Rattle.swap_scratch.specs.Used.{sectors_for, used_of};
+ghost use Rattle.std.specs.Prelude.{◌≡◌, ◌<◌, IfSome, Option};
+ghost use Rattle.sector_map.specs.Map.{HasImage, slot_sectors};
+ghost use Rattle.swap_scratch.specs.Used.{sectors_for};
+ghost use Rattle.swap_scratch.specs.Steps.{ReadsUsed};
 
 use flash_model::{Flash, FlashError};
 use sector_map::{SectorMap, Side};
@@ -29,13 +29,8 @@ pub(crate) fn used_sectors<F: Flash>(
     image: u8,
     side: Side,
 ) -> Result<u32, FlashError>
-    requires laid_out { IsLaidOut map.now (F.chip flash.old) }
-    requires there { image < map.now.images }
-    ensures same { F.chip flash.new ≡ F.chip flash.old }
-    ensures ok { IfOk result (λ used. used ≡ used_of map.now (F.chip flash.old) side image) }
-    ensures few { IfOk result (λ used. used ≤ slot_sectors map.now image) }
-    ensures erases { OnOk result ((F.chip flash.new).erases ≡ (F.chip flash.old).erases) }
-    ensures ends { Ends result (F.chip flash.old) (F.chip flash.new) }
+    requires image { HasImage map.now image (F.chip flash.old) }
+    ensures { ReadsUsed map.now image side (F.chip flash.old) (F.chip flash.new) result }
 {
     let size = read_size(flash, map, image, side)?;
     Ok(sectors_for(map, image, size))

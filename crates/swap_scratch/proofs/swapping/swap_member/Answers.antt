@@ -3,24 +3,36 @@ use Rattle.sector_map.specs.Part.{is_member}
 use Rattle.swap_scratch.proofs.Members.{resumed, finished, counted_on}
 use Rattle.swap_scratch.proofs.swapping.swap_member.Goals as goal
 
-pub returns-in_err-swap_image-clause-resumes : goal.returns-in_err-swap_image-clause-resumes
-returns-in_err-swap_image-clause-resumes g c =
-    let member : is_member c.args.mask c.args.image ≡ true = search rules in
-    λ counts x y below. resumed _ _ _ _ _ _ c.requires.laid_out c.requires.within member c.swap_image.ensures.outside
-    c.swap_image.ensures.rest counts x y below c.swap_image.ensures.idle c.swap_image.ensures.resumes
+pub returns-in_err-swap_image : goal.returns-in_err-swap_image
+returns-in_err-swap_image g c = record {
+  outside = search rules;
+  rest = search rules;
+  idle = search rules;
+  resumes = let member : is_member c.args.mask c.args.image ≡ true = search rules in
+      λ counts x y below. resumed _ _ _ _ _ _ c.requires.images.laid_out c.requires.images.within member
+      c.swap_image.ensures.outside c.swap_image.ensures.rest counts x y below c.swap_image.ensures.idle
+      c.swap_image.ensures.resumes;
+  done = search rules;
+  counted = search rules;
+  erases = search rules;
+  ends = search rules;
+}
 
-pub returns-in_ok-swap_image-clause-resumes : goal.returns-in_ok-swap_image-clause-resumes
-returns-in_ok-swap_image-clause-resumes g c =
-    let member : is_member c.args.mask c.args.image ≡ true = search rules in
-    λ counts x y below. resumed _ _ _ _ _ _ c.requires.laid_out c.requires.within member c.swap_image.ensures.outside
-    c.swap_image.ensures.rest counts x y below c.swap_image.ensures.idle c.swap_image.ensures.resumes
-
-pub returns-in_ok-swap_image-clause-done : goal.returns-in_ok-swap_image-clause-done
-returns-in_ok-swap_image-clause-done g c =
-    let member : is_member c.args.mask c.args.image ≡ true = search rules in
-    λ counts x y below. finished _ _ _ _ _ _ c.requires.laid_out c.requires.within member c.swap_image.ensures.outside
-    c.swap_image.ensures.rest counts x y below c.swap_image.ensures.idle c.in_ok-swap_image.ensures.swapped
-
-pub returns-in_ok-swap_image-clause-counted : goal.returns-in_ok-swap_image-clause-counted
-returns-in_ok-swap_image-clause-counted g c = λ was.
-    counted_on _ _ _ _ _ _ c.swap_image.ensures.outside c.in_ok-swap_image.ensures.counted was
+pub returns-in_ok-swap_image : goal.returns-in_ok-swap_image
+returns-in_ok-swap_image g c = record {
+  outside = search rules;
+  rest = search rules;
+  idle = search rules;
+  resumes = let member : is_member c.args.mask c.args.image ≡ true = search rules in
+      λ counts x y below. resumed _ _ _ _ _ _ c.requires.images.laid_out c.requires.images.within member
+      c.swap_image.ensures.outside c.swap_image.ensures.rest counts x y below c.swap_image.ensures.idle
+      c.swap_image.ensures.resumes;
+  done = let member : is_member c.args.mask c.args.image ≡ true = search rules in
+      λ counts x y below. finished _ _ _ _ _ _ c.requires.images.laid_out c.requires.images.within member
+      c.swap_image.ensures.outside c.swap_image.ensures.rest counts x y below c.swap_image.ensures.idle
+      c.in_ok-swap_image.ensures.swapped;
+  counted = λ was.
+      counted_on _ _ _ _ _ _ c.swap_image.ensures.outside c.in_ok-swap_image.ensures.counted was;
+  erases = search rules;
+  ends = search rules;
+}

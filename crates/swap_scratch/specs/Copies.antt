@@ -1,0 +1,44 @@
+-- What a call that copies does: each record is one call.
+use Rattle.std.specs.Prelude.{◌≡◌, ◌≢◌, ℕ, ◌+◌, ◌*◌, ◌/◌, ◌%◌, ◌<◌, ◌≤◌, ◌^◌, Result, OnOk}
+use Rattle.flash_model.specs.declared.error.FlashError.{FlashError}
+use Rattle.flash_model.specs.Chip.{Chip, size_of, Ends, IsCopy, IsErased, SameOutside}
+
+-- So many bytes can be copied from one place to another: both ranges lie in the flash, and the
+-- second one is erased, and made of whole units.
+pub record CanCopy (from to n : ℕ) (chip : Chip) : Type 0 where
+  pub from_inside : from + n ≤ size_of chip
+  pub to_inside : to + n ≤ size_of chip
+  pub erased : IsErased chip to n
+  pub place : to % 8 ≡ 0
+  pub units : n % 8 ≡ 0
+
+-- A call copies so many bytes from one place to another.
+pub record Copies (from to n : ℕ) (old new : Chip) {T : Type 0} (result : Result T FlashError)
+    : Type 0 where
+  -- Nothing else is written,
+  pub outside : SameOutside to n old new
+  -- the bytes stand there where the call ends,
+  pub ok : OnOk result (IsCopy from to n old new)
+  -- and no sector is erased.
+  pub erases : OnOk result (new.erases ≡ old.erases)
+  pub ends : Ends result old new
+
+-- One sector can be copied to another: the flash has both, and they are made of whole units.
+pub record CanCopySector (from to : ℕ) (chip : Chip) : Type 0 where
+  pub from_inside : from < chip.sectors
+  pub to_inside : to < chip.sectors
+  pub apart : from ≢ to
+  pub addressed : size_of chip < 2 ^ 32
+  pub units : 8 * (chip.sector_size / 8) ≡ chip.sector_size
+
+-- A call erases a sector, and copies another one to it.
+pub record CopiesSector (from to : ℕ) (old new : Chip) {T : Type 0} (result : Result T FlashError)
+    : Type 0 where
+  -- No other sector is written,
+  pub outside : SameOutside (to * old.sector_size) old.sector_size old new
+  -- it reads as the other one where the call ends,
+  pub ok : OnOk result
+      (IsCopy (from * old.sector_size) (to * old.sector_size) old.sector_size old new)
+  -- and one sector is erased.
+  pub erases : OnOk result (new.erases ≡ old.erases + 1)
+  pub ends : Ends result old new
