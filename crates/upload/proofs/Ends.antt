@@ -1,6 +1,6 @@
 -- How a call ends that makes others.
-use Rattle.std.proofs.Common.{◌≡◌, ◌+◌, true, false, Result, Err, sym, ◌∙◌, ap}
-use Rattle.std.specs.Prelude.{IsErrOf}
+use Rattle.std.proofs.Common.{◌≡◌, ◌+◌, true, false, Result, Ok, Err, sym, ◌∙◌, ap}
+use Rattle.std.specs.Prelude.{IsErr, IsErrOf, OnOk}
 use Rattle.flash_model.specs.Chip.{Chip, Ends, IsUncut}
 use Rattle.flash_model.proofs.Ending.{uncut_trans}
 use Rattle.flash_model.specs.declared.error.FlashError.{FlashError}
@@ -42,3 +42,8 @@ ends_later result old mid new uncut asleep ends = record {
   cut = λ is. let at = ends.cut is in record { cuts = at.cuts ∙ ap (λ n. n + 1) uncut.cuts; off = at.off };
   off = λ is. sym uncut.on ∙ ends.off is;
 }
+
+-- what a call promises where it ends, at an error
+pub at_error : {T E : Type 0} (P : Type 0) (result : Result T E) → IsErr result → OnOk result P
+at_error P (Ok value) is = absurd (true_false (sym is))
+at_error P (Err error) is = tt

@@ -161,13 +161,7 @@ Accepts map m sequence cs (Err no.WrongPrecursor) next =
 Accepts map m sequence cs (Err (no.Flash flash.Cut)) next = MayAccept map m.kept sequence cs
     × IsAcceptCut m.kept sequence cs next.kept × (next ≡ closed m next.kept)
 Accepts map m sequence cs (Err (no.Flash flash.Off)) next = next ≡ closed m m.kept
-Accepts map m sequence cs (Err no.NoSession) next = ⊥
-Accepts map m sequence cs (Err no.TooMuch) next = ⊥
-Accepts map m sequence cs (Err no.SizeWrong) next = ⊥
-Accepts map m sequence cs (Err no.DigestWrong) next = ⊥
-Accepts map m sequence cs (Err (no.NotAnImage fault)) next = ⊥
-Accepts map m sequence cs (Err no.NothingRequested) next = ⊥
-Accepts map m sequence cs (Err no.NoMemory) next = ⊥
+Accepts map m sequence cs other next = ⊥
 
 -- ---- what opening sessions leaves
 

@@ -9,18 +9,8 @@ use Rattle.upload.specs.Sessions.{AllClosed}
 
 -- Whether a call stopped at the flash.
 abbrev pub is_flash : {T : Type 0} → Result T UploadError → Bool
-is_flash (Ok done) = false
-is_flash (Err no.OldSequence) = false
-is_flash (Err no.TooBig) = false
-is_flash (Err no.NoSession) = false
-is_flash (Err no.TooMuch) = false
-is_flash (Err no.SizeWrong) = false
-is_flash (Err no.DigestWrong) = false
-is_flash (Err (no.NotAnImage fault)) = false
-is_flash (Err no.WrongPrecursor) = false
-is_flash (Err no.NothingRequested) = false
 is_flash (Err (no.Flash error)) = true
-is_flash (Err no.NoMemory) = false
+is_flash other = false
 
 -- A call that doesn't stop at the flash leaves the power as it was; one that is cut is so in its
 -- last write.

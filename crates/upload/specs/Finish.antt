@@ -53,13 +53,7 @@ Finishes m i session (Err (no.Flash flash.Cut)) next = HasSize session × (m.kep
     × (next ≡ closed m (with_request m.kept i (Some (asked session))))))
 Finishes m i session (Err (no.Flash flash.Off)) next =
     HasSize session × (m.kept.request i ≡ None) × (next ≡ closed m m.kept)
-Finishes m i session (Err no.OldSequence) next = ⊥
-Finishes m i session (Err no.TooBig) next = ⊥
-Finishes m i session (Err no.NoSession) next = ⊥
-Finishes m i session (Err no.TooMuch) next = ⊥
-Finishes m i session (Err no.WrongPrecursor) next = ⊥
-Finishes m i session (Err no.NothingRequested) next = ⊥
-Finishes m i session (Err no.NoMemory) next = ⊥
+Finishes m i session other next = ⊥
 
 -- Finishing an image: it has no session, or that is finished.
 abbrev pub FinishRow : Machine → ℕ → Result Unit UploadError → Machine → Type 0
@@ -74,14 +68,7 @@ Judges bytes digest (Err no.DigestWrong) = sha256 bytes ≢ digest
 Judges bytes digest (Err (no.NotAnImage fault)) =
     (sha256 bytes ≡ digest) × IsFirstFault bytes fault
 Judges bytes digest (Err (no.Flash error)) = Unit
-Judges bytes digest (Err no.OldSequence) = ⊥
-Judges bytes digest (Err no.TooBig) = ⊥
-Judges bytes digest (Err no.NoSession) = ⊥
-Judges bytes digest (Err no.TooMuch) = ⊥
-Judges bytes digest (Err no.SizeWrong) = ⊥
-Judges bytes digest (Err no.WrongPrecursor) = ⊥
-Judges bytes digest (Err no.NothingRequested) = ⊥
-Judges bytes digest (Err no.NoMemory) = ⊥
+Judges bytes digest other = ⊥
 
 -- A finished upload on the flash: the image is whole, good and requested.
 pub record IsFinishedAt (w : View) (i : ℕ) (session : Session) : Type 0 where
@@ -101,10 +88,4 @@ EndsFinish w i session (Err (no.NotAnImage fault)) = HasSizeAndDigest session
 EndsFinish w i session (Err (no.Flash flash.Cut)) =
     HasSize session × ((request_in w i ≡ None) ⊎ IsFinishedAt w i session)
 EndsFinish w i session (Err (no.Flash flash.Off)) = HasSize session × (request_in w i ≡ None)
-EndsFinish w i session (Err no.OldSequence) = ⊥
-EndsFinish w i session (Err no.TooBig) = ⊥
-EndsFinish w i session (Err no.NoSession) = ⊥
-EndsFinish w i session (Err no.TooMuch) = ⊥
-EndsFinish w i session (Err no.WrongPrecursor) = ⊥
-EndsFinish w i session (Err no.NothingRequested) = ⊥
-EndsFinish w i session (Err no.NoMemory) = ⊥
+EndsFinish w i session other = ⊥

@@ -10,3 +10,10 @@ pub mod Accepted
 pub mod Taking
 pub mod Finish
 pub mod Wear
+pub mod Slots
+pub mod Opening
+pub mod Judging
+pub mod Accepting
+pub mod Adding
+pub mod Finishing
+pub mod Withdrawing

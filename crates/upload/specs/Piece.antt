@@ -38,11 +38,4 @@ Pieces m i bytes (Err no.TooMuch) next = (session : Session) × (m.session i ≡
     × (next ≡ with_session m i None)
 Pieces m i bytes (Err (no.Flash error)) next = (session : Session) × (m.session i ≡ Some session)
     × HasRoom session bytes × (m.kept.request i ≡ None) × (next ≡ closed m m.kept)
-Pieces m i bytes (Err no.OldSequence) next = ⊥
-Pieces m i bytes (Err no.TooBig) next = ⊥
-Pieces m i bytes (Err no.SizeWrong) next = ⊥
-Pieces m i bytes (Err no.DigestWrong) next = ⊥
-Pieces m i bytes (Err (no.NotAnImage fault)) next = ⊥
-Pieces m i bytes (Err no.WrongPrecursor) next = ⊥
-Pieces m i bytes (Err no.NothingRequested) next = ⊥
-Pieces m i bytes (Err no.NoMemory) next = ⊥
+Pieces m i bytes other next = ⊥

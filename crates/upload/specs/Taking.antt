@@ -36,15 +36,8 @@ Refuses map w sequence cs no.TooBig =
     (state : State) × IsNewer w state sequence × (AllFit map cs → ⊥)
 Refuses map w sequence cs no.WrongPrecursor =
     (state : State) × IsNewer w state sequence × AllFit map cs × (AllFollowAt w cs → ⊥)
-Refuses map w sequence cs (no.Flash flash.Cut) = ⊥
 Refuses map w sequence cs (no.Flash flash.Off) = Unit
-Refuses map w sequence cs no.NoSession = ⊥
-Refuses map w sequence cs no.TooMuch = ⊥
-Refuses map w sequence cs no.SizeWrong = ⊥
-Refuses map w sequence cs no.DigestWrong = ⊥
-Refuses map w sequence cs (no.NotAnImage fault) = ⊥
-Refuses map w sequence cs no.NothingRequested = ⊥
-Refuses map w sequence cs no.NoMemory = ⊥
+Refuses map w sequence cs other = ⊥
 
 -- A manifest was taken: its sequence number stands, each named image has an erased slot and trailer
 -- and a new upload, and uploads of other images go on.
@@ -94,10 +87,4 @@ EndsAccept map old new told tnew sequence cs (Err (no.Flash flash.Cut)) =
     ((state : State) × MayTake map old state sequence cs) × LeavesAccept old new sequence
     × CutsAccept old new sequence cs
 EndsAccept map old new told tnew sequence cs (Err (no.Flash flash.Off)) = new ≡ old
-EndsAccept map old new told tnew sequence cs (Err no.NoSession) = ⊥
-EndsAccept map old new told tnew sequence cs (Err no.TooMuch) = ⊥
-EndsAccept map old new told tnew sequence cs (Err no.SizeWrong) = ⊥
-EndsAccept map old new told tnew sequence cs (Err no.DigestWrong) = ⊥
-EndsAccept map old new told tnew sequence cs (Err (no.NotAnImage fault)) = ⊥
-EndsAccept map old new told tnew sequence cs (Err no.NothingRequested) = ⊥
-EndsAccept map old new told tnew sequence cs (Err no.NoMemory) = ⊥
+EndsAccept map old new told tnew sequence cs other = ⊥

@@ -24,15 +24,7 @@ Withdraws m i (Err no.NothingRequested) next =
 Withdraws m i (Err (no.Flash flash.Cut)) next = (m.kept.request i ≢ None)
     × ((next ≡ closed m m.kept) ⊎ (next ≡ closed m (with_request m.kept i None)))
 Withdraws m i (Err (no.Flash flash.Off)) next = next ≡ closed m m.kept
-Withdraws m i (Err no.OldSequence) next = ⊥
-Withdraws m i (Err no.TooBig) next = ⊥
-Withdraws m i (Err no.NoSession) next = ⊥
-Withdraws m i (Err no.TooMuch) next = ⊥
-Withdraws m i (Err no.SizeWrong) next = ⊥
-Withdraws m i (Err no.DigestWrong) next = ⊥
-Withdraws m i (Err (no.NotAnImage fault)) next = ⊥
-Withdraws m i (Err no.WrongPrecursor) next = ⊥
-Withdraws m i (Err no.NoMemory) next = ⊥
+Withdraws m i other next = ⊥
 
 -- The request of an image is as it was, slot and trailer, or none stands.
 abbrev pub IsKeptOrGone : View → View → ℕ → Type 0
@@ -47,12 +39,4 @@ EndsWithdraw old new i (Err no.NothingRequested) = (request_in old i ≡ None) �
 EndsWithdraw old new i (Err (no.Flash flash.Cut)) =
     (request_in old i ≢ None) × IsKeptOrGone old new i
 EndsWithdraw old new i (Err (no.Flash flash.Off)) = new ≡ old
-EndsWithdraw old new i (Err no.OldSequence) = ⊥
-EndsWithdraw old new i (Err no.TooBig) = ⊥
-EndsWithdraw old new i (Err no.NoSession) = ⊥
-EndsWithdraw old new i (Err no.TooMuch) = ⊥
-EndsWithdraw old new i (Err no.SizeWrong) = ⊥
-EndsWithdraw old new i (Err no.DigestWrong) = ⊥
-EndsWithdraw old new i (Err (no.NotAnImage fault)) = ⊥
-EndsWithdraw old new i (Err no.WrongPrecursor) = ⊥
-EndsWithdraw old new i (Err no.NoMemory) = ⊥
+EndsWithdraw old new i other = ⊥

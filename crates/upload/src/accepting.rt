@@ -1,20 +1,12 @@
 //! Taking a manifest.
 
-ghost use Rattle.std.specs.Prelude.{◌≡◌, ◌≢◌, ◌⊎◌, ◌+◌, ◌≤◌, ◌<◌, ℕ, false, true, Err, IfErr, OnOk, Some, None};
-ghost use Rattle.flash_model.specs.Chip.{Chip, Ends};
-ghost use Rattle.sector_map.specs.Map.{IsLaidOut, Keeps, part_of};
-ghost use Rattle.sector_map.specs.Part.{Log, only};
+ghost use Rattle.std.specs.Prelude.{◌≢◌, None};
+ghost use Rattle.sector_map.specs.Map.{IsLaidOut};
 ghost use Rattle.set_log.specs.Log.{state_of};
-ghost use Rattle.set_log.specs.Record.{fits};
-ghost use Rattle.set_log.specs.declared.state.State.{State as LogState};
-ghost use Rattle.upload.specs.View.{view};
-ghost use Rattle.upload.specs.Device.{DeviceState, Machine};
-ghost use Rattle.upload.specs.Steady.{IsSteadyAt};
-ghost use Rattle.upload.specs.Sessions.{AllClosed, AllOpenAt, IsUpAt};
-ghost use Rattle.upload.specs.Ending.{EndsUpload, is_flash};
-ghost use Rattle.upload.specs.Accepted.{Accepts, AreBlank, AreThere, AllFit, IsAcceptCut, accepted_parts};
-ghost use Rattle.upload.specs.Wear.{ErasesFew, most_recording};
-ghost use Rattle.upload.specs.Taking.{EndsAccept, IsTaken, LeavesAccept};
+ghost use Rattle.upload.specs.Accepted.{AllFit, AreThere};
+ghost use Rattle.upload.specs.Judging.{CanJudge};
+ghost use Rattle.upload.specs.Accepting.{AcceptsManifest, CanRecord, RecordsSequence};
+ghost use Rattle.upload.specs.Accepting.{TakesManifest, WritesManifest};
 
 use crate::error::UploadError;
 use crate::judging::judge_manifest;
@@ -32,21 +24,9 @@ fn record_sequence<F: Flash>(
     state: &State,
     sequence: u32,
 ) -> Result<(), FlashError>
-    requires laid_out { IsLaidOut map.now (F.chip flash.old) }
-    requires read { state_of map.now (F.chip flash.old) ≡ Some state.now }
-    requires fits { fits map.now.images state.now ≡ true }
-    requires new { state.now.sequence ≤ sequence }
-    ensures outside { Keeps map.now (only Log) (F.chip flash.old) (F.chip flash.new) }
-    ensures either { (state_of map.now (F.chip flash.new) ≡ state_of map.now (F.chip flash.old))
-        ⊎ (state_of map.now (F.chip flash.new)
-        ≡ Some (record state.now { sequence = sequence })) }
-    ensures ok { OnOk result (state_of map.now (F.chip flash.new)
-        ≡ Some (record state.now { sequence = sequence })) }
-    ensures erases { OnOk result ((F.chip flash.new).erases
-        ≤ (F.chip flash.old).erases + most_recording state.now.sequence sequence) }
-    // An equal sequence number is accepted without a record.
-    ensures idle { state.now.sequence ≡ sequence → F.chip flash.new ≡ F.chip flash.old }
-    ensures ends { Ends result (F.chip flash.old) (F.chip flash.new) }
+    requires { CanRecord map.now state.now sequence (F.chip flash.old) }
+    ensures { RecordsSequence map.now state.now sequence
+        (F.chip flash.old) (F.chip flash.new) result }
 {
     if state.sequence == sequence {
         return Ok(());
@@ -63,30 +43,11 @@ fn write_manifest<F: Flash>(
     sequence: u32,
     components: &[Component],
 ) -> Result<(), FlashError>
-    requires laid_out { IsLaidOut map.now (F.chip flash.old) }
-    requires read { state_of map.now (F.chip flash.old) ≡ Some state.now }
-    requires fits { fits map.now.images state.now ≡ true }
-    requires new { state.now.sequence ≤ sequence }
+    requires state { CanRecord map.now state.now sequence (F.chip flash.old) }
     requires there { AreThere map.now components.now }
     requires fit { AllFit map.now components.now }
-    ensures outside { Keeps map.now (accepted_parts components.now)
-        (F.chip flash.old) (F.chip flash.new) }
-    ensures cut { (s : DeviceState) → IsSteadyAt (view map.now (F.chip flash.old)) s
-        → (next : DeviceState) × IsAcceptCut s sequence components.now next
-        × IsSteadyAt (view map.now (F.chip flash.new)) next }
-    ensures leaves { LeavesAccept (view map.now (F.chip flash.old))
-        (view map.now (F.chip flash.new)) sequence }
-    ensures ok { OnOk result (IsTaken (view map.now (F.chip flash.old))
-        (view map.now (F.chip flash.new)) uploads.old.sessions uploads.new.sessions
-        sequence components.now) }
-    ensures erases { OnOk result (ErasesFew map.now (F.chip flash.old) (F.chip flash.new)
-        state.now.sequence sequence components.now) }
-    ensures equal { state.now.sequence ≡ sequence
-        → part_of map.now (F.chip flash.new) Log ≡ part_of map.now (F.chip flash.old) Log }
-    ensures idle { state.now.sequence ≡ sequence
-        → AreBlank map.now (F.chip flash.old) components.now
-        → F.chip flash.new ≡ F.chip flash.old }
-    ensures ends { Ends result (F.chip flash.old) (F.chip flash.new) }
+    ensures { WritesManifest map.now state.now sequence components.now
+        uploads.old.sessions uploads.new.sessions (F.chip flash.old) (F.chip flash.new) result }
 {
     record_sequence(flash, map, state, sequence)?;
     open_all(flash, map, uploads, components)
@@ -99,28 +60,9 @@ fn take_manifest<F: Flash>(
     uploads: &mut Uploads,
     manifest: &Manifest,
 ) -> Result<(), UploadError>
-    requires laid_out { IsLaidOut map.now (F.chip flash.old) }
-    requires has_state { state_of map.now (F.chip flash.old) ≢ None }
-    requires there { AreThere map.now manifest.now.components.items }
-    ensures outside { Keeps map.now (accepted_parts manifest.now.components.items)
-        (F.chip flash.old) (F.chip flash.new) }
-    ensures accepts { EndsAccept map.now (view map.now (F.chip flash.old))
-        (view map.now (F.chip flash.new)) uploads.old.sessions uploads.new.sessions
-        manifest.now.sequence manifest.now.components.items result }
-    ensures nothing { IfErr result (λ error. is_flash {T = Unit} (Err error) ≡ false
-        → F.chip flash.new ≡ F.chip flash.old) }
-    ensures equal { (state : LogState) → state_of map.now (F.chip flash.old) ≡ Some state
-        → state.sequence ≡ manifest.now.sequence
-        → part_of map.now (F.chip flash.new) Log ≡ part_of map.now (F.chip flash.old) Log }
-    ensures erases { OnOk result ((state : LogState)
-        → state_of map.now (F.chip flash.old) ≡ Some state
-        → ErasesFew map.now (F.chip flash.old) (F.chip flash.new) state.sequence
-        manifest.now.sequence manifest.now.components.items) }
-    ensures idle { (state : LogState) → state_of map.now (F.chip flash.old) ≡ Some state
-        → state.sequence ≡ manifest.now.sequence
-        → AreBlank map.now (F.chip flash.old) manifest.now.components.items
-        → F.chip flash.new ≡ F.chip flash.old }
-    ensures ends { EndsUpload result (F.chip flash.old) (F.chip flash.new) }
+    requires { CanJudge map.now manifest.now.components.items (F.chip flash.old) }
+    ensures { TakesManifest map.now manifest.now uploads.old.sessions uploads.new.sessions
+        (F.chip flash.old) (F.chip flash.new) result }
 {
     let state = match judge_manifest(flash, map, manifest) {
         Ok(state) => state,
@@ -159,39 +101,8 @@ impl Uploads {
         requires laid_out { IsLaidOut map.now (F.chip flash.old) }
         requires has_state { state_of map.now (F.chip flash.old) ≢ None }
         requires there { AreThere map.now manifest.now.components.items }
-        ensures outside { Keeps map.now (accepted_parts manifest.now.components.items)
-            (F.chip flash.old) (F.chip flash.new) }
-        ensures all_open { AllOpenAt (view map.now (F.chip flash.old)) self.old.sessions
-            → AllOpenAt (view map.now (F.chip flash.new)) self.new.sessions }
-        // On any flash: what is answered, and what is left then.
-        ensures accepts { EndsAccept map.now (view map.now (F.chip flash.old))
-            (view map.now (F.chip flash.new)) self.old.sessions self.new.sessions
-            manifest.now.sequence manifest.now.components.items result }
-        ensures nothing { IfErr result (λ error. is_flash {T = Unit} (Err error) ≡ false
-            → F.chip flash.new ≡ F.chip flash.old) }
-        // An equal sequence number takes no record.
-        ensures equal { (state : LogState) → state_of map.now (F.chip flash.old) ≡ Some state
-            → state.sequence ≡ manifest.now.sequence
-            → part_of map.now (F.chip flash.new) Log ≡ part_of map.now (F.chip flash.old) Log }
-        // Nor is a sector erased that is erased: where nothing came in yet nothing is written.
-        ensures idle { (state : LogState) → state_of map.now (F.chip flash.old) ≡ Some state
-            → state.sequence ≡ manifest.now.sequence
-            → AreBlank map.now (F.chip flash.old) manifest.now.components.items
-            → F.chip flash.new ≡ F.chip flash.old }
-        // Beside the record's, no more sectors are erased than aren't erased, and one for each
-        // image that has any.
-        ensures erases { OnOk result ((state : LogState)
-            → state_of map.now (F.chip flash.old) ≡ Some state
-            → ErasesFew map.now (F.chip flash.old) (F.chip flash.new) state.sequence
-            manifest.now.sequence manifest.now.components.items) }
-        ensures closed { is_flash result ≡ true → AllClosed self.new.sessions }
-        // On a flash that holds a state: the step of a machine that knows whole images.
-        ensures row { (m : Machine)
-            → IsUpAt (view map.now (F.chip flash.old)) self.old.sessions m
-            → (next : Machine) × Accepts map.now m manifest.now.sequence
-            manifest.now.components.items result next
-            × IsUpAt (view map.now (F.chip flash.new)) self.new.sessions next }
-        ensures ends { EndsUpload result (F.chip flash.old) (F.chip flash.new) }
+        ensures { AcceptsManifest map.now manifest.now self.old.sessions self.new.sessions
+            (F.chip flash.old) (F.chip flash.new) result }
     {
         let answer = take_manifest(flash, map, self, manifest);
         self.close_after(&answer);

@@ -1,13 +1,7 @@
 //! Bytes that come for an open upload: whole units are written, and the rest is held back.
 
-ghost use Rattle.std.specs.Prelude.{◌≡◌, ◌+◌, ◌*◌, ◌++◌, ◌<◌, ◌≤◌, ℕ, length, List, OnOk};
-ghost use Rattle.flash_model.specs.Chip.{Chip, Ends};
-ghost use Rattle.sector_map.specs.Map.{IsLaidOut, Keeps};
-ghost use Rattle.sector_map.specs.Part.{Slot, only};
-ghost use Rattle.sector_map.specs.declared.layout.Side.TheVariants.{Secondary};
-ghost use Rattle.upload.specs.View.{view};
-ghost use Rattle.upload.specs.Sessions.{IsOpenAt};
-ghost use Rattle.upload.specs.Piece.{TakesMore};
+ghost use Rattle.std.specs.Prelude.{◌≡◌, ◌+◌, ◌*◌, ◌++◌, ◌<◌, ◌≤◌, ℕ, length};
+ghost use Rattle.upload.specs.Adding.{AddsBytes, HoldsBack, IsOpenFor};
 
 use crate::sessions::{UNIT, Upload};
 use crate::slots::write_slot;
@@ -38,9 +32,7 @@ fn whole_units(count: usize) -> usize
 fn hold(upload: &mut Upload, bytes: &[u8])
     requires few { length upload.old.held.items + length bytes.now < 8 }
     requires fits { upload.old.received + length bytes.now ≤ upload.old.size }
-    ensures rest { upload.new ≡ record upload.old
-        { received = upload.old.received + length bytes.now; held = upload.new.held } }
-    ensures held { upload.new.held.items ≡ upload.old.held.items ++ bytes.now }
+    ensures { HoldsBack bytes.now upload.old upload.new }
 {
     extend(&mut upload.held, bytes);
     upload.received += bytes.len() as u32;
@@ -54,16 +46,10 @@ fn write_units<F: Flash>(
     upload: &mut Upload,
     bytes: &[u8],
 ) -> Result<(), FlashError>
-    requires laid_out { IsLaidOut map.now (F.chip flash.old) }
-    requires open { IsOpenAt (view map.now (F.chip flash.old)) image upload.old }
+    requires room { IsOpenFor map.now image upload.old (length bytes.now) (F.chip flash.old) }
     requires enough { 8 ≤ length upload.old.held.items + length bytes.now }
-    requires fits { upload.old.received + length bytes.now ≤ upload.old.size }
-    ensures outside { Keeps map.now (only (Slot image Secondary))
-        (F.chip flash.old) (F.chip flash.new) }
-    ensures ok { OnOk result (TakesMore (view map.now (F.chip flash.old))
-        (view map.now (F.chip flash.new)) image upload.old upload.new bytes.now) }
-    ensures erases { OnOk result ((F.chip flash.new).erases ≡ (F.chip flash.old).erases) }
-    ensures ends { Ends result (F.chip flash.old) (F.chip flash.new) }
+    ensures { AddsBytes map.now image upload.old upload.new bytes.now
+        (F.chip flash.old) (F.chip flash.new) result }
 {
     let start = upload.received - upload.held.len() as u32;
     let (first, rest) = bytes.split_at(UNIT - upload.held.len());
@@ -85,15 +71,9 @@ pub(crate) fn add_bytes<F: Flash>(
     upload: &mut Upload,
     bytes: &[u8],
 ) -> Result<(), FlashError>
-    requires laid_out { IsLaidOut map.now (F.chip flash.old) }
-    requires open { IsOpenAt (view map.now (F.chip flash.old)) image upload.old }
-    requires fits { upload.old.received + length bytes.now ≤ upload.old.size }
-    ensures outside { Keeps map.now (only (Slot image Secondary))
-        (F.chip flash.old) (F.chip flash.new) }
-    ensures ok { OnOk result (TakesMore (view map.now (F.chip flash.old))
-        (view map.now (F.chip flash.new)) image upload.old upload.new bytes.now) }
-    ensures erases { OnOk result ((F.chip flash.new).erases ≡ (F.chip flash.old).erases) }
-    ensures ends { Ends result (F.chip flash.old) (F.chip flash.new) }
+    requires { IsOpenFor map.now image upload.old (length bytes.now) (F.chip flash.old) }
+    ensures { AddsBytes map.now image upload.old upload.new bytes.now
+        (F.chip flash.old) (F.chip flash.new) result }
 {
     if upload.held.len() + bytes.len() < UNIT {
         hold(upload, bytes);

@@ -1,19 +1,14 @@
 //! Finishing an upload.
 
-ghost use Rattle.std.specs.Prelude.{◌≡◌, ◌⊎◌, ◌+◌, ◌-◌, ◌*◌, ◌++◌, ◌≤◌, ◌<◌, ℕ, false, true, Some, None, Err, length, take, List, OnOk, replicate};
-ghost use Rattle.flash_model.specs.Chip.{Chip, Ends};
-ghost use Rattle.sector_map.specs.Map.{IsLaidOut, Keeps, length_of};
-ghost use Rattle.sector_map.specs.Part.{Slot, incoming_of, only};
+ghost use Rattle.std.specs.Prelude.{◌≡◌, ◌-◌, ◌++◌, ◌≤◌, ◌<◌, Some, length, replicate};
+ghost use Rattle.sector_map.specs.Map.{HasImage, IsLaidOut, length_of};
+ghost use Rattle.sector_map.specs.Part.{Slot};
 ghost use Rattle.sector_map.specs.declared.layout.Side.TheVariants.{Secondary};
-ghost use Rattle.trailer.specs.Standing.{incoming_slot};
 ghost use Rattle.upload.specs.View.{view};
-ghost use Rattle.upload.specs.Device.{Machine};
-ghost use Rattle.upload.specs.Sessions.{AllOpenAt, IsOpenAt, IsUpAt, IsUploadAt, IsWith, IsWritten};
-ghost use Rattle.upload.specs.Sessions.{AllClosed, session_of, upload_at};
-ghost use Rattle.upload.specs.declared.error.UploadError.TheVariants.{NoSession};
-ghost use Rattle.upload.specs.Ending.{EndsUpload, is_flash};
-ghost use Rattle.upload.specs.Finish.{EndsFinish, FinishRow, Judges};
+ghost use Rattle.upload.specs.Sessions.{IsOpenAt, upload_at};
 ghost use Rattle.upload.specs.declared.sessions.Upload.{Upload};
+ghost use Rattle.upload.specs.Slots.{Appends, HasRoomBehind};
+ghost use Rattle.upload.specs.Finishing.{FinishesTaken, FinishesUpload, JudgesSlot};
 
 use crate::adding::extend;
 use crate::error::UploadError;
@@ -45,20 +40,9 @@ fn write_last<F: Flash>(
     start: u32,
     mut unit: ArrayVec<u8, UNIT>,
 ) -> Result<(), FlashError>
-    requires laid_out { IsLaidOut map.now (F.chip flash.old) }
-    requires there { image < map.now.images }
-    requires units { (k : ℕ) × (start ≡ 8 * k) }
+    requires behind { HasRoomBehind map.now image start (length unit.items) (F.chip flash.old) }
     requires few { length unit.items < 8 }
-    requires room { start + length unit.items ≤ length_of map.now (Slot image Secondary) }
-    requires written { (front : List ℕ) × (length front ≡ start)
-        × IsWritten (incoming_slot map.now (F.chip flash.old) image) front }
-    ensures outside { Keeps map.now (only (Slot image Secondary))
-        (F.chip flash.old) (F.chip flash.new) }
-    ensures ok { OnOk result ((front : List ℕ) → length front ≡ start
-        → IsWritten (incoming_slot map.now (F.chip flash.old) image) front
-        → IsWritten (incoming_slot map.now (F.chip flash.new) image) (front ++ unit.items)) }
-    ensures erases { (F.chip flash.new).erases ≡ (F.chip flash.old).erases }
-    ensures ends { Ends result (F.chip flash.old) (F.chip flash.new) }
+    ensures { Appends map.now image start unit.items (F.chip flash.old) (F.chip flash.new) result }
 {
     if unit.is_empty() {
         return Ok(());
@@ -76,13 +60,10 @@ fn judge<F: Flash>(
     size: u32,
     digest: &[u8; 32],
 ) -> Result<(), UploadError>
-    requires laid_out { IsLaidOut map.now (F.chip flash.old) }
-    requires there { image < map.now.images }
+    requires image { HasImage map.now image (F.chip flash.old) }
     requires room { size ≤ length_of map.now (Slot image Secondary) }
-    ensures same { F.chip flash.new ≡ F.chip flash.old }
-    ensures judges { Judges (take size (incoming_slot map.now (F.chip flash.old) image))
-        digest.now result }
-    ensures ends { EndsUpload result (F.chip flash.old) (F.chip flash.new) }
+    ensures { JudgesSlot map.now image size digest.now
+        (F.chip flash.old) (F.chip flash.new) result }
 {
     match digest_file(flash, map, image, Side::Secondary, size) {
         Ok(found) => {
@@ -109,12 +90,7 @@ fn finish_upload<F: Flash>(
 ) -> Result<(), UploadError>
     requires laid_out { IsLaidOut map.now (F.chip flash.old) }
     requires open { IsOpenAt (view map.now (F.chip flash.old)) image upload }
-    ensures outside { Keeps map.now (incoming_of image) (F.chip flash.old) (F.chip flash.new) }
-    ensures finish { (written : List ℕ)
-        → IsUploadAt (view map.now (F.chip flash.old)) image upload written
-        → EndsFinish (view map.now (F.chip flash.new)) image (session_of upload written) result }
-    ensures erases { OnOk result ((F.chip flash.new).erases ≡ (F.chip flash.old).erases) }
-    ensures ends { EndsUpload result (F.chip flash.old) (F.chip flash.new) }
+    ensures { FinishesTaken map.now image upload (F.chip flash.old) (F.chip flash.new) result }
 {
     if upload.received != upload.size {
         return Err(UploadError::SizeWrong);
@@ -159,27 +135,8 @@ impl Uploads {
         requires laid_out { IsLaidOut map.now (F.chip flash.old) }
         requires open { (u : Upload) → upload_at self.old.sessions image ≡ Some u
             → IsOpenAt (view map.now (F.chip flash.old)) image u }
-        ensures outside { Keeps map.now (incoming_of image) (F.chip flash.old) (F.chip flash.new) }
-        ensures all_open { AllOpenAt (view map.now (F.chip flash.old)) self.old.sessions
-            → AllOpenAt (view map.now (F.chip flash.new)) self.new.sessions }
-        // On any flash: what is answered, and what is left then. Nothing is requested but a whole
-        // image.
-        ensures finishes { (u : Upload) (written : List ℕ)
-            → upload_at self.old.sessions image ≡ Some u
-            → IsUploadAt (view map.now (F.chip flash.old)) image u written
-            → EndsFinish (view map.now (F.chip flash.new)) image (session_of u written) result }
-        ensures none { upload_at self.old.sessions image ≡ None → (result ≡ Err NoSession)
-            × (F.chip flash.new ≡ F.chip flash.old) }
-        ensures closes { is_flash result ≡ false
-            → IsWith image None self.old.sessions self.new.sessions }
-        ensures closed { is_flash result ≡ true → AllClosed self.new.sessions }
-        // On a flash that holds a state: the step of a machine that knows whole images.
-        ensures row { (m : Machine)
-            → IsUpAt (view map.now (F.chip flash.old)) self.old.sessions m
-            → (next : Machine) × FinishRow m image result next
-            × IsUpAt (view map.now (F.chip flash.new)) self.new.sessions next }
-        ensures erases { OnOk result ((F.chip flash.new).erases ≡ (F.chip flash.old).erases) }
-        ensures ends { EndsUpload result (F.chip flash.old) (F.chip flash.new) }
+        ensures { FinishesUpload map.now image self.old.sessions self.new.sessions
+            (F.chip flash.old) (F.chip flash.new) result }
     {
         let Some(upload) = self.take(image) else {
             return Err(UploadError::NoSession);

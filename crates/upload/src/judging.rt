@@ -1,16 +1,11 @@
 //! Whether a manifest may be taken: the checks that come before any write.
 
-ghost use Rattle.std.specs.Prelude.{◌≡◌, ◌≢◌, ◌↔◌, ◌≤◌, ◌<◌, ℕ, All, IfErr, IfOk, IsTrue, None, Some, true};
-ghost use Rattle.flash_model.specs.Chip.{Chip, Ends};
-ghost use Rattle.sector_map.specs.Map.{IsLaidOut, part_of};
-ghost use Rattle.sector_map.specs.Part.{Slot};
-ghost use Rattle.sector_map.specs.declared.layout.Side.TheVariants.{Primary};
+ghost use Rattle.std.specs.Prelude.{◌≡◌, ◌≢◌, ◌↔◌, IsTrue, None};
+ghost use Rattle.sector_map.specs.Map.{HasImage, IsLaidOut};
 ghost use Rattle.set_log.specs.Log.{state_of};
-ghost use Rattle.set_log.specs.Record.{fits};
-ghost use Rattle.upload.specs.View.{view};
-ghost use Rattle.upload.specs.Ending.{EndsUpload};
-ghost use Rattle.upload.specs.Accepted.{AllFit, AllFollowAt, AreThere, FrontHasDigest};
-ghost use Rattle.upload.specs.Taking.{MayTake, Refuses};
+ghost use Rattle.upload.specs.Accepted.{AllFit, AreThere};
+ghost use Rattle.upload.specs.Judging.{CanJudge, JudgesManifest, ReadsPrecursor, ReadsPrecursors};
+ghost use Rattle.upload.specs.Judging.{ReadsState};
 
 use crate::error::UploadError;
 use flash_model::{Flash, FlashError};
@@ -45,13 +40,8 @@ fn follows<F: Flash>(
     map: &SectorMap,
     component: &Component,
 ) -> Result<bool, FlashError>
-    requires laid_out { IsLaidOut map.now (F.chip flash.old) }
-    requires there { component.now.image < map.now.images }
-    ensures same { F.chip flash.new ≡ F.chip flash.old }
-    ensures ok { IfOk result (λ yes. IsTrue yes ↔ FrontHasDigest
-        (part_of map.now (F.chip flash.old) (Slot component.now.image Primary))
-        component.now.precursor) }
-    ensures ends { Ends result (F.chip flash.old) (F.chip flash.new) }
+    requires { HasImage map.now component.now.image (F.chip flash.old) }
+    ensures { ReadsPrecursor map.now component.now (F.chip flash.old) (F.chip flash.new) result }
 {
     let Some(digest) = component.precursor else {
         return Ok(true);
@@ -72,10 +62,7 @@ fn all_follow<F: Flash>(
 ) -> Result<bool, FlashError>
     requires laid_out { IsLaidOut map.now (F.chip flash.old) }
     requires there { AreThere map.now components.now }
-    ensures same { F.chip flash.new ≡ F.chip flash.old }
-    ensures ok { IfOk result (λ yes. IsTrue yes
-        ↔ AllFollowAt (view map.now (F.chip flash.old)) components.now) }
-    ensures ends { Ends result (F.chip flash.old) (F.chip flash.new) }
+    ensures { ReadsPrecursors map.now components.now (F.chip flash.old) (F.chip flash.new) result }
 {
     for component in components {
         if !follows(flash, map, component)? {
@@ -89,11 +76,7 @@ fn all_follow<F: Flash>(
 fn last_state<F: Flash>(flash: &mut F, map: &SectorMap) -> Result<State, FlashError>
     requires laid_out { IsLaidOut map.now (F.chip flash.old) }
     requires has_state { state_of map.now (F.chip flash.old) ≢ None }
-    ensures same { F.chip flash.new ≡ F.chip flash.old }
-    ensures ok { IfOk result (λ state. state_of map.now (F.chip flash.old) ≡ Some state) }
-    ensures fits { (state : State) → state_of map.now (F.chip flash.old) ≡ Some state
-        → fits map.now.images state ≡ true }
-    ensures ends { Ends result (F.chip flash.old) (F.chip flash.new) }
+    ensures { ReadsState map.now (F.chip flash.old) (F.chip flash.new) result }
 {
     match read_state(flash, map) {
         Ok(state) => Ok(state),
@@ -108,17 +91,8 @@ pub(crate) fn judge_manifest<F: Flash>(
     map: &SectorMap,
     manifest: &Manifest,
 ) -> Result<State, UploadError>
-    requires laid_out { IsLaidOut map.now (F.chip flash.old) }
-    requires has_state { state_of map.now (F.chip flash.old) ≢ None }
-    requires there { AreThere map.now manifest.now.components.items }
-    ensures same { F.chip flash.new ≡ F.chip flash.old }
-    ensures ok { IfOk result (λ state. MayTake map.now (view map.now (F.chip flash.old)) state
-        manifest.now.sequence manifest.now.components.items) }
-    ensures fits { (state : State) → state_of map.now (F.chip flash.old) ≡ Some state
-        → fits map.now.images state ≡ true }
-    ensures refused { IfErr result (Refuses map.now (view map.now (F.chip flash.old))
-        manifest.now.sequence manifest.now.components.items) }
-    ensures ends { EndsUpload result (F.chip flash.old) (F.chip flash.new) }
+    requires { CanJudge map.now manifest.now.components.items (F.chip flash.old) }
+    ensures { JudgesManifest map.now manifest.now (F.chip flash.old) (F.chip flash.new) result }
 {
     let state = match last_state(flash, map) {
         Ok(state) => state,

@@ -4,7 +4,8 @@
 //! Promises: a request stands only for a whole image that has the digest and the length of its
 //! manifest; each call is a step of a machine that knows whole images only (`specs/`), and where
 //! power fails in the midst of it, a cut step; sessions of different images don't disturb one
-//! another. Does not allocate. The device above calls it.
+//! another. Does not allocate. The device above, `boot_core`, alone may call it: one that isn't up
+//! takes no upload.
 #![tactic(auto)]
 
 mod accepting;

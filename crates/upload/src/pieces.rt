@@ -1,16 +1,11 @@
 //! Taking a piece of an upload.
 
-ghost use Rattle.std.specs.Prelude.{◌≡◌, ◌+◌, ◌≤◌, ◌<◌, ℕ, false, true, Some, None, Err, IfErr, List, OnOk, length};
-ghost use Rattle.sector_map.specs.Map.{IsLaidOut, Keeps};
-ghost use Rattle.sector_map.specs.Part.{Slot, only};
-ghost use Rattle.sector_map.specs.declared.layout.Side.TheVariants.{Secondary};
+ghost use Rattle.std.specs.Prelude.{◌≡◌, Some};
+ghost use Rattle.sector_map.specs.Map.{IsLaidOut};
 ghost use Rattle.upload.specs.View.{view};
-ghost use Rattle.upload.specs.Device.{Machine};
-ghost use Rattle.upload.specs.Sessions.{AllClosed, AllOpenAt, IsOpenAt, IsUpAt, upload_at};
-ghost use Rattle.upload.specs.Ending.{EndsUpload, is_flash};
-ghost use Rattle.upload.specs.Piece.{Pieces, TakesMore};
-ghost use Rattle.upload.specs.declared.error.UploadError.TheVariants.{NoSession, TooMuch};
+ghost use Rattle.upload.specs.Sessions.{IsOpenAt, upload_at};
 ghost use Rattle.upload.specs.declared.sessions.Upload.{Upload};
+ghost use Rattle.upload.specs.Adding.{TakesPiece};
 
 use crate::adding::add_bytes;
 use crate::error::UploadError;
@@ -42,29 +37,8 @@ impl Uploads {
         requires laid_out { IsLaidOut map.now (F.chip flash.old) }
         requires open { (u : Upload) → upload_at self.old.sessions image ≡ Some u
             → IsOpenAt (view map.now (F.chip flash.old)) image u }
-        ensures outside { Keeps map.now (only (Slot image Secondary))
-            (F.chip flash.old) (F.chip flash.new) }
-        ensures all_open { AllOpenAt (view map.now (F.chip flash.old)) self.old.sessions
-            → AllOpenAt (view map.now (F.chip flash.new)) self.new.sessions }
-        // On any flash: what is answered, and what is left then.
-        ensures takes { OnOk result ((u : Upload) → upload_at self.old.sessions image ≡ Some u
-            → (after : Upload) × (upload_at self.new.sessions image ≡ Some after)
-            × TakesMore (view map.now (F.chip flash.old)) (view map.now (F.chip flash.new))
-            image u after bytes.now) }
-        ensures none { upload_at self.old.sessions image ≡ None → (result ≡ Err NoSession)
-            × (F.chip flash.new ≡ F.chip flash.old) }
-        ensures more { (u : Upload) → upload_at self.old.sessions image ≡ Some u
-            → u.size < u.received + length bytes.now → result ≡ Err TooMuch }
-        ensures nothing { IfErr result (λ error. is_flash {T = Unit} (Err error) ≡ false
-            → F.chip flash.new ≡ F.chip flash.old) }
-        ensures closed { is_flash result ≡ true → AllClosed self.new.sessions }
-        // On a flash that holds a state: the step of a machine that knows whole images.
-        ensures row { (m : Machine)
-            → IsUpAt (view map.now (F.chip flash.old)) self.old.sessions m
-            → (next : Machine) × Pieces m image bytes.now result next
-            × IsUpAt (view map.now (F.chip flash.new)) self.new.sessions next }
-        ensures erases { OnOk result ((F.chip flash.new).erases ≡ (F.chip flash.old).erases) }
-        ensures ends { EndsUpload result (F.chip flash.old) (F.chip flash.new) }
+        ensures { TakesPiece map.now image bytes.now self.old.sessions self.new.sessions
+            (F.chip flash.old) (F.chip flash.new) result }
     {
         let Some(mut upload) = self.take(image) else {
             return Err(UploadError::NoSession);

@@ -1,8 +1,8 @@
-use Rattle.std.proofs.Common.{◌≡◌, ◌+◌, ◌-◌, ◌++◌, ℕ, length, List, arith, refl, sym, ◌∙◌, ap, subst, take, drop, length-append}
+use Rattle.std.proofs.Common.{rules, ◌≡◌, ◌+◌, ◌-◌, ◌++◌, ℕ, length, List, arith, refl, sym, ◌∙◌, ap, subst, take, drop, length-append}
 use Rattle.std.proofs.lemmas.List.{take-append-drop}
 use Rattle.sector_map.specs.declared.layout.Side.TheVariants.{Secondary}
 use Rattle.sector_map.specs.Part.{Slot, only}
-use Rattle.sector_map.proofs.Parts.{laid_out_kept}
+use Rattle.sector_map.proofs.Parts.{keeps_trans, laid_out_kept}
 use Rattle.sector_map.proofs.PartBytes.{length_part}
 use Rattle.trailer.specs.Standing.{incoming_slot}
 use Rattle.upload.specs.Sessions.{IsWritten}
@@ -17,85 +17,97 @@ whole l a b n first second =
 
 pub write_slot-requires-clause-units : goal.write_slot-requires-clause-units
 write_slot-requires-clause-units g c =
-    let was = c.requires.open.1 in
+    let was = c.requires.room.stands.1 in
     let n = c.len.ensures.value in
     let m = ap length (c.as_slice.ensures.value ∙ c.extend.ensures)
     ∙ length-append c.take-unit.result.items c.split_at.result.0.now in
     let h = ap (λ v. length v.items) c.take-unit.ensures.value in
     (1, omega (arith, m, h, n, c.split_at.ensures.front_len, was.few))
 
-pub write_slot-requires-clause-room : goal.write_slot-requires-clause-room
-write_slot-requires-clause-room g c =
-    let was = c.requires.open.1 in
+pub write_slot-requires-clause-behind : goal.write_slot-requires-clause-behind
+write_slot-requires-clause-behind g c =
+    let was = c.requires.room.stands.1 in
     let n = c.len.ensures.value in
     let m = ap length (c.as_slice.ensures.value ∙ c.extend.ensures)
     ∙ length-append c.take-unit.result.items c.split_at.result.0.now in
     let h = ap (λ v. length v.items) c.take-unit.ensures.value in
     let long = length_part c.args.map.now (g.F.Flash.chip c.args.flash.now) (Slot c.args.image Secondary)
-    c.requires.laid_out in
-    omega (
-      arith,
-      m,
-      h,
-      n,
-      long,
-      c.split_at.ensures.front_len,
-      was.few,
-      was.count,
-      was.room,
-      c.requires.fits,
-      c.requires.enough,
-    )
+    c.requires.room.laid_out in
+    record {
+      laid_out = search rules;
+      there = was.there;
+      place = (was.units.0, omega (arith, was.units.1, n, was.count));
+      room = omega (
+        arith,
+        m,
+        h,
+        n,
+        long,
+        c.split_at.ensures.front_len,
+        was.few,
+        was.count,
+        was.room,
+        c.requires.room.fits,
+        c.requires.enough,
+      );
+      written = (c.requires.room.stands.0, omega (arith, n, was.count), was.slot);
+    }
 
-pub write_slot-requires-2-clause-place : goal.write_slot-requires-2-clause-place
-write_slot-requires-2-clause-place g c =
-    let was = c.requires.open.1 in
-    (was.units.0 + 1, omega (arith, was.units.1, c.len.ensures.value, was.count))
-
-pub write_slot-requires-2-clause-room : goal.write_slot-requires-2-clause-room
-write_slot-requires-2-clause-room g c =
-    let was = c.requires.open.1 in
-    let n = c.len.ensures.value in
-    let long = length_part c.args.map.now (g.F.Flash.chip c.args.flash.now) (Slot c.args.image Secondary)
-    c.requires.laid_out in
-    omega (
-      arith,
-      n,
-      c.len-2.ensures.value,
-      long,
-      was.few,
-      was.count,
-      was.room,
-      c.requires.fits,
-      c.requires.enough,
-      c.split_at.ensures.front_len,
-      c.split_at.ensures.back_len,
-      c.split_at-2.ensures.front_len,
-      c.split_at-2.ensures.back_len,
-      c.whole_units.ensures.least,
-    )
-
-pub write_slot-requires-2-clause-written : goal.write_slot-requires-2-clause-written
-write_slot-requires-2-clause-written g c =
-    let was = c.requires.open.1 in
+pub write_slot-requires-2-clause-behind : goal.write_slot-requires-2-clause-behind
+write_slot-requires-2-clause-behind g c =
+    let was = c.requires.room.stands.1 in
     let n = c.len.ensures.value in
     let m = ap length (c.as_slice.ensures.value ∙ c.extend.ensures)
     ∙ length-append c.take-unit.result.items c.split_at.result.0.now in
     let h = ap (λ v. length v.items) c.take-unit.ensures.value in
-    let l = length-append c.requires.open.0 c.as_slice.result.now in (
-      c.requires.open.0 ++ c.as_slice.result.now,
-      omega (arith, l, m, h, n, c.split_at.ensures.front_len, was.few, was.count),
-      c.in_ok-write_slot.ensures.ok c.requires.open.0 (omega (arith, n, was.count)) was.slot,
-    )
+    let l = length-append c.requires.room.stands.0 c.as_slice.result.now in
+    let long = length_part c.args.map.now (g.F.Flash.chip c.args.flash.now) (Slot c.args.image Secondary)
+    c.requires.room.laid_out in
+    record {
+      laid_out = laid_out_kept c.args.map.now (only (Slot c.args.image Secondary)) _
+          (g.F.Flash.chip c.write_slot.new.flash) c.requires.room.laid_out c.write_slot.ensures.outside;
+      there = was.there;
+      place = (was.units.0 + 1, omega (arith, was.units.1, n, was.count));
+      room = omega (
+        arith,
+        n,
+        c.len-2.ensures.value,
+        long,
+        was.few,
+        was.count,
+        was.room,
+        c.requires.room.fits,
+        c.requires.enough,
+        c.split_at.ensures.front_len,
+        c.split_at.ensures.back_len,
+        c.split_at-2.ensures.front_len,
+        c.split_at-2.ensures.back_len,
+        c.whole_units.ensures.least,
+      );
+      written = (
+        c.requires.room.stands.0 ++ c.as_slice.result.now,
+        omega (arith, l, m, h, n, c.split_at.ensures.front_len, was.few, was.count),
+        c.in_ok-write_slot.ensures.ok c.requires.room.stands.0 (omega (arith, n, was.count)) was.slot,
+      );
+    }
 
-pub returns-clause-ok : goal.returns-clause-ok
-returns-clause-ok g c =
+pub returns-in_err-write_slot-2 : goal.returns-in_err-write_slot-2
+returns-in_err-write_slot-2 g c = record {
+  outside = keeps_trans c.args.map.now (only (Slot c.args.image Secondary)) _ _ _ c.write_slot.ensures.outside
+      c.write_slot-2.ensures.outside;
+  ok = search rules;
+  erases = search rules;
+  ends = search rules;
+}
+
+pub returns : goal.returns
+returns g c =
     let map = c.args.map.now in
     let first = c.write_slot.ensures.outside in
     let second = c.write_slot-2.ensures.outside in
     let laid = laid_out_kept map (only (Slot c.args.image Secondary)) _ (g.F.Flash.chip c.write_slot.new.flash)
-    c.requires.laid_out first in
-    let was = c.requires.open.1 in
+    c.requires.room.laid_out first in
+    let was = c.requires.room.stands.1 in
     let n = c.len.ensures.value in
     let n2 = c.len-2.ensures.value in
     let h = ap (λ v. v.items) c.take-unit.ensures.value in
@@ -119,16 +131,21 @@ returns-clause-ok g c =
       );
       held = c.hold.ensures.held ∙ ap (λ l. l ++ c.split_at-2.result.1.now) c.take-unit.ensures.after;
     } in
-    added c.args.image _ _ _ c.args.upload.now c.hold.new.upload c.args.bytes.now _ _ _ held parts
-    (omega (arith, n, n2, was.few, c.split_at.ensures.front_len))
-    (c.whole_units.ensures.units.0, c.split_at-2.ensures.front_len ∙ c.whole_units.ensures.units.1)
-    (omega (arith, c.split_at-2.ensures.back_len, c.split_at-2.ensures.front_len, c.whole_units.ensures.most))
-    c.requires.fits (view_kept map _ _ _ first) (view_kept map _ _ _ second)
-    (long_kept map _ _ _ (Slot c.args.image Secondary) c.requires.laid_out first)
-    (long_kept map _ _ _ (Slot c.args.image Secondary) laid second)
-    (c.args.upload.now.received - c.len.result) (c.args.upload.now.received - c.len.result + 8)
-    (omega (arith, n, was.count)) refl
-    (λ front long written. subst
-    (λ l. IsWritten (incoming_slot map (g.F.Flash.chip c.write_slot.new.flash) c.args.image) (front ++ l)) unit
-    (c.in_ok-write_slot.ensures.ok front long written))
-    c.in_ok-write_slot-2.ensures.ok
+    record {
+      outside = keeps_trans map (only (Slot c.args.image Secondary)) _ _ _ first second;
+      ok = added c.args.image _ _ _ c.args.upload.now c.hold.new.upload c.args.bytes.now _ _ _ held parts
+          (omega (arith, n, n2, was.few, c.split_at.ensures.front_len))
+          (c.whole_units.ensures.units.0, c.split_at-2.ensures.front_len ∙ c.whole_units.ensures.units.1)
+          (omega (arith, c.split_at-2.ensures.back_len, c.split_at-2.ensures.front_len, c.whole_units.ensures.most))
+          c.requires.room.fits (view_kept map _ _ _ first) (view_kept map _ _ _ second)
+          (long_kept map _ _ _ (Slot c.args.image Secondary) c.requires.room.laid_out first)
+          (long_kept map _ _ _ (Slot c.args.image Secondary) laid second)
+          (c.args.upload.now.received - c.len.result) (c.args.upload.now.received - c.len.result + 8)
+          (omega (arith, n, was.count)) refl
+          (λ front long written. subst
+          (λ l. IsWritten (incoming_slot map (g.F.Flash.chip c.write_slot.new.flash) c.args.image) (front ++ l)) unit
+          (c.in_ok-write_slot.ensures.ok front long written))
+          c.in_ok-write_slot-2.ensures.ok;
+      erases = search rules;
+      ends = search rules;
+    }

@@ -1,7 +1,10 @@
-use Rattle.std.proofs.Common.{◌-◌, arith, ◌∙◌, ap, subst}
+use Rattle.std.proofs.Common.{rules, ◌-◌, arith, ◌∙◌, ap, subst}
 use Rattle.std.proofs.Common.{Err, length-append, refl, sym}
 use Rattle.sector_map.specs.declared.layout.Side.TheVariants.{Secondary}
-use Rattle.sector_map.specs.Part.{Slot}
+use Rattle.sector_map.specs.Part.{Slot, incoming_of}
+use Rattle.sector_map.specs.Map.{Keeps}
+use Rattle.sector_map.proofs.Parts.{keeps_wider}
+use Rattle.sector_map.proofs.Touched.{slot_of_incoming}
 use Rattle.sector_map.proofs.PartBytes.{length_part}
 use Rattle.trailer.specs.Fields.{fields_at}
 use Rattle.upload.specs.View.{view}
@@ -13,12 +16,19 @@ use Rattle.upload.proofs.Ends.{ends_flash, ends_later, same_off}
 use Rattle.upload.proofs.Finished.{refused, finish_refused, finish_done, finish_cut}
 use Rattle.upload.proofs.finishing.finish_upload.Goals as goal
 
-pub write_last-requires-clause-room : goal.write_last-requires-clause-room
-write_last-requires-clause-room g c =
+pub write_last-requires-clause-behind : goal.write_last-requires-clause-behind
+write_last-requires-clause-behind g c =
     let was = c.requires.open.1 in
+    let n = c.len.ensures.value in
     let long = length_part c.args.map.now (g.F.Flash.chip c.args.flash.now) (Slot c.args.image Secondary)
     c.requires.laid_out in
-    omega (arith, long, c.len.ensures.value, was.count, was.fits, was.room)
+    record {
+      laid_out = c.requires.laid_out;
+      there = was.there;
+      place = (was.units.0, omega (arith, was.units.1, n, was.count));
+      room = omega (arith, long, n, was.count, was.fits, was.room);
+      written = (c.requires.open.0, omega (arith, n, was.count), was.slot);
+    }
 
 pub judge-requires-clause-room : goal.judge-requires-clause-room
 judge-requires-clause-room g c =
@@ -34,60 +44,72 @@ request-requires-clause-erased g c =
     ap (λ chip. fields_at map chip c.args.image Secondary) c.judge.ensures.same
     ∙ (view_kept map _ _ _ c.write_last.ensures.outside).trailers c.args.image Secondary refl ∙ was.trailer
 
-pub returns-in-Err-clause-finish : goal.returns-in-Err-clause-finish
-returns-in-Err-clause-finish g c = λ written was.
-    refused (view c.args.map.now (g.F.Flash.chip c.write_last.new.flash)) c.args.image
-    (session_of c.args.upload written) (no.Flash c.in-Err.error)
-    (length-append written c.args.upload.held.items ∙ sym was.count ∙ omega (arith, c.if-upload.false))
-    ((view_kept c.args.map.now _ _ _ c.write_last.ensures.outside).trailers c.args.image Secondary refl ∙ was.trailer) tt
+pub returns-in-Err : goal.returns-in-Err
+returns-in-Err g c = record {
+  outside = keeps_wider c.args.map.now _ (incoming_of c.args.image) _ _ (slot_of_incoming c.args.image)
+      c.write_last.ensures.outside;
+  finish = λ written was.
+      refused (view c.args.map.now (g.F.Flash.chip c.write_last.new.flash)) c.args.image
+      (session_of c.args.upload written) (no.Flash c.in-Err.error)
+      (length-append written c.args.upload.held.items ∙ sym was.count ∙ omega (arith, c.if-upload.false))
+      ((view_kept c.args.map.now _ _ _ c.write_last.ensures.outside).trailers c.args.image Secondary refl
+      ∙ was.trailer) tt;
+  erases = search rules;
+  ends = search rules;
+}
 
-pub returns-in-Ok-request-clause-outside : goal.returns-in-Ok-request-clause-outside
-returns-in-Ok-request-clause-outside g c =
-    slot_then_trailer c.args.map.now c.args.image _ _ _ _ c.write_last.ensures.outside c.judge.ensures.same
-    c.request.ensures.outside
+pub returns-in-Err-judge : goal.returns-in-Err-judge
+returns-in-Err-judge g c =
+    let map = c.args.map.now in
+    let was = c.requires.open.1 in
+    let n = c.len.ensures.value in
+    record {
+      outside = subst (λ chip. Keeps map (incoming_of c.args.image) (g.F.Flash.chip c.args.flash.now) chip)
+          (sym c.judge.ensures.same)
+          (keeps_wider map _ (incoming_of c.args.image) _ _ (slot_of_incoming c.args.image)
+          c.write_last.ensures.outside);
+      finish = finish_refused c.args.image (c.args.upload.received - c.len.result) _ _ _ c.args.upload
+          (view_kept map _ _ _ c.write_last.ensures.outside) (ap (λ chip. view map chip) c.judge.ensures.same)
+          c.in-Ok.ensures.ok (omega (arith, n, was.count)) (omega (arith, c.if-upload.false)) c.in-Err-judge.error
+          c.in-Err-judge.ensures.judges;
+      erases = search rules;
+      ends = search rules;
+    }
 
-pub returns-in-Err-request-clause-outside : goal.returns-in-Err-request-clause-outside
-returns-in-Err-request-clause-outside g c =
-    slot_then_trailer c.args.map.now c.args.image _ _ _ _ c.write_last.ensures.outside c.judge.ensures.same
-    c.request.ensures.outside
+pub returns-in-Ok-request : goal.returns-in-Ok-request
+returns-in-Ok-request g c =
+    let map = c.args.map.now in
+    let was = c.requires.open.1 in
+    let n = c.len.ensures.value in
+    record {
+      outside = slot_then_trailer map c.args.image _ _ _ _ c.write_last.ensures.outside c.judge.ensures.same
+          c.request.ensures.outside;
+      finish = finish_done c.args.image (c.args.upload.received - c.len.result) _ _ _ c.args.upload
+          (view_kept map _ _ _ c.write_last.ensures.outside) (ap (λ chip. view map chip) c.judge.ensures.same)
+          c.in-Ok.ensures.ok (omega (arith, n, was.count)) (omega (arith, c.if-upload.false)) _
+          (view_kept map _ _ _ c.request.ensures.outside) c.in-Ok-judge.ensures.judges c.in-Ok-request.ensures.ok;
+      erases = search rules;
+      ends = search rules;
+    }
 
-pub returns-in-Err-request-clause-ends : goal.returns-in-Err-request-clause-ends
-returns-in-Err-request-clause-ends g c =
-    let judged = c.judge.ensures.same in
+pub returns-in-Err-request : goal.returns-in-Err-request
+returns-in-Err-request g c =
+    let map = c.args.map.now in
+    let was = c.requires.open.1 in
+    let n = c.len.ensures.value in
     let first = c.in-Ok.ensures.ends in
-    ends_later _ _ (g.F.Flash.chip c.write_last.new.flash) _ first.uncut first.asleep
-    (subst (λ chip. EndsUpload {T = Unit} (Err (no.Flash c.in-Err-request.error)) chip
-    (g.F.Flash.chip c.request.new.flash)) judged
-    (ends_flash c.in-Err-request.error _ _ c.in-Err-request.ensures.ends))
-
-pub returns-in-Err-judge-clause-finish : goal.returns-in-Err-judge-clause-finish
-returns-in-Err-judge-clause-finish g c =
-    let map = c.args.map.now in
-    let was = c.requires.open.1 in
-    let n = c.len.ensures.value in
-    finish_refused c.args.image (c.args.upload.received - c.len.result) _ _ _ c.args.upload
-    (view_kept map _ _ _ c.write_last.ensures.outside) (ap (λ chip. view map chip) c.judge.ensures.same)
-    c.in-Ok.ensures.ok (omega (arith, n, was.count)) (omega (arith, c.if-upload.false)) c.in-Err-judge.error
-    c.in-Err-judge.ensures.judges
-
-pub returns-in-Ok-request-clause-finish : goal.returns-in-Ok-request-clause-finish
-returns-in-Ok-request-clause-finish g c =
-    let map = c.args.map.now in
-    let was = c.requires.open.1 in
-    let n = c.len.ensures.value in
-    finish_done c.args.image (c.args.upload.received - c.len.result) _ _ _ c.args.upload
-    (view_kept map _ _ _ c.write_last.ensures.outside) (ap (λ chip. view map chip) c.judge.ensures.same)
-    c.in-Ok.ensures.ok (omega (arith, n, was.count)) (omega (arith, c.if-upload.false)) _
-    (view_kept map _ _ _ c.request.ensures.outside) c.in-Ok-judge.ensures.judges c.in-Ok-request.ensures.ok
-
-pub returns-in-Err-request-clause-finish : goal.returns-in-Err-request-clause-finish
-returns-in-Err-request-clause-finish g c =
-    let map = c.args.map.now in
-    let was = c.requires.open.1 in
-    let n = c.len.ensures.value in
-    finish_cut c.args.image (c.args.upload.received - c.len.result) _ _ _ c.args.upload
-    (view_kept map _ _ _ c.write_last.ensures.outside) (ap (λ chip. view map chip) c.judge.ensures.same)
-    c.in-Ok.ensures.ok (omega (arith, n, was.count)) (omega (arith, c.if-upload.false)) _
-    (view_kept map _ _ _ c.request.ensures.outside) c.in-Ok-judge.ensures.judges c.in-Err-request.error
-    c.request.ensures.either
-    (λ is. ap (λ chip. view map chip) (same_off c.in-Err-request.error _ _ c.in-Err-request.ensures.ends is))
+    record {
+      outside = slot_then_trailer map c.args.image _ _ _ _ c.write_last.ensures.outside c.judge.ensures.same
+          c.request.ensures.outside;
+      finish = finish_cut c.args.image (c.args.upload.received - c.len.result) _ _ _ c.args.upload
+          (view_kept map _ _ _ c.write_last.ensures.outside) (ap (λ chip. view map chip) c.judge.ensures.same)
+          c.in-Ok.ensures.ok (omega (arith, n, was.count)) (omega (arith, c.if-upload.false)) _
+          (view_kept map _ _ _ c.request.ensures.outside) c.in-Ok-judge.ensures.judges c.in-Err-request.error
+          c.request.ensures.either
+          (λ is. ap (λ chip. view map chip) (same_off c.in-Err-request.error _ _ c.in-Err-request.ensures.ends is));
+      erases = search rules;
+      ends = ends_later _ _ (g.F.Flash.chip c.write_last.new.flash) _ first.uncut first.asleep
+          (subst (λ chip. EndsUpload {T = Unit} (Err (no.Flash c.in-Err-request.error)) chip
+          (g.F.Flash.chip c.request.new.flash)) c.judge.ensures.same
+          (ends_flash c.in-Err-request.error _ _ c.in-Err-request.ensures.ends));
+    }

@@ -9,16 +9,28 @@ write_slot-requires-clause-units g c =
     let n = length_filler (8 - length c.args.unit.items) in
     (1, omega (arith, m, n, c.requires.few))
 
-pub write_slot-requires-clause-room : goal.write_slot-requires-clause-room
-write_slot-requires-clause-room g c =
+pub write_slot-requires-clause-behind : goal.write_slot-requires-clause-behind
+write_slot-requires-clause-behind g c =
+    let before = c.requires.behind in
     let m = ap length (c.as_slice.ensures.value ∙ c.fill.ensures) ∙ length-append c.args.unit.items _ in
     let n = length_filler (8 - length c.args.unit.items) in
     let some : 0 < length c.args.unit.items = search rules in
-    let whole = slot_units c.args.map.now c.args.image c.requires.laid_out.is_map in
-    omega (arith, m, n, c.requires.few, whole.1, c.requires.units.1, c.requires.room, some)
+    let whole = slot_units c.args.map.now c.args.image before.laid_out.is_map in
+    record {
+      laid_out = before.laid_out;
+      there = before.there;
+      place = before.place;
+      room = omega (arith, m, n, c.requires.few, whole.1, before.place.1, before.room, some);
+      written = before.written;
+    }
 
-pub returns-clause-ok : goal.returns-clause-ok
-returns-clause-ok g c = on_ok_weaker c.write_slot.result (λ ok. λ front long written.
-    written_less _ front c.args.unit.items _ (8 - length c.args.unit.items)
-    (c.as_slice.ensures.value ∙ c.fill.ensures)
-    (ok front long written)) c.write_slot.ensures.ok
+pub returns : goal.returns
+returns g c = record {
+  outside = search rules;
+  ok = on_ok_weaker c.write_slot.result (λ ok. λ front long written.
+      written_less _ front c.args.unit.items _ (8 - length c.args.unit.items)
+      (c.as_slice.ensures.value ∙ c.fill.ensures)
+      (ok front long written)) c.write_slot.ensures.ok;
+  erases = search rules;
+  ends = search rules;
+}

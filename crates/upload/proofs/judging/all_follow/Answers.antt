@@ -28,10 +28,14 @@ loop-component-preserved g c =
       same = search rules;
     }
 
-pub returns-clause-ok : goal.returns-clause-ok
-returns-clause-ok g c = (
-  λ yes. subst (λ l. AllFollowAt (view c.args.map.now (g.F.Flash.chip c.args.flash.now)) l)
-      (take_all c.loop-component.component-index c.args.components.now (omega (arith, c.loop-component-test.false)))
-      c.loop-component.invariant.follow,
-  λ all. refl,
-)
+pub returns : goal.returns
+returns g c = record {
+  same = search rules;
+  ok = (
+    λ yes. subst (λ l. AllFollowAt (view c.args.map.now (g.F.Flash.chip c.args.flash.now)) l)
+        (take_all c.loop-component.component-index c.args.components.now (omega (arith, c.loop-component-test.false)))
+        c.loop-component.invariant.follow,
+    λ all. refl,
+  );
+  ends = search rules;
+}

@@ -13,26 +13,36 @@ one_description a b x first second = cc
 not_both : (a : Desc) (e : SlotError) (x : Result Desc SlotError) → x ≡ Ok a → x ≡ Err e → ⊥
 not_both a e x first second = cc
 
-pub returns-in-Ok-clause-ok : goal.returns-in-Ok-clause-ok
-returns-in-Ok-clause-ok g c =
-    let slot = part_of c.args.map.now (g.F.Flash.chip c.args.flash.now) (Slot c.args.component.now.image Primary) in (
-      λ yes. has_front slot c.args.component.now.precursor c.in-Some.digest c.in-Some.is c.in-Ok.description
-          c.in-Ok.ensures.described (c.is_same_digest.ensures.0 yes),
-      λ has.
-          let at = front_has slot c.args.component.now.precursor c.in-Some.digest c.in-Some.is has in
-          let on : (g.F.Flash.chip c.args.flash.now).is_on ≡ true = c.in-Ok.ensures.on in
-          let same = one_description c.in-Ok.description at.0 c.describe_slot.result c.in-Ok.is
-          (c.describe_slot.ensures.only on at.0 at.1) in
-          c.is_same_digest.ensures.1 (ap (λ (d : Desc). d.digest) same ∙ at.2),
-    )
-
-pub returns-in-Err-Image-clause-ok : goal.returns-in-Err-Image-clause-ok
-returns-in-Err-Image-clause-ok g c =
+pub returns-in-Ok : goal.returns-in-Ok
+returns-in-Ok g c =
     let slot = part_of c.args.map.now (g.F.Flash.chip c.args.flash.now) (Slot c.args.component.now.image Primary) in
-    let fault = rw c.in-Err-Image.field-0-is at c.in-Err-Image.ensures.fault in (
-      λ e. absurd (search (rules, e)),
-      λ has. absurd (
-          let at = front_has slot c.args.component.now.precursor c.in-Some.digest c.in-Some.is has in
-          not_both at.0 c.in-Err-Image.field-0 c.describe_slot.result
-          (c.describe_slot.ensures.only fault.0 at.0 at.1) c.in-Err-Image.is),
-    )
+    record {
+      same = search rules;
+      ok = (
+        λ yes. has_front slot c.args.component.now.precursor c.in-Some.digest c.in-Some.is c.in-Ok.description
+            c.in-Ok.ensures.described (c.is_same_digest.ensures.0 yes),
+        λ has.
+            let at = front_has slot c.args.component.now.precursor c.in-Some.digest c.in-Some.is has in
+            let on : (g.F.Flash.chip c.args.flash.now).is_on ≡ true = c.in-Ok.ensures.on in
+            let same = one_description c.in-Ok.description at.0 c.describe_slot.result c.in-Ok.is
+            (c.describe_slot.ensures.only on at.0 at.1) in
+            c.is_same_digest.ensures.1 (ap (λ (d : Desc). d.digest) same ∙ at.2),
+      );
+      ends = search rules;
+    }
+
+pub returns-in-Err-Image : goal.returns-in-Err-Image
+returns-in-Err-Image g c =
+    let slot = part_of c.args.map.now (g.F.Flash.chip c.args.flash.now) (Slot c.args.component.now.image Primary) in
+    let fault = rw c.in-Err-Image.field-0-is at c.in-Err-Image.ensures.fault in
+    record {
+      same = search rules;
+      ok = (
+        λ e. absurd (search (rules, e)),
+        λ has. absurd (
+            let at = front_has slot c.args.component.now.precursor c.in-Some.digest c.in-Some.is has in
+            not_both at.0 c.in-Err-Image.field-0 c.describe_slot.result
+            (c.describe_slot.ensures.only fault.0 at.0 at.1) c.in-Err-Image.is),
+      );
+      ends = search rules;
+    }

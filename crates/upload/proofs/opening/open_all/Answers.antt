@@ -4,6 +4,7 @@ use Rattle.manifest.specs.declared.manifest.Component.{Component}
 use Rattle.upload.specs.Accepted.{IsBlank, latest, named_parts}
 use Rattle.upload.proofs.Views.{view_kept, view_long}
 use Rattle.upload.proofs.Opened.{first_parts, keeps_more, latest_at, latest_less, opening_more, opening_wider, opened_more, opened_none}
+use Rattle.upload.proofs.Ends.{at_error}
 use Rattle.upload.proofs.Worn.{most_more}
 use Rattle.upload.proofs.opening.open_all.Goals as goal
 
@@ -20,27 +21,33 @@ loop-component-init g c = record {
   asleep = search rules;
 }
 
-pub returns-in_err-open_one-clause-outside : goal.returns-in_err-open_one-clause-outside
-returns-in_err-open_one-clause-outside g c =
-    let cs = c.args.components.now in
-    let next = latest_at cs c.loop-component.component-index blank c.loop-component-test.true in
-    keeps_wider c.args.map.now _ (named_parts cs) _ _ (first_parts cs (c.loop-component.component-index + 1))
-    (keeps_more (take c.loop-component.component-index cs) (take (c.loop-component.component-index + 1) cs)
-    (get_or cs c.loop-component.component-index blank) next c.args.map.now _ _ _
-    c.loop-component.invariant.outside c.open_one.ensures.outside)
-
-pub returns-in_err-open_one-clause-opening : goal.returns-in_err-open_one-clause-opening
-returns-in_err-open_one-clause-opening g c =
+pub returns-in_err-open_one : goal.returns-in_err-open_one
+returns-in_err-open_one g c =
     let cs = c.args.components.now in
     let map = c.args.map.now in
     let laid = laid_out_kept map _ _ (g.F.Flash.chip c.loop-component.flash) c.requires.laid_out
     c.loop-component.invariant.outside in
-    opening_wider _ _ (latest (take (c.loop-component.component-index + 1) cs)) (latest cs)
-    (latest_less cs (c.loop-component.component-index + 1))
-    (opening_more _ _ _ _ _ (get_or cs c.loop-component.component-index blank)
-    (latest_at cs c.loop-component.component-index blank c.loop-component-test.true)
-    (view_kept map _ _ _ c.open_one.ensures.outside) (view_long map _ _ _ _ _ laid c.open_one.ensures.outside)
-    c.open_one.ensures.either c.loop-component.invariant.opened.opening)
+    let next = latest_at cs c.loop-component.component-index blank c.loop-component-test.true in
+    record {
+      outside = keeps_wider map _ (named_parts cs) _ _ (first_parts cs (c.loop-component.component-index + 1))
+          (keeps_more (take c.loop-component.component-index cs) (take (c.loop-component.component-index + 1) cs)
+          (get_or cs c.loop-component.component-index blank) next map _ _ _
+          c.loop-component.invariant.outside c.open_one.ensures.opens.outside);
+      opening = opening_wider _ _ (latest (take (c.loop-component.component-index + 1) cs)) (latest cs)
+          (latest_less cs (c.loop-component.component-index + 1))
+          (opening_more _ _ _ _ _ (get_or cs c.loop-component.component-index blank) next
+          (view_kept map _ _ _ c.open_one.ensures.opens.outside)
+          (view_long map _ _ _ _ _ laid c.open_one.ensures.opens.outside)
+          c.open_one.ensures.opens.either c.loop-component.invariant.opened.opening);
+      opened = search rules;
+      erases = at_error _ _ c.from_residual.ensures.0;
+      idle = λ still.
+          let same = c.loop-component.invariant.idle still in
+          c.open_one.ensures.opens.idle (subst (λ chip. IsBlank map chip
+          (get_or cs c.loop-component.component-index blank).image) (sym same)
+          (still c.loop-component.component-index blank c.loop-component-test.true)) ∙ same;
+      ends = search rules;
+    }
 
 pub loop-component-preserved : goal.loop-component-preserved
 loop-component-preserved g c =
@@ -52,27 +59,20 @@ loop-component-preserved g c =
     record {
       outside = keeps_more (take c.loop-component.component-index cs) (take (c.loop-component.component-index + 1) cs)
           (get_or cs c.loop-component.component-index blank) next map _ _ _
-          c.loop-component.invariant.outside c.open_one.ensures.outside;
+          c.loop-component.invariant.outside c.open_one.ensures.opens.outside;
       opened = opened_more _ _ _ _ _ (get_or cs c.loop-component.component-index blank) next
-          (view_kept map _ _ _ c.open_one.ensures.outside) (view_long map _ _ _ _ _ laid c.open_one.ensures.outside)
-          c.open_one.ensures.either _ _ _
-          c.in_ok-open_one.ensures.trailer c.in_ok-open_one.ensures.slot c.in_ok-open_one.ensures.table.0
+          (view_kept map _ _ _ c.open_one.ensures.opens.outside) (view_long map _ _ _ _ _ laid c.open_one.ensures.opens.outside)
+          c.open_one.ensures.opens.either _ _ _
+          c.in_ok-open_one.ensures.opens.trailer c.in_ok-open_one.ensures.opens.slot c.in_ok-open_one.ensures.table.0
           c.in_ok-open_one.ensures.table.1 c.in_ok-open_one.ensures.table.2 c.loop-component.invariant.opened;
       erases = most_more map _ _ _ cs c.loop-component.component-index blank c.loop-component-test.true
-          c.open_one.ensures.outside c.in_ok-open_one.ensures.erased c.in_ok-open_one.ensures.erases
+          c.open_one.ensures.opens.outside c.in_ok-open_one.ensures.opens.erased c.in_ok-open_one.ensures.opens.erases
           c.loop-component.invariant.erases;
       idle = λ still.
           let same = c.loop-component.invariant.idle still in
-          c.open_one.ensures.idle (subst (λ chip. IsBlank c.args.map.now chip
+          c.open_one.ensures.opens.idle (subst (λ chip. IsBlank c.args.map.now chip
           (get_or c.args.components.now c.loop-component.component-index blank).image) (sym same)
           (still c.loop-component.component-index blank c.loop-component-test.true)) ∙ same;
       uncut = search rules;
       asleep = search rules;
     }
-
-pub returns-in_err-open_one-clause-idle : goal.returns-in_err-open_one-clause-idle
-returns-in_err-open_one-clause-idle g c = λ still.
-    let same = c.loop-component.invariant.idle still in
-    c.open_one.ensures.idle (subst (λ chip. IsBlank c.args.map.now chip
-    (get_or c.args.components.now c.loop-component.component-index blank).image) (sym same)
-    (still c.loop-component.component-index blank c.loop-component-test.true)) ∙ same

@@ -1,4 +1,4 @@
-use Rattle.std.proofs.Common.{ℕ, ◌+◌, ◌*◌, ◌∙◌, arith, ap, subst, sym, if◌then◌else◌}
+use Rattle.std.proofs.Common.{rules, ℕ, ◌+◌, ◌*◌, ◌∙◌, arith, ap, subst, sym, if◌then◌else◌}
 use Rattle.std.proofs.lemmas.Result.{on_ok_weaker}
 use Rattle.flash_model.proofs.Frame.{product_le}
 use Rattle.sector_map.specs.declared.layout.Side.TheVariants.{Secondary}
@@ -13,17 +13,17 @@ use Rattle.upload.proofs.slots.erase_sector.Goals as goal
 
 pub overflow_add-sector : goal.overflow_add-sector
 overflow_add-sector g c =
-    let there = slot_sector c.args.map.now c.args.image c.args.index c.requires.laid_out.is_map c.requires.within in
-    omega (arith, there, c.slot.ensures, addressed c.args.map.now c.requires.laid_out.is_map)
+    let there = slot_sector c.args.map.now c.args.image c.args.index c.requires.image.laid_out.is_map c.requires.within in
+    omega (arith, there, c.slot.ensures, addressed c.args.map.now c.requires.image.laid_out.is_map)
 
 pub sector_start-requires : goal.sector_start-requires
 sector_start-requires g c =
-    let there = slot_sector c.args.map.now c.args.image c.args.index c.requires.laid_out.is_map c.requires.within in
+    let there = slot_sector c.args.map.now c.args.image c.args.index c.requires.image.laid_out.is_map c.requires.within in
     omega (arith, there, c.slot.ensures)
 
 pub is_erased-requires : goal.is_erased-requires
 is_erased-requires g c =
-    let laid = c.requires.laid_out in
+    let laid = c.requires.image.laid_out in
     let there = slot_sector c.args.map.now c.args.image c.args.index laid.is_map c.requires.within in
     let chip = g.F.Flash.chip c.args.flash.now in
     let size = c.args.map.now.sector_size in
@@ -34,39 +34,58 @@ is_erased-requires g c =
 
 pub erase-requires : goal.erase-requires
 erase-requires g c =
-    let there = slot_sector c.args.map.now c.args.image c.args.index c.requires.laid_out.is_map c.requires.within in
+    let there = slot_sector c.args.map.now c.args.image c.args.index c.requires.image.laid_out.is_map c.requires.within in
     omega (
       arith,
       there,
       c.slot.ensures,
-      c.requires.laid_out.sectors,
+      c.requires.image.laid_out.sectors,
       ap
           (λ chip. chip.sectors) c.is_erased.ensures.same,
     )
 
-pub returns-clause-outside : goal.returns-clause-outside
-returns-clause-outside g c =
+pub returns-then-branch : goal.returns-then-branch
+returns-then-branch g c =
+    let told = sector_told c.args.map.now _ c.args.image c.args.index c.sector_start.result c.in_ok-is_erased.field-0
+    c.in_ok-is_erased.ensures.ok c.requires.image.laid_out c.requires.within
+    (c.sector_start.ensures ∙ ap (λ first. (first + c.args.index) * c.args.map.now.sector_size) c.slot.ensures) in
+    record {
+      outside = search rules;
+      sector = search rules;
+      ok = search rules;
+      idle = search rules;
+      erases = search rules;
+      worn = omega (
+        arith,
+        c.is_erased.ensures.erases,
+        ap {B = ℕ} (λ t. if t then 0 else 1)
+            (sym told ∙ c.if-branch.true),
+      );
+      ends = search rules;
+    }
+
+pub returns : goal.returns
+returns g c =
     let map = c.args.map.now in
     let part = Slot c.args.image Secondary in
     let same = c.is_erased.ensures.same in
-    subst (λ chip. Keeps map (only part) chip (g.F.Flash.chip c.erase.new.self)) same
-    (keeps_erase map part (c.slot.result + c.args.index) (g.F.Flash.chip c.is_erased.new.flash)
-    (g.F.Flash.chip c.erase.new.self) (subst (λ chip. IsLaidOut map chip) (sym same) c.requires.laid_out)
-    c.erase.ensures.outside
-    (subst (λ first. IsIn map part (first + c.args.index)) (sym c.slot.ensures)
-    (in_slot map c.args.image c.args.index c.requires.within)))
-
-pub returns-then-branch-clause-worn : goal.returns-then-branch-clause-worn
-returns-then-branch-clause-worn g c =
     let told = sector_told c.args.map.now _ c.args.image c.args.index c.sector_start.result c.in_ok-is_erased.field-0
-    c.in_ok-is_erased.ensures.ok c.requires.laid_out c.requires.within
-    (c.sector_start.ensures ∙ ap (λ first. (first + c.args.index) * c.args.map.now.sector_size) c.slot.ensures) in
-    omega (arith, c.is_erased.ensures.erases, ap {B = ℕ} (λ t. if t then 0 else 1) (sym told ∙ c.if-branch.true))
-
-pub returns-clause-worn : goal.returns-clause-worn
-returns-clause-worn g c =
-    let told = sector_told c.args.map.now _ c.args.image c.args.index c.sector_start.result c.in_ok-is_erased.field-0
-    c.in_ok-is_erased.ensures.ok c.requires.laid_out c.requires.within
+    c.in_ok-is_erased.ensures.ok c.requires.image.laid_out c.requires.within
     (c.sector_start.ensures ∙ ap (λ first. (first + c.args.index) * c.args.map.now.sector_size) c.slot.ensures) in
     let one = ap {B = ℕ} (λ t. if t then 0 else 1) (sym told ∙ c.if-branch.false) in
-    on_ok_weaker c.erase.result (λ more. omega (arith, more, c.is_erased.ensures.erases, one)) c.erase.ensures.erases
+    record {
+      outside = subst (λ chip. Keeps map (only part) chip (g.F.Flash.chip c.erase.new.self)) same
+          (keeps_erase map part (c.slot.result + c.args.index) (g.F.Flash.chip c.is_erased.new.flash)
+          (g.F.Flash.chip c.erase.new.self) (subst (λ chip. IsLaidOut map chip) (sym same) c.requires.image.laid_out)
+          c.erase.ensures.outside
+          (subst (λ first. IsIn map part (first + c.args.index)) (sym c.slot.ensures)
+          (in_slot map c.args.image c.args.index c.requires.within)));
+      sector = search rules;
+      ok = search rules;
+      idle = search rules;
+      erases = on_ok_weaker c.erase.result (λ more. omega (arith, more, c.is_erased.ensures.erases))
+          c.erase.ensures.erases;
+      worn = on_ok_weaker c.erase.result (λ more. omega (arith, more, c.is_erased.ensures.erases, one))
+          c.erase.ensures.erases;
+      ends = search rules;
+    }

@@ -5,24 +5,39 @@ use Rattle.sector_map.specs.Map.{start_of}
 use Rattle.sector_map.proofs.Parts.{keeps_trans, laid_out_kept}
 use Rattle.flash_model.specs.Chip.{IsErased}
 use Rattle.upload.proofs.Writing.{erased_more, next_sector, sector_place, sectors_idle, slot_erased}
+use Rattle.upload.proofs.Ends.{at_error}
 use Rattle.upload.proofs.Worn.{worn_more}
 use Rattle.upload.proofs.slots.erase_slot.Goals as goal
 
-pub returns-clause-ok : goal.returns-clause-ok
-returns-clause-ok g c =
+pub returns : goal.returns
+returns g c =
     let map = c.args.map.now in
     let all = c.loop-index.invariant in
     let laid = laid_out_kept map (only (Slot c.args.image Secondary)) _ (g.F.Flash.chip c.loop-index.flash)
     c.requires.laid_out all.outside in
-    slot_erased map (g.F.Flash.chip c.loop-index.flash) c.args.image laid
-    (subst (λ n. IsErased (g.F.Flash.chip c.loop-index.flash) (start_of map (Slot c.args.image Secondary))
-    (n * map.sector_size)) (omega (arith, c.loop-index-test.false, c.slot_sectors-index-end.ensures)) all.erased)
+    record {
+      outside = search rules;
+      ok = slot_erased map (g.F.Flash.chip c.loop-index.flash) c.args.image laid
+          (subst (λ n. IsErased (g.F.Flash.chip c.loop-index.flash) (start_of map (Slot c.args.image Secondary))
+          (n * map.sector_size)) (omega (arith, c.loop-index-test.false, c.slot_sectors-index-end.ensures)) all.erased);
+      idle = search rules;
+      erases = search rules;
+      worn = search rules;
+      ends = search rules;
+    }
 
-pub returns-in_err-erase_sector-clause-idle : goal.returns-in_err-erase_sector-clause-idle
-returns-in_err-erase_sector-clause-idle g c =
-    sectors_idle c.args.map.now _ _ _ c.args.image c.loop-index.index
-    (rw c.slot_sectors-index-end.ensures at c.loop-index-test.true) c.loop-index.invariant.idle
-    c.erase_sector.ensures.idle
+pub returns-in_err-erase_sector : goal.returns-in_err-erase_sector
+returns-in_err-erase_sector g c = record {
+  outside = keeps_trans c.args.map.now (only (Slot c.args.image Secondary)) _ _ _ c.loop-index.invariant.outside
+      c.erase_sector.ensures.outside;
+  ok = search rules;
+  idle = sectors_idle c.args.map.now _ _ _ c.args.image c.loop-index.index
+      (rw c.slot_sectors-index-end.ensures at c.loop-index-test.true) c.loop-index.invariant.idle
+      c.erase_sector.ensures.idle;
+  erases = at_error _ _ c.from_residual.ensures.0;
+  worn = search rules;
+  ends = search rules;
+}
 
 pub loop-index-preserved : goal.loop-index-preserved
 loop-index-preserved g c =

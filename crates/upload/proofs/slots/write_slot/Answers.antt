@@ -11,14 +11,14 @@ pub overflow_add-slot_start : goal.overflow_add-slot_start
 overflow_add-slot_start g c =
     let some : 0 < length c.args.bytes.now = search rules in
     let inside = range_inside c.args.map.now (g.F.Flash.chip c.args.flash.now) (Slot c.args.image Secondary) c.args.at
-    (length c.args.bytes.now) c.requires.laid_out c.requires.room some in
-    omega (arith, inside, c.requires.laid_out.size, c.slot_start.ensures)
+    (length c.args.bytes.now) c.requires.behind.laid_out c.requires.behind.room some in
+    omega (arith, inside, c.requires.behind.laid_out.size, c.slot_start.ensures)
 
 pub program-requires-clause-inside : goal.program-requires-clause-inside
 program-requires-clause-inside g c =
     let some : 0 < length c.args.bytes.now = search rules in
     let inside = range_inside c.args.map.now (g.F.Flash.chip c.args.flash.now) (Slot c.args.image Secondary) c.args.at
-    (length c.args.bytes.now) c.requires.laid_out c.requires.room some in
+    (length c.args.bytes.now) c.requires.behind.laid_out c.requires.behind.room some in
     omega (arith, inside, c.slot_start.ensures)
 
 pub program-requires-clause-erased : goal.program-requires-clause-erased
@@ -26,22 +26,25 @@ program-requires-clause-erased g c =
     subst (λ k. IsErased (g.F.Flash.chip c.args.flash.now) (k + c.args.at) (length c.args.bytes.now))
     (sym c.slot_start.ensures)
     (behind_erased c.args.map.now (g.F.Flash.chip c.args.flash.now) c.args.image c.args.at (length c.args.bytes.now)
-    c.requires.written.0 c.requires.laid_out c.requires.written.1 c.requires.written.2 c.requires.room)
+    c.requires.behind.written.0 c.requires.behind.laid_out c.requires.behind.written.1 c.requires.behind.written.2 c.requires.behind.room)
 
 pub program-requires-clause-place : goal.program-requires-clause-place
 program-requires-clause-place g c =
-    let unit = slot_aligned c.args.map.now c.args.image c.args.at c.requires.place.0 c.requires.laid_out.is_map
-    c.requires.place.1 in
+    let unit = slot_aligned c.args.map.now c.args.image c.args.at c.requires.behind.place.0 c.requires.behind.laid_out.is_map
+    c.requires.behind.place.1 in
     omega (arith, unit, c.slot_start.ensures)
 
-pub returns-clause-outside : goal.returns-clause-outside
-returns-clause-outside g c =
-    keeps_write c.args.map.now (Slot c.args.image Secondary) c.args.at (c.slot_start.result + c.args.at)
-    (length c.args.bytes.now) (g.F.Flash.chip c.args.flash.now) (g.F.Flash.chip c.program.new.self)
-    c.requires.laid_out c.program.ensures.outside (ap (λ k. k + c.args.at) c.slot_start.ensures) c.requires.room
-
-pub returns-clause-ok : goal.returns-clause-ok
-returns-clause-ok g c = on_ok_weaker c.program.result (λ reads. λ front long was.
-    written_more c.args.map.now (g.F.Flash.chip c.args.flash.now) (g.F.Flash.chip c.program.new.self) c.args.image
-    c.args.at (c.slot_start.result + c.args.at) front c.args.bytes.now c.requires.laid_out c.program.ensures.outside
-    reads (ap (λ k. k + c.args.at) c.slot_start.ensures) c.requires.room long was) c.program.ensures.ok
+pub returns : goal.returns
+returns g c = record {
+  outside = keeps_write c.args.map.now (Slot c.args.image Secondary) c.args.at (c.slot_start.result + c.args.at)
+      (length c.args.bytes.now) (g.F.Flash.chip c.args.flash.now) (g.F.Flash.chip c.program.new.self)
+      c.requires.behind.laid_out c.program.ensures.outside (ap (λ k. k + c.args.at) c.slot_start.ensures)
+      c.requires.behind.room;
+  ok = on_ok_weaker c.program.result (λ reads. λ front long was.
+      written_more c.args.map.now (g.F.Flash.chip c.args.flash.now) (g.F.Flash.chip c.program.new.self) c.args.image
+      c.args.at (c.slot_start.result + c.args.at) front c.args.bytes.now c.requires.behind.laid_out
+      c.program.ensures.outside reads (ap (λ k. k + c.args.at) c.slot_start.ensures) c.requires.behind.room long was)
+      c.program.ensures.ok;
+  erases = search rules;
+  ends = search rules;
+}

@@ -1,4 +1,4 @@
-use Rattle.std.proofs.Common.{◌≡◌, ◌+◌, sym, subst, ◌∙◌}
+use Rattle.std.proofs.Common.{rules, ◌≡◌, ◌+◌, sym, subst, ◌∙◌}
 use Rattle.std.specs.Prelude.{if◌then◌else◌}
 use Rattle.flash_model.specs.Chip.{Chip}
 use Rattle.sector_map.specs.declared.layout.Side.TheVariants.{Secondary}
@@ -7,16 +7,23 @@ use Rattle.trailer.specs.Standing.{first_is_set, incoming_slot}
 use Rattle.upload.proofs.Requested.{stands_in_units, two}
 use Rattle.upload.proofs.withdrawing.withdraw_standing.Goals as goal
 
-pub returns-in-Ok-clause-erases : goal.returns-in-Ok-clause-erases
-returns-in-Ok-clause-erases g c =
+pub returns-in-Ok : goal.returns-in-Ok
+returns-in-Ok g c =
     let map = c.args.map.now in
     let image = c.args.image in
     let old = g.F.Flash.chip c.args.flash.now in
     let new = g.F.Flash.chip c.withdraw.new.flash in
     let stands = sym c.in-Ok-Some.ensures.ok ∙ c.in-Ok-Some.field-0-is in
     let units = stands_in_units map old image c.in-Ok-Some.field-0-0 c.requires.laid_out c.requires.there stands in
-    two old.erases new.erases (first_is_set (incoming_slot map old image))
-    (are_erased (trailer_bytes map old image Secondary)) units.0 units.1
-    (subst (λ (before : Chip). new.erases ≡ before.erases + (if first_is_set (incoming_slot map before image) then 1 else 0)
-    + (if are_erased (trailer_bytes map before image Secondary) then 0 else 1))
-    c.standing.ensures.same c.in-Ok.ensures.erases)
+    record {
+      outside = search rules;
+      withdraws = search rules;
+      nothing = search rules;
+      erases = two old.erases new.erases (first_is_set (incoming_slot map old image))
+          (are_erased (trailer_bytes map old image Secondary)) units.0 units.1
+          (subst (λ (before : Chip). new.erases ≡ before.erases
+          + (if first_is_set (incoming_slot map before image) then 1 else 0)
+          + (if are_erased (trailer_bytes map before image Secondary) then 0 else 1))
+          c.standing.ensures.same c.in-Ok.ensures.erases);
+      ends = search rules;
+    }

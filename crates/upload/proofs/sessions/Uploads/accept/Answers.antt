@@ -1,17 +1,22 @@
 use Rattle.upload.proofs.TakenRow.{accept_row, accept_open, accept_ends}
 use Rattle.upload.proofs.sessions.Uploads.accept.Goals as goal
 
-pub returns-clause-all_open : goal.returns-clause-all_open
-returns-clause-all_open g c =
-    accept_open c.args.map.now _ _ c.args.self.now.sessions _ _ c.args.manifest.now.sequence
-    c.args.manifest.now.components.items c.requires.there _ c.take_manifest-answer.ensures.accepts c.close_after.ensures
-
-pub returns-clause-row : goal.returns-clause-row
-returns-clause-row g c =
-    accept_row c.args.map.now _ _ c.args.self.now.sessions _ _ c.args.manifest.now.sequence
-    c.args.manifest.now.components.items c.requires.there _ c.take_manifest-answer.ensures.accepts c.close_after.ensures
-
-pub returns-clause-accepts : goal.returns-clause-accepts
-returns-clause-accepts g c =
-    accept_ends c.args.map.now _ _ c.args.self.now.sessions _ _ c.args.manifest.now.sequence
-    c.args.manifest.now.components.items _ c.take_manifest-answer.ensures.accepts c.close_after.ensures
+pub returns : goal.returns
+returns g c =
+    let map = c.args.map.now in
+    let told = c.args.self.now.sessions in
+    let sequence = c.args.manifest.now.sequence in
+    let cs = c.args.manifest.now.components.items in
+    let taken = c.take_manifest-answer.ensures in
+    record {
+      outside = taken.outside;
+      all_open = accept_open map _ _ told _ _ sequence cs c.requires.there _ taken.accepts c.close_after.ensures;
+      accepts = accept_ends map _ _ told _ _ sequence cs _ taken.accepts c.close_after.ensures;
+      nothing = taken.nothing;
+      equal = taken.equal;
+      idle = taken.idle;
+      erases = taken.erases;
+      closed = c.close_after.ensures.closed;
+      row = accept_row map _ _ told _ _ sequence cs c.requires.there _ taken.accepts c.close_after.ensures;
+      ends = taken.ends;
+    }

@@ -1,0 +1,72 @@
+-- What a call does that adds bytes to an open upload: each record is one call.
+use Rattle.std.specs.Prelude.{◌≡◌, ◌+◌, ◌≤◌, ◌<◌, ℕ, true, false, List, ◌++◌, length, Option, Some}
+use Rattle.std.specs.Prelude.{None, Result, Err, IfErr, OnOk}
+use Rattle.flash_model.specs.declared.error.FlashError.{FlashError}
+use Rattle.flash_model.specs.Chip.{Chip, Ends}
+use Rattle.sector_map.specs.declared.layout.SectorMap.{SectorMap}
+use Rattle.sector_map.specs.declared.layout.Side.TheVariants.{Secondary}
+use Rattle.sector_map.specs.Part.{Slot, only}
+use Rattle.sector_map.specs.Map.{IsLaidOut, Keeps}
+use Rattle.upload.specs.declared.error.UploadError.{UploadError}
+use Rattle.upload.specs.declared.error.UploadError.TheVariants.{NoSession, TooMuch}
+use Rattle.upload.specs.declared.sessions.Upload.{Upload}
+use Rattle.upload.specs.View.{view}
+use Rattle.upload.specs.Device.{Machine}
+use Rattle.upload.specs.Sessions.{AllClosed, AllOpenAt, IsOpenAt, IsUpAt, upload_at}
+use Rattle.upload.specs.Ending.{EndsUpload, is_flash}
+use Rattle.upload.specs.Piece.{Pieces, TakesMore}
+
+-- An upload stands on the flash, and has room for so many bytes.
+pub record IsOpenFor (map : SectorMap) (image : ℕ) (upload : Upload) (n : ℕ) (chip : Chip)
+    : Type 0 where
+  pub laid_out : IsLaidOut map chip
+  pub stands : IsOpenAt (view map chip) image upload
+  pub fits : upload.received + n ≤ upload.size
+
+-- A call adds bytes to an upload.
+pub record AddsBytes (map : SectorMap) (image : ℕ) (before after : Upload) (bytes : List ℕ)
+    (old new : Chip) {T : Type 0} (result : Result T FlashError) : Type 0 where
+  -- No other part is written than the image's secondary slot,
+  pub outside : Keeps map (only (Slot image Secondary)) old new
+  -- the upload has taken them where the call ends,
+  pub ok : OnOk result (TakesMore (view map old) (view map new) image before after bytes)
+  -- and no sector is erased.
+  pub erases : OnOk result (new.erases ≡ old.erases)
+  pub ends : Ends result old new
+
+-- A call of `piece`, with the table of uploads before and after it.
+pub record TakesPiece (map : SectorMap) (image : ℕ) (bytes : List ℕ)
+    (told tnew : List (Option Upload)) (old new : Chip) (result : Result Unit UploadError)
+    : Type 0 where
+  -- No other part is written than the image's secondary slot,
+  pub outside : Keeps map (only (Slot image Secondary)) old new
+  -- so that the uploads of the table stand on the flash, if they did.
+  pub all_open : AllOpenAt (view map old) told → AllOpenAt (view map new) tnew
+  -- On any flash: what is answered, and what is left then. The upload has taken the bytes where the
+  -- call ends,
+  pub takes : OnOk result ((u : Upload) → upload_at told image ≡ Some u
+      → (after : Upload) × (upload_at tnew image ≡ Some after)
+      × TakesMore (view map old) (view map new) image u after bytes)
+  -- nothing changes where no upload is open,
+  pub none : upload_at told image ≡ None → (result ≡ Err NoSession) × (new ≡ old)
+  -- more bytes than its size allows are refused,
+  pub more : (u : Upload) → upload_at told image ≡ Some u
+      → u.size < u.received + length bytes → result ≡ Err TooMuch
+  -- and the flash stays as it was where a check fails.
+  pub nothing : IfErr result (λ error. is_flash {T = Unit} (Err error) ≡ false → new ≡ old)
+  -- Where the flash stops the call all uploads are closed.
+  pub closed : is_flash result ≡ true → AllClosed tnew
+  -- On a flash that holds a state: the step of a machine that knows whole images.
+  pub row : (m : Machine) → IsUpAt (view map old) told m
+      → (next : Machine) × Pieces m image bytes result next × IsUpAt (view map new) tnew next
+  -- No sector is erased.
+  pub erases : OnOk result (new.erases ≡ old.erases)
+  pub ends : EndsUpload result old new
+
+-- A call holds bytes back.
+pub record HoldsBack (bytes : List ℕ) (before after : Upload) : Type 0 where
+  -- Nothing changes but how many came, and what is held:
+  pub rest : after ≡ record before
+      { received = before.received + length bytes; held = after.held }
+  -- the bytes stand behind those that were.
+  pub held : after.held.items ≡ before.held.items ++ bytes

@@ -1,0 +1,65 @@
+-- What a call does that judges a manifest: each record is one call. None of them writes.
+use Rattle.std.specs.Prelude.{◌≡◌, ◌≢◌, ◌↔◌, Bool, true, List, None, Some, Result, IfErr, IfOk}
+use Rattle.std.specs.Prelude.{IsTrue}
+use Rattle.flash_model.specs.declared.error.FlashError.{FlashError}
+use Rattle.flash_model.specs.Chip.{Chip, Ends}
+use Rattle.sector_map.specs.declared.layout.SectorMap.{SectorMap}
+use Rattle.sector_map.specs.declared.layout.Side.TheVariants.{Primary}
+use Rattle.sector_map.specs.Part.{Slot}
+use Rattle.sector_map.specs.Map.{IsLaidOut, part_of}
+use Rattle.set_log.specs.declared.state.State.{State}
+use Rattle.set_log.specs.Log.{state_of}
+use Rattle.set_log.specs.Record as format
+use Rattle.manifest.specs.declared.manifest.Component.{Component}
+use Rattle.manifest.specs.declared.manifest.Manifest.{Manifest}
+use Rattle.upload.specs.declared.error.UploadError.{UploadError}
+use Rattle.upload.specs.View.{view}
+use Rattle.upload.specs.Ending.{EndsUpload}
+use Rattle.upload.specs.Accepted.{AllFollowAt, AreThere, FrontHasDigest}
+use Rattle.upload.specs.Taking.{MayTake, Refuses}
+
+-- A call answers whether the image runs that a component asks for, if it asks for one.
+pub record ReadsPrecursor (map : SectorMap) (component : Component) (old new : Chip)
+    (result : Result Bool FlashError) : Type 0 where
+  pub same : new ≡ old
+  pub ok : IfOk result (λ yes. IsTrue yes
+      ↔ FrontHasDigest (part_of map old (Slot component.image Primary)) component.precursor)
+  pub ends : Ends result old new
+
+-- A call answers whether the image runs that each component asks for.
+pub record ReadsPrecursors (map : SectorMap) (cs : List Component) (old new : Chip)
+    (result : Result Bool FlashError) : Type 0 where
+  pub same : new ≡ old
+  pub ok : IfOk result (λ yes. IsTrue yes ↔ AllFollowAt (view map old) cs)
+  pub ends : Ends result old new
+
+-- A call answers the state of the log.
+pub record ReadsState (map : SectorMap) (old new : Chip) (result : Result State FlashError)
+    : Type 0 where
+  pub same : new ≡ old
+  pub ok : IfOk result (λ state. state_of map old ≡ Some state)
+  -- A state that the log has keeps the table of records.
+  pub fits : (state : State) → state_of map old ≡ Some state
+      → format.fits map.images state ≡ true
+  pub ends : Ends result old new
+
+-- A manifest with these components can be judged: the log has a state, and each of them names an
+-- image of the map.
+pub record CanJudge (map : SectorMap) (cs : List Component) (chip : Chip) : Type 0 where
+  pub laid_out : IsLaidOut map chip
+  pub has_state : state_of map chip ≢ None
+  pub there : AreThere map cs
+
+-- A call answers the state of the log where a manifest may be taken.
+pub record JudgesManifest (map : SectorMap) (manifest : Manifest) (old new : Chip)
+    (result : Result State UploadError) : Type 0 where
+  pub same : new ≡ old
+  pub ok : IfOk result (λ state. MayTake map (view map old) state
+      manifest.sequence manifest.components.items)
+  -- A state that the log has keeps the table of records.
+  pub fits : (state : State) → state_of map old ≡ Some state
+      → format.fits map.images state ≡ true
+  -- Where it may not, the first check that fails is answered.
+  pub refused : IfErr result (Refuses map (view map old)
+      manifest.sequence manifest.components.items)
+  pub ends : EndsUpload result old new
