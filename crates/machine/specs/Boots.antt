@@ -148,16 +148,7 @@ Boots boots s (Refused (no.RunningDamaged i)) next =
     IsReadAs s next × (next.trial ≡ None) × IsLowestDamaged next i
 Boots boots s (Refused no.InvalidSet) next = IsReadAs s next × (next.trial ≡ None)
     × ((table : Table) × IsTableOf next table × (IsValid table running_set → ⊥))
-Boots boots s (Refused no.NotBooted) next = ⊥
-Boots boots s (Refused no.OnTrial) next = ⊥
-Boots boots s (Refused no.NotOnTrial) next = ⊥
-Boots boots s (Refused no.NotProvisioned) next = ⊥
-Boots boots s (Refused (no.Flash error)) next = ⊥
-Boots boots s (Refused no.NoMemory) next = ⊥
-Boots boots s (Refused (no.Manifest error)) next = ⊥
-Boots boots s (Refused (no.Upload error)) next = ⊥
-Boots boots s Done next = ⊥
-Boots boots s Cut next = ⊥
+Boots boots s other next = ⊥
 
 -- A boot that is cut: the old state, that state as it is read, or the one after a complete boot.
 abbrev pub IsBootCut : ℕ → DeviceState → DeviceState → Type 0
@@ -169,9 +160,7 @@ abbrev pub is_answer : Reply → Bool
 is_answer (Booted table report permanent) = true
 is_answer (Reverted mask) = true
 is_answer (TrialAgain set left) = true
-is_answer (Refused fault) = false
-is_answer Done = false
-is_answer Cut = false
+is_answer other = false
 
 -- ---- what a confirmation does
 
@@ -187,18 +176,7 @@ Confirms m i Done next = (m.is_up ≡ true) × ((trial : Trial) × IsOnTrial m.k
 Confirms m i (Refused no.NotBooted) next = (m.is_up ≡ false) × (next ≡ m)
 Confirms m i (Refused no.NotOnTrial) next = (m.is_up ≡ true)
     × ((trial : Trial) → IsOnTrial m.kept i trial → ⊥) × (next ≡ m)
-Confirms m i (Refused no.OnTrial) next = ⊥
-Confirms m i (Refused no.NotProvisioned) next = ⊥
-Confirms m i (Refused (no.RunningDamaged j)) next = ⊥
-Confirms m i (Refused no.InvalidSet) next = ⊥
-Confirms m i (Refused (no.Flash error)) next = ⊥
-Confirms m i (Refused no.NoMemory) next = ⊥
-Confirms m i (Refused (no.Manifest error)) next = ⊥
-Confirms m i (Refused (no.Upload error)) next = ⊥
-Confirms m i (Booted table report permanent) next = ⊥
-Confirms m i (Reverted mask) next = ⊥
-Confirms m i (TrialAgain set left) next = ⊥
-Confirms m i Cut next = ⊥
+Confirms m i other next = ⊥
 
 -- ---- soundness
 

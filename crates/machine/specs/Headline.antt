@@ -103,9 +103,7 @@ abbrev pub DoesSomething : Reply → Type 0
 DoesSomething (Booted table report permanent) = TakesNone report → ⊥
 DoesSomething (Reverted mask) = Unit {0}
 DoesSomething (TrialAgain set left) = Unit {0}
-DoesSomething (Refused fault) = ⊥
-DoesSomething Done = ⊥
-DoesSomething Cut = ⊥
+DoesSomething other = ⊥
 
 -- One of so many boots that are cut had finished what it did: it had taken an image, gone back, or
 -- begun another boot of a trial, and power failed when its last write counted already, so that the

@@ -43,17 +43,7 @@ Uploads row m (Refused no.NotBooted) next = (m.is_up ≡ false) × (next ≡ m)
 Uploads row m (Refused no.OnTrial) next = IsTrying m × (next ≡ m)
 Uploads row m (Refused (no.Upload error)) next =
     IsReady m × (is_flash {T = Unit} (Err error) ≡ false) × row (Err error) next
-Uploads row m (Refused no.NotOnTrial) next = ⊥
-Uploads row m (Refused no.NotProvisioned) next = ⊥
-Uploads row m (Refused (no.RunningDamaged i)) next = ⊥
-Uploads row m (Refused no.InvalidSet) next = ⊥
-Uploads row m (Refused (no.Flash error)) next = ⊥
-Uploads row m (Refused no.NoMemory) next = ⊥
-Uploads row m (Refused (no.Manifest error)) next = ⊥
-Uploads row m (Booted table report permanent) next = ⊥
-Uploads row m (Reverted mask) next = ⊥
-Uploads row m (TrialAgain set left) next = ⊥
-Uploads row m Cut next = ⊥
+Uploads row m other next = ⊥
 
 -- A step of uploads that is cut: the sessions end, and the device isn't up.
 abbrev pub IsUploadsCut : Row → Machine → Machine → Type 0
@@ -78,13 +68,5 @@ TakesText setup m bytes (Refused no.NotBooted) next = (m.is_up ≡ false) × (ne
 TakesText setup m bytes (Refused no.OnTrial) next = IsTrying m × (next ≡ m)
 TakesText setup m bytes (Refused (no.Upload error)) next =
     Uploads (TakesManifest setup m bytes) m (Refused (no.Upload error)) next
-TakesText setup m bytes (Refused no.NotOnTrial) next = ⊥
-TakesText setup m bytes (Refused no.NotProvisioned) next = ⊥
-TakesText setup m bytes (Refused (no.RunningDamaged i)) next = ⊥
-TakesText setup m bytes (Refused no.InvalidSet) next = ⊥
-TakesText setup m bytes (Refused (no.Flash error)) next = ⊥
 TakesText setup m bytes Done next = Uploads (TakesManifest setup m bytes) m Done next
-TakesText setup m bytes (Booted table report permanent) next = ⊥
-TakesText setup m bytes (Reverted mask) next = ⊥
-TakesText setup m bytes (TrialAgain set left) next = ⊥
-TakesText setup m bytes Cut next = ⊥
+TakesText setup m bytes other next = ⊥

@@ -118,9 +118,7 @@ needs_rest (event.Accept bytes) = true
 needs_rest (event.Piece i bytes) = true
 needs_rest (event.Finish i) = true
 needs_rest (event.Withdraw i) = true
-needs_rest (event.Confirm i) = false
-needs_rest event.Boot = false
-needs_rest event.Reset = false
+needs_rest other = false
 
 -- What stands after a confirmation, of an image that is on trial or of another one ..
 abbrev pub EndsConfirm : View → DeviceState → ℕ → Bool → Type 0

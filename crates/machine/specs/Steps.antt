@@ -15,11 +15,7 @@ use Rattle.machine.specs.declared.reply.Reply.TheVariants.{Done, Booted, Reverte
 -- A reset: the sessions end, and the device isn't up.
 abbrev pub Resets : Machine → Reply → Machine → Type 0
 Resets m Done next = next ≡ asleep m.kept
-Resets m (Booted table report permanent) next = ⊥
-Resets m (Reverted mask) next = ⊥
-Resets m (TrialAgain set left) next = ⊥
-Resets m (Refused fault) next = ⊥
-Resets m Cut next = ⊥
+Resets m other next = ⊥
 
 -- A complete step.
 abbrev pub Completes : Setup → Machine → Event → Reply → Machine → Type 0
