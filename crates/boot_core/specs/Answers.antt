@@ -53,25 +53,15 @@ reply_of_boot (Err fault) = fault_reply fault
 
 -- Whether a call stopped at the flash, where power failed or was off.
 abbrev pub is_stop : Fault → Bool
-is_stop no.NotBooted = false
-is_stop no.OnTrial = false
-is_stop no.NotOnTrial = false
-is_stop no.NotProvisioned = false
-is_stop (no.RunningDamaged image) = false
-is_stop no.InvalidSet = false
 is_stop (no.Flash error) = true
-is_stop no.NoMemory = false
-is_stop (no.Manifest error) = false
 is_stop (no.Upload error) = is_flash {T = Unit} (Err error)
+is_stop other = false
 
 -- Whether a reply tells so.
 abbrev pub is_stopped : Reply → Bool
-is_stopped Done = false
-is_stopped (Booted table report permanent) = false
-is_stopped (Reverted mask) = false
-is_stopped (TrialAgain set left) = false
 is_stopped (Refused fault) = is_stop fault
 is_stopped Cut = true
+is_stopped other = false
 
 -- How a call of a device ends, by its reply. Cut is answered where a write was cut and nowhere
 -- else; else the power is as it was. That the flash is off is answered where it was. After either
@@ -92,15 +82,7 @@ IsBootReply (TrialAgain set left) = Unit
 IsBootReply (Refused no.NotProvisioned) = Unit
 IsBootReply (Refused (no.RunningDamaged image)) = Unit
 IsBootReply (Refused no.InvalidSet) = Unit
-IsBootReply (Refused no.NotBooted) = ⊥
-IsBootReply (Refused no.OnTrial) = ⊥
-IsBootReply (Refused no.NotOnTrial) = ⊥
-IsBootReply (Refused (no.Flash error)) = ⊥
-IsBootReply (Refused no.NoMemory) = ⊥
-IsBootReply (Refused (no.Manifest error)) = ⊥
-IsBootReply (Refused (no.Upload error)) = ⊥
-IsBootReply Done = ⊥
-IsBootReply Cut = ⊥
+IsBootReply other = ⊥
 
 -- A call of a device that isn't up: it is refused, and changes nothing.
 pub record IsNotBooted (result : Result Unit Fault) (old new : DeviceView) : Type 0 where

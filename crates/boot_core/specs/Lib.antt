@@ -1,3 +1,11 @@
+pub mod Telling
+pub mod Rows
+pub mod Deciding
+pub mod Confirming
+pub mod Preparing
+pub mod Provisions
+pub mod Taking
+pub mod Calls
 pub mod Device
 pub mod Answers
 pub mod Ready
@@ -5,3 +13,11 @@ pub mod Found
 pub mod SwapSize
 pub mod Provisioned
 pub mod Wear
+pub mod Recorded
+pub mod BootEnds
+pub mod FromSteady
+pub mod FromSwap
+pub mod FromSettle
+pub mod FromTrial
+pub mod FromBack
+pub mod Booting

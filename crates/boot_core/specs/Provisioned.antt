@@ -110,13 +110,7 @@ RefusesMaking map old new (no.RunningDamaged i) = IsFirstDamaged map old i × (n
 RefusesMaking map old new no.InvalidSet = IsInvalidThere map old × (new ≡ old)
 RefusesMaking map old new (no.Flash flash.Cut) = IsValidThere map old × IsCut old new
 RefusesMaking map old new (no.Flash flash.Off) = (old.is_on ≡ false) × (new ≡ old)
-RefusesMaking map old new no.NotBooted = ⊥
-RefusesMaking map old new no.OnTrial = ⊥
-RefusesMaking map old new no.NotOnTrial = ⊥
-RefusesMaking map old new no.NotProvisioned = ⊥
-RefusesMaking map old new no.NoMemory = ⊥
-RefusesMaking map old new (no.Manifest error) = ⊥
-RefusesMaking map old new (no.Upload error) = ⊥
+RefusesMaking map old new other = ⊥
 
 -- What each answer tells.
 abbrev pub AnswersMaking : SectorMap → Chip → Chip → Result Unit Fault → Type 0

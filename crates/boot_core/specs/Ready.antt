@@ -27,13 +27,7 @@ IsReadiness (Err no.NotBooted) up recorded on = up ≡ false
 IsReadiness (Err no.OnTrial) up recorded on = (up ≡ true) × LogsTrial recorded
 IsReadiness (Err no.NotProvisioned) up recorded on = (up ≡ true) × (recorded ≡ None)
 IsReadiness (Err (no.Flash flash.Off)) up recorded on = (up ≡ true) × (on ≡ false)
-IsReadiness (Err (no.Flash flash.Cut)) up recorded on = ⊥
-IsReadiness (Err no.NotOnTrial) up recorded on = ⊥
-IsReadiness (Err (no.RunningDamaged image)) up recorded on = ⊥
-IsReadiness (Err no.InvalidSet) up recorded on = ⊥
-IsReadiness (Err no.NoMemory) up recorded on = ⊥
-IsReadiness (Err (no.Manifest error)) up recorded on = ⊥
-IsReadiness (Err (no.Upload error)) up recorded on = ⊥
+IsReadiness other up recorded on = ⊥
 
 -- The refusal of a text: want of memory is one of the device.
 abbrev pub text_fault : ManifestError → Fault
@@ -50,11 +44,4 @@ text_fault text.RepeatedComponent = no.Manifest text.RepeatedComponent
 abbrev pub RefusesText : Identity → List ℕ → Fault → Type 0
 RefusesText identity bytes (no.Manifest error) = IsRefusal identity bytes error
 RefusesText identity bytes no.NoMemory = Unit
-RefusesText identity bytes no.NotBooted = ⊥
-RefusesText identity bytes no.OnTrial = ⊥
-RefusesText identity bytes no.NotOnTrial = ⊥
-RefusesText identity bytes no.NotProvisioned = ⊥
-RefusesText identity bytes (no.RunningDamaged image) = ⊥
-RefusesText identity bytes no.InvalidSet = ⊥
-RefusesText identity bytes (no.Flash error) = ⊥
-RefusesText identity bytes (no.Upload error) = ⊥
+RefusesText identity bytes other = ⊥

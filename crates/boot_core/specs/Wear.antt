@@ -51,11 +51,7 @@ IsAfresh map old new more reply =
 -- A boot reports that it takes no image.
 abbrev pub TakesNothing : Reply → Type 0
 TakesNothing (Booted table report permanent) = TakesNone report
-TakesNothing (Reverted set) = ⊥
-TakesNothing (TrialAgain set left) = ⊥
-TakesNothing (Refused fault) = ⊥
-TakesNothing Done = ⊥
-TakesNothing Cut = ⊥
+TakesNothing other = ⊥
 
 -- The wear of a boot that isn't cut, by the record that stood.
 abbrev pub IsWorn : SectorMap → Kind → ℕ → Chip → Chip → Reply → Type 0

@@ -1,33 +1,18 @@
 //! A boot, from whatever record stands.
 
-ghost use Rattle.std.specs.Prelude.{◌≡◌, ◌⊎◌, ◌+◌, ◌≤◌, Bool, true, None, Some, Err, IfOk};
-ghost use Rattle.boot_core.specs.Answers.{EndsCall, IsBootReply, is_stopped, reply_of_boot};
-ghost use Rattle.boot_core.specs.Device.{made, seen};
-ghost use Rattle.boot_core.specs.Found.{IsStopped};
-ghost use Rattle.boot_core.specs.Wear.{IsWorn, TakesNothing};
-ghost use Rattle.flash_model.specs.Chip.{Chip, Ends};
-ghost use Rattle.machine.specs.Boots.{IsReadSound, is_answer};
-ghost use Rattle.machine.specs.Holding.{Stands};
-ghost use Rattle.machine.specs.Passing.{CutsBoot, EndsBoot, StepsTo, reply_of};
-ghost use Rattle.machine.specs.Steps.{cut_of};
-ghost use Rattle.machine.specs.declared.error.Fault.TheVariants.{NotProvisioned};
-ghost use Rattle.machine.specs.declared.event.Event.TheVariants as event;
-ghost use Rattle.machine.specs.declared.finding.Finding.{Finding};
-ghost use Rattle.machine.specs.declared.reply.Reply.TheVariants.{Refused};
-ghost use Rattle.manifest.specs.declared.identity.Identity.{Identity};
-ghost use Rattle.sector_map.specs.Map.{IsLaidOut, Keeps};
-ghost use Rattle.sector_map.specs.Part.{any_part};
-ghost use Rattle.set_log.specs.Log.{state_of};
-ghost use Rattle.set_log.specs.declared.state.Kind.{Kind};
-ghost use Rattle.set_log.specs.declared.state.State.{State as LogState};
-ghost use Rattle.upload.specs.Device.{DeviceState};
-ghost use Rattle.upload.specs.Sessions.{AllClosed, AllOpenAt};
-ghost use Rattle.upload.specs.View.{view};
+ghost use Rattle.std.specs.Prelude.{◌≤◌, ◌≡◌, true, IfOk};
+ghost use Rattle.boot_core.specs.Answers.{IsBootReply, reply_of_boot};
+ghost use Rattle.boot_core.specs.Booting.{BootsFrom, BootsFromAny, EndsUploadsAndBoots};
+ghost use Rattle.boot_core.specs.Device.{seen};
+ghost use Rattle.boot_core.specs.Recorded.{HasRecord};
+ghost use Rattle.machine.specs.Boots.{is_answer};
+ghost use Rattle.sector_map.specs.Map.{IsLaidOut};
 
-use crate::booting::{
-    boot_from_back, boot_from_back_settle, boot_from_settle, boot_from_steady, boot_from_swap,
-    boot_from_trial,
-};
+use crate::back::{boot_from_back, boot_from_back_settle};
+use crate::settle::boot_from_settle;
+use crate::steady::boot_from_steady;
+use crate::swap::boot_from_swap;
+use crate::trial::boot_from_trial;
 use flash_model::{Flash, FlashError};
 use machine::{Fault, Reply};
 use sector_map::SectorMap;
@@ -41,26 +26,9 @@ fn boot_from<F: Flash>(
     state: &State,
     left: u8,
 ) -> Result<Reply, FlashError>
-    requires laid_out { IsLaidOut map.now (F.chip flash.old) }
-    requires read { state_of map.now (F.chip flash.old) ≡ Some state.now }
+    requires recorded { HasRecord map.now state.now (F.chip flash.old) }
     requires few { left ≤ 6 }
-    ensures laid { IsLaidOut map.now (F.chip flash.new) }
-    ensures on_map { (start : Chip) → Keeps map.now any_part start (F.chip flash.old)
-        → Keeps map.now any_part start (F.chip flash.new) }
-    ensures stands { (s : DeviceState) → Stands map.now (F.chip flash.old) s
-        → CutsBoot map.now (left + 1) (F.chip flash.new) s }
-    ensures ok { IfOk result (λ reply. (s : DeviceState) → Stands map.now (F.chip flash.old) s
-        → EndsBoot map.now (left + 1) (F.chip flash.new) s reply) }
-    ensures erases { IfOk result (λ reply. (s : DeviceState) → Stands map.now (F.chip flash.old) s
-        → IsWorn map.now state.now.kind state.now.mask (F.chip flash.old) (F.chip flash.new)
-        reply) }
-    ensures stops { IfOk result (λ reply. (finding : Finding) (permanent : Bool)
-        → reply ≡ reply_of finding permanent
-        → IsStopped map.now state.now (F.chip flash.old) (F.chip flash.new) finding) }
-    ensures idle { state.now.kind ≡ Kind.Steady → IfOk result (λ reply. TakesNothing reply
-        → F.chip flash.new ≡ F.chip flash.old) }
-    ensures told { IfOk result IsBootReply }
-    ensures ends { Ends result (F.chip flash.old) (F.chip flash.new) }
+    ensures { BootsFrom map.now state.now left (F.chip flash.old) (F.chip flash.new) result }
 {
     match state.kind {
         Kind::Steady => boot_from_steady(flash, map, state, left),
@@ -74,36 +42,10 @@ fn boot_from<F: Flash>(
 
 /// Boots: what was interrupted is finished, or the images that run are decided. A trial that begins
 /// has so many boots after this one.
-pub(crate) fn boot<F: Flash>(flash: &mut F, map: &SectorMap, left: u8) -> Result<Reply, FlashError>
+fn boot<F: Flash>(flash: &mut F, map: &SectorMap, left: u8) -> Result<Reply, FlashError>
     requires laid_out { IsLaidOut map.now (F.chip flash.old) }
     requires few { left ≤ 6 }
-    ensures laid { IsLaidOut map.now (F.chip flash.new) }
-    ensures on_map { (start : Chip) → Keeps map.now any_part start (F.chip flash.old)
-        → Keeps map.now any_part start (F.chip flash.new) }
-    ensures stands { (s : DeviceState) → Stands map.now (F.chip flash.old) s
-        → CutsBoot map.now (left + 1) (F.chip flash.new) s }
-    ensures ok { IfOk result (λ reply. (s : DeviceState) → Stands map.now (F.chip flash.old) s
-        → EndsBoot map.now (left + 1) (F.chip flash.new) s reply) }
-    // From a state that is read sound a boot that isn't cut answers.
-    ensures answers { IfOk result (λ reply. (s : DeviceState)
-        → Stands map.now (F.chip flash.old) s → IsReadSound s → is_answer reply ≡ true) }
-    // Without a state in the log nothing changes.
-    ensures empty { state_of map.now (F.chip flash.old) ≡ None
-        → F.chip flash.new ≡ F.chip flash.old }
-    ensures refused { state_of map.now (F.chip flash.old) ≡ None
-        → IfOk result (λ reply. reply ≡ Refused NotProvisioned) }
-    // How many erases a boot makes that isn't cut, by the record that stood.
-    ensures erases { IfOk result (λ reply. (state : LogState) (s : DeviceState)
-        → state_of map.now (F.chip flash.old) ≡ Some state → Stands map.now (F.chip flash.old) s
-        → IsWorn map.now state.kind state.mask (F.chip flash.old) (F.chip flash.new) reply) }
-    ensures stops { IfOk result (λ reply. (state : LogState) (finding : Finding) (permanent : Bool)
-        → state_of map.now (F.chip flash.old) ≡ Some state → reply ≡ reply_of finding permanent
-        → IsStopped map.now state (F.chip flash.old) (F.chip flash.new) finding) }
-    ensures idle { IfOk result (λ reply. (state : LogState)
-        → state_of map.now (F.chip flash.old) ≡ Some state → state.kind ≡ Kind.Steady
-        → TakesNothing reply → F.chip flash.new ≡ F.chip flash.old) }
-    ensures told { IfOk result IsBootReply }
-    ensures ends { Ends result (F.chip flash.old) (F.chip flash.new) }
+    ensures { BootsFromAny map.now left (F.chip flash.old) (F.chip flash.new) result }
 {
     match read_state(flash, map) {
         Ok(state) => boot_from(flash, map, &state, left),
@@ -113,7 +55,7 @@ pub(crate) fn boot<F: Flash>(flash: &mut F, map: &SectorMap, left: u8) -> Result
 }
 
 /// What a boot answers, and whether the device is up then.
-fn conclude(reply: Reply, is_up: &mut bool) -> Result<Reply, Fault>
+pub(crate) fn conclude(reply: Reply, is_up: &mut bool) -> Result<Reply, Fault>
     requires { IsBootReply reply }
     ensures is { reply_of_boot result ≡ reply }
     ensures up { is_up.new ≡ is_answer reply }
@@ -159,40 +101,9 @@ pub(crate) fn boot_device<F: Flash>(
 ) -> Result<Reply, Fault>
     requires laid_out { IsLaidOut map.now (F.chip flash.old) }
     requires few { left ≤ 6 }
-    ensures laid { IsLaidOut map.now (F.chip flash.new) }
-    ensures on_map { (start : Chip) → Keeps map.now any_part start (F.chip flash.old)
-        → Keeps map.now any_part start (F.chip flash.new) }
-    ensures opens { AllOpenAt (view map.now (F.chip flash.new)) uploads.new.sessions }
-    ensures closed { AllClosed uploads.new.sessions }
-    ensures steps { (identity : Identity) → (F.chip flash.old).is_on ≡ true
-        → StepsTo (made map.now identity (left + 1))
+    ensures { EndsUploadsAndBoots map.now left
         (seen (F.chip flash.old) uploads.old.sessions is_up.old)
-        (seen (F.chip flash.new) uploads.new.sessions is_up.new) event.Boot (reply_of_boot result) }
-    ensures ok { IfOk result (λ reply. is_answer reply ≡ true) }
-    ensures up { is_up.new ≡ is_answer (reply_of_boot result) }
-    ensures told { IsBootReply (reply_of_boot result) ⊎ (is_stopped (reply_of_boot result) ≡ true) }
-    ensures answers { (F.chip flash.old).is_on ≡ true → cut_of (reply_of_boot result) ≡ 0
-        → (s : DeviceState) → Stands map.now (F.chip flash.old) s → IsReadSound s
-        → is_answer (reply_of_boot result) ≡ true }
-    ensures empty { state_of map.now (F.chip flash.old) ≡ None
-        → F.chip flash.new ≡ F.chip flash.old }
-    ensures refused { (F.chip flash.old).is_on ≡ true → state_of map.now (F.chip flash.old) ≡ None
-        → result ≡ Err NotProvisioned }
-    ensures erases { (F.chip flash.old).is_on ≡ true → cut_of (reply_of_boot result) ≡ 0
-        → (state : LogState) (s : DeviceState)
-        → state_of map.now (F.chip flash.old) ≡ Some state → Stands map.now (F.chip flash.old) s
-        → IsWorn map.now state.kind state.mask (F.chip flash.old) (F.chip flash.new)
-        (reply_of_boot result) }
-    ensures stops { (state : LogState) (finding : Finding) (permanent : Bool)
-        → state_of map.now (F.chip flash.old) ≡ Some state
-        → reply_of_boot result ≡ reply_of finding permanent
-        → IsStopped map.now state (F.chip flash.old) (F.chip flash.new) finding }
-    ensures idle { (state : LogState) → state_of map.now (F.chip flash.old) ≡ Some state
-        → state.kind ≡ Kind.Steady → TakesNothing (reply_of_boot result)
-        → F.chip flash.new ≡ F.chip flash.old }
-    ensures ends { EndsCall (reply_of_boot result)
-        (seen (F.chip flash.old) uploads.old.sessions is_up.old)
-        (seen (F.chip flash.new) uploads.new.sessions is_up.new) }
+        (seen (F.chip flash.new) uploads.new.sessions is_up.new) result }
 {
     *uploads = Uploads::new();
     *is_up = false;

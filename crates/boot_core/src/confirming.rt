@@ -1,22 +1,15 @@
 //! Confirming an image on trial.
 
-ghost use Rattle.std.specs.Prelude.{◌≡◌, ◌⊎◌, ◌≤◌, ℕ, true, false, Some, IfErr, IfOk, IsErrOf};
-ghost use Rattle.boot_core.specs.Answers.{EndsCall, IsNotBooted, is_stop, reply_of_result};
-ghost use Rattle.boot_core.specs.Device.{made, seen};
-ghost use Rattle.flash_model.specs.Chip.{Chip, Ends};
-ghost use Rattle.flash_model.specs.declared.error.FlashError.{FlashError};
-ghost use Rattle.machine.specs.Boots.{IsOnTrial};
-ghost use Rattle.machine.specs.Holding.{IsAtRest, IsTrialAt};
-ghost use Rattle.machine.specs.Passing.{CutsConfirm, EndsConfirm, StepsTo};
-ghost use Rattle.machine.specs.States.{with_confirmed};
+ghost use Rattle.std.specs.Prelude.{◌≡◌, true, false, Some};
+ghost use Rattle.boot_core.specs.Confirming.{Confirms, ConfirmsImage};
+ghost use Rattle.boot_core.specs.Device.{seen};
+ghost use Rattle.boot_core.specs.Taking.{TakesHere};
 ghost use Rattle.machine.specs.declared.event.Event.TheVariants as event;
-ghost use Rattle.manifest.specs.declared.identity.Identity.{Identity};
-ghost use Rattle.sector_map.specs.Map.{IsLaidOut, Keeps};
+ghost use Rattle.sector_map.specs.Map.{IsLaidOut};
 ghost use Rattle.sector_map.specs.Part.{TrailerOf, only};
 ghost use Rattle.sector_map.specs.declared.layout.Side.TheVariants.{Primary};
 ghost use Rattle.set_log.specs.Log.{state_of};
 ghost use Rattle.set_log.specs.declared.state.Kind.{Kind};
-ghost use Rattle.upload.specs.Device.{DeviceState, Trial};
 ghost use Rattle.upload.specs.Sessions.{AllOpenAt};
 ghost use Rattle.upload.specs.View.{view};
 
@@ -37,24 +30,7 @@ fn confirm_image<F: Flash>(
 ) -> Result<bool, FlashError>
     requires laid_out { IsLaidOut map.now (F.chip flash.old) }
     requires read { state_of map.now (F.chip flash.old) ≡ Some state.now }
-    ensures outside { Keeps map.now (only (TrailerOf image Primary))
-        (F.chip flash.old) (F.chip flash.new) }
-    ensures stands { (s : DeviceState) (trial : Trial)
-        → IsTrialAt (view map.now (F.chip flash.old)) s trial
-        → IsTrialAt (view map.now (F.chip flash.new)) s trial
-        ⊎ (IsOnTrial s image trial
-        × IsAtRest (view map.now (F.chip flash.new)) (with_confirmed s trial image)) }
-    ensures done { IfOk result (λ yes. yes ≡ true → (s : DeviceState) (trial : Trial)
-        → IsTrialAt (view map.now (F.chip flash.old)) s trial → IsOnTrial s image trial
-        × IsAtRest (view map.now (F.chip flash.new)) (with_confirmed s trial image)) }
-    ensures none { IfOk result (λ yes. yes ≡ false → (s : DeviceState) (trial : Trial)
-        → IsTrialAt (view map.now (F.chip flash.old)) s trial
-        → IsTrialAt (view map.now (F.chip flash.new)) s trial
-        × ((other : Trial) → IsOnTrial s image other → ⊥)) }
-    ensures tried { IsErrOf result FlashError.Cut → (s : DeviceState) (trial : Trial)
-        → IsTrialAt (view map.now (F.chip flash.old)) s trial → IsOnTrial s image trial }
-    ensures same { IfOk result (λ yes. yes ≡ false → F.chip flash.new ≡ F.chip flash.old) }
-    ensures ends { Ends result (F.chip flash.old) (F.chip flash.new) }
+    ensures { ConfirmsImage map.now image (F.chip flash.old) (F.chip flash.new) result }
 {
     if image >= map.images {
         return Ok(false);
@@ -88,16 +64,7 @@ pub(crate) fn confirm<F: Flash>(
     image: u8,
 ) -> Result<bool, FlashError>
     requires laid_out { IsLaidOut map.now (F.chip flash.old) }
-    ensures outside { Keeps map.now (only (TrailerOf image Primary))
-        (F.chip flash.old) (F.chip flash.new) }
-    ensures cut { IsErrOf result FlashError.Cut → (s : DeviceState)
-        → IsAtRest (view map.now (F.chip flash.old)) s
-        → CutsConfirm (view map.now (F.chip flash.new)) s image }
-    ensures ok { IfOk result (λ yes. (s : DeviceState)
-        → IsAtRest (view map.now (F.chip flash.old)) s
-        → EndsConfirm (view map.now (F.chip flash.new)) s image yes) }
-    ensures same { IfOk result (λ yes. yes ≡ false → F.chip flash.new ≡ F.chip flash.old) }
-    ensures ends { Ends result (F.chip flash.old) (F.chip flash.new) }
+    ensures { Confirms map.now image (F.chip flash.old) (F.chip flash.new) result }
 {
     match read_state(flash, map) {
         Ok(state) => {
@@ -123,23 +90,9 @@ pub(crate) fn confirm_on<F: Flash>(
 ) -> Result<(), Fault>
     requires laid_out { IsLaidOut map.now (F.chip flash.old) }
     requires opens { AllOpenAt (view map.now (F.chip flash.old)) uploads.old.sessions }
-    ensures laid { IsLaidOut map.now (F.chip flash.new) }
-    ensures opens { AllOpenAt (view map.now (F.chip flash.new)) uploads.new.sessions }
-    ensures steps { (identity : Identity) (boots : ℕ) → (F.chip flash.old).is_on ≡ true
-        → StepsTo (made map.now identity boots)
+    ensures { TakesHere map.now (event.Confirm image) (only (TrailerOf image Primary))
         (seen (F.chip flash.old) uploads.old.sessions is_up.old)
-        (seen (F.chip flash.new) uploads.new.sessions is_up.new)
-        (event.Confirm image) (reply_of_result result) }
-    ensures outside { Keeps map.now (only (TrailerOf image Primary))
-        (F.chip flash.old) (F.chip flash.new) }
-    ensures down { is_up.old ≡ false → IsNotBooted result
-        (seen (F.chip flash.old) uploads.old.sessions is_up.old)
-        (seen (F.chip flash.new) uploads.new.sessions is_up.new) }
-    ensures refused { IfErr result (λ fault. is_stop fault ≡ false
-        → F.chip flash.new ≡ F.chip flash.old) }
-    ensures ends { EndsCall (reply_of_result result)
-        (seen (F.chip flash.old) uploads.old.sessions is_up.old)
-        (seen (F.chip flash.new) uploads.new.sessions is_up.new) }
+        (seen (F.chip flash.new) uploads.new.sessions is_up.new) result }
 {
     if !*is_up {
         return Err(Fault::NotBooted);

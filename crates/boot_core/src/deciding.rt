@@ -1,28 +1,21 @@
 //! The decision of a boot: what is found of the table that was read.
 
-ghost use Rattle.std.specs.Prelude.{◌≡◌, ◌^◌, ◌<◌, ◌≤◌, ◌↔◌, ℕ, Bool, IsTrue, Some, true, IfOk, length};
-ghost use Rattle.flash_model.specs.Chip.{Chip, Ends};
-ghost use Rattle.sector_map.specs.Map.{IsLaidOut};
-ghost use Rattle.sector_map.specs.Part.{is_member};
-ghost use Rattle.trailer.specs.Standing.{standing_of};
-ghost use Rattle.trailer.specs.declared.kinds.Kind.TheVariants.{Permanent};
+ghost use Rattle.std.specs.Prelude.{◌<◌, ◌≤◌, ◌≡◌, ℕ, ◌^◌, length};
+ghost use Rattle.boot_core.specs.Deciding.{AnswersFinding, AreForGoodIn, FindsAgain, FindsDecision, IsForGoodIn};
+ghost use Rattle.boot_core.specs.Telling.{Tells};
 ghost use Rattle.certificate.specs.Combination.{entry_in};
 ghost use Rattle.certificate.specs.Rightness.{taken_in};
-ghost use Rattle.certificate.specs.declared.table.Table.{Table};
-ghost use Rattle.upload.specs.Device.{DeviceState};
-ghost use Rattle.upload.specs.View.{view};
-ghost use Rattle.machine.specs.Boots.{AsksForGood, IsDecision};
-ghost use Rattle.machine.specs.Reading.{AreRaisedBy, CanRead, HasImages, IsAsking, IsFinding, IsFoundAgain};
-ghost use Rattle.machine.specs.Wear.{IsSetFound};
-ghost use Rattle.boot_core.specs.Found.{HasTable, IsToldAgain};
+ghost use Rattle.machine.specs.Reading.{AreRaisedBy};
+ghost use Rattle.sector_map.specs.Map.{HasImage, IsLaidOut};
+ghost use Rattle.sector_map.specs.Part.{is_member};
 
-use crate::reading::read_table;
+use crate::device_table::read_table;
 use arrayvec::ArrayVec;
 use certificate::{Image, Report, Request, Table, is_valid};
 use chooser::choose;
 use common::limits::MOST_IMAGES;
 use flash_model::{Flash, FlashError};
-use machine::{Finding, Reading};
+use machine::{Fault, Finding, Reading, Reply};
 use sector_map::{SectorMap, is_member, mask_of};
 use trailer::{Kind, standing};
 
@@ -51,12 +44,7 @@ pub(crate) fn find<F: Flash>(
     floors: &[u32; MOST_IMAGES],
 ) -> Result<Finding, FlashError>
     requires laid_out { IsLaidOut map.now (F.chip flash.old) }
-    ensures same { F.chip flash.new ≡ F.chip flash.old }
-    ensures ok { IfOk result (λ finding. (s : DeviceState)
-        → CanRead (view map.now (F.chip flash.old)) s 0 floors.now
-        → IsFinding s finding) }
-    ensures whole { IfOk result (HasImages map.now.images) }
-    ensures ends { Ends result (F.chip flash.old) (F.chip flash.new) }
+    ensures { FindsDecision map.now floors.now (F.chip flash.old) (F.chip flash.new) result }
 {
     match read_table(flash, map, 0, floors)? {
         Reading::DamagedAt(image) => Ok(Finding::Damaged(image)),
@@ -84,17 +72,7 @@ pub(crate) fn find_again<F: Flash>(
     floors: &[u32; MOST_IMAGES],
 ) -> Result<Finding, FlashError>
     requires laid_out { IsLaidOut map.now (F.chip flash.old) }
-    ensures same { F.chip flash.new ≡ F.chip flash.old }
-    ensures ok { IfOk result (λ finding. (s : DeviceState) (table : Table) (permanent : Bool)
-        → CanRead (view map.now (F.chip flash.old)) s mask floors.now
-        → IsDecision s table mask permanent
-        → IsFoundAgain s mask finding) }
-    ensures set { IfOk result (IsSetFound mask) }
-    ensures whole { IfOk result (HasImages map.now.images) }
-    ensures rows { IfOk result (HasTable map.now.images) }
-    ensures told { IfOk result
-        (IsToldAgain (view map.now (F.chip flash.old)) mask floors.now) }
-    ensures ends { Ends result (F.chip flash.old) (F.chip flash.new) }
+    ensures { FindsAgain map.now mask floors.now (F.chip flash.old) (F.chip flash.new) result }
 {
     match read_table(flash, map, mask, floors)? {
         Reading::DamagedAt(image) => Ok(Finding::Damaged(image)),
@@ -149,12 +127,8 @@ pub(crate) fn raised_floors(
 
 /// Whether a request that asks to be permanent stands for an image.
 fn is_for_good<F: Flash>(flash: &mut F, map: &SectorMap, image: u8) -> Result<bool, FlashError>
-    requires laid_out { IsLaidOut map.now (F.chip flash.old) }
-    requires there { image < map.now.images }
-    ensures same { F.chip flash.new ≡ F.chip flash.old }
-    ensures ok { IfOk result (λ yes. IsTrue yes
-        ↔ (standing_of map.now (F.chip flash.old) image ≡ Some Permanent)) }
-    ensures ends { Ends result (F.chip flash.old) (F.chip flash.new) }
+    requires { HasImage map.now image (F.chip flash.old) }
+    ensures { Tells (IsForGoodIn map.now image) (F.chip flash.old) (F.chip flash.new) result }
 {
     match standing(flash, map, image)? {
         Some(Kind::Permanent) => Ok(true),
@@ -173,11 +147,7 @@ pub(crate) fn asks_for_good<F: Flash>(
     mask: u8,
 ) -> Result<bool, FlashError>
     requires laid_out { IsLaidOut map.now (F.chip flash.old) }
-    ensures same { F.chip flash.new ≡ F.chip flash.old }
-    ensures ok { IfOk result (λ yes. (s : DeviceState)
-        → IsAsking (view map.now (F.chip flash.old)) s mask
-        → (yes ≡ true → AsksForGood s mask) × (AsksForGood s mask → yes ≡ true)) }
-    ensures ends { Ends result (F.chip flash.old) (F.chip flash.new) }
+    ensures { Tells (AreForGoodIn map.now mask) (F.chip flash.old) (F.chip flash.new) result }
 {
     for image in 0..map.images {
         if is_member(mask, image) && !is_for_good(flash, map, image)? {
@@ -185,4 +155,19 @@ pub(crate) fn asks_for_good<F: Flash>(
         }
     }
     Ok(true)
+}
+
+/// The reply to what is found.
+pub(crate) fn reply_to(finding: Finding, permanent: bool) -> Reply
+    ensures { AnswersFinding finding permanent result }
+{
+    match finding {
+        Finding::Decided { table, report } => Reply::Booted {
+            table,
+            report,
+            permanent,
+        },
+        Finding::Damaged(image) => Reply::Refused(Fault::RunningDamaged(image)),
+        Finding::Invalid => Reply::Refused(Fault::InvalidSet),
+    }
 }

@@ -1,28 +1,11 @@
 //! The device that programs and bootloaders hold.
 
-ghost use Rattle.std.specs.Prelude.{◌≡◌, ◌⊎◌, ◌+◌, ◌≤◌, Bool, true, false, None, Some, Err, IfErr, IfOk};
-ghost use Rattle.boot_core.specs.Answers.{EndsCall, IsBootReply, IsNotBooted, is_stop, is_stopped};
-ghost use Rattle.boot_core.specs.Answers.{reply_of_boot, reply_of_result};
-ghost use Rattle.boot_core.specs.Found.{IsStopped};
-ghost use Rattle.machine.specs.Passing.{reply_of};
-ghost use Rattle.machine.specs.declared.finding.Finding.{Finding};
-ghost use Rattle.boot_core.specs.Device.{made};
-ghost use Rattle.boot_core.specs.Wear.{IsWorn, TakesNothing};
-ghost use Rattle.machine.specs.Boots.{IsReadSound, is_answer};
-ghost use Rattle.machine.specs.Holding.{Holds, Stands};
-ghost use Rattle.machine.specs.Passing.{StepsTo};
-ghost use Rattle.machine.specs.States.{asleep};
-ghost use Rattle.machine.specs.Steps.{cut_of};
-ghost use Rattle.machine.specs.declared.error.Fault.TheVariants.{NotProvisioned};
+ghost use Rattle.std.specs.Prelude.{◌≡◌, ◌≤◌};
 ghost use Rattle.machine.specs.declared.event.Event.TheVariants as event;
-ghost use Rattle.sector_map.specs.Map.{IsLaidOut, Keeps};
+ghost use Rattle.sector_map.specs.Map.{IsLaidOut};
 ghost use Rattle.sector_map.specs.Part.{Slot, TrailerOf, any_part, incoming_of, only};
 ghost use Rattle.sector_map.specs.declared.layout.Side.TheVariants.{Primary, Secondary};
-ghost use Rattle.set_log.specs.Log.{state_of};
-ghost use Rattle.set_log.specs.declared.state.Kind.{Kind};
-ghost use Rattle.set_log.specs.declared.state.State.{State as LogState};
-ghost use Rattle.upload.specs.Device.{DeviceState, Machine};
-ghost use Rattle.upload.specs.Sessions.{AllClosed};
+ghost use Rattle.boot_core.specs.Calls.{BootsDevice, FinishesUpload, IsNew, Resets, Takes};
 
 use crate::boots::boot_device;
 use crate::confirming::confirm_on;
@@ -75,13 +58,7 @@ impl<F: Flash> Device<F> {
     pub fn new(flash: F, map: SectorMap, identity: Identity) -> Self
         requires laid_out { IsLaidOut map (F.chip flash) }
         requires images { identity.images ≡ map.images }
-        ensures setup { result.setup ≡ made map identity 1 }
-        ensures flash { result.here.flash ≡ F.chip flash }
-        ensures down { result.here.up ≡ false }
-        ensures closed { AllClosed result.here.sessions }
-        // What stands on the flash, as what provisioning leaves, is what it holds.
-        ensures holds { (s : DeviceState) → Stands map (F.chip flash) s
-            → Holds map result.here (asleep s) }
+        ensures { IsNew map identity 1 (F.chip flash) result }
     {
         Device {
             flash,
@@ -103,13 +80,7 @@ impl<F: Flash> Device<F> {
         requires images { identity.images ≡ map.images }
         requires some { 1 ≤ boots }
         requires few { boots ≤ 7 }
-        ensures setup { result.setup ≡ made map identity boots }
-        ensures flash { result.here.flash ≡ F.chip flash }
-        ensures down { result.here.up ≡ false }
-        ensures closed { AllClosed result.here.sessions }
-        // What stands on the flash, as what provisioning leaves, is what it holds.
-        ensures holds { (s : DeviceState) → Stands map (F.chip flash) s
-            → Holds map result.here (asleep s) }
+        ensures { IsNew map identity boots (F.chip flash) result }
     {
         Device {
             flash,
@@ -134,47 +105,7 @@ impl<F: Flash> Device<F> {
     /// failed: the state is the one before the boot, that state as it is read, or the one after it;
     /// with `Off` where the flash was off.
     pub fn boot(&mut self) -> Result<Reply, Fault>
-        ensures setup { self.new.setup ≡ self.old.setup }
-        ensures steps { self.old.here.flash.is_on ≡ true → StepsTo self.old.setup self.old.here
-            self.new.here event.Boot (reply_of_boot result) }
-        ensures ok { IfOk result (λ reply. is_answer reply ≡ true) }
-        // On any flash: the device is up exactly where the boot answered, and no other call's
-        // refusal is told, unless the flash stopped it.
-        ensures up { self.new.here.up ≡ is_answer (reply_of_boot result) }
-        ensures told { IsBootReply (reply_of_boot result)
-            ⊎ (is_stopped (reply_of_boot result) ≡ true) }
-        // From a state that is read sound a boot answers, unless it is cut.
-        ensures answers { self.old.here.flash.is_on ≡ true → cut_of (reply_of_boot result) ≡ 0
-            → (s : DeviceState) → Stands self.old.setup.map self.old.here.flash s → IsReadSound s
-            → is_answer (reply_of_boot result) ≡ true }
-        ensures empty { state_of self.old.setup.map self.old.here.flash ≡ None
-            → self.new.here.flash ≡ self.old.here.flash }
-        ensures refused { self.old.here.flash.is_on ≡ true
-            → state_of self.old.setup.map self.old.here.flash ≡ None
-            → result ≡ Err NotProvisioned }
-        // How many erases a boot makes that isn't cut, by the record that stood.
-        ensures erases { self.old.here.flash.is_on ≡ true → cut_of (reply_of_boot result) ≡ 0
-            → (state : LogState) (s : DeviceState)
-            → state_of self.old.setup.map self.old.here.flash ≡ Some state
-            → Stands self.old.setup.map self.old.here.flash s
-            → IsWorn self.old.setup.map state.kind state.mask self.old.here.flash
-            self.new.here.flash (reply_of_boot result) }
-        // On any flash: parts of the map are touched, and nothing behind it.
-        ensures outside { Keeps self.old.setup.map any_part
-            self.old.here.flash self.new.here.flash }
-        // On any flash: a boot that was at rest and takes nothing writes nothing.
-        ensures idle { (state : LogState)
-            → state_of self.old.setup.map self.old.here.flash ≡ Some state
-            → state.kind ≡ Kind.Steady → TakesNothing (reply_of_boot result)
-            → self.new.here.flash ≡ self.old.here.flash }
-        // On any flash: what a refusal tells of an upgrade that was begun, and that nothing more
-        // was written.
-        ensures stops { (state : LogState) (finding : Finding) (permanent : Bool)
-            → state_of self.old.setup.map self.old.here.flash ≡ Some state
-            → reply_of_boot result ≡ reply_of finding permanent
-            → IsStopped self.old.setup.map state self.old.here.flash self.new.here.flash finding }
-        ensures closed { AllClosed self.new.here.sessions }
-        ensures ends { EndsCall (reply_of_boot result) self.old.here self.new.here }
+        ensures { BootsDevice self.old self.new result }
     {
         boot_device(
             &mut self.flash,
@@ -196,18 +127,7 @@ impl<F: Flash> Device<F> {
     /// open; after a cut the old sequence number stands and each request as it was, or the new one
     /// and each request of a named image as it was or gone.
     pub fn accept(&mut self, alloc: Global, text: &[u8]) -> Result<(), Fault>
-        ensures setup { self.new.setup ≡ self.old.setup }
-        ensures steps { self.old.here.flash.is_on ≡ true → StepsTo self.old.setup self.old.here
-            self.new.here (event.Accept text.entry) (reply_of_result result) }
-        // On any flash: what is touched. Nothing is where the device isn't up, or where a refusal
-        // is not of the flash.
-        ensures outside { Keeps self.old.setup.map any_part
-            self.old.here.flash self.new.here.flash }
-        ensures down { self.old.here.up ≡ false
-            → IsNotBooted result self.old.here self.new.here }
-        ensures refused { IfErr result (λ fault. is_stop fault ≡ false
-            → self.new.here.flash ≡ self.old.here.flash) }
-        ensures ends { EndsCall (reply_of_result result) self.old.here self.new.here }
+        ensures { Takes (event.Accept text.entry) any_part self.old self.new result }
     {
         accept(
             &mut self.flash,
@@ -229,18 +149,8 @@ impl<F: Flash> Device<F> {
     /// with `Flash` where power failed or the flash was off: the device isn't up, and no upload is
     /// open.
     pub fn piece(&mut self, image: u8, more: &[u8]) -> Result<(), Fault>
-        ensures setup { self.new.setup ≡ self.old.setup }
-        ensures steps { self.old.here.flash.is_on ≡ true → StepsTo self.old.setup self.old.here
-            self.new.here (event.Piece image more.entry) (reply_of_result result) }
-        // On any flash: what is touched. Nothing is where the device isn't up, or where a refusal
-        // is not of the flash.
-        ensures outside { Keeps self.old.setup.map (only (Slot image Secondary))
-            self.old.here.flash self.new.here.flash }
-        ensures down { self.old.here.up ≡ false
-            → IsNotBooted result self.old.here self.new.here }
-        ensures refused { IfErr result (λ fault. is_stop fault ≡ false
-            → self.new.here.flash ≡ self.old.here.flash) }
-        ensures ends { EndsCall (reply_of_result result) self.old.here self.new.here }
+        ensures { Takes (event.Piece image more.entry) (only (Slot image Secondary))
+            self.old self.new result }
     {
         piece(
             &mut self.flash,
@@ -262,15 +172,7 @@ impl<F: Flash> Device<F> {
     /// the flash was off: the device isn't up, no upload is open, and after a cut the image is
     /// requested whole or not at all.
     pub fn finish(&mut self, image: u8) -> Result<(), Fault>
-        ensures setup { self.new.setup ≡ self.old.setup }
-        ensures steps { self.old.here.flash.is_on ≡ true → StepsTo self.old.setup self.old.here
-            self.new.here (event.Finish image) (reply_of_result result) }
-        // On any flash: what is touched. Nothing is where the device isn't up.
-        ensures outside { Keeps self.old.setup.map (incoming_of image)
-            self.old.here.flash self.new.here.flash }
-        ensures down { self.old.here.up ≡ false
-            → IsNotBooted result self.old.here self.new.here }
-        ensures ends { EndsCall (reply_of_result result) self.old.here self.new.here }
+        ensures { FinishesUpload image self.old self.new result }
     {
         finish(
             &mut self.flash,
@@ -289,18 +191,7 @@ impl<F: Flash> Device<F> {
     /// flash was off: the device isn't up, no upload is open, and after a cut the request stands as
     /// before or not at all.
     pub fn withdraw(&mut self, image: u8) -> Result<(), Fault>
-        ensures setup { self.new.setup ≡ self.old.setup }
-        ensures steps { self.old.here.flash.is_on ≡ true → StepsTo self.old.setup self.old.here
-            self.new.here (event.Withdraw image) (reply_of_result result) }
-        // On any flash: what is touched. Nothing is where the device isn't up, or where a refusal
-        // is not of the flash.
-        ensures outside { Keeps self.old.setup.map (incoming_of image)
-            self.old.here.flash self.new.here.flash }
-        ensures down { self.old.here.up ≡ false
-            → IsNotBooted result self.old.here self.new.here }
-        ensures refused { IfErr result (λ fault. is_stop fault ≡ false
-            → self.new.here.flash ≡ self.old.here.flash) }
-        ensures ends { EndsCall (reply_of_result result) self.old.here self.new.here }
+        ensures { Takes (event.Withdraw image) (incoming_of image) self.old self.new result }
     {
         withdraw(
             &mut self.flash,
@@ -319,18 +210,8 @@ impl<F: Flash> Device<F> {
     /// `Flash` where power failed or the flash was off: the device isn't up and no upload is open;
     /// after a cut the image is confirmed or as it was.
     pub fn confirm(&mut self, image: u8) -> Result<(), Fault>
-        ensures setup { self.new.setup ≡ self.old.setup }
-        ensures steps { self.old.here.flash.is_on ≡ true → StepsTo self.old.setup self.old.here
-            self.new.here (event.Confirm image) (reply_of_result result) }
-        // On any flash: what is touched. Nothing is where the device isn't up, or where a refusal
-        // is not of the flash.
-        ensures outside { Keeps self.old.setup.map (only (TrailerOf image Primary))
-            self.old.here.flash self.new.here.flash }
-        ensures down { self.old.here.up ≡ false
-            → IsNotBooted result self.old.here self.new.here }
-        ensures refused { IfErr result (λ fault. is_stop fault ≡ false
-            → self.new.here.flash ≡ self.old.here.flash) }
-        ensures ends { EndsCall (reply_of_result result) self.old.here self.new.here }
+        ensures { Takes (event.Confirm image) (only (TrailerOf image Primary))
+            self.old self.new result }
     {
         confirm_on(
             &mut self.flash,
@@ -344,13 +225,7 @@ impl<F: Flash> Device<F> {
     /// Resets the device: all uploads end, it isn't up, and its flash has power again. No byte of
     /// the flash changes. Does not allocate.
     pub fn reset(&mut self)
-        ensures setup { self.new.setup ≡ self.old.setup }
-        ensures flash { self.new.here.flash ≡ record (self.old.here.flash) { is_on = true } }
-        ensures down { self.new.here.up ≡ false }
-        ensures closed { AllClosed self.new.here.sessions }
-        // It holds what it held, without uploads.
-        ensures holds { (m : Machine) → Holds self.old.setup.map self.old.here m
-            → Holds self.old.setup.map self.new.here (asleep m.kept) }
+        ensures { Resets self.old self.new }
     {
         self.flash.restart();
         self.uploads = Uploads::new();

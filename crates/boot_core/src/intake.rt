@@ -1,21 +1,18 @@
 //! Uploads: what the device asks before it passes a call on, and what it does where the flash stops
 //! one.
 
-ghost use Rattle.std.specs.Prelude.{◌≡◌, ◌≤◌, ℕ, true, false, IfErr, IfOk};
-ghost use Rattle.boot_core.specs.Answers.{EndsCall, IsNotBooted, is_stop, reply_of_result};
-ghost use Rattle.boot_core.specs.Device.{made, seen};
-ghost use Rattle.boot_core.specs.Ready.{IsReadiness, RefusesText, text_fault};
-ghost use Rattle.flash_model.specs.Chip.{Chip};
-ghost use Rattle.machine.specs.Passing.{StepsTo};
+ghost use Rattle.std.specs.Prelude.{◌≡◌, IfErr, IfOk};
 ghost use Rattle.machine.specs.declared.event.Event.TheVariants as event;
 ghost use Rattle.manifest.specs.Fault.{IsManifest};
-ghost use Rattle.manifest.specs.declared.identity.Identity.{Identity};
-ghost use Rattle.sector_map.specs.Map.{IsLaidOut, Keeps};
-ghost use Rattle.sector_map.specs.Part.{Slot, any_part, incoming_of, only};
+ghost use Rattle.sector_map.specs.Map.{IsLaidOut};
+ghost use Rattle.sector_map.specs.Part.{Slot, incoming_of, only};
 ghost use Rattle.sector_map.specs.declared.layout.Side.TheVariants.{Secondary};
-ghost use Rattle.set_log.specs.Log.{state_of};
-ghost use Rattle.upload.specs.Sessions.{AllClosed, AllOpenAt};
+ghost use Rattle.upload.specs.Sessions.{AllOpenAt};
 ghost use Rattle.upload.specs.View.{view};
+ghost use Rattle.boot_core.specs.Answers.{is_stop};
+ghost use Rattle.boot_core.specs.Device.{seen};
+ghost use Rattle.boot_core.specs.Ready.{RefusesText, text_fault};
+ghost use Rattle.boot_core.specs.Taking.{AcceptsHere, ChecksReady, FinishesHere, Stops, TakesHere};
 
 use crate::confirming::is_trial;
 use flash_model::Flash;
@@ -29,9 +26,7 @@ use upload::{UploadError, Uploads};
 /// Whether uploads are taken now: the device is up, the log has a state, and no set is on trial.
 fn check_ready<F: Flash>(flash: &mut F, map: &SectorMap, is_up: bool) -> Result<(), Fault>
     requires laid_out { IsLaidOut map.now (F.chip flash.old) }
-    ensures same { F.chip flash.new ≡ F.chip flash.old }
-    ensures ready { IsReadiness result is_up (state_of map.now (F.chip flash.old))
-        (F.chip flash.old).is_on }
+    ensures { ChecksReady map.now is_up (F.chip flash.old) (F.chip flash.new) result }
 {
     if !is_up {
         return Err(Fault::NotBooted);
@@ -83,11 +78,7 @@ fn is_stop(fault: Fault) -> bool
 /// Passes a refusal on. Where the call stopped at the flash all uploads are closed, and the device
 /// isn't up.
 pub(crate) fn stop(uploads: &mut Uploads, is_up: &mut bool, fault: Fault) -> Fault
-    ensures is { result ≡ fault }
-    ensures down { is_stop fault ≡ true → is_up.new ≡ false }
-    ensures closed { is_stop fault ≡ true → AllClosed uploads.new.sessions }
-    ensures up { is_stop fault ≡ false → is_up.new ≡ is_up.old }
-    ensures kept { is_stop fault ≡ false → uploads.new.sessions ≡ uploads.old.sessions }
+    ensures { Stops fault uploads.old.sessions is_up.old uploads.new.sessions is_up.new result }
 {
     let stopped = is_stop(fault);
     if stopped {
@@ -137,23 +128,9 @@ pub(crate) fn accept<F: Flash>(
     requires laid_out { IsLaidOut map.now (F.chip flash.old) }
     requires images { identity.now.images ≡ map.now.images }
     requires opens { AllOpenAt (view map.now (F.chip flash.old)) uploads.old.sessions }
-    ensures laid { IsLaidOut map.now (F.chip flash.new) }
-    ensures opens { AllOpenAt (view map.now (F.chip flash.new)) uploads.new.sessions }
-    ensures steps { (boots : ℕ) → (F.chip flash.old).is_on ≡ true
-        → StepsTo (made map.now identity.now boots)
+    ensures { AcceptsHere map.now identity.now text.entry
         (seen (F.chip flash.old) uploads.old.sessions is_up.old)
-        (seen (F.chip flash.new) uploads.new.sessions is_up.new)
-        (event.Accept text.entry) (reply_of_result result) }
-    ensures outside { Keeps map.now any_part
-        (F.chip flash.old) (F.chip flash.new) }
-    ensures down { is_up.old ≡ false → IsNotBooted result
-        (seen (F.chip flash.old) uploads.old.sessions is_up.old)
-        (seen (F.chip flash.new) uploads.new.sessions is_up.new) }
-    ensures refused { IfErr result (λ fault. is_stop fault ≡ false
-        → F.chip flash.new ≡ F.chip flash.old) }
-    ensures ends { EndsCall (reply_of_result result)
-        (seen (F.chip flash.old) uploads.old.sessions is_up.old)
-        (seen (F.chip flash.new) uploads.new.sessions is_up.new) }
+        (seen (F.chip flash.new) uploads.new.sessions is_up.new) result }
 {
     match check_ready(flash, map, *is_up) {
         Ok(()) => {}
@@ -180,23 +157,9 @@ pub(crate) fn piece<F: Flash>(
 ) -> Result<(), Fault>
     requires laid_out { IsLaidOut map.now (F.chip flash.old) }
     requires opens { AllOpenAt (view map.now (F.chip flash.old)) uploads.old.sessions }
-    ensures laid { IsLaidOut map.now (F.chip flash.new) }
-    ensures opens { AllOpenAt (view map.now (F.chip flash.new)) uploads.new.sessions }
-    ensures steps { (identity : Identity) (boots : ℕ) → (F.chip flash.old).is_on ≡ true
-        → StepsTo (made map.now identity boots)
+    ensures { TakesHere map.now (event.Piece image more.entry) (only (Slot image Secondary))
         (seen (F.chip flash.old) uploads.old.sessions is_up.old)
-        (seen (F.chip flash.new) uploads.new.sessions is_up.new)
-        (event.Piece image more.entry) (reply_of_result result) }
-    ensures outside { Keeps map.now (only (Slot image Secondary))
-        (F.chip flash.old) (F.chip flash.new) }
-    ensures down { is_up.old ≡ false → IsNotBooted result
-        (seen (F.chip flash.old) uploads.old.sessions is_up.old)
-        (seen (F.chip flash.new) uploads.new.sessions is_up.new) }
-    ensures refused { IfErr result (λ fault. is_stop fault ≡ false
-        → F.chip flash.new ≡ F.chip flash.old) }
-    ensures ends { EndsCall (reply_of_result result)
-        (seen (F.chip flash.old) uploads.old.sessions is_up.old)
-        (seen (F.chip flash.new) uploads.new.sessions is_up.new) }
+        (seen (F.chip flash.new) uploads.new.sessions is_up.new) result }
 {
     match check_ready(flash, map, *is_up) {
         Ok(()) => {}
@@ -218,21 +181,9 @@ pub(crate) fn finish<F: Flash>(
 ) -> Result<(), Fault>
     requires laid_out { IsLaidOut map.now (F.chip flash.old) }
     requires opens { AllOpenAt (view map.now (F.chip flash.old)) uploads.old.sessions }
-    ensures laid { IsLaidOut map.now (F.chip flash.new) }
-    ensures opens { AllOpenAt (view map.now (F.chip flash.new)) uploads.new.sessions }
-    ensures steps { (identity : Identity) (boots : ℕ) → (F.chip flash.old).is_on ≡ true
-        → StepsTo (made map.now identity boots)
+    ensures { FinishesHere map.now image
         (seen (F.chip flash.old) uploads.old.sessions is_up.old)
-        (seen (F.chip flash.new) uploads.new.sessions is_up.new)
-        (event.Finish image) (reply_of_result result) }
-    ensures outside { Keeps map.now (incoming_of image)
-        (F.chip flash.old) (F.chip flash.new) }
-    ensures down { is_up.old ≡ false → IsNotBooted result
-        (seen (F.chip flash.old) uploads.old.sessions is_up.old)
-        (seen (F.chip flash.new) uploads.new.sessions is_up.new) }
-    ensures ends { EndsCall (reply_of_result result)
-        (seen (F.chip flash.old) uploads.old.sessions is_up.old)
-        (seen (F.chip flash.new) uploads.new.sessions is_up.new) }
+        (seen (F.chip flash.new) uploads.new.sessions is_up.new) result }
 {
     match check_ready(flash, map, *is_up) {
         Ok(()) => {}
@@ -254,23 +205,9 @@ pub(crate) fn withdraw<F: Flash>(
 ) -> Result<(), Fault>
     requires laid_out { IsLaidOut map.now (F.chip flash.old) }
     requires opens { AllOpenAt (view map.now (F.chip flash.old)) uploads.old.sessions }
-    ensures laid { IsLaidOut map.now (F.chip flash.new) }
-    ensures opens { AllOpenAt (view map.now (F.chip flash.new)) uploads.new.sessions }
-    ensures steps { (identity : Identity) (boots : ℕ) → (F.chip flash.old).is_on ≡ true
-        → StepsTo (made map.now identity boots)
+    ensures { TakesHere map.now (event.Withdraw image) (incoming_of image)
         (seen (F.chip flash.old) uploads.old.sessions is_up.old)
-        (seen (F.chip flash.new) uploads.new.sessions is_up.new)
-        (event.Withdraw image) (reply_of_result result) }
-    ensures outside { Keeps map.now (incoming_of image)
-        (F.chip flash.old) (F.chip flash.new) }
-    ensures down { is_up.old ≡ false → IsNotBooted result
-        (seen (F.chip flash.old) uploads.old.sessions is_up.old)
-        (seen (F.chip flash.new) uploads.new.sessions is_up.new) }
-    ensures refused { IfErr result (λ fault. is_stop fault ≡ false
-        → F.chip flash.new ≡ F.chip flash.old) }
-    ensures ends { EndsCall (reply_of_result result)
-        (seen (F.chip flash.old) uploads.old.sessions is_up.old)
-        (seen (F.chip flash.new) uploads.new.sessions is_up.new) }
+        (seen (F.chip flash.new) uploads.new.sessions is_up.new) result }
 {
     match check_ready(flash, map, *is_up) {
         Ok(()) => {}

@@ -6,23 +6,23 @@
 //! for every list of events the replies of a run are the machine's, the flash holds the machine's
 //! state at its end, and a boot that answers a report starts exactly the greatest valid set of
 //! images. Nothing but `accept`, `run` and the making of a table of replies allocates. Programs and
-//! bootloaders call it.
+//! bootloaders may call it.
 #![tactic(auto)]
 
-mod booting;
+mod back;
 mod boots;
 mod confirming;
 mod deciding;
 mod device;
+mod device_table;
 mod intake;
 mod preparing;
 mod provisioning;
-mod reading;
-mod resuming;
-mod reverting;
 mod running;
-mod trying;
-mod upgrading;
+mod settle;
+mod steady;
+mod swap;
+mod trial;
 
 pub use device::Device;
 pub use provisioning::provision;

@@ -1,15 +1,8 @@
 //! Making the trailers of a set ready to keep the progress of a swap.
 
-ghost use Rattle.std.specs.Prelude.{◌≡◌, ◌≢◌, ℕ, ◌+◌, ◌*◌, ◌<◌, ◌≤◌, true, OnOk, IfOk};
-ghost use Rattle.flash_model.specs.Chip.{Chip, Ends};
-ghost use Rattle.sector_map.specs.Map.{IsLaidOut, Keeps, slot_sectors};
-ghost use Rattle.sector_map.specs.Part.{TrailerOf, is_member, only, trailers_on};
-ghost use Rattle.swap_scratch.specs.Swap.{share};
-ghost use Rattle.tlv.specs.Slot.{slot_bytes};
-ghost use Rattle.upload.specs.View.{view};
-ghost use Rattle.machine.specs.Prepared.{IsPrepared};
-ghost use Rattle.machine.specs.Wear.{members};
-ghost use Rattle.boot_core.specs.SwapSize.{IsReady, IsSwapSize, IsUsed};
+ghost use Rattle.sector_map.specs.Map.{HasImage, IsLaidOut};
+ghost use Rattle.boot_core.specs.Preparing.{IsSwapSizeIn, IsUsedIn, TellsSize};
+ghost use Rattle.boot_core.specs.Preparing.{Prepares, PreparesImage, PreparesMember};
 
 use flash_model::{Flash, FlashError};
 use sector_map::{SectorMap, Side, is_member};
@@ -24,13 +17,9 @@ fn used_length<F: Flash>(
     image: u8,
     side: Side,
 ) -> Result<u32, FlashError>
-    requires laid_out { IsLaidOut map.now (F.chip flash.old) }
-    requires there { image < map.now.images }
-    ensures same { F.chip flash.new ≡ F.chip flash.old }
-    ensures ok { IfOk result (IsUsed (slot_bytes map.now (F.chip flash.old) image side)) }
-    ensures some { IfOk result (λ size. 0 < size) }
-    ensures most { IfOk result (λ size. size ≤ slot_sectors map.now image * map.now.sector_size) }
-    ensures ends { Ends result (F.chip flash.old) (F.chip flash.new) }
+    requires { HasImage map.now image (F.chip flash.old) }
+    ensures { TellsSize map.now image (IsUsedIn map.now image side)
+        (F.chip flash.old) (F.chip flash.new) result }
 {
     match describe_slot(flash, map, image, side) {
         Ok(description) => Ok(description.length as u32),
@@ -42,13 +31,9 @@ fn used_length<F: Flash>(
 
 /// How many bytes of each slot of an image a swap has to move.
 fn swap_length<F: Flash>(flash: &mut F, map: &SectorMap, image: u8) -> Result<u32, FlashError>
-    requires laid_out { IsLaidOut map.now (F.chip flash.old) }
-    requires there { image < map.now.images }
-    ensures same { F.chip flash.new ≡ F.chip flash.old }
-    ensures ok { IfOk result (IsSwapSize (view map.now (F.chip flash.old)) image) }
-    ensures some { IfOk result (λ size. 0 < size) }
-    ensures most { IfOk result (λ size. size ≤ slot_sectors map.now image * map.now.sector_size) }
-    ensures ends { Ends result (F.chip flash.old) (F.chip flash.new) }
+    requires { HasImage map.now image (F.chip flash.old) }
+    ensures { TellsSize map.now image (IsSwapSizeIn map.now image)
+        (F.chip flash.old) (F.chip flash.new) result }
 {
     let running = used_length(flash, map, image, Side::Primary)?;
     let asked = used_length(flash, map, image, Side::Secondary)?;
@@ -63,13 +48,8 @@ fn prepare_image<F: Flash>(
     image: u8,
     side: Side,
 ) -> Result<(), FlashError>
-    requires laid_out { IsLaidOut map.now (F.chip flash.old) }
-    requires there { image < map.now.images }
-    ensures outside { Keeps map.now (only (TrailerOf image side))
-        (F.chip flash.old) (F.chip flash.new) }
-    ensures ok { OnOk result (IsReady (view map.now (F.chip flash.new)) side image) }
-    ensures erases { OnOk result ((F.chip flash.new).erases ≤ (F.chip flash.old).erases + 1) }
-    ensures ends { Ends result (F.chip flash.old) (F.chip flash.new) }
+    requires { HasImage map.now image (F.chip flash.old) }
+    ensures { PreparesImage map.now image side (F.chip flash.old) (F.chip flash.new) result }
 {
     clear(flash, map, image, side)?;
     let size = swap_length(flash, map, image)?;
@@ -84,19 +64,8 @@ fn prepare_member<F: Flash>(
     side: Side,
     image: u8,
 ) -> Result<(), FlashError>
-    requires laid_out { IsLaidOut map.now (F.chip flash.old) }
-    requires there { image < map.now.images }
-    ensures outside { Keeps map.now (trailers_on mask side)
-        (F.chip flash.old) (F.chip flash.new) }
-    ensures ok { OnOk result (is_member mask image ≡ true
-        → IsReady (view map.now (F.chip flash.new)) side image) }
-    // The other images that are ready stay so.
-    ensures kept { (i : ℕ) → i ≢ image
-        → IsReady (view map.now (F.chip flash.old)) side i
-        → IsReady (view map.now (F.chip flash.new)) side i }
-    ensures erases { OnOk result
-        ((F.chip flash.new).erases ≤ (F.chip flash.old).erases + share mask (λ i. 1) image) }
-    ensures ends { Ends result (F.chip flash.old) (F.chip flash.new) }
+    requires { HasImage map.now image (F.chip flash.old) }
+    ensures { PreparesMember map.now mask side image (F.chip flash.old) (F.chip flash.new) result }
 {
     if is_member(mask, image) {
         prepare_image(flash, map, image, side)?;
@@ -117,15 +86,7 @@ pub(crate) fn prepare_set<F: Flash>(
     side: Side,
 ) -> Result<(), FlashError>
     requires laid_out { IsLaidOut map.now (F.chip flash.old) }
-    ensures outside { Keeps map.now (trailers_on mask side)
-        (F.chip flash.old) (F.chip flash.new) }
-    ensures ok { OnOk result ((i : ℕ) → i < map.now.images → is_member mask i ≡ true
-        → IsPrepared (view map.now (F.chip flash.new)) side i) }
-    ensures ready { OnOk result ((i : ℕ) → i < map.now.images → is_member mask i ≡ true
-        → IsReady (view map.now (F.chip flash.new)) side i) }
-    ensures erases { OnOk result
-        ((F.chip flash.new).erases ≤ (F.chip flash.old).erases + members map.now mask) }
-    ensures ends { Ends result (F.chip flash.old) (F.chip flash.new) }
+    ensures { Prepares map.now mask side (F.chip flash.old) (F.chip flash.new) result }
 {
     for image in 0..map.images {
         prepare_member(flash, map, mask, side, image)?;

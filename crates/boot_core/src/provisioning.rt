@@ -1,19 +1,17 @@
 //! Making a flash a device's.
 
-ghost use Rattle.std.specs.Prelude.{◌≡◌, ℕ, ◌<◌, ◌≤◌, List, false, true, Err, OnOk, IfOk, IfErr, slice_index};
-ghost use Rattle.flash_model.specs.Chip.{Ends};
-ghost use Rattle.sector_map.specs.Map.{IsLaidOut, Keeps};
+ghost use Rattle.std.specs.Prelude.{◌≡◌, ℕ, ◌≤◌, List, slice_index};
+ghost use Rattle.sector_map.specs.Map.{HasImage, IsLaidOut};
 ghost use Rattle.sector_map.specs.Part.{trailers_of};
 ghost use Rattle.tlv.specs.Image.{BeginsIntact};
-ghost use Rattle.trailer.specs.Fields.{erased_fields, fields_at};
-ghost use Rattle.machine.specs.declared.error.Fault.TheVariants.{InvalidSet, RunningDamaged};
-ghost use Rattle.boot_core.specs.Provisioned.{AnswersMaking, AreCleared, AreCounters, EndsMaking, IsBegunAfresh};
-ghost use Rattle.boot_core.specs.Provisioned.{IsFirstDamaged, IsInvalidThere, IsJudged, IsProvisioned, IsReadThere};
-ghost use Rattle.boot_core.specs.Provisioned.{IsRowThere, IsRunningRow, IsValidThere, RefusesMaking, provided};
-ghost use Rattle.boot_core.specs.Provisioned.{IsDoneOrCut, running_bytes};
+ghost use Rattle.boot_core.specs.Provisioned.{AreCounters, IsBegunAfresh, IsReadThere};
+ghost use Rattle.boot_core.specs.Provisioned.{IsRunningRow, provided};
+ghost use Rattle.boot_core.specs.Provisions.{AreClearedIn, IsClearedIn, IsRowIn};
+ghost use Rattle.boot_core.specs.Provisions.{Judges, Leaves, MakesDevice, Provisions};
+ghost use Rattle.boot_core.specs.Telling.{TellsUnlessOff};
 
 use crate::deciding::raised_floors;
-use crate::reading::entry_of;
+use crate::device_table::entry_of;
 use arrayvec::ArrayVec;
 use certificate::{Image, Request, Table, is_valid};
 use common::limits::MOST_IMAGES;
@@ -43,12 +41,8 @@ fn read_row<F: Flash>(
     map: &SectorMap,
     image: u8,
 ) -> Result<Option<Image>, FlashError>
-    requires laid_out { IsLaidOut map.now (F.chip flash.old) }
-    requires there { image < map.now.images }
-    ensures same { F.chip flash.new ≡ F.chip flash.old }
-    ensures ok { IfOk result (IsRowThere (running_bytes map.now (F.chip flash.old) image)) }
-    ensures ends { Ends result (F.chip flash.old) (F.chip flash.new) }
-    ensures off { IfErr result (λ error. error ≡ FlashError.Off) }
+    requires { HasImage map.now image (F.chip flash.old) }
+    ensures { TellsUnlessOff (IsRowIn map.now image) (F.chip flash.old) (F.chip flash.new) result }
 {
     match describe_slot(flash, map, image, Side::Primary) {
         Ok(description) => Ok(Some(running_image(description))),
@@ -61,10 +55,7 @@ fn read_row<F: Flash>(
 /// The table of what the primary slots begin with, or the lowest image that isn't intact.
 fn read_running<F: Flash>(flash: &mut F, map: &SectorMap) -> Result<Reading, FlashError>
     requires laid_out { IsLaidOut map.now (F.chip flash.old) }
-    ensures same { F.chip flash.new ≡ F.chip flash.old }
-    ensures ok { IfOk result (IsReadThere map.now (F.chip flash.old)) }
-    ensures ends { Ends result (F.chip flash.old) (F.chip flash.new) }
-    ensures off { IfErr result (λ error. error ≡ FlashError.Off) }
+    ensures { TellsUnlessOff (IsReadThere map.now) (F.chip flash.old) (F.chip flash.new) result }
 {
     let mut images = ArrayVec::new();
     for image in 0..map.images {
@@ -86,8 +77,7 @@ fn running_counters(table: &Table) -> [u32; MOST_IMAGES]
 /// The security counters of what runs, where that is intact and valid.
 fn judge<F: Flash>(flash: &mut F, map: &SectorMap) -> Result<[u32; MOST_IMAGES], Fault>
     requires laid_out { IsLaidOut map.now (F.chip flash.old) }
-    ensures same { F.chip flash.new ≡ F.chip flash.old }
-    ensures judged { IsJudged map.now (F.chip flash.old) result }
+    ensures { Judges map.now (F.chip flash.old) (F.chip flash.new) result }
 {
     match read_running(flash, map) {
         Err(error) => Err(Fault::Flash(error)),
@@ -103,12 +93,9 @@ fn judge<F: Flash>(flash: &mut F, map: &SectorMap) -> Result<[u32; MOST_IMAGES],
 
 /// Erases both trailers of an image.
 fn clear_image<F: Flash>(flash: &mut F, map: &SectorMap, image: u8) -> Result<(), FlashError>
-    requires laid_out { IsLaidOut map.now (F.chip flash.old) }
-    requires there { image < map.now.images }
-    ensures outside { Keeps map.now (trailers_of image) (F.chip flash.old) (F.chip flash.new) }
-    ensures ok { OnOk result ((side : Side)
-        → fields_at map.now (F.chip flash.new) image side ≡ erased_fields) }
-    ensures ends { Ends result (F.chip flash.old) (F.chip flash.new) }
+    requires { HasImage map.now image (F.chip flash.old) }
+    ensures { Leaves map.now (trailers_of image) (IsClearedIn map.now image)
+        (F.chip flash.old) (F.chip flash.new) result }
 {
     clear(flash, map, image, Side::Primary)?;
     clear(flash, map, image, Side::Secondary)
@@ -117,9 +104,8 @@ fn clear_image<F: Flash>(flash: &mut F, map: &SectorMap, image: u8) -> Result<()
 /// Erases the trailers of all images.
 fn clear_all<F: Flash>(flash: &mut F, map: &SectorMap) -> Result<(), FlashError>
     requires laid_out { IsLaidOut map.now (F.chip flash.old) }
-    ensures outside { Keeps map.now provided (F.chip flash.old) (F.chip flash.new) }
-    ensures ok { OnOk result (AreCleared map.now (F.chip flash.new) map.now.images) }
-    ensures ends { Ends result (F.chip flash.old) (F.chip flash.new) }
+    ensures { Leaves map.now provided (AreClearedIn map.now)
+        (F.chip flash.old) (F.chip flash.new) result }
 {
     let images = map.images;
     for image in 0..images {
@@ -136,9 +122,8 @@ fn begin_afresh<F: Flash>(
 ) -> Result<(), FlashError>
     requires laid_out { IsLaidOut map.now (F.chip flash.old) }
     requires rest { (i : ℕ) → map.now.images ≤ i → slice_index floors.now i ≡ 0 }
-    ensures outside { Keeps map.now provided (F.chip flash.old) (F.chip flash.new) }
-    ensures ok { OnOk result (IsBegunAfresh map.now floors.now (F.chip flash.new)) }
-    ensures ends { Ends result (F.chip flash.old) (F.chip flash.new) }
+    ensures { Leaves map.now provided (IsBegunAfresh map.now floors.now)
+        (F.chip flash.old) (F.chip flash.new) result }
 {
     clear_all(flash, map)?;
     let state = State {
@@ -155,9 +140,7 @@ fn begin_afresh<F: Flash>(
 /// Makes a flash a device's, where what runs is intact and valid.
 fn make_device<F: Flash>(flash: &mut F, map: &SectorMap) -> Result<(), Fault>
     requires laid_out { IsLaidOut map.now (F.chip flash.old) }
-    ensures outside { Keeps map.now provided (F.chip flash.old) (F.chip flash.new) }
-    ensures answers { AnswersMaking map.now (F.chip flash.old) (F.chip flash.new) result }
-    ensures asleep { (F.chip flash.old).is_on ≡ false → F.chip flash.new ≡ F.chip flash.old }
+    ensures { MakesDevice map.now (F.chip flash.old) (F.chip flash.new) result }
 {
     let floors = judge(flash, map)?;
     match begin_afresh(flash, map, &floors) {
@@ -181,20 +164,7 @@ fn make_device<F: Flash>(flash: &mut F, map: &SectorMap) -> Result<(), Fault>
 /// again. `Flash(Off)` where the flash was off: nothing changed.
 pub fn provision<F: Flash>(flash: &mut F, map: &SectorMap) -> Result<(), Fault>
     requires laid_out { IsLaidOut map.now (F.chip flash.old) }
-    // Slots and scratch are as they were, whatever happened.
-    ensures outside { Keeps map.now provided (F.chip flash.old) (F.chip flash.new) }
-    ensures laid { IsLaidOut map.now (F.chip flash.new) }
-    ensures ok { OnOk result (IsProvisioned map.now (F.chip flash.old) (F.chip flash.new)) }
-    // A refusal tells why, and but for a cut nothing changed ..
-    ensures refused { IfErr result (RefusesMaking map.now (F.chip flash.old) (F.chip flash.new)) }
-    // .. and where it applies, that is the answer.
-    ensures damaged { (F.chip flash.old).is_on ≡ true → (i : ℕ)
-        → IsFirstDamaged map.now (F.chip flash.old) i → result ≡ Err (RunningDamaged i) }
-    ensures invalid { (F.chip flash.old).is_on ≡ true
-        → IsInvalidThere map.now (F.chip flash.old) → result ≡ Err InvalidSet }
-    ensures whole { (F.chip flash.old).is_on ≡ true
-        → IsValidThere map.now (F.chip flash.old) → IsDoneOrCut result }
-    ensures ends { EndsMaking result (F.chip flash.old) (F.chip flash.new) }
+    ensures { Provisions map.now (F.chip flash.old) (F.chip flash.new) result }
 {
     make_device(flash, map)
 }

@@ -1,10 +1,8 @@
 //! Runs: events in order, and a reply to each.
 
-ghost use Rattle.std.specs.Prelude.{◌≡◌, ◌+◌, true, length, IfErr, IfOk};
-ghost use Rattle.machine.specs.Passing.{RunsTo, StepsTo};
-ghost use Rattle.machine.specs.Steps.{cut_of, cuts_in};
-ghost use Rattle.machine.specs.declared.reply.Reply.TheVariants.{Done};
-ghost use Rattle.boot_core.specs.Answers.{fault_reply, reply_of_boot, reply_of_result};
+ghost use Rattle.std.specs.Prelude.{◌≡◌, true};
+ghost use Rattle.boot_core.specs.Answers.{fault_reply, reply_of_result};
+ghost use Rattle.boot_core.specs.Calls.{Replies, RepliesAgain, Runs};
 
 use crate::device::Device;
 use flash_model::{Flash, FlashError};
@@ -36,11 +34,7 @@ fn answer(given: Result<(), Fault>) -> Reply
 /// What a device answers to an event.
 fn call<F: Flash>(alloc: Global, device: &mut Device<F>, event: &Event) -> Reply
     requires { device.old.here.flash.is_on ≡ true }
-    ensures setup { device.new.setup ≡ device.old.setup }
-    ensures steps { StepsTo device.old.setup device.old.here device.new.here event.now result }
-    ensures cuts { device.new.here.flash.cuts
-        ≡ device.old.here.flash.cuts + cut_of result }
-    ensures power { cut_of result ≡ 0 → device.new.here.flash.is_on ≡ true }
+    ensures { Replies event.now device.old device.new result }
 {
     match event {
         Event::Accept(bytes) => answer(device.accept(alloc, bytes)),
@@ -62,11 +56,7 @@ fn call<F: Flash>(alloc: Global, device: &mut Device<F>, event: &Event) -> Reply
 /// What a device answers to an event. After a cut it is reset.
 fn step<F: Flash>(alloc: Global, device: &mut Device<F>, event: &Event) -> Reply
     requires { device.old.here.flash.is_on ≡ true }
-    ensures setup { device.new.setup ≡ device.old.setup }
-    ensures steps { StepsTo device.old.setup device.old.here device.new.here event.now result }
-    ensures cuts { device.new.here.flash.cuts
-        ≡ device.old.here.flash.cuts + cut_of result }
-    ensures on { device.new.here.flash.is_on ≡ true }
+    ensures { RepliesAgain event.now device.old device.new result }
 {
     let reply = call(alloc, device, event);
     match reply {
@@ -96,15 +86,7 @@ pub fn run<F: Flash>(
     events: &[Event],
 ) -> Result<Vec<Reply>, AllocError>
     requires { device.old.here.flash.is_on ≡ true }
-    ensures run { IfOk result (λ replies. RunsTo device.old.setup device.old.here device.new.here
-        events.now replies.items) }
-    ensures each { IfOk result (λ replies. length replies.items ≡ length events.now) }
-    ensures cuts { IfOk result (λ replies. device.new.here.flash.cuts
-        ≡ device.old.here.flash.cuts + cuts_in replies.items) }
-    // So another run can follow.
-    ensures on { device.new.here.flash.is_on ≡ true }
-    ensures setup { device.new.setup ≡ device.old.setup }
-    ensures nothing { IfErr result (λ error. device.new ≡ device.old) }
+    ensures { Runs events.now device.old device.new result }
 {
     let mut replies = Vec::with_capacity(alloc, events.len())?;
     for event in events {

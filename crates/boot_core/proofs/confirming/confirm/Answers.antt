@@ -1,15 +1,19 @@
+use Rattle.std.proofs.Common.{rules}
 use Rattle.machine.proofs.Confirming.{confirm_cut, confirm_ends}
 use Rattle.machine.proofs.Stepping.{if_ok_both}
 use Rattle.boot_core.proofs.confirming.confirm.Goals as goal
 
-pub returns-then-on_trial-clause-cut : goal.returns-then-on_trial-clause-cut
-returns-then-on_trial-clause-cut g c = λ cut.
-    confirm_cut c.args.map.now _ _ _ c.in-Ok.state c.args.image c.read_state.ensures.same c.in-Ok.ensures.answers.0
-    (c.is_trial-on_trial.ensures.yes c.if-on_trial.true) c.confirm_image.ensures.stands
-    (c.confirm_image.ensures.tried cut)
-
-pub returns-then-on_trial-clause-ok : goal.returns-then-on_trial-clause-ok
-returns-then-on_trial-clause-ok g c = if_ok_both c.confirm_image.result _ _ _ (λ b done none.
-    confirm_ends c.args.map.now _ _ _ c.in-Ok.state c.args.image c.read_state.ensures.same c.in-Ok.ensures.answers.0
-    (c.is_trial-on_trial.ensures.yes c.if-on_trial.true) b done none)
-    c.confirm_image.ensures.done c.confirm_image.ensures.none
+pub returns-then-on_trial : goal.returns-then-on_trial
+returns-then-on_trial g c = record {
+  outside = search rules;
+  cut = λ cut.
+      confirm_cut c.args.map.now _ _ _ c.in-Ok.state c.args.image c.read_state.ensures.same c.in-Ok.ensures.answers.0
+      (c.is_trial-on_trial.ensures.yes c.if-on_trial.true) c.confirm_image.ensures.stands
+      (c.confirm_image.ensures.tried cut);
+  ok = if_ok_both c.confirm_image.result _ _ _ (λ b done none.
+      confirm_ends c.args.map.now _ _ _ c.in-Ok.state c.args.image c.read_state.ensures.same c.in-Ok.ensures.answers.0
+      (c.is_trial-on_trial.ensures.yes c.if-on_trial.true) b done none)
+      c.confirm_image.ensures.done c.confirm_image.ensures.none;
+  same = search rules;
+  ends = search rules;
+}

@@ -1,22 +1,40 @@
-use Rattle.std.proofs.Common.{rules, subst}
+use Rattle.std.proofs.Common.{rules, ◌∙◌, subst}
 use Rattle.certificate.specs.Combination.{IsValid, running_set}
-use Rattle.machine.specs.Reading.{IsReading}
+use Rattle.machine.specs.Reading.{HasRows, IsReading}
+use Rattle.machine.proofs.Steadying.{taken_below}
 use Rattle.boot_core.proofs.deciding.find.Goals as goal
 
-pub returns-then-not-is_valid-clause-ok : goal.returns-then-not-is_valid-clause-ok
-returns-then-not-is_valid-clause-ok g c = λ s can.
-    let no : IsValid c.in-Read.table running_set → ⊥ = search rules in
-    (c.in-Read.table, subst (λ r. IsReading s r) c.in-Read.is (c.in_ok-image.ensures.ok s can), no)
+pub returns-then-not-is_valid : goal.returns-then-not-is_valid
+returns-then-not-is_valid g c = record {
+  same = search rules;
+  ok = λ s can.
+      let no : IsValid c.in-Read.table running_set → ⊥ = search rules in
+      (c.in-Read.table, subst (λ r. IsReading s r) c.in-Read.is (c.in_ok-image.ensures.ok s can), no);
+  whole = search rules;
+  ends = search rules;
+}
 
-pub returns-in-DamagedAt-clause-ok : goal.returns-in-DamagedAt-clause-ok
-returns-in-DamagedAt-clause-ok g c = λ s can.
-    subst (λ r. IsReading s r) c.in-DamagedAt.is (c.in_ok-image.ensures.ok s can)
+pub returns-in-DamagedAt : goal.returns-in-DamagedAt
+returns-in-DamagedAt g c = record {
+  same = search rules;
+  ok = λ s can.
+      subst (λ r. IsReading s r) c.in-DamagedAt.is (c.in_ok-image.ensures.ok s can);
+  whole = search rules;
+  ends = search rules;
+}
 
-pub returns-else-not-is_valid-clause-ok : goal.returns-else-not-is_valid-clause-ok
-returns-else-not-is_valid-clause-ok g c = λ s can. record {
-  rows = subst (λ r. IsReading s r) c.in-Read.is (c.in_ok-image.ensures.ok s can);
-  valid = search rules;
-  right = c.choose-report.ensures.right;
-  greatest = c.choose-report.ensures.greatest;
-  standard = c.choose-report.ensures.standard;
+pub returns-else-not-is_valid : goal.returns-else-not-is_valid
+returns-else-not-is_valid g c = record {
+  same = search rules;
+  ok = λ s can. record {
+    rows = subst (λ r. IsReading s r) c.in-Read.is (c.in_ok-image.ensures.ok s can);
+    valid = search rules;
+    right = c.choose-report.ensures.right;
+    greatest = c.choose-report.ensures.greatest;
+    standard = c.choose-report.ensures.standard;
+  };
+  whole = λ i taken.
+      let rows = subst (λ reading. HasRows c.args.map.now.images reading) c.in-Read.is c.in_ok-image.ensures.whole in
+      taken_below c.choose-report.result c.args.map.now.images i (c.choose-report.ensures.right.images ∙ rows) taken;
+  ends = search rules;
 }

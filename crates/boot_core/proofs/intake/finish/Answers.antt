@@ -1,4 +1,4 @@
-use Rattle.std.proofs.Common.{ap, sym, subst, refl}
+use Rattle.std.proofs.Common.{rules, ap, sym, subst, refl}
 use Rattle.std.proofs.Common.{Ok, Err}
 use Rattle.upload.specs.Finish.{FinishRow}
 use Rattle.upload.specs.Ending.{EndsUpload}
@@ -12,55 +12,73 @@ use Rattle.boot_core.specs.Device.{made}
 use Rattle.boot_core.proofs.Stopping.{failed, opens_stopped, finish_down}
 use Rattle.boot_core.proofs.intake.finish.Goals as goal
 
-pub returns-in-Ok-finish-clause-opens : goal.returns-in-Ok-finish-clause-opens
-returns-in-Ok-finish-clause-opens g c = c.finish.ensures.all_open
-    (subst (λ chip. AllOpenAt (view c.args.map.now chip) c.args.uploads.now.sessions)
-    (sym c.check_ready.ensures.same) c.requires.opens)
+pub returns-in-Err : goal.returns-in-Err
+returns-in-Err g c = record {
+  laid = search rules;
+  opens = search rules;
+  steps = search rules;
+  outside = search rules;
+  down = search rules;
+  ends = search rules;
+}
 
-pub returns-in-Ok-finish-clause-steps : goal.returns-in-Ok-finish-clause-steps
-returns-in-Ok-finish-clause-steps g c = λ identity boots on.
-    let ready = c.in-Ok.ensures.ready in
-    steps_finish (made c.args.map.now identity boots) (g.F.Flash.chip c.args.flash.now) _ _ ready.1.0 ready.0
-    ready.1.1 ready.1.2 (g.F.Flash.chip c.finish.new.flash) c.finish.new.self.sessions c.args.image (Ok tt) Done refl refl
-    (subst (λ chip. TakesRow c.args.map.now chip (g.F.Flash.chip c.finish.new.flash)
-    c.args.uploads.now.sessions c.finish.new.self.sessions (λ m. FinishRow m c.args.image) (Ok tt))
-    c.check_ready.ensures.same c.in-Ok-finish.ensures.row)
+pub returns-in-Ok-finish : goal.returns-in-Ok-finish
+returns-in-Ok-finish g c = record {
+  laid = search rules;
+  opens = c.finish.ensures.all_open
+      (subst (λ chip. AllOpenAt (view c.args.map.now chip) c.args.uploads.now.sessions)
+      (sym c.check_ready.ensures.same) c.requires.opens);
+  steps = λ identity boots on.
+      let ready = c.in-Ok.ensures.ready in
+      steps_finish (made c.args.map.now identity boots) (g.F.Flash.chip c.args.flash.now) _ _ ready.1.0 ready.0
+      ready.1.1 ready.1.2 (g.F.Flash.chip c.finish.new.flash) c.finish.new.self.sessions c.args.image (Ok tt) Done refl refl
+      (subst (λ chip. TakesRow c.args.map.now chip (g.F.Flash.chip c.finish.new.flash)
+      c.args.uploads.now.sessions c.finish.new.self.sessions (λ m. FinishRow m c.args.image) (Ok tt))
+      c.check_ready.ensures.same c.in-Ok-finish.ensures.row);
+  outside = search rules;
+  down = search rules;
+  ends = search rules;
+}
 
-pub returns-in-Err-finish-clause-opens : goal.returns-in-Err-finish-clause-opens
-returns-in-Err-finish-clause-opens g c =
-    opens_stopped (view c.args.map.now (g.F.Flash.chip c.finish.new.flash)) (no.Upload c.in-Err-finish.error) _ _
-    c.args.is_up.now c.stop-in-Err-finish.new.is_up
-    (record {
-      down = c.stop-in-Err-finish.ensures.down;
-      closed = c.stop-in-Err-finish.ensures.closed;
-      stays = c.stop-in-Err-finish.ensures.up;
-      kept = c.stop-in-Err-finish.ensures.kept;
-    })
-    (c.finish.ensures.all_open (subst (λ chip. AllOpenAt (view c.args.map.now chip) c.args.uploads.now.sessions)
-    (sym c.check_ready.ensures.same) c.requires.opens))
-
-pub returns-in-Err-finish-clause-steps : goal.returns-in-Err-finish-clause-steps
-returns-in-Err-finish-clause-steps g c = λ identity boots on.
-    let ready = c.in-Ok.ensures.ready in
-    let old = g.F.Flash.chip c.args.flash.now in
-    let new = g.F.Flash.chip c.finish.new.flash in
-    let error = c.in-Err-finish.error in
-    let takes = subst (λ chip. TakesRow c.args.map.now chip new
-    c.args.uploads.now.sessions c.finish.new.self.sessions (λ m. FinishRow m c.args.image) (Err error))
-    c.check_ready.ensures.same c.in-Err-finish.ensures.row in
-    failed (made c.args.map.now identity boots) old new c.args.uploads.now.sessions c.finish.new.self.sessions
-    c.stop-in-Err-finish.new.uploads.sessions c.args.is_up.now c.stop-in-Err-finish.new.is_up (event.Finish c.args.image) error on
-    (subst (λ chip. EndsUpload {T = Unit} (Err error) chip new) c.check_ready.ensures.same
-    c.in-Err-finish.ensures.ends)
-    (record {
-      down = c.stop-in-Err-finish.ensures.down;
-      closed = c.stop-in-Err-finish.ensures.closed;
-      stays = c.stop-in-Err-finish.ensures.up;
-      kept = c.stop-in-Err-finish.ensures.kept;
-    })
-    (λ none cut. finish_down (made c.args.map.now identity boots) old new c.args.uploads.now.sessions _
-    c.args.is_up.now ready.0 none ready.1.0 c.finish.new.self.sessions (Err error) ready.1.1 ready.1.2
-    (ap (λ e. Err e) cut) c.args.image takes)
-    (λ own. steps_finish (made c.args.map.now identity boots) old _ _ ready.1.0 ready.0 ready.1.1 ready.1.2 new
-    c.finish.new.self.sessions c.args.image (Err error) (Refused (no.Upload error)) (upload_refused error own) own takes)
-    c.stop-in-Err-finish.result c.stop-in-Err-finish.ensures.is
+pub returns-in-Err-finish : goal.returns-in-Err-finish
+returns-in-Err-finish g c = record {
+  laid = search rules;
+  opens =
+      opens_stopped (view c.args.map.now (g.F.Flash.chip c.finish.new.flash)) (no.Upload c.in-Err-finish.error) _ _
+      c.args.is_up.now c.stop-in-Err-finish.new.is_up
+      (record {
+        down = c.stop-in-Err-finish.ensures.down;
+        closed = c.stop-in-Err-finish.ensures.closed;
+        stays = c.stop-in-Err-finish.ensures.up;
+        kept = c.stop-in-Err-finish.ensures.kept;
+      })
+      (c.finish.ensures.all_open (subst (λ chip. AllOpenAt (view c.args.map.now chip) c.args.uploads.now.sessions)
+      (sym c.check_ready.ensures.same) c.requires.opens));
+  steps = λ identity boots on.
+      let ready = c.in-Ok.ensures.ready in
+      let old = g.F.Flash.chip c.args.flash.now in
+      let new = g.F.Flash.chip c.finish.new.flash in
+      let error = c.in-Err-finish.error in
+      let takes = subst (λ chip. TakesRow c.args.map.now chip new
+      c.args.uploads.now.sessions c.finish.new.self.sessions (λ m. FinishRow m c.args.image) (Err error))
+      c.check_ready.ensures.same c.in-Err-finish.ensures.row in
+      failed (made c.args.map.now identity boots) old new c.args.uploads.now.sessions c.finish.new.self.sessions
+      c.stop-in-Err-finish.new.uploads.sessions c.args.is_up.now c.stop-in-Err-finish.new.is_up (event.Finish c.args.image) error on
+      (subst (λ chip. EndsUpload {T = Unit} (Err error) chip new) c.check_ready.ensures.same
+      c.in-Err-finish.ensures.ends)
+      (record {
+        down = c.stop-in-Err-finish.ensures.down;
+        closed = c.stop-in-Err-finish.ensures.closed;
+        stays = c.stop-in-Err-finish.ensures.up;
+        kept = c.stop-in-Err-finish.ensures.kept;
+      })
+      (λ none cut. finish_down (made c.args.map.now identity boots) old new c.args.uploads.now.sessions _
+      c.args.is_up.now ready.0 none ready.1.0 c.finish.new.self.sessions (Err error) ready.1.1 ready.1.2
+      (ap (λ e. Err e) cut) c.args.image takes)
+      (λ own. steps_finish (made c.args.map.now identity boots) old _ _ ready.1.0 ready.0 ready.1.1 ready.1.2 new
+      c.finish.new.self.sessions c.args.image (Err error) (Refused (no.Upload error)) (upload_refused error own) own takes)
+      c.stop-in-Err-finish.result c.stop-in-Err-finish.ensures.is;
+  outside = search rules;
+  down = search rules;
+  ends = search rules;
+}

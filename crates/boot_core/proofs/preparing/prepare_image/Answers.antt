@@ -1,4 +1,4 @@
-use Rattle.std.proofs.Common.{◌≡◌, sym, subst, true}
+use Rattle.std.proofs.Common.{rules, ◌≡◌, sym, subst, true}
 use Rattle.std.proofs.lemmas.Result.{on_ok_weaker}
 use Rattle.trailer.specs.Fields.{are_erased, bytes_at, fields_at, trailer_bytes}
 use Rattle.trailer.proofs.Erased.{erased_range}
@@ -12,16 +12,21 @@ write_size-requires-clause-erased g c = subst
     (erased_range (trailer_bytes c.args.map.now (g.F.Flash.chip c.clear.new.flash) c.args.image c.args.side) _ _
     c.in_ok-clear.ensures.bytes)
 
-pub returns-clause-ok : goal.returns-clause-ok
-returns-clause-ok g c =
-    let map = c.args.map.now in
-    let mid = g.F.Flash.chip c.swap_length.new.flash in
-    let new = g.F.Flash.chip c.write_size.new.flash in
-    on_ok_weaker c.write_size.result
-    (λ written. made_ready map c.args.image c.in_ok-size.size c.args.side _ mid new c.in_ok-clear.ensures.ok
-    c.in_ok-size.ensures.ok c.swap_length.ensures.same
-    (sized (fields_at map mid c.args.image c.args.side) (fields_at map new c.args.image c.args.side)
-    c.in_ok-size.size c.write_size.ensures.own
-    (written c.in_ok-size.ensures.some c.in_ok-size.ensures.most))
-    c.write_size.ensures.outside)
-    c.write_size.ensures.ok
+pub returns : goal.returns
+returns g c = record {
+  outside = search rules;
+  ok =
+      let map = c.args.map.now in
+      let mid = g.F.Flash.chip c.swap_length.new.flash in
+      let new = g.F.Flash.chip c.write_size.new.flash in
+      on_ok_weaker c.write_size.result
+      (λ written. made_ready map c.args.image c.in_ok-size.size c.args.side _ mid new c.in_ok-clear.ensures.ok
+      c.in_ok-size.ensures.ok c.swap_length.ensures.same
+      (sized (fields_at map mid c.args.image c.args.side) (fields_at map new c.args.image c.args.side)
+      c.in_ok-size.size c.write_size.ensures.own
+      (written c.in_ok-size.ensures.some c.in_ok-size.ensures.most))
+      c.write_size.ensures.outside)
+      c.write_size.ensures.ok;
+  erases = search rules;
+  ends = search rules;
+}

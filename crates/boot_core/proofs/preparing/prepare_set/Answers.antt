@@ -27,5 +27,11 @@ loop-image-preserved g c =
       asleep = search rules;
     }
 
-pub returns-clause-ok : goal.returns-clause-ok
-returns-clause-ok g c = λ i lt member. (c.loop-image.invariant.ready i (omega arith) member).prepared
+pub returns : goal.returns
+returns g c = record {
+  outside = search rules;
+  ok = λ i lt member. (c.loop-image.invariant.ready i (omega arith) member).prepared;
+  ready = search rules;
+  erases = search rules;
+  ends = search rules;
+}

@@ -1,20 +1,24 @@
-use Rattle.std.proofs.Common.{subst}
+use Rattle.std.proofs.Common.{rules, subst}
 use Rattle.flash_model.specs.Chip.{IsUncut}
 use Rattle.sector_map.specs.Map.{Keeps}
 use Rattle.boot_core.specs.Provisioned.{provided}
 use Rattle.boot_core.proofs.Afresh.{made_device, valid_there}
 use Rattle.boot_core.proofs.provisioning.make_device.Goals as goal
 
-pub returns-in-Ok-clause-answers : goal.returns-in-Ok-clause-answers
-returns-in-Ok-clause-answers g c =
-    let map = c.args.map.now in
-    let old = g.F.Flash.chip c.args.flash.now in
-    let new = g.F.Flash.chip c.begin_afresh.new.flash in
-    let floors = c.in_ok-floors.floors in
-    let judged = c.in_ok-floors.ensures.judged in (
-      valid_there map old floors judged,
-      made_device map old new floors judged
-          (subst (λ chip. Keeps map provided chip new) c.judge.ensures.same c.begin_afresh.ensures.outside)
-          c.in-Ok.ensures.ok,
-      subst (λ chip. IsUncut chip new) c.judge.ensures.same c.in-Ok.ensures.ends.uncut,
-    )
+pub returns-in-Ok : goal.returns-in-Ok
+returns-in-Ok g c = record {
+  outside = search rules;
+  answers =
+      let map = c.args.map.now in
+      let old = g.F.Flash.chip c.args.flash.now in
+      let new = g.F.Flash.chip c.begin_afresh.new.flash in
+      let floors = c.in_ok-floors.floors in
+      let judged = c.in_ok-floors.ensures.judged in (
+        valid_there map old floors judged,
+        made_device map old new floors judged
+            (subst (λ chip. Keeps map provided chip new) c.judge.ensures.same c.begin_afresh.ensures.outside)
+            c.in-Ok.ensures.ok,
+        subst (λ chip. IsUncut chip new) c.judge.ensures.same c.in-Ok.ensures.ends.uncut,
+      );
+  asleep = search rules;
+}

@@ -1,14 +1,18 @@
+use Rattle.std.proofs.Common.{rules}
 use Rattle.boot_core.proofs.Afresh.{damaged_answer, invalid_answer, whole_answer}
 use Rattle.boot_core.proofs.provisioning.provision.Goals as goal
 
-pub returns-clause-damaged : goal.returns-clause-damaged
-returns-clause-damaged g c = λ on i first. damaged_answer c.args.map.now _ _ c.make_device.result i
-    c.make_device.ensures.answers on first
-
-pub returns-clause-invalid : goal.returns-clause-invalid
-returns-clause-invalid g c = λ on there. invalid_answer c.args.map.now _ _ c.make_device.result
-    c.make_device.ensures.answers on there
-
-pub returns-clause-whole : goal.returns-clause-whole
-returns-clause-whole g c = λ on there. whole_answer c.args.map.now _ _ c.make_device.result
-    c.make_device.ensures.answers on there
+pub returns : goal.returns
+returns g c = record {
+  outside = search rules;
+  laid = search rules;
+  ok = search rules;
+  refused = search rules;
+  damaged = λ on i first. damaged_answer c.args.map.now _ _ c.make_device.result i
+      c.make_device.ensures.answers on first;
+  invalid = λ on there. invalid_answer c.args.map.now _ _ c.make_device.result
+      c.make_device.ensures.answers on there;
+  whole = λ on there. whole_answer c.args.map.now _ _ c.make_device.result
+      c.make_device.ensures.answers on there;
+  ends = search rules;
+}

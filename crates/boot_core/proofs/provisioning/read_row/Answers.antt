@@ -1,9 +1,15 @@
+use Rattle.std.proofs.Common.{rules}
 use Rattle.tlv.proofs.Descriptions.{front_has_no_fault}
 use Rattle.boot_core.specs.Provisioned.{running_bytes}
 use Rattle.boot_core.proofs.provisioning.read_row.Goals as goal
 
-pub returns-in-Err-Image-clause-ok : goal.returns-in-Err-Image-clause-ok
-returns-in-Err-Image-clause-ok g c = λ held.
-    let fault = rw c.in-Err-Image.field-0-is at c.in-Err-Image.ensures.fault in
-    front_has_no_fault (running_bytes c.args.map.now (g.F.Flash.chip c.args.flash.now) c.args.image) held.0
-    c.in-Err-Image.field-0-0 held.1 fault.1
+pub returns-in-Err-Image : goal.returns-in-Err-Image
+returns-in-Err-Image g c = record {
+  same = search rules;
+  ok = λ held.
+      let fault = rw c.in-Err-Image.field-0-is at c.in-Err-Image.ensures.fault in
+      front_has_no_fault (running_bytes c.args.map.now (g.F.Flash.chip c.args.flash.now) c.args.image) held.0
+      c.in-Err-Image.field-0-0 held.1 fault.1;
+  ends = search rules;
+  off = search rules;
+}

@@ -13,15 +13,20 @@ loop-image-init g c = record {
       (sym c.new-images.ensures) (rows_none c.args.map.now (g.F.Flash.chip c.args.flash.now));
 }
 
-pub returns-in-None-clause-ok : goal.returns-in-None-clause-ok
-returns-in-None-clause-ok g c =
-    let map = c.args.map.now in
-    let old = g.F.Flash.chip c.args.flash.now in
-    let lt : c.loop-image.image < c.args.map.now.images = omega arith in
-    first_damaged map old c.loop-image.image _ c.loop-image.invariant.rows lt
-    (subst (λ found. IsRowThere (running_bytes map old c.loop-image.image) found) c.in-None.is
-    (subst (λ chip. IsRowThere (running_bytes map chip c.loop-image.image) c.in_ok-read_row.field-0)
-    c.loop-image.invariant.same c.in_ok-read_row.ensures.ok))
+pub returns-in-None : goal.returns-in-None
+returns-in-None g c = record {
+  same = search rules;
+  ok =
+      let map = c.args.map.now in
+      let old = g.F.Flash.chip c.args.flash.now in
+      let lt : c.loop-image.image < c.args.map.now.images = omega arith in
+      first_damaged map old c.loop-image.image _ c.loop-image.invariant.rows lt
+      (subst (λ found. IsRowThere (running_bytes map old c.loop-image.image) found) c.in-None.is
+      (subst (λ chip. IsRowThere (running_bytes map chip c.loop-image.image) c.in_ok-read_row.field-0)
+      c.loop-image.invariant.same c.in_ok-read_row.ensures.ok));
+  ends = search rules;
+  off = search rules;
+}
 
 pub loop-image-preserved : goal.loop-image-preserved
 loop-image-preserved g c =

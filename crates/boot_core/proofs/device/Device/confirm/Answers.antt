@@ -1,13 +1,20 @@
-use Rattle.std.proofs.Common.{◌≡◌, ◌+◌, true, subst}
+use Rattle.std.proofs.Common.{rules, ◌≡◌, ◌+◌, true, subst}
 use Rattle.machine.specs.Passing.{StepsTo}
 use Rattle.machine.specs.declared.event.Event.TheVariants as event
 use Rattle.boot_core.specs.Answers.{reply_of_result}
 use Rattle.boot_core.specs.Device.{Whole, seen}
 use Rattle.boot_core.proofs.device.Device.confirm.Goals as goal
 
-pub returns-clause-steps : goal.returns-clause-steps
-returns-clause-steps g c = subst
-    (λ (whole : Whole). whole.here.flash.is_on ≡ true → StepsTo whole.setup whole.here
-    (seen (g.F.Flash.chip c.confirm_on.new.flash) c.confirm_on.new.uploads.sessions c.confirm_on.new.is_up)
-    (event.Confirm c.args.image) (reply_of_result c.confirm_on.result)) c.self.view_is
-    (λ on. c.confirm_on.ensures.steps c.self.inside.identity (c.self.inside.left + 1) on)
+pub returns : goal.returns
+returns g c = record {
+  setup = search rules;
+  steps = subst
+      (λ (whole : Whole). whole.here.flash.is_on ≡ true → StepsTo whole.setup whole.here
+      (seen (g.F.Flash.chip c.confirm_on.new.flash) c.confirm_on.new.uploads.sessions c.confirm_on.new.is_up)
+      (event.Confirm c.args.image) (reply_of_result c.confirm_on.result)) c.self.view_is
+      (λ on. c.confirm_on.ensures.steps c.self.inside.identity (c.self.inside.left + 1) on);
+  outside = search rules;
+  down = search rules;
+  refused = search rules;
+  ends = search rules;
+}

@@ -1,0 +1,67 @@
+use Rattle.std.proofs.Common.{rules, arith, inl, ◌∙◌}
+use Rattle.std.proofs.lemmas.Result.{on_ok_weaker}
+use Rattle.machine.proofs.Returning.{back_finishes}
+use Rattle.boot_core.proofs.Records.{stands_within}
+use Rattle.boot_core.proofs.OnMap.{on_more}
+use Rattle.boot_core.proofs.back.finish_back.Goals as goal
+
+pub carry_back-requires : goal.carry_back-requires
+carry_back-requires g c = record {
+  laid_out = search rules;
+  within = stands_within c.args.map.now _ c.args.state.now c.requires.read;
+}
+
+pub record_back_settle-requires : goal.record_back_settle-requires
+record_back_settle-requires g c = record {
+  laid_out = search rules;
+  read = c.carry_back.ensures.recorded ∙ c.requires.read;
+  kind = search rules;
+}
+
+pub returns-in_err-carry_back : goal.returns-in_err-carry_back
+returns-in_err-carry_back g c = record {
+  laid = search rules;
+  on_map = λ start was.
+      on_more _ _ start _ _ c.carry_back.ensures.outside was;
+  stands = λ s trial is was. inl
+      (inl (c.carry_back.ensures.stands s trial is was));
+  ok = search rules;
+  erases = search rules;
+  ends = search rules;
+}
+
+pub returns-in_err-record_back_settle : goal.returns-in_err-record_back_settle
+returns-in_err-record_back_settle g c = record {
+  laid = search rules;
+  on_map = λ start was.
+      on_more _ _ start _ _ c.record_back_settle.ensures.outside (on_more _ _ start _ _ c.carry_back.ensures.outside was);
+  stands = λ s trial is was. inl
+      (c.record_back_settle.ensures.stands s trial (c.carry_back.ensures.stands s trial is was)
+      (c.in_ok-carry_back.ensures.ok s trial is was));
+  ok = search rules;
+  erases = search rules;
+  ends = search rules;
+}
+
+pub returns : goal.returns
+returns g c = record {
+  laid = search rules;
+  on_map = λ start was.
+      c.settle_and_return.ensures.on_map start (on_more _ _ start _ _ c.record_back_settle.ensures.outside (on_more _ _ start _ _ c.carry_back.ensures.outside was));
+  stands = λ s trial is was. back_finishes c.args.map.now _ s trial
+      (c.settle_and_return.ensures.stands s trial is (c.in_ok-record_back_settle.ensures.ok s trial
+      (c.in_ok-carry_back.ensures.ok s trial is was)));
+  ok = on_ok_weaker c.settle_and_return.result
+      (λ ends. λ s trial is was. ends s trial is (c.in_ok-record_back_settle.ensures.ok s trial
+      (c.in_ok-carry_back.ensures.ok s trial is was)))
+      c.settle_and_return.ensures.ok;
+  erases = on_ok_weaker c.settle_and_return.result
+      (λ settled. λ s trial is was. omega (
+        arith,
+        c.in_ok-carry_back.ensures.erases s trial is was,
+        c.in_ok-record_back_settle.ensures.erases,
+        settled,
+      ))
+      c.settle_and_return.ensures.erases;
+  ends = search rules;
+}

@@ -1,0 +1,21 @@
+use Rattle.std.proofs.Common.{rules}
+use Rattle.std.proofs.lemmas.Result.{on_ok_weaker}
+use Rattle.machine.proofs.Ending.{good_either, good_ok}
+use Rattle.boot_core.proofs.Records.{fits_steady}
+use Rattle.boot_core.proofs.settle.record_taken.Goals as goal
+
+pub append-requires-clause-fits : goal.append-requires-clause-fits
+append-requires-clause-fits g c =
+    fits_steady c.args.map.now _ c.args.state.now c.args.floors c.requires.recorded.read c.requires.rest
+
+pub returns : goal.returns
+returns g c = record {
+  outside = search rules;
+  stands = good_either c.args.map.now _ _ _ _ c.requires.recorded.read
+      c.append.ensures.outside c.append.ensures.either;
+  ok = on_ok_weaker c.append.result
+      (λ recorded. good_ok c.args.map.now _ _ _ _ c.requires.recorded.read c.append.ensures.outside recorded)
+      c.append.ensures.ok;
+  erases = search rules;
+  ends = search rules;
+}

@@ -1,0 +1,21 @@
+use Rattle.std.proofs.Common.{rules}
+use Rattle.std.proofs.lemmas.Result.{on_ok_weaker}
+use Rattle.machine.proofs.Ending.{trial_either, trial_ok}
+use Rattle.boot_core.proofs.Records.{fits_trial}
+use Rattle.boot_core.proofs.settle.record_trial.Goals as goal
+
+pub append-requires-clause-fits : goal.append-requires-clause-fits
+append-requires-clause-fits g c =
+    fits_trial c.args.map.now _ c.args.state.now c.args.left c.requires.recorded.read c.requires.recorded.kind c.requires.few
+
+pub returns : goal.returns
+returns g c = record {
+  outside = search rules;
+  stands = trial_either c.args.map.now _ _ _ c.args.left c.requires.recorded.read
+      c.append.ensures.outside c.append.ensures.either;
+  ok = on_ok_weaker c.append.result
+      (λ recorded. trial_ok c.args.map.now _ _ _ c.args.left c.requires.recorded.read c.append.ensures.outside recorded)
+      c.append.ensures.ok;
+  erases = search rules;
+  ends = search rules;
+}

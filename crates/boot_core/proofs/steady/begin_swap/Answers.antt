@@ -1,0 +1,52 @@
+use Rattle.std.proofs.Common.{rules, arith, inl, refl}
+use Rattle.std.proofs.lemmas.Result.{on_ok_weaker}
+use Rattle.machine.proofs.Frames.{primary_aside, steady_kept}
+use Rattle.machine.proofs.Beginning.{begin_either, begin_ok}
+use Rattle.boot_core.proofs.Measured.{measured}
+use Rattle.sector_map.specs.declared.layout.Side.TheVariants.{Primary}
+use Rattle.boot_core.proofs.Records.{fits_swap, has_state, read_kept}
+use Rattle.boot_core.proofs.OnMap.{on_more}
+use Rattle.boot_core.proofs.steady.begin_swap.Goals as goal
+
+pub append-requires-clause-has_state : goal.append-requires-clause-has_state
+append-requires-clause-has_state g c =
+    let map = c.args.map.now in
+    has_state map _ c.args.state.now
+    (read_kept map _ _ _ c.args.state.now c.prepare_set.ensures.outside refl c.requires.read)
+
+pub append-requires-clause-fits : goal.append-requires-clause-fits
+append-requires-clause-fits g c = fits_swap c.args.map.now _ c.args.state.now c.args.mask c.args.permanent
+    c.requires.read (omega arith) c.requires.some c.requires.within
+
+pub returns-in_err-prepare_set : goal.returns-in_err-prepare_set
+returns-in_err-prepare_set g c = record {
+  laid = search rules;
+  on_map = λ start was.
+      on_more _ _ start _ _ c.prepare_set.ensures.outside was;
+  stands = λ s table was decision. inl
+      (steady_kept c.args.map.now _ _ _ s c.prepare_set.ensures.outside (primary_aside c.args.mask) was);
+  ok = search rules;
+  recorded = search rules;
+  moves = search rules;
+  erases = search rules;
+  ends = search rules;
+}
+
+pub returns : goal.returns
+returns g c = record {
+  laid = search rules;
+  on_map = λ start was.
+      on_more _ _ start _ _ c.append.ensures.outside (on_more _ _ start _ _ c.prepare_set.ensures.outside was);
+  stands = begin_either c.args.map.now _ _ _ c.requires.laid_out _ _ _ c.requires.read
+      c.prepare_set.ensures.outside c.in_ok-prepare_set.ensures.ok c.append.ensures.outside c.append.ensures.either;
+  ok = on_ok_weaker c.append.result
+      (λ recorded. begin_ok c.args.map.now _ _ _ c.requires.laid_out _ _ _ c.requires.read
+      c.prepare_set.ensures.outside c.in_ok-prepare_set.ensures.ok c.append.ensures.outside recorded)
+      c.append.ensures.ok;
+  recorded = search rules;
+  moves = on_ok_weaker c.append.result
+      (λ recorded. measured c.args.map.now _ _ _ Primary c.args.mask c.prepare_set.ensures.outside
+      c.in_ok-prepare_set.ensures.ready c.append.ensures.outside) c.append.ensures.ok;
+  erases = search rules;
+  ends = search rules;
+}

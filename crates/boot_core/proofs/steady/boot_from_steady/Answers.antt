@@ -1,0 +1,109 @@
+use Rattle.std.proofs.Common.{rules, ◌+◌, false, refl}
+use Rattle.std.proofs.lemmas.Result.{IfOk-weaker}
+use Rattle.machine.proofs.Steadying.{chosen_here, ends_damaged, ends_invalid, ends_plain}
+use Rattle.machine.proofs.Upgrading.{steady_cut}
+use Rattle.boot_core.proofs.Measured.{fresh_none, fresh_same}
+use Rattle.machine.specs.Wear.{IsSetIn}
+use Rattle.machine.specs.declared.error.Fault.TheVariants.{InvalidSet, RunningDamaged}
+use Rattle.machine.specs.declared.reply.Reply.TheVariants.{Booted, Refused}
+use Rattle.boot_core.proofs.steady.boot_from_steady.Goals as goal
+
+pub returns-in_err-image : goal.returns-in_err-image
+returns-in_err-image g c = record {
+  boot = record {
+    laid = search rules;
+    on_map = search rules;
+    stands = λ s was.
+        steady_cut c.args.map.now (c.args.left + 1) _ _ s c.find.ensures.same was;
+    ok = search rules;
+    erases = search rules;
+    told = search rules;
+    ends = search rules;
+  };
+  idle = search rules;
+}
+
+pub returns-then-mask-eq0 : goal.returns-then-mask-eq0
+returns-then-mask-eq0 g c = record {
+  boot = record {
+    laid = search rules;
+    on_map = search rules;
+    stands = λ s was.
+        steady_cut c.args.map.now (c.args.left + 1) _ _ s c.find.ensures.same was;
+    ok = ends_plain c.args.map.now (c.args.left + 1) _ _ _ _ c.requires.recorded.read
+        c.find.ensures.same c.in_ok-image.ensures.ok _ _ _ c.in-Decided.is c.taken_mask-mask.ensures.each
+        c.if-mask-eq0.true;
+    erases = λ s was.
+        let is : IsSetIn c.taken_mask-mask.result c.in-Decided.report = record { each = c.taken_mask-mask.ensures.each } in
+        fresh_none c.args.map.now (g.F.Flash.chip c.args.flash.now) (g.F.Flash.chip c.find.new.flash)
+        c.taken_mask-mask.result
+        (Booted c.in-Decided.table c.in-Decided.report false) c.find.ensures.same is;
+    told = search rules;
+    ends = search rules;
+  };
+  idle = search rules;
+}
+
+pub returns-in-Damaged : goal.returns-in-Damaged
+returns-in-Damaged g c = record {
+  boot = record {
+    laid = search rules;
+    on_map = search rules;
+    stands = λ s was.
+        steady_cut c.args.map.now (c.args.left + 1) _ _ s c.find.ensures.same was;
+    ok = ends_damaged c.args.map.now (c.args.left + 1) _ _ _ _ c.requires.recorded.read
+        c.find.ensures.same c.in_ok-image.ensures.ok _ c.in-Damaged.is;
+    erases = λ s was.
+        fresh_none c.args.map.now (g.F.Flash.chip c.args.flash.now) (g.F.Flash.chip c.find.new.flash) 0
+        (Refused (RunningDamaged c.in-Damaged.image)) c.find.ensures.same refl;
+    told = search rules;
+    ends = search rules;
+  };
+  idle = search rules;
+}
+
+pub returns-in-Invalid : goal.returns-in-Invalid
+returns-in-Invalid g c = record {
+  boot = record {
+    laid = search rules;
+    on_map = search rules;
+    stands = λ s was.
+        steady_cut c.args.map.now (c.args.left + 1) _ _ s c.find.ensures.same was;
+    ok = ends_invalid c.args.map.now (c.args.left + 1) _ _ _ _ c.requires.recorded.read
+        c.find.ensures.same c.in_ok-image.ensures.ok c.in-Invalid.is;
+    erases = λ s was.
+        fresh_none c.args.map.now (g.F.Flash.chip c.args.flash.now) (g.F.Flash.chip c.find.new.flash) 0
+        (Refused InvalidSet) c.find.ensures.same refl;
+    told = search rules;
+    ends = search rules;
+  };
+  idle = search rules;
+}
+
+pub returns-else-mask-eq0 : goal.returns-else-mask-eq0
+returns-else-mask-eq0 g c = record {
+  boot = record {
+    laid = search rules;
+    on_map = search rules;
+    stands = λ s was.
+        let chosen = chosen_here c.args.map.now (c.args.left + 1) _ _ _ _ c.requires.recorded.read c.find.ensures.same
+        c.in_ok-image.ensures.ok _ _ _ c.in-Decided.is c.in_ok-image.ensures.whole
+        c.taken_mask-mask.ensures.each c.if-mask-eq0.false s was in
+        c.upgrade.ensures.boot.stands s (c.in-Decided.table, chosen.0, chosen.1);
+    ok = IfOk-weaker c.upgrade.result _ _ (λ reply ends. λ s was.
+        let chosen = chosen_here c.args.map.now (c.args.left + 1) _ _ _ _ c.requires.recorded.read c.find.ensures.same
+        c.in_ok-image.ensures.ok _ _ _ c.in-Decided.is c.in_ok-image.ensures.whole
+        c.taken_mask-mask.ensures.each c.if-mask-eq0.false s was in
+        ends s (c.in-Decided.table, chosen.0, chosen.1)) c.upgrade.ensures.boot.ok;
+    erases = IfOk-weaker c.upgrade.result _ _ (λ reply worn. λ s was.
+        let chosen = chosen_here c.args.map.now (c.args.left + 1) _ _ _ _ c.requires.recorded.read c.find.ensures.same
+        c.in_ok-image.ensures.ok _ _ _ c.in-Decided.is c.in_ok-image.ensures.whole
+        c.taken_mask-mask.ensures.each c.if-mask-eq0.false s was in
+        fresh_same c.args.map.now (g.F.Flash.chip c.args.flash.now) (g.F.Flash.chip c.find.new.flash)
+        (g.F.Flash.chip c.upgrade.new.flash) 3 reply c.find.ensures.same
+        (worn s (c.in-Decided.table, chosen.0, chosen.1))) c.upgrade.ensures.boot.erases;
+    told = search rules;
+    ends = search rules;
+  };
+  idle = search rules;
+}

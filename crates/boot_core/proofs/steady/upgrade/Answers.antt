@@ -1,0 +1,108 @@
+use Rattle.std.proofs.Common.{rules, ◌+◌, ap, subst, sym, ◌∙◌}
+use Rattle.machine.specs.Passing.{EndsBoot}
+use Rattle.machine.proofs.Upgrading.{begun_cut, chosen_decision, ended_cut, found_boots, steady_cut, steady_here}
+use Rattle.set_log.specs.Log.{state_of}
+use Rattle.sector_map.specs.declared.layout.Side.TheVariants.{Primary}
+use Rattle.boot_core.proofs.Measured.{fresh_of, fresh_wear}
+use Rattle.boot_core.proofs.steady.upgrade.Goals as goal
+
+pub begin_swap-requires : goal.begin_swap-requires
+begin_swap-requires g c = record {
+  laid_out = search rules;
+  read = ap (λ chip. state_of c.args.map.now chip) c.asks_for_good.ensures.same ∙ c.requires.chosen.read;
+  some = search rules;
+  within = search rules;
+}
+
+pub returns-in_err-permanent : goal.returns-in_err-permanent
+returns-in_err-permanent g c = record {
+  boot = record {
+    laid = search rules;
+    on_map = search rules;
+    stands = λ s at.
+        steady_cut c.args.map.now (c.args.left + 1) _ _ s c.asks_for_good.ensures.same at.1;
+    ok = search rules;
+    erases = search rules;
+    told = search rules;
+    ends = search rules;
+  };
+  some = search rules;
+}
+
+pub returns-in_err-begin_swap : goal.returns-in_err-begin_swap
+returns-in_err-begin_swap g c = record {
+  boot = record {
+    laid = search rules;
+    on_map = search rules;
+    stands = λ s at.
+        begun_cut c.args.map.now (c.args.left + 1) _ s at.0 c.args.mask _ (c.begin_swap.ensures.stands s at.0
+        (steady_here c.args.map.now _ _ c.args.mask _ c.asks_for_good.ensures.same c.in_ok-permanent.ensures.ok s at.1)
+        (chosen_decision c.args.map.now _ _ c.args.mask _ c.asks_for_good.ensures.same c.in_ok-permanent.ensures.ok s
+        at.0 at.1 at.2));
+    ok = search rules;
+    erases = search rules;
+    told = search rules;
+    ends = search rules;
+  };
+  some = search rules;
+}
+
+pub returns-in_err-finding : goal.returns-in_err-finding
+returns-in_err-finding g c = record {
+  boot = record {
+    laid = search rules;
+    on_map = search rules;
+    stands = λ s at.
+        let decision = chosen_decision c.args.map.now _ _ c.args.mask _ c.asks_for_good.ensures.same
+        c.in_ok-permanent.ensures.ok s at.0 at.1 at.2 in
+        ended_cut c.args.map.now _ s at.0 c.args.mask c.args.left _ at.1.trial decision
+        (c.finish_swap.ensures.stands s at.0 (c.in_ok-begin_swap.ensures.ok s at.0
+        (steady_here c.args.map.now _ _ c.args.mask _ c.asks_for_good.ensures.same c.in_ok-permanent.ensures.ok s at.1)
+        decision));
+    ok = search rules;
+    erases = search rules;
+    told = search rules;
+    ends = search rules;
+  };
+  some = search rules;
+}
+
+pub returns : goal.returns
+returns g c = record {
+  boot = record {
+    laid = search rules;
+    on_map = search rules;
+    stands = λ s at.
+        let decision = chosen_decision c.args.map.now _ _ c.args.mask _ c.asks_for_good.ensures.same
+        c.in_ok-permanent.ensures.ok s at.0 at.1 at.2 in
+        ended_cut c.args.map.now _ s at.0 c.args.mask c.args.left _ at.1.trial decision
+        (c.finish_swap.ensures.stands s at.0 (c.in_ok-begin_swap.ensures.ok s at.0
+        (steady_here c.args.map.now _ _ c.args.mask _ c.asks_for_good.ensures.same c.in_ok-permanent.ensures.ok s at.1)
+        decision));
+    ok = λ s at.
+        let decision = chosen_decision c.args.map.now _ _ c.args.mask _ c.asks_for_good.ensures.same
+        c.in_ok-permanent.ensures.ok s at.0 at.1 at.2 in
+        subst (λ reply. EndsBoot c.args.map.now (c.args.left + 1) (g.F.Flash.chip c.finish_swap.new.flash) s reply)
+        (sym c.reply_to.ensures.is)
+        (found_boots c.args.map.now _ s at.0 c.args.mask c.args.left _ _ at.1.trial decision
+        (c.in_ok-finding.ensures.ok s at.0 (c.in_ok-begin_swap.ensures.ok s at.0
+        (steady_here c.args.map.now _ _ c.args.mask _ c.asks_for_good.ensures.same c.in_ok-permanent.ensures.ok s at.1)
+        decision)));
+    erases = λ s at.
+        let decision = chosen_decision c.args.map.now _ _ c.args.mask _ c.asks_for_good.ensures.same
+        c.in_ok-permanent.ensures.ok s at.0 at.1 at.2 in
+        fresh_of c.args.map.now (g.F.Flash.chip c.args.flash.now) (g.F.Flash.chip c.finish_swap.new.flash) c.args.mask
+        c.reply_to.result (c.reply_to.ensures.moved s _ (c.in_ok-finding.ensures.ok s at.0 (c.in_ok-begin_swap.ensures.ok s
+        at.0 (steady_here c.args.map.now _ _ c.args.mask _ c.asks_for_good.ensures.same c.in_ok-permanent.ensures.ok s at.1)
+        decision)).0 c.in_ok-finding.ensures.set)
+        (fresh_wear c.args.map.now (g.F.Flash.chip c.args.flash.now) (g.F.Flash.chip c.asks_for_good.new.flash)
+        (g.F.Flash.chip c.begin_swap.new.flash) (g.F.Flash.chip c.finish_swap.new.flash) Primary c.args.mask
+        c.asks_for_good.ensures.same c.in_ok-begin_swap.ensures.erases c.in_ok-begin_swap.ensures.moves
+        (c.in_ok-finding.ensures.erases s at.0 _ (c.in_ok-begin_swap.ensures.ok s at.0
+        (steady_here c.args.map.now _ _ c.args.mask _ c.asks_for_good.ensures.same c.in_ok-permanent.ensures.ok s at.1)
+        decision)));
+    told = search rules;
+    ends = search rules;
+  };
+  some = c.reply_to.ensures.some _ c.in_ok-finding.ensures.set c.requires.chosen.some;
+}

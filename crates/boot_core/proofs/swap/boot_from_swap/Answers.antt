@@ -1,0 +1,48 @@
+use Rattle.std.proofs.Common.{rules, ◌+◌, ◌∙◌, subst, sym}
+use Rattle.machine.specs.Holding.{Stands}
+use Rattle.machine.specs.Passing.{EndsBoot}
+use Rattle.machine.proofs.Standing.{stands_swap, swap_cut, swap_ends}
+use Rattle.upload.specs.Device.{DeviceState}
+use Rattle.boot_core.proofs.Stops.{swap_stops}
+use Rattle.boot_core.proofs.swap.boot_from_swap.Goals as goal
+
+pub returns-in_err-finding : goal.returns-in_err-finding
+returns-in_err-finding g c = record {
+  boot = record {
+    laid = search rules;
+    on_map = search rules;
+    stands = swap_cut c.args.map.now _ _ _ c.args.left c.requires.recorded.read
+        c.requires.recorded.kind c.finish_swap.ensures.stands;
+    ok = search rules;
+    erases = search rules;
+    told = search rules;
+    ends = search rules;
+  };
+  stops = search rules;
+}
+
+pub returns : goal.returns
+returns g c = record {
+  boot = record {
+    laid = search rules;
+    on_map = search rules;
+    stands = swap_cut c.args.map.now _ _ _ c.args.left c.requires.recorded.read c.requires.recorded.kind
+        c.finish_swap.ensures.stands;
+    ok = subst
+        (λ reply. (s : DeviceState) → Stands c.args.map.now (g.F.Flash.chip c.args.flash.now) s
+        → EndsBoot c.args.map.now (c.args.left + 1) (g.F.Flash.chip c.finish_swap.new.flash) s reply)
+        (sym c.reply_to.ensures.is)
+        (swap_ends c.args.map.now _ _ _ c.args.left c.requires.recorded.read c.requires.recorded.kind _
+        c.in_ok-finding.ensures.ok);
+    erases = λ s stands.
+        let swapping = stands_swap c.args.map.now _ s _ c.requires.recorded.read c.requires.recorded.kind stands in (
+          c.in_ok-finding.ensures.erases s swapping.0 _ swapping.1,
+          c.reply_to.ensures.set _ c.in_ok-finding.ensures.set,
+        );
+    told = search rules;
+    ends = search rules;
+  };
+  stops = λ finding permanent is. swap_stops c.args.map.now _ _ c.args.state.now.mask
+      c.args.state.now.floors _ finding c.args.state.now.permanent permanent (sym c.reply_to.ensures.is ∙ is)
+      c.in_ok-finding.ensures.told c.in_ok-finding.ensures.alone;
+}

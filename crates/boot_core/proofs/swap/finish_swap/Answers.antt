@@ -1,0 +1,156 @@
+use Rattle.std.proofs.Common.{rules, arith, ◌∙◌, ap, inl, subst, sym}
+use Rattle.std.proofs.lemmas.Result.{IfOk-weaker, on_ok_weaker}
+use Rattle.flash_model.specs.Chip.{Chip}
+use Rattle.sector_map.specs.declared.layout.Side.TheVariants.{Primary}
+use Rattle.sector_map.specs.Map.{Keeps}
+use Rattle.sector_map.specs.Part.{swap_of}
+use Rattle.set_log.specs.Log.{state_of}
+use Rattle.upload.specs.View.{view}
+use Rattle.machine.specs.Reading.{CanRead, IsFoundAgain}
+use Rattle.machine.specs.Wear.{IsSetFound}
+use Rattle.boot_core.specs.Found.{HasTable}
+use Rattle.boot_core.proofs.Readable.{can_read_before, decided_alone, decided_told, told_here}
+use Rattle.machine.proofs.Resuming.{never_swapped, swap_finishes, swap_records, swap_settles}
+use Rattle.boot_core.proofs.Records.{stands_within}
+use Rattle.boot_core.proofs.OnMap.{on_more}
+use Rattle.boot_core.proofs.swap.finish_swap.Goals as goal
+
+pub carry_swap-requires : goal.carry_swap-requires
+carry_swap-requires g c = record {
+  laid_out = search rules;
+  within = stands_within c.args.map.now _ c.args.state.now c.requires.recorded.read;
+}
+
+pub record_settle-requires : goal.record_settle-requires
+record_settle-requires g c = record {
+  laid_out = search rules;
+  read = ap (λ chip. state_of c.args.map.now chip) c.find_again.ensures.same
+      ∙ c.carry_swap.ensures.recorded ∙ c.requires.recorded.read;
+  kind = search rules;
+}
+
+pub returns-in_err-record_settle-in-Decided : goal.returns-in_err-record_settle-in-Decided
+returns-in_err-record_settle-in-Decided g c = record {
+  laid = search rules;
+  on_map = λ start was.
+      on_more _ _ start _ _ c.record_settle.ensures.outside (rw c.find_again.ensures.same (on_more _ _ start _ _ c.carry_swap.ensures.outside was));
+  stands = λ s table was. inl
+      (swap_records c.args.map.now _ _ _ _ c.args.state.now c.find_again.ensures.same c.carry_swap.ensures.stands
+      c.in_ok-carry_swap.ensures.ok c.record_settle.ensures.stands s table was);
+  ok = search rules;
+  erases = search rules;
+  set = search rules;
+  told = search rules;
+  alone = search rules;
+  ends = search rules;
+}
+
+pub returns-in_ok-record_settle-in-Decided : goal.returns-in_ok-record_settle-in-Decided
+returns-in_ok-record_settle-in-Decided g c = record {
+  laid = search rules;
+  on_map = λ start was.
+      c.settle_found.ensures.on_map start (on_more _ _ start _ _ c.record_settle.ensures.outside (rw c.find_again.ensures.same (on_more _ _ start _ _ c.carry_swap.ensures.outside was)));
+  stands = swap_finishes c.args.map.now _ _ _ c.args.state.now c.args.left
+      (swap_settles c.args.map.now _ _ _ _ c.args.state.now c.find_again.ensures.same c.in_ok-carry_swap.ensures.ok
+      c.in_ok-record_settle-in-Decided.ensures.ok) c.settle_found.ensures.stands;
+  ok = IfOk-weaker c.settle_found.result _ _
+      (λ finding holds. λ s table was. holds s table
+      (swap_settles c.args.map.now _ _ _ _ c.args.state.now c.find_again.ensures.same c.in_ok-carry_swap.ensures.ok
+      c.in_ok-record_settle-in-Decided.ensures.ok s table was)) c.settle_found.ensures.ok;
+  erases = on_ok_weaker c.settle_found.result
+      (λ settled. λ s table permanent was. omega (
+        arith,
+        c.in_ok-carry_swap.ensures.erases s table permanent was,
+        ap (λ (chip : Chip). chip.erases) c.find_again.ensures.same,
+        c.in_ok-record_settle-in-Decided.ensures.erases,
+        settled,
+      ))
+      c.settle_found.ensures.erases;
+  set = IfOk-weaker c.settle_found.result _ _
+      (λ answer is. subst (λ found. IsSetFound c.args.state.now.mask found) (c.in-Decided.is ∙ sym is)
+      c.in_ok-table.ensures.set) c.settle_found.ensures.same;
+  told = IfOk-weaker c.settle_found.result _ _
+      (λ answer is. decided_told c.args.map.now _ c.args.state.now answer _ _ is) c.settle_found.ensures.same;
+  alone = IfOk-weaker c.settle_found.result _ _
+      (λ answer is. decided_alone c.args.map.now _ _ c.args.state.now answer _ _ is) c.settle_found.ensures.same;
+  ends = search rules;
+}
+
+pub returns-in-Damaged : goal.returns-in-Damaged
+returns-in-Damaged g c = record {
+  laid = search rules;
+  on_map = λ start was.
+      rw c.find_again.ensures.same (on_more _ _ start _ _ c.carry_swap.ensures.outside was);
+  stands = λ s table was.
+      absurd (never_swapped c.args.map.now _ _ _ _ _ c.requires.recorded.read c.carry_swap.ensures.recorded
+      c.in_ok-carry_swap.ensures.ok c.in_ok-table.ensures.ok c.in-Damaged.is s table was);
+  ok = λ s table was.
+      absurd (never_swapped c.args.map.now _ _ _ _ _ c.requires.recorded.read c.carry_swap.ensures.recorded
+      c.in_ok-carry_swap.ensures.ok c.in_ok-table.ensures.ok c.in-Damaged.is s table was);
+  erases = λ s table permanent was. omega (
+    arith,
+    c.in_ok-carry_swap.ensures.erases s table permanent was,
+    ap (λ (chip : Chip). chip.erases) c.find_again.ensures.same,
+  );
+  set = search rules;
+  told = told_here c.args.map.now _ _ c.args.state.now _ _ c.find_again.ensures.same
+      c.in_ok-table.ensures.told c.in-Damaged.is;
+  alone = subst
+      (λ chip. Keeps c.args.map.now (swap_of c.args.state.now.mask Primary) (g.F.Flash.chip c.args.flash.now) chip)
+      (sym c.find_again.ensures.same) c.carry_swap.ensures.outside;
+  ends = search rules;
+}
+
+pub returns-in-Invalid : goal.returns-in-Invalid
+returns-in-Invalid g c = record {
+  laid = search rules;
+  on_map = λ start was.
+      rw c.find_again.ensures.same (on_more _ _ start _ _ c.carry_swap.ensures.outside was);
+  stands = λ s table was.
+      absurd (never_swapped c.args.map.now _ _ _ _ _ c.requires.recorded.read c.carry_swap.ensures.recorded
+      c.in_ok-carry_swap.ensures.ok c.in_ok-table.ensures.ok c.in-Invalid.is s table was);
+  ok = λ s table was.
+      absurd (never_swapped c.args.map.now _ _ _ _ _ c.requires.recorded.read c.carry_swap.ensures.recorded
+      c.in_ok-carry_swap.ensures.ok c.in_ok-table.ensures.ok c.in-Invalid.is s table was);
+  erases = λ s table permanent was. omega (
+    arith,
+    c.in_ok-carry_swap.ensures.erases s table permanent was,
+    ap (λ (chip : Chip). chip.erases) c.find_again.ensures.same,
+  );
+  set = search rules;
+  told = told_here c.args.map.now _ _ c.args.state.now _ _ c.find_again.ensures.same
+      c.in_ok-table.ensures.told c.in-Invalid.is;
+  alone = subst
+      (λ chip. Keeps c.args.map.now (swap_of c.args.state.now.mask Primary) (g.F.Flash.chip c.args.flash.now) chip)
+      (sym c.find_again.ensures.same) c.carry_swap.ensures.outside;
+  ends = search rules;
+}
+
+pub settle_found-requires : goal.settle_found-requires
+settle_found-requires g c = record {
+  laid_out = search rules;
+  read = search rules;
+  kind = search rules;
+  few = search rules;
+  found = λ s table permanent can decision.
+      subst (λ found. IsFoundAgain s c.args.state.now.mask found) c.in-Decided.is
+      (c.in_ok-table.ensures.ok s table permanent
+      (subst (λ chip. CanRead (view c.args.map.now chip) s c.args.state.now.mask c.args.state.now.floors)
+      c.find_again.ensures.same
+      (can_read_before c.args.map.now _ _ s c.args.state.now.mask _ c.record_settle.ensures.outside can)) decision);
+  rows = subst (λ found. HasTable c.args.map.now.images found) c.in-Decided.is c.in_ok-table.ensures.rows;
+}
+
+pub returns-in_err-carry_swap : goal.returns-in_err-carry_swap
+returns-in_err-carry_swap g c = record {
+  laid = search rules;
+  on_map = λ start was.
+      on_more _ _ start _ _ c.carry_swap.ensures.outside was;
+  stands = search rules;
+  ok = search rules;
+  erases = search rules;
+  set = search rules;
+  told = search rules;
+  alone = search rules;
+  ends = search rules;
+}

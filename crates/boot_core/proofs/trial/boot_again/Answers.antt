@@ -1,0 +1,46 @@
+use Rattle.std.proofs.Common.{rules, arith, ◌<◌}
+use Rattle.machine.proofs.Trying.{again_cut, again_ends}
+use Rattle.boot_core.proofs.Again.{fits_again}
+use Rattle.boot_core.proofs.Records.{has_state}
+use Rattle.boot_core.proofs.OnMap.{on_more}
+use Rattle.boot_core.proofs.trial.boot_again.Goals as goal
+
+pub append-requires-clause-has_state : goal.append-requires-clause-has_state
+append-requires-clause-has_state g c = has_state c.args.map.now _ c.args.state.now c.requires.recorded.read
+
+pub append-requires-clause-fits : goal.append-requires-clause-fits
+append-requires-clause-fits g c = fits_again c.args.map.now _ c.args.state.now _ c.requires.recorded.read c.requires.recorded.kind
+    (let more : 0 < c.args.state.now.left = c.requires.more in omega arith)
+
+pub returns-in_err-append : goal.returns-in_err-append
+returns-in_err-append g c = record {
+  laid = search rules;
+  on_map = λ start was.
+      on_more _ _ start _ _ c.append.ensures.outside was;
+  stands = λ boots s was.
+      let more : 0 < c.args.state.now.left = c.requires.more in
+      again_cut c.args.map.now _ _ c.args.state.now _ c.requires.recorded.read c.append.ensures.outside (omega arith)
+      c.append.ensures.either boots s was.0 was.1 was.2;
+  ok = search rules;
+  erases = search rules;
+  told = search rules;
+  ends = search rules;
+}
+
+pub returns : goal.returns
+returns g c = record {
+  laid = search rules;
+  on_map = λ start was.
+      on_more _ _ start _ _ c.append.ensures.outside was;
+  stands = λ boots s was.
+      let more : 0 < c.args.state.now.left = c.requires.more in
+      again_cut c.args.map.now _ _ c.args.state.now _ c.requires.recorded.read c.append.ensures.outside (omega arith)
+      c.append.ensures.either boots s was.0 was.1 was.2;
+  ok = λ boots s was.
+      let more : 0 < c.args.state.now.left = c.requires.more in
+      again_ends c.args.map.now _ _ c.args.state.now _ c.requires.recorded.read c.append.ensures.outside (omega arith)
+      c.in_ok-append.ensures.ok boots s was.0 was.1 was.2;
+  erases = search rules;
+  told = search rules;
+  ends = search rules;
+}

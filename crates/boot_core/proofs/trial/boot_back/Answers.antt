@@ -1,0 +1,40 @@
+use Rattle.std.proofs.Common.{rules}
+use Rattle.std.proofs.lemmas.Result.{IfOk-weaker}
+use Rattle.machine.proofs.Trying.{back_here, open_of, opened_cut}
+use Rattle.boot_core.proofs.Wears.{fresh_back}
+use Rattle.boot_core.proofs.trial.boot_back.Goals as goal
+
+pub returns-in_err-begin_back : goal.returns-in_err-begin_back
+returns-in_err-begin_back g c = record {
+  laid = search rules;
+  on_map = search rules;
+  stands = λ boots s was.
+      opened_cut c.args.map.now boots _ s was.0 was.1 (c.begin_back.ensures.stands s was.0 was.1
+      (open_of c.args.map.now _ s was.0 was.2));
+  ok = search rules;
+  erases = search rules;
+  told = search rules;
+  ends = search rules;
+}
+
+pub returns : goal.returns
+returns g c = record {
+  laid = search rules;
+  on_map = search rules;
+  stands = λ boots s was.
+      c.boot_from_back.ensures.stands boots s (back_here c.args.map.now _ s was.0
+      (c.in_ok-begin_back.ensures.ok s was.0 was.1 (open_of c.args.map.now _ s was.0 was.2)));
+  ok = IfOk-weaker c.boot_from_back.result _ _ (λ reply ends. λ boots s was.
+      ends boots s (back_here c.args.map.now _ s was.0
+      (c.in_ok-begin_back.ensures.ok s was.0 was.1 (open_of c.args.map.now _ s was.0 was.2))))
+      c.boot_from_back.ensures.ok;
+  erases = IfOk-weaker c.boot_from_back.result _ _ (λ reply worn. λ s was.
+      fresh_back c.args.map.now (g.F.Flash.chip c.args.flash.now) (g.F.Flash.chip c.begin_back.new.flash)
+      (g.F.Flash.chip c.boot_from_back.new.flash) c.args.state.now.mask reply c.in_ok-begin_back.ensures.erases
+      c.in_ok-begin_back.ensures.moves
+      (worn s (back_here c.args.map.now _ s was.0
+      (c.in_ok-begin_back.ensures.ok s was.0 was.1 (open_of c.args.map.now _ s was.0 was.2)))))
+      c.boot_from_back.ensures.erases;
+  told = search rules;
+  ends = search rules;
+}

@@ -1,9 +1,0 @@
-use Rattle.std.proofs.Common.{subst}
-use Rattle.machine.specs.Reading.{IsReadOf}
-use Rattle.machine.proofs.Trying.{floor_raised}
-use Rattle.boot_core.proofs.trying.floor_of.Goals as goal
-
-pub returns-in-Some-clause-ok : goal.returns-in-Some-clause-ok
-returns-in-Some-clause-ok g c = λ held front.
-    floor_raised held c.in-Some.entry c.args.floor c.max.result
-    (subst (λ found. IsReadOf held found) c.in-Some.is (c.in_ok-read_slot.ensures.ok held front)) c.max.ensures

@@ -1,0 +1,177 @@
+-- What the calls of a device do, and what a run of events on it does.
+use Rattle.std.specs.Prelude.{◌≡◌, ◌⊎◌, ℕ, ◌+◌, Bool, true, false, List, length, None, Some, Vec}
+use Rattle.std.specs.Prelude.{Result, Err, IfErr, IfOk}
+use Rattle.flash_model.specs.Chip.{Chip}
+use Rattle.sector_map.specs.declared.layout.SectorMap.{SectorMap}
+use Rattle.sector_map.specs.Map.{Keeps}
+use Rattle.sector_map.specs.Part.{Part, any_part, incoming_of}
+use Rattle.manifest.specs.declared.identity.Identity.{Identity}
+use Rattle.set_log.specs.Log.{state_of}
+use Rattle.set_log.specs.declared.state.Kind.{Kind}
+use Rattle.set_log.specs.declared.state.State.{State}
+use Rattle.upload.specs.Device.{DeviceState, Machine}
+use Rattle.upload.specs.Sessions.{AllClosed}
+use Rattle.machine.specs.Boots.{IsReadSound, is_answer}
+use Rattle.machine.specs.Holding.{Holds, Stands}
+use Rattle.machine.specs.Passing.{RunsTo, StepsTo, reply_of}
+use Rattle.machine.specs.States.{asleep}
+use Rattle.machine.specs.Steps.{cut_of, cuts_in}
+use Rattle.machine.specs.declared.error.Fault.{Fault}
+use Rattle.machine.specs.declared.error.Fault.TheVariants.{NotProvisioned}
+use Rattle.machine.specs.declared.event.Event.{Event}
+use Rattle.machine.specs.declared.event.Event.TheVariants as event
+use Rattle.machine.specs.declared.finding.Finding.{Finding}
+use Rattle.machine.specs.declared.reply.Reply.{Reply}
+use Rattle.boot_core.specs.Answers.{EndsCall, IsBootReply, IsNotBooted, is_stop, is_stopped}
+use Rattle.boot_core.specs.Answers.{reply_of_boot, reply_of_result}
+use Rattle.boot_core.specs.Device.{Whole, made}
+use Rattle.boot_core.specs.Found.{IsStopped}
+use Rattle.boot_core.specs.Wear.{IsWorn, TakesNothing}
+
+-- A device is new: made over a flash, with this map and identity, and with so many boots a trial.
+pub record IsNew (map : SectorMap) (identity : Identity) (boots : ℕ) (chip : Chip)
+    (device : Whole) : Type 0 where
+  -- That is what it was made with,
+  pub setup : device.setup ≡ made map identity boots
+  -- and its flash is as it was.
+  pub flash : device.here.flash ≡ chip
+  -- It isn't up,
+  pub down : device.here.up ≡ false
+  -- and no upload is open.
+  pub closed : AllClosed device.here.sessions
+  -- What stands on the flash, as what provisioning leaves, is what it holds.
+  pub holds : (s : DeviceState) → Stands map chip s → Holds map device.here (asleep s)
+
+-- A device boots.
+pub record BootsDevice (old new : Whole) (result : Result Reply Fault) : Type 0 where
+  -- What it was made with stays.
+  pub setup : new.setup ≡ old.setup
+  -- On a flash with power the boot is a step of the machine, to a state that the device holds then.
+  pub steps : old.here.flash.is_on ≡ true
+      → StepsTo old.setup old.here new.here event.Boot (reply_of_boot result)
+  -- Where it ends, it answers what it did.
+  pub ok : IfOk result (λ reply. is_answer reply ≡ true)
+  -- On any flash the device is up exactly where the boot answered,
+  pub up : new.here.up ≡ is_answer (reply_of_boot result)
+  -- and no other call's refusal is told, unless the flash stopped it.
+  pub told : IsBootReply (reply_of_boot result) ⊎ (is_stopped (reply_of_boot result) ≡ true)
+  -- From a state that is read sound a boot answers, unless it is cut.
+  pub answers : old.here.flash.is_on ≡ true → cut_of (reply_of_boot result) ≡ 0
+      → (s : DeviceState) → Stands old.setup.map old.here.flash s → IsReadSound s
+      → is_answer (reply_of_boot result) ≡ true
+  -- Where the log has no state, nothing is written,
+  pub empty : state_of old.setup.map old.here.flash ≡ None → new.here.flash ≡ old.here.flash
+  -- and that is told.
+  pub refused : old.here.flash.is_on ≡ true → state_of old.setup.map old.here.flash ≡ None
+      → result ≡ Err NotProvisioned
+  -- How many erases a boot makes that isn't cut, by the record that stood.
+  pub erases : old.here.flash.is_on ≡ true → cut_of (reply_of_boot result) ≡ 0
+      → (state : State) (s : DeviceState)
+      → state_of old.setup.map old.here.flash ≡ Some state
+      → Stands old.setup.map old.here.flash s
+      → IsWorn old.setup.map state.kind state.mask old.here.flash new.here.flash
+      (reply_of_boot result)
+  -- On any flash parts of the map are touched, and nothing behind it.
+  pub outside : Keeps old.setup.map any_part old.here.flash new.here.flash
+  -- On any flash a boot that was at rest and takes nothing writes nothing.
+  pub idle : (state : State) → state_of old.setup.map old.here.flash ≡ Some state
+      → state.kind ≡ Kind.Steady → TakesNothing (reply_of_boot result)
+      → new.here.flash ≡ old.here.flash
+  -- On any flash a refusal tells what was found of an upgrade that was begun, and nothing more was
+  -- written.
+  pub stops : (state : State) (finding : Finding) (permanent : Bool)
+      → state_of old.setup.map old.here.flash ≡ Some state
+      → reply_of_boot result ≡ reply_of finding permanent
+      → IsStopped old.setup.map state old.here.flash new.here.flash finding
+  -- After it no upload is open.
+  pub closed : AllClosed new.here.sessions
+  -- A cut is told where a write was cut and nowhere else, and that the flash is off where it was.
+  pub ends : EndsCall (reply_of_boot result) old.here new.here
+
+-- A device takes an event.
+pub record Takes (event : Event) (touched : Part → Bool) (old new : Whole)
+    (result : Result Unit Fault) : Type 0 where
+  -- What it was made with stays.
+  pub setup : new.setup ≡ old.setup
+  -- On a flash with power the call is a step of the machine, to a state that the device holds then.
+  pub steps : old.here.flash.is_on ≡ true
+      → StepsTo old.setup old.here new.here event (reply_of_result result)
+  -- On any flash only these parts are touched:
+  pub outside : Keeps old.setup.map touched old.here.flash new.here.flash
+  -- nothing where the device isn't up, which is the answer then,
+  pub down : old.here.up ≡ false → IsNotBooted result old.here new.here
+  -- and nothing where a refusal is not of the flash.
+  pub refused : IfErr result (λ fault. is_stop fault ≡ false
+      → new.here.flash ≡ old.here.flash)
+  -- A cut is told where a write was cut and nowhere else, and that the flash is off where it was.
+  pub ends : EndsCall (reply_of_result result) old.here new.here
+
+-- A device finishes an upload.
+pub record FinishesUpload (image : ℕ) (old new : Whole) (result : Result Unit Fault)
+    : Type 0 where
+  -- What it was made with stays.
+  pub setup : new.setup ≡ old.setup
+  -- On a flash with power the call is a step of the machine, to a state that the device holds then.
+  pub steps : old.here.flash.is_on ≡ true
+      → StepsTo old.setup old.here new.here (event.Finish image) (reply_of_result result)
+  -- On any flash only the secondary slot of the image and its trailer are touched,
+  pub outside : Keeps old.setup.map (incoming_of image) old.here.flash new.here.flash
+  -- and nothing where the device isn't up, which is the answer then.
+  pub down : old.here.up ≡ false → IsNotBooted result old.here new.here
+  -- A cut is told where a write was cut and nowhere else, and that the flash is off where it was.
+  pub ends : EndsCall (reply_of_result result) old.here new.here
+
+-- A device is reset.
+pub record Resets (old new : Whole) : Type 0 where
+  -- What it was made with stays.
+  pub setup : new.setup ≡ old.setup
+  -- Its flash has power, and is else as it was.
+  pub flash : new.here.flash ≡ record (old.here.flash) { is_on = true }
+  -- It isn't up,
+  pub down : new.here.up ≡ false
+  -- and no upload is open.
+  pub closed : AllClosed new.here.sessions
+  -- It holds what it held, without uploads.
+  pub holds : (m : Machine) → Holds old.setup.map old.here m
+      → Holds old.setup.map new.here (asleep m.kept)
+
+-- ---- runs
+
+-- A device whose flash has power replies to an event.
+pub record Replies (event : Event) (old new : Whole) (reply : Reply) : Type 0 where
+  -- What it was made with stays.
+  pub setup : new.setup ≡ old.setup
+  -- This is a step of the machine, to a state that the device holds then.
+  pub steps : StepsTo old.setup old.here new.here event reply
+  -- The reply is a cut where a write was cut and nowhere else,
+  pub cuts : new.here.flash.cuts ≡ old.here.flash.cuts + cut_of reply
+  -- and else the flash has power.
+  pub power : cut_of reply ≡ 0 → new.here.flash.is_on ≡ true
+
+-- So does one that is reset after a cut.
+pub record RepliesAgain (event : Event) (old new : Whole) (reply : Reply) : Type 0 where
+  -- What it was made with stays.
+  pub setup : new.setup ≡ old.setup
+  -- This is a step of the machine, to a state that the device holds then.
+  pub steps : StepsTo old.setup old.here new.here event reply
+  -- The reply is a cut where a write was cut and nowhere else,
+  pub cuts : new.here.flash.cuts ≡ old.here.flash.cuts + cut_of reply
+  -- and the flash has power.
+  pub on : new.here.flash.is_on ≡ true
+
+-- A device replies to these events, in order.
+pub record Runs (events : List Event) (old new : Whole) {A E : Type 0}
+    (result : Result (Vec Reply A) E) : Type 0 where
+  -- Events and replies are a run of the machine, to a state that the device holds then.
+  pub run : IfOk result (λ replies. RunsTo old.setup old.here new.here events replies.items)
+  -- Each event has a reply,
+  pub each : IfOk result (λ replies. length replies.items ≡ length events)
+  -- and as many of them are cuts as writes were cut.
+  pub cuts : IfOk result (λ replies.
+      new.here.flash.cuts ≡ old.here.flash.cuts + cuts_in replies.items)
+  -- The flash has power,
+  pub on : new.here.flash.is_on ≡ true
+  -- and what the device was made with stays, so another run can follow.
+  pub setup : new.setup ≡ old.setup
+  -- Where there is no memory for the replies, nothing was done.
+  pub nothing : IfErr result (λ error. new ≡ old)

@@ -1,0 +1,69 @@
+-- What a call does that finds the decision of a boot.
+use Rattle.std.specs.Prelude.{◌≡◌, ℕ, Bool, true, List, Some, Result, IfOk, ◌↔◌, IsTrue}
+use Rattle.flash_model.specs.Chip.{Chip, Ends}
+use Rattle.flash_model.specs.declared.error.FlashError.{FlashError}
+use Rattle.sector_map.specs.declared.layout.SectorMap.{SectorMap}
+use Rattle.certificate.specs.declared.table.Table.{Table}
+use Rattle.trailer.specs.Standing.{standing_of}
+use Rattle.trailer.specs.declared.kinds.Kind.TheVariants.{Permanent}
+use Rattle.upload.specs.Device.{DeviceState}
+use Rattle.upload.specs.View.{view}
+use Rattle.machine.specs.Boots.{IsDecision, AsksForGood}
+use Rattle.machine.specs.Passing.{reply_of}
+use Rattle.machine.specs.Reading.{CanRead, IsFoundAgain, HasImages, IsAsking, IsFinding}
+use Rattle.machine.specs.Wear.{IsSetFound, IsSetOf}
+use Rattle.machine.specs.declared.finding.Finding.{Finding}
+use Rattle.machine.specs.declared.reply.Reply.{Reply}
+use Rattle.boot_core.specs.Answers.{IsBootReply}
+use Rattle.boot_core.specs.Found.{HasTable, IsToldAgain}
+use Rattle.boot_core.specs.Wear.{IsSetMoved, TakesNothing}
+
+-- A call finds the decision of a device at rest, with these floors.
+pub record FindsDecision (map : SectorMap) (floors : List ℕ) (old new : Chip)
+    (result : Result Finding FlashError) : Type 0 where
+  -- The flash is as it was,
+  pub same : new ≡ old
+  -- what is found is what the device's state says,
+  pub ok : IfOk result (λ finding. (s : DeviceState) → CanRead (view map old) s 0 floors
+      → IsFinding s finding)
+  -- and only images of the map are taken.
+  pub whole : IfOk result (HasImages map.images)
+  pub ends : Ends result old new
+
+-- A call finds the decision of a record again, where the slots of its set are swapped.
+pub record FindsAgain (map : SectorMap) (mask : ℕ) (floors : List ℕ) (old new : Chip)
+    (result : Result Finding FlashError) : Type 0 where
+  -- The flash is as it was,
+  pub same : new ≡ old
+  -- the decision that a device's state had is found,
+  pub ok : IfOk result (λ finding. (s : DeviceState) (table : Table) (permanent : Bool)
+      → CanRead (view map old) s mask floors → IsDecision s table mask permanent
+      → IsFoundAgain s mask finding)
+  -- its set is that of the record,
+  pub set : IfOk result (IsSetFound mask)
+  -- only images of the map are taken,
+  pub whole : IfOk result (HasImages map.images)
+  -- its table has a row for each image,
+  pub rows : IfOk result (HasTable map.images)
+  -- and on any flash, where no decision is found, what is told is why.
+  pub told : IfOk result (IsToldAgain (view map old) mask floors)
+  pub ends : Ends result old new
+
+-- Whether a request that asks to be permanent stands for an image,
+abbrev pub IsForGoodIn : SectorMap → ℕ → Chip → Bool → Type 0
+IsForGoodIn map image chip answer = IsTrue answer ↔ (standing_of map chip image ≡ Some Permanent)
+
+-- and whether each image of a set asks so.
+abbrev pub AreForGoodIn : SectorMap → ℕ → Chip → Bool → Type 0
+AreForGoodIn map mask chip answer = (s : DeviceState) → IsAsking (view map chip) s mask
+    → (answer ≡ true → AsksForGood s mask) × (AsksForGood s mask → answer ≡ true)
+
+-- What is found is answered: for a set, what is reported of it.
+pub record AnswersFinding (finding : Finding) (permanent : Bool) (result : Reply) : Type 0 where
+  pub is : result ≡ reply_of finding permanent
+  pub set : (mask : ℕ) → IsSetFound mask finding → IsSetOf mask result
+  pub moved : (s : DeviceState) (mask : ℕ) → IsFoundAgain s mask finding
+      → IsSetFound mask finding → IsSetMoved mask result
+  pub some : (mask : ℕ) → IsSetFound mask finding → (mask ≡ 0 → ⊥)
+      → TakesNothing result → ⊥
+  pub told : IsBootReply result

@@ -1,0 +1,69 @@
+-- What a boot does from a record Steady: each record is one call.
+use Rattle.std.specs.Prelude.{◌≡◌, ◌⊎◌, ◌+◌, ◌≤◌, ℕ, Bool, Some, Result, OnOk, IfOk}
+use Rattle.flash_model.specs.Chip.{Chip, Ends}
+use Rattle.flash_model.specs.declared.error.FlashError.{FlashError}
+use Rattle.sector_map.specs.Map.{IsLaidOut, Keeps}
+use Rattle.sector_map.specs.Part.{any_part}
+use Rattle.sector_map.specs.declared.layout.SectorMap.{SectorMap}
+use Rattle.sector_map.specs.declared.layout.Side.TheVariants.{Primary}
+use Rattle.certificate.specs.declared.table.Table.{Table}
+use Rattle.set_log.specs.Log.{state_of}
+use Rattle.set_log.specs.declared.state.Kind.TheVariants as log
+use Rattle.set_log.specs.declared.state.State.{State}
+use Rattle.upload.specs.Device.{DeviceState}
+use Rattle.upload.specs.Steady.{IsSteadyAt}
+use Rattle.upload.specs.View.{view}
+use Rattle.machine.specs.Boots.{IsDecision, IsChosen}
+use Rattle.machine.specs.Passing.{IsSwappingSome}
+use Rattle.machine.specs.Wear.{members}
+use Rattle.machine.specs.declared.reply.Reply.{Reply}
+use Rattle.boot_core.specs.BootEnds.{BootEnds}
+use Rattle.boot_core.specs.Wear.{AreMeasured, IsAfresh, TakesNothing}
+
+-- From Steady to Swap: a call begins the swap of a set.
+pub record BeginsSwap (map : SectorMap) (state : State) (mask : ℕ) (permanent : Bool)
+    (old new : Chip) (result : Result Unit FlashError) : Type 0 where
+  -- The map stays laid out on the flash, and what lies behind it is what it was before.
+  pub laid : IsLaidOut map new
+  pub on_map : (start : Chip) → Keeps map any_part start old → Keeps map any_part start new
+  -- Whatever happened, the device rests or stands in the swap that was decided,
+  pub stands : (s : DeviceState) (table : Table)
+      → IsSteadyAt (view map old) s → IsDecision s table mask permanent
+      → IsSteadyAt (view map new) s ⊎ IsSwappingSome map new s table mask permanent
+  -- and in that where the call ends.
+  pub ok : OnOk result ((s : DeviceState) (table : Table)
+      → IsSteadyAt (view map old) s → IsDecision s table mask permanent
+      → IsSwappingSome map new s table mask permanent)
+  -- The log says so then,
+  pub recorded : OnOk result (state_of map new ≡ Some (record state {
+    kind = log.Swap;
+    mask = mask;
+    permanent = permanent;
+    left = 0;
+  }))
+  -- and the primary trailers of the set how many bytes the swap moves.
+  pub moves : OnOk result (AreMeasured (view map old) (view map new) Primary mask)
+  -- A sector is erased for each image of the set at most, and one for the record.
+  pub erases : OnOk result (new.erases ≤ old.erases + members map mask + 1)
+  pub ends : Ends result old new
+
+-- The device rests, and the set is the one that is taken.
+abbrev pub HasChosen : SectorMap → ℕ → Chip → DeviceState → Type 0
+HasChosen map mask chip s =
+    (table : Table) × IsSteadyAt (view map chip) s × IsChosen s table mask
+
+-- A chosen set is taken, and the reply says so.
+pub record Upgrades (map : SectorMap) (mask left : ℕ) (old new : Chip)
+    (result : Result Reply FlashError) : Type 0 where
+  pub boot : BootEnds map (left + 1) (HasChosen map mask old)
+      (λ reply. (s : DeviceState) → HasChosen map mask old s → IsAfresh map old new 3 reply)
+      old new result
+  pub some : IfOk result (λ reply. TakesNothing reply → ⊥)
+
+-- The decision is made, and a set that is chosen is taken. Where none is nothing is written.
+pub record BootsFromSteady (map : SectorMap) (left : ℕ) (old new : Chip)
+    (result : Result Reply FlashError) : Type 0 where
+  pub boot : BootEnds map (left + 1) (IsSteadyAt (view map old))
+      (λ reply. (s : DeviceState) → IsSteadyAt (view map old) s → IsAfresh map old new 3 reply)
+      old new result
+  pub idle : IfOk result (λ reply. TakesNothing reply → new ≡ old)

@@ -1,0 +1,147 @@
+-- What a boot does from a record Trial: each record is one call.
+use Rattle.std.specs.Prelude.{◌≡◌, ◌⊎◌, ◌+◌, ◌≤◌, ℕ, Bool, false, List, Some, Result, OnOk, IfOk}
+use Rattle.std.specs.Prelude.{Option, slice_index}
+use Rattle.flash_model.specs.Chip.{Chip, Ends}
+use Rattle.flash_model.specs.declared.error.FlashError.{FlashError}
+use Rattle.sector_map.specs.Map.{IsLaidOut, Keeps}
+use Rattle.sector_map.specs.Part.{Log, any_part, only}
+use Rattle.sector_map.specs.declared.layout.SectorMap.{SectorMap}
+use Rattle.sector_map.specs.declared.layout.Side.TheVariants.{Primary, Secondary}
+use Rattle.trailer.specs.Fields.{fields_at}
+use Rattle.set_log.specs.Log.{state_of}
+use Rattle.set_log.specs.declared.state.Kind.TheVariants as log
+use Rattle.set_log.specs.declared.state.State.{State}
+use Rattle.upload.specs.Device.{DeviceState, Trial}
+use Rattle.upload.specs.Steady.{IsSteadyAt, IsFront}
+use Rattle.upload.specs.View.{view}
+use Rattle.machine.specs.Boots.{GoesBack, GoesOn}
+use Rattle.machine.specs.Holding.{IsTrialAt, IsTrialOpen, Stands}
+use Rattle.machine.specs.Passing.{IsSwappingBackSome, IsOpenOrAt}
+use Rattle.machine.specs.Reading.{AreSetOk, HasLeft, IsAnyDamaged, IsDamagedOr, IsFloorOf}
+use Rattle.machine.specs.Reading.{IsPassage, RunsAt}
+use Rattle.machine.specs.States.{IsConfirmed, IsRaised, settled}
+use Rattle.machine.specs.Wear.{members}
+use Rattle.machine.specs.declared.finding.Passage.{Passage}
+use Rattle.machine.specs.declared.reply.Reply.{Reply}
+use Rattle.boot_core.specs.BootEnds.{BootEnds, BootEndsForAny}
+use Rattle.boot_core.specs.Wear.{AreMeasured, IsAfresh}
+
+-- Whether an image is confirmed,
+abbrev pub IsConfirmedIn : SectorMap → ℕ → Chip → Bool → Type 0
+IsConfirmedIn map image chip answer = answer ≡ (fields_at map chip image Primary).image_ok
+
+-- and whether each image of a set is.
+abbrev pub AreConfirmedIn : SectorMap → ℕ → Chip → Bool → Type 0
+AreConfirmedIn map mask chip answer = AreSetOk (view map chip) mask answer
+
+-- Whether what an image runs is damaged,
+abbrev pub IsDamagedIn : SectorMap → ℕ → Chip → Bool → Type 0
+IsDamagedIn map image chip answer = (held : Option (List ℕ))
+    → IsFront ((view map chip).slot image Primary) held → IsDamagedOr held answer
+
+-- and whether what any image runs is.
+abbrev pub IsAnyDamagedIn : SectorMap → Chip → Bool → Type 0
+IsAnyDamagedIn map chip answer =
+    (s : DeviceState) → RunsAt (view map chip) s → IsAnyDamaged s answer
+
+-- A floor, raised to the counter of what an image runs.
+abbrev pub IsFloorIn : SectorMap → ℕ → ℕ → Chip → ℕ → Type 0
+IsFloorIn map image floor chip raised = (held : Option (List ℕ))
+    → IsFront ((view map chip).slot image Primary) held → IsFloorOf held floor raised
+
+-- A call raises floors to the counters of what runs.
+pub record RaisesFloors (map : SectorMap) (floors : List ℕ) (old new : Chip)
+    (result : Result (List ℕ) FlashError) : Type 0 where
+  -- The flash is as it was,
+  pub same : new ≡ old
+  -- the floors of a device are raised to the counters of what it runs,
+  pub ok : IfOk result (λ raised. (s : DeviceState) → RunsAt (view map old) s
+      → s.floors ≡ floors → IsRaised s.images s.running s.floors raised)
+  -- and those past the last image stay.
+  pub rest : IfOk result (λ raised. (i : ℕ) → map.images ≤ i
+      → slice_index raised i ≡ slice_index floors i)
+  pub ends : Ends result old new
+
+-- A call decides how a boot goes on from a trial.
+pub record DecidesTrial (map : SectorMap) (state : State) (old new : Chip)
+    (result : Result Passage FlashError) : Type 0 where
+  -- The flash is as it was,
+  pub same : new ≡ old
+  -- a set that is tried again has a boot left,
+  pub left : IfOk result (HasLeft state.left)
+  -- and how it goes on is what the machine says of the trial.
+  pub ok : IfOk result (λ passage. (s : DeviceState) (trial : Trial)
+      → IsTrialOpen (view map old) s trial → IsPassage s trial passage)
+  pub ends : Ends result old new
+
+-- A call records that a trial is over, with these floors.
+pub record RecordsOver (map : SectorMap) (state : State) (floors : List ℕ) (old new : Chip)
+    {T : Type 0} (result : Result T FlashError) : Type 0 where
+  -- Nothing is written but the log.
+  pub outside : Keeps map (only Log) old new
+  -- Whatever happened, the trial stands or is over,
+  pub stands : (s : DeviceState) (trial : Trial) → IsTrialAt (view map old) s trial
+      → IsTrialAt (view map new) s trial ⊎ IsSteadyAt (view map new) (settled s floors)
+  -- and it is over where the call ends.
+  pub ok : OnOk result ((s : DeviceState) (trial : Trial) → IsTrialAt (view map old) s trial
+      → IsSteadyAt (view map new) (settled s floors))
+  -- The log has the record of a device at rest then.
+  pub recorded : OnOk result (state_of map new ≡ Some (record {
+    kind = log.Steady;
+    mask = 0;
+    permanent = false;
+    left = 0;
+    sequence = state.sequence;
+    floors = floors;
+  }))
+  -- One sector is erased at most.
+  pub erases : OnOk result (new.erases ≤ old.erases + 1)
+  pub ends : Ends result old new
+
+-- From Trial to Back: a call begins the swap back of a set that is on trial.
+pub record BeginsBack (map : SectorMap) (state : State) (old new : Chip)
+    (result : Result Unit FlashError) : Type 0 where
+  -- The map stays laid out on the flash, and what lies behind it is what it was before.
+  pub laid : IsLaidOut map new
+  pub on_map : (start : Chip) → Keeps map any_part start old → Keeps map any_part start new
+  -- Whatever happened, the trial goes on, or the way back is begun,
+  pub stands : (s : DeviceState) (trial : Trial) → GoesBack s trial
+      → IsTrialOpen (view map old) s trial
+      → IsTrialOpen (view map new) s trial ⊎ IsSwappingBackSome map new s trial
+  -- and it is begun where the call ends.
+  pub ok : OnOk result ((s : DeviceState) (trial : Trial) → GoesBack s trial
+      → IsTrialOpen (view map old) s trial → IsSwappingBackSome map new s trial)
+  -- The log says so then,
+  pub recorded : OnOk result
+      (state_of map new ≡ Some (record state { kind = log.Back; left = 0 }))
+  -- and the secondary trailers of the set how many bytes the swap back moves.
+  pub moves : OnOk result (AreMeasured (view map old) (view map new) Secondary state.mask)
+  -- A sector is erased for each image of the set at most, and one for the record.
+  pub erases : OnOk result (new.erases ≤ old.erases + members map state.mask + 1)
+  pub ends : Ends result old new
+
+-- A set is on trial, at rest or with its way back begun, and the trial is such.
+abbrev pub HasTrial : (DeviceState → Trial → Type 0) → SectorMap → Chip → DeviceState → Type 0
+HasTrial such map chip s = (trial : Trial) × such s trial × IsOpenOrAt (view map chip) s trial
+
+-- A trial that is wholly confirmed is over, and the decision is made ..
+abbrev pub BootsConfirmed : SectorMap → ℕ → Chip → Chip → Result Reply FlashError → Type 0
+BootsConfirmed map left old new result = BootEnds map (left + 1) (HasTrial IsConfirmed map old)
+    (λ reply. (s : DeviceState) → HasTrial IsConfirmed map old s → IsAfresh map old new 4 reply)
+    old new result
+
+-- .. one that goes on has one boot less ..
+abbrev pub BootsAgain : SectorMap → Chip → Chip → Result Reply FlashError → Type 0
+BootsAgain map old new result = BootEndsForAny map (HasTrial GoesOn map old)
+    (IsAfresh map old new 4) old new result
+
+-- .. and the set of one that goes back is swapped back.
+abbrev pub BootsBack : SectorMap → Chip → Chip → Result Reply FlashError → Type 0
+BootsBack map old new result = BootEndsForAny map (HasTrial GoesBack map old)
+    (λ reply. (s : DeviceState) → HasTrial GoesBack map old s → IsAfresh map old new 4 reply)
+    old new result
+
+-- From a record Trial one of these is done.
+abbrev pub BootsFromTrial : SectorMap → ℕ → Chip → Chip → Result Reply FlashError → Type 0
+BootsFromTrial map left old new result = BootEnds map (left + 1) (Stands map old)
+    (λ reply. (s : DeviceState) → Stands map old s → IsAfresh map old new 4 reply) old new result

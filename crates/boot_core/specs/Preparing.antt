@@ -1,0 +1,74 @@
+-- What a call does that makes trailers ready to keep the progress of a swap.
+use Rattle.std.specs.Prelude.{◌≡◌, ◌≢◌, ℕ, ◌+◌, ◌*◌, ◌<◌, ◌≤◌, true, Result, IfOk, OnOk}
+use Rattle.flash_model.specs.declared.error.FlashError.{FlashError}
+use Rattle.flash_model.specs.Chip.{Chip, Ends}
+use Rattle.sector_map.specs.declared.layout.SectorMap.{SectorMap}
+use Rattle.sector_map.specs.declared.layout.Side.{Side}
+use Rattle.sector_map.specs.Map.{Keeps, slot_sectors}
+use Rattle.sector_map.specs.Part.{TrailerOf, is_member, only, trailers_on}
+use Rattle.swap_scratch.specs.Swap.{share}
+use Rattle.tlv.specs.Slot.{slot_bytes}
+use Rattle.upload.specs.View.{view}
+use Rattle.machine.specs.Prepared.{IsPrepared}
+use Rattle.machine.specs.Wear.{members}
+use Rattle.boot_core.specs.SwapSize.{IsReady, IsSwapSize, IsUsed}
+
+-- How many bytes are used of a slot of an image,
+abbrev pub IsUsedIn : SectorMap → ℕ → Side → Chip → ℕ → Type 0
+IsUsedIn map image side chip size = IsUsed (slot_bytes map chip image side) size
+
+-- and how many of each a swap moves.
+abbrev pub IsSwapSizeIn : SectorMap → ℕ → Chip → ℕ → Type 0
+IsSwapSizeIn map image chip size = IsSwapSize (view map chip) image size
+
+-- A call tells such a number of bytes of an image.
+pub record TellsSize (map : SectorMap) (image : ℕ) (says : Chip → ℕ → Type 0) (old new : Chip)
+    (result : Result ℕ FlashError) : Type 0 where
+  -- The flash is as it was,
+  pub same : new ≡ old
+  -- the number is exact,
+  pub ok : IfOk result (says old)
+  -- not 0,
+  pub some : IfOk result (λ size. 0 < size)
+  -- and no more than the slot has.
+  pub most : IfOk result (λ size. size ≤ slot_sectors map image * map.sector_size)
+  pub ends : Ends result old new
+
+-- A call makes a trailer of an image ready.
+pub record PreparesImage (map : SectorMap) (image : ℕ) (side : Side) (old new : Chip)
+    {T : Type 0} (result : Result T FlashError) : Type 0 where
+  -- Nothing is written but this trailer,
+  pub outside : Keeps map (only (TrailerOf image side)) old new
+  -- and it is ready in the end.
+  pub ok : OnOk result (IsReady (view map new) side image)
+  -- One sector is erased at most.
+  pub erases : OnOk result (new.erases ≤ old.erases + 1)
+  pub ends : Ends result old new
+
+-- A call makes the trailer of an image ready where the image is in a mask.
+pub record PreparesMember (map : SectorMap) (mask : ℕ) (side : Side) (image : ℕ) (old new : Chip)
+    {T : Type 0} (result : Result T FlashError) : Type 0 where
+  -- Nothing is written but the trailers of the mask on this side,
+  pub outside : Keeps map (trailers_on mask side) old new
+  -- and that of a member is ready in the end.
+  pub ok : OnOk result (is_member mask image ≡ true → IsReady (view map new) side image)
+  -- Whatever happened, the other images that were ready stay so.
+  pub kept : (i : ℕ) → i ≢ image → IsReady (view map old) side i → IsReady (view map new) side i
+  -- For a member one sector is erased at most, and else none.
+  pub erases : OnOk result (new.erases ≤ old.erases + share mask (λ i. 1) image)
+  pub ends : Ends result old new
+
+-- A call makes the trailers of a mask on one side ready.
+pub record Prepares (map : SectorMap) (mask : ℕ) (side : Side) (old new : Chip)
+    {T : Type 0} (result : Result T FlashError) : Type 0 where
+  -- Nothing is written but these trailers.
+  pub outside : Keeps map (trailers_on mask side) old new
+  -- In the end they can count the steps of a swap,
+  pub ok : OnOk result ((i : ℕ) → i < map.images → is_member mask i ≡ true
+      → IsPrepared (view map new) side i)
+  -- and say how many bytes it moves.
+  pub ready : OnOk result ((i : ℕ) → i < map.images → is_member mask i ≡ true
+      → IsReady (view map new) side i)
+  -- A sector is erased at most for each member.
+  pub erases : OnOk result (new.erases ≤ old.erases + members map mask)
+  pub ends : Ends result old new

@@ -1,0 +1,63 @@
+-- What a call does that reads an image, a row or a table of the flash.
+use Rattle.std.specs.Prelude.{◌≡◌, ℕ, Bool, List, Option, Result, IfOk}
+use Rattle.flash_model.specs.declared.error.FlashError.{FlashError}
+use Rattle.flash_model.specs.Chip.{Chip, Ends}
+use Rattle.sector_map.specs.declared.layout.SectorMap.{SectorMap}
+use Rattle.sector_map.specs.declared.layout.Side.{Side}
+use Rattle.sector_map.specs.declared.layout.Side.TheVariants.{Secondary}
+use Rattle.certificate.specs.declared.table.Entry.{Entry}
+use Rattle.certificate.specs.declared.table.Image.{Image}
+use Rattle.certificate.specs.declared.table.Request.{Request}
+use Rattle.tlv.specs.Slot.{slot_bytes}
+use Rattle.trailer.specs.Fields.{fields_at}
+use Rattle.upload.specs.Device.{DeviceState, Wanted}
+use Rattle.upload.specs.Steady.{IsFront, IsRequested}
+use Rattle.upload.specs.View.{view}
+use Rattle.machine.specs.Boots.{IsRequestOf}
+use Rattle.machine.specs.Reading.{CanRead, CanReadAt, HasRows, IsReadOf, IsReading, IsRowRead}
+use Rattle.machine.specs.declared.finding.Reading.{Reading}
+use Rattle.boot_core.specs.Found.{IsEntryAt, IsReadingAt, IsRowAt}
+
+-- A call reads what a decision knows of the image that a slot begins with.
+pub record ReadsSlot (map : SectorMap) (image : ℕ) (side : Side) (old new : Chip)
+    (result : Result (Option Entry) FlashError) : Type 0 where
+  -- The flash is as it was,
+  pub same : new ≡ old
+  -- what is read is of the image that the slot holds,
+  pub ok : IfOk result (λ entry. (held : Option (List ℕ))
+      → IsFront (slot_bytes map old image side) held → IsReadOf held entry)
+  -- and there is something exactly where that is intact.
+  pub front : IfOk result (IsEntryAt (slot_bytes map old image side))
+  pub ends : Ends result old new
+
+-- What is requested for an image.
+abbrev pub IsRequestIn : SectorMap → ℕ → Chip → Request → Type 0
+IsRequestIn map image chip request = (wanted : Option Wanted)
+    → IsRequested (fields_at map chip image Secondary) (slot_bytes map chip image Secondary) wanted
+    → IsRequestOf wanted request
+
+-- A call reads the row of an image, whose slots are swapped or not.
+pub record ReadsRow (map : SectorMap) (image : ℕ) (is_swapped : Bool) (floor : ℕ) (old new : Chip)
+    (result : Result (Option Image) FlashError) : Type 0 where
+  -- The flash is as it was,
+  pub same : new ≡ old
+  -- the row is that of the device's state,
+  pub ok : IfOk result (λ row. (s : DeviceState) → CanReadAt (view map old) s is_swapped image
+      → IsRowRead (s.running image) (s.request image) floor row)
+  -- and there is one exactly where the images in the slots that it needs are intact.
+  pub front : IfOk result (IsRowAt (view map old) is_swapped image)
+  pub ends : Ends result old new
+
+-- A call reads the table of a device, where the slots of the images of a mask are swapped.
+pub record ReadsTable (map : SectorMap) (mask : ℕ) (floors : List ℕ) (old new : Chip)
+    (result : Result Reading FlashError) : Type 0 where
+  -- The flash is as it was,
+  pub same : new ≡ old
+  -- the table is that of the device's state, or the lowest damaged image is told,
+  pub ok : IfOk result (λ reading. (s : DeviceState) → CanRead (view map old) s mask floors
+      → IsReading s reading)
+  -- the table has a row for each image,
+  pub whole : IfOk result (HasRows map.images)
+  -- and on any flash there is one exactly where all rows can be read.
+  pub front : IfOk result (IsReadingAt (view map old) mask)
+  pub ends : Ends result old new

@@ -1,0 +1,95 @@
+-- What a call does that takes an event of a device: on the flash, in the table of uploads, and to
+-- whether it is up.
+use Rattle.std.specs.Prelude.{◌≡◌, ℕ, Bool, true, false, List, Option, Result, IfErr}
+use Rattle.std.specs.Borrow.{Bor}
+use Rattle.flash_model.specs.Chip.{Chip}
+use Rattle.sector_map.specs.declared.layout.SectorMap.{SectorMap}
+use Rattle.sector_map.specs.Map.{IsLaidOut, Keeps}
+use Rattle.sector_map.specs.Part.{Part, any_part, incoming_of}
+use Rattle.manifest.specs.declared.identity.Identity.{Identity}
+use Rattle.set_log.specs.Log.{state_of}
+use Rattle.upload.specs.Sessions.{AllClosed, AllOpenAt}
+use Rattle.upload.specs.View.{view}
+use Rattle.upload.specs.declared.sessions.Upload.{Upload}
+use Rattle.machine.specs.Holding.{DeviceView}
+use Rattle.machine.specs.Passing.{StepsTo}
+use Rattle.machine.specs.declared.error.Fault.{Fault}
+use Rattle.machine.specs.declared.event.Event.{Event}
+use Rattle.machine.specs.declared.event.Event.TheVariants as event
+use Rattle.boot_core.specs.Answers.{EndsCall, IsNotBooted, is_stop, reply_of_result}
+use Rattle.boot_core.specs.Device.{made}
+use Rattle.boot_core.specs.Ready.{IsReadiness}
+
+-- A call asks whether uploads are taken now.
+pub record ChecksReady (map : SectorMap) (is_up : Bool) (old new : Chip)
+    (result : Result Unit Fault) : Type 0 where
+  -- The flash is as it was,
+  pub same : new ≡ old
+  -- and the answer is the first check that fails.
+  pub ready : IsReadiness result is_up (state_of map old) old.is_on
+
+-- A call passes a fault on, and stops the device where the flash is its reason.
+pub record Stops (fault : Fault) (old : List (Option Upload)) (was_up : Bool)
+    (new : List (Option Upload)) (is_up : Bool) (result : Fault) : Type 0 where
+  -- The fault is passed on.
+  pub is : result ≡ fault
+  -- Where the call stopped at the flash the device isn't up,
+  pub down : is_stop fault ≡ true → is_up ≡ false
+  -- and no upload is open.
+  pub closed : is_stop fault ≡ true → AllClosed new
+  -- Else it is up where it was,
+  pub up : is_stop fault ≡ false → is_up ≡ was_up
+  -- and the uploads are as they were.
+  pub kept : is_stop fault ≡ false → new ≡ old
+
+-- A call takes an event of a device that has this map.
+pub record TakesHere (map : SectorMap) (event : Event) (touched : Part → Bool)
+    (old new : DeviceView) (result : Result Unit Fault) : Type 0 where
+  -- The map is still laid out on the flash,
+  pub laid : IsLaidOut map new.flash
+  -- and the open uploads stand on it.
+  pub opens : AllOpenAt (view map new.flash) new.sessions
+  -- On a flash with power it is a step of the machine, whatever else the device was made with.
+  pub steps : (identity : Identity) (boots : ℕ) → old.flash.is_on ≡ true
+      → StepsTo (made map identity boots) old new event (reply_of_result result)
+  -- Only these parts are touched:
+  pub outside : Keeps map touched old.flash new.flash
+  -- nothing where the device isn't up,
+  pub down : old.up ≡ false → IsNotBooted result old new
+  -- and nothing of the flash where a refusal is not of the flash.
+  pub refused : IfErr result (λ fault. is_stop fault ≡ false → new.flash ≡ old.flash)
+  pub ends : EndsCall (reply_of_result result) old new
+
+-- A call takes a manifest of a device that has this map and this identity.
+pub record AcceptsHere (map : SectorMap) (identity : Identity) (text : Bor (List ℕ))
+    (old new : DeviceView) (result : Result Unit Fault) : Type 0 where
+  -- The map is still laid out on the flash,
+  pub laid : IsLaidOut map new.flash
+  -- and the open uploads stand on it.
+  pub opens : AllOpenAt (view map new.flash) new.sessions
+  -- On a flash with power it is a step of the machine, however many boots its trials have.
+  pub steps : (boots : ℕ) → old.flash.is_on ≡ true
+      → StepsTo (made map identity boots) old new (event.Accept text) (reply_of_result result)
+  -- Only parts of the map are touched:
+  pub outside : Keeps map any_part old.flash new.flash
+  -- nothing where the device isn't up,
+  pub down : old.up ≡ false → IsNotBooted result old new
+  -- and nothing of the flash where a refusal is not of the flash.
+  pub refused : IfErr result (λ fault. is_stop fault ≡ false → new.flash ≡ old.flash)
+  pub ends : EndsCall (reply_of_result result) old new
+
+-- A call finishes an upload of a device that has this map.
+pub record FinishesHere (map : SectorMap) (image : ℕ) (old new : DeviceView)
+    (result : Result Unit Fault) : Type 0 where
+  -- The map is still laid out on the flash,
+  pub laid : IsLaidOut map new.flash
+  -- and the open uploads stand on it.
+  pub opens : AllOpenAt (view map new.flash) new.sessions
+  -- On a flash with power it is a step of the machine, whatever else the device was made with.
+  pub steps : (identity : Identity) (boots : ℕ) → old.flash.is_on ≡ true
+      → StepsTo (made map identity boots) old new (event.Finish image) (reply_of_result result)
+  -- Only the secondary slot of the image and its trailer are touched,
+  pub outside : Keeps map (incoming_of image) old.flash new.flash
+  -- and nothing where the device isn't up.
+  pub down : old.up ≡ false → IsNotBooted result old new
+  pub ends : EndsCall (reply_of_result result) old new

@@ -1,0 +1,112 @@
+//! A boot from a record Back or BackSettle: the set is swapped back, and the old images run.
+//!
+//! It comes from `trial` or from a cut.
+
+ghost use Rattle.boot_core.specs.FromBack.{BootsFromBack, BootsFromBackSettle, CarriesBack, FinishesBack, RecordsBackSettle, RecordsReturned, SettlesAndReturns};
+ghost use Rattle.boot_core.specs.Recorded.{HasRecord, HasRecordOf};
+ghost use Rattle.sector_map.specs.Map.{HasImages};
+ghost use Rattle.set_log.specs.declared.state.Kind.{Kind};
+
+use crate::settle::settle_set;
+use flash_model::{Flash, FlashError};
+use machine::Reply;
+use sector_map::{SectorMap, Side};
+use set_log::{Kind, State, append};
+use swap_scratch::swap_set;
+use trailer::Settling;
+
+/// In Back: the set is swapped back, from wherever the swap stands.
+fn carry_back<F: Flash>(flash: &mut F, map: &SectorMap, mask: u8) -> Result<(), FlashError>
+    requires { HasImages map.now mask (F.chip flash.old) }
+    ensures { CarriesBack map.now mask (F.chip flash.old) (F.chip flash.new) result }
+{
+    swap_set(flash, map, mask, Side::Secondary)
+}
+
+/// From Back to BackSettle: the set is swapped back.
+fn record_back_settle<F: Flash>(
+    flash: &mut F,
+    map: &SectorMap,
+    state: &State,
+) -> Result<(), FlashError>
+    requires { HasRecordOf map.now Kind.Back state.now (F.chip flash.old) }
+    ensures { RecordsBackSettle map.now state.now (F.chip flash.old) (F.chip flash.new) result }
+{
+    let settle = State {
+        kind: Kind::BackSettle,
+        ..*state
+    };
+    append(flash, map, &settle)
+}
+
+/// From BackSettle to Steady: the old images run.
+fn record_returned<F: Flash>(
+    flash: &mut F,
+    map: &SectorMap,
+    state: &State,
+) -> Result<(), FlashError>
+    requires { HasRecord map.now state.now (F.chip flash.old) }
+    ensures { RecordsReturned map.now (F.chip flash.old) (F.chip flash.new) result }
+{
+    let steady = State {
+        kind: Kind::Steady,
+        mask: 0,
+        permanent: false,
+        left: 0,
+        ..*state
+    };
+    append(flash, map, &steady)
+}
+
+/// From BackSettle on: the trailers are settled, and the old images run.
+fn settle_and_return<F: Flash>(
+    flash: &mut F,
+    map: &SectorMap,
+    state: &State,
+) -> Result<(), FlashError>
+    requires { HasRecord map.now state.now (F.chip flash.old) }
+    ensures { SettlesAndReturns map.now state.now (F.chip flash.old) (F.chip flash.new) result }
+{
+    settle_set(flash, map, state.mask, Settling::Back)?;
+    record_returned(flash, map, state)
+}
+
+/// From Back on: the set is swapped back, from wherever the swap stands, and the old images run.
+fn finish_back<F: Flash>(flash: &mut F, map: &SectorMap, state: &State) -> Result<(), FlashError>
+    requires { HasRecordOf map.now Kind.Back state.now (F.chip flash.old) }
+    ensures { FinishesBack map.now state.now (F.chip flash.old) (F.chip flash.new) result }
+{
+    carry_back(flash, map, state.mask)?;
+    record_back_settle(flash, map, state)?;
+    let settle = State {
+        kind: Kind::BackSettle,
+        ..*state
+    };
+    settle_and_return(flash, map, &settle)
+}
+
+/// From a record Back: the set is swapped back.
+pub(crate) fn boot_from_back<F: Flash>(
+    flash: &mut F,
+    map: &SectorMap,
+    state: &State,
+) -> Result<Reply, FlashError>
+    requires { HasRecordOf map.now Kind.Back state.now (F.chip flash.old) }
+    ensures { BootsFromBack map.now state.now (F.chip flash.old) (F.chip flash.new) result }
+{
+    finish_back(flash, map, state)?;
+    Ok(Reply::Reverted(state.mask))
+}
+
+/// From a record BackSettle: the set that was swapped back is settled.
+pub(crate) fn boot_from_back_settle<F: Flash>(
+    flash: &mut F,
+    map: &SectorMap,
+    state: &State,
+) -> Result<Reply, FlashError>
+    requires { HasRecordOf map.now Kind.BackSettle state.now (F.chip flash.old) }
+    ensures { BootsFromBackSettle map.now state.now (F.chip flash.old) (F.chip flash.new) result }
+{
+    settle_and_return(flash, map, state)?;
+    Ok(Reply::Reverted(state.mask))
+}

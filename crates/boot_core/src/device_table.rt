@@ -1,0 +1,151 @@
+//! Reading the table of what runs and what is requested.
+
+ghost use Rattle.std.specs.Prelude.{◌≡◌, true, false};
+ghost use Rattle.sector_map.specs.Map.{HasImage, IsLaidOut};
+ghost use Rattle.machine.specs.States.{entry_of};
+ghost use Rattle.boot_core.specs.Rows.{IsRequestIn, ReadsRow, ReadsSlot, ReadsTable};
+ghost use Rattle.boot_core.specs.Telling.{Tells};
+
+use arrayvec::ArrayVec;
+use certificate::{Entry, Image, Request, Table};
+use common::limits::MOST_IMAGES;
+use flash_model::{Flash, FlashError};
+use machine::Reading;
+use sector_map::{SectorMap, Side, is_member};
+use tlv::{Desc, SlotError, describe_slot};
+use trailer::standing;
+
+/// What a decision knows of an image, by its description.
+pub(crate) fn entry_of(description: Desc) -> Entry
+    ensures { result ≡ entry_of description }
+{
+    Entry {
+        version: description.version,
+        counter: description.counter,
+        dependencies: description.dependencies,
+        groups: description.groups,
+    }
+}
+
+/// What a decision knows of the image that a slot begins with, if it begins with an intact one.
+pub(crate) fn read_slot<F: Flash>(
+    flash: &mut F,
+    map: &SectorMap,
+    image: u8,
+    side: Side,
+) -> Result<Option<Entry>, FlashError>
+    requires { HasImage map.now image (F.chip flash.old) }
+    ensures { ReadsSlot map.now image side (F.chip flash.old) (F.chip flash.new) result }
+{
+    match describe_slot(flash, map, image, side) {
+        Ok(description) => Ok(Some(entry_of(description))),
+        Err(SlotError::Image(_)) => Ok(None),
+        Err(SlotError::Flash(error)) => Err(error),
+        Err(SlotError::NoMemory) => unreachable!(),
+    }
+}
+
+/// What is requested for an image.
+fn read_request<F: Flash>(flash: &mut F, map: &SectorMap, image: u8) -> Result<Request, FlashError>
+    requires { HasImage map.now image (F.chip flash.old) }
+    ensures { Tells (IsRequestIn map.now image) (F.chip flash.old) (F.chip flash.new) result }
+{
+    match standing(flash, map, image)? {
+        None => Ok(Request::None),
+        Some(_) => match read_slot(flash, map, image, Side::Secondary)? {
+            None => Ok(Request::Damaged),
+            Some(entry) => Ok(Request::Entry(entry)),
+        },
+    }
+}
+
+/// The row of an image at rest: what its primary slot begins with runs. There is none where that
+/// isn't intact.
+fn read_row_at_rest<F: Flash>(
+    flash: &mut F,
+    map: &SectorMap,
+    image: u8,
+    floor: u32,
+) -> Result<Option<Image>, FlashError>
+    requires { HasImage map.now image (F.chip flash.old) }
+    ensures { ReadsRow map.now image false floor (F.chip flash.old) (F.chip flash.new) result }
+{
+    match read_slot(flash, map, image, Side::Primary)? {
+        None => Ok(None),
+        Some(running) => {
+            let request = read_request(flash, map, image)?;
+            Ok(Some(Image {
+                running,
+                request,
+                floor,
+            }))
+        }
+    }
+}
+
+/// The row of an image whose slots are swapped: what its secondary slot begins with ran, and what
+/// its primary slot begins with was requested. There is none where either isn't intact.
+fn read_swapped_row<F: Flash>(
+    flash: &mut F,
+    map: &SectorMap,
+    image: u8,
+    floor: u32,
+) -> Result<Option<Image>, FlashError>
+    requires { HasImage map.now image (F.chip flash.old) }
+    ensures { ReadsRow map.now image true floor (F.chip flash.old) (F.chip flash.new) result }
+{
+    match read_slot(flash, map, image, Side::Secondary)? {
+        None => Ok(None),
+        Some(running) => match read_slot(flash, map, image, Side::Primary)? {
+            None => Ok(None),
+            Some(entry) => Ok(Some(Image {
+                running,
+                request: Request::Entry(entry),
+                floor,
+            })),
+        },
+    }
+}
+
+/// The row of an image, at rest or swapped.
+fn read_row<F: Flash>(
+    flash: &mut F,
+    map: &SectorMap,
+    image: u8,
+    is_swapped: bool,
+    floor: u32,
+) -> Result<Option<Image>, FlashError>
+    requires { HasImage map.now image (F.chip flash.old) }
+    ensures { ReadsRow map.now image is_swapped floor (F.chip flash.old) (F.chip flash.new) result }
+{
+    if is_swapped {
+        read_swapped_row(flash, map, image, floor)
+    } else {
+        read_row_at_rest(flash, map, image, floor)
+    }
+}
+
+/// The table of a device, where the slots of the images of a mask are swapped, with these floors.
+/// Each slot is read once, and a secondary one at rest only where something is requested.
+///
+/// # Errors
+/// `Off` where the flash was off. Nothing changes in any case.
+pub(crate) fn read_table<F: Flash>(
+    flash: &mut F,
+    map: &SectorMap,
+    mask: u8,
+    floors: &[u32; MOST_IMAGES],
+) -> Result<Reading, FlashError>
+    requires laid_out { IsLaidOut map.now (F.chip flash.old) }
+    ensures { ReadsTable map.now mask floors.now (F.chip flash.old) (F.chip flash.new) result }
+{
+    let mut images = ArrayVec::new();
+    for image in 0..map.images {
+        let is_swapped = is_member(mask, image);
+        match read_row(flash, map, image, is_swapped, floors[usize::from(image)])? {
+            None => return Ok(Reading::DamagedAt(image)),
+            Some(row) => images.push(row),
+        }
+    }
+    Ok(Reading::Read(Table { images }))
+}

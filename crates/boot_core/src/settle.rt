@@ -1,0 +1,184 @@
+//! A boot from a record Settle: the trailers of a swapped set say what it is, and the set is on
+//! trial or taken for good.
+//!
+//! It comes from `swap` or from a cut.
+
+ghost use Rattle.std.specs.Prelude.{◌≤◌, ◌≡◌, ℕ, slice_index};
+ghost use Rattle.boot_core.specs.FromSettle.{BootsFromSettle, CanSettle, FinishesSettle, RecordsTaken, RecordsTrial, SettlesAndRecords, SettlesFound, SettlesMember, SettlesSet};
+ghost use Rattle.boot_core.specs.Recorded.{HasRecord, HasRecordOf};
+ghost use Rattle.sector_map.specs.Map.{HasImage, IsLaidOut};
+ghost use Rattle.set_log.specs.declared.state.Kind.{Kind};
+ghost use Rattle.trailer.specs.Settled.{is_confirmed};
+
+use crate::deciding::{find_again, raised_floors, reply_to};
+use common::limits::MOST_IMAGES;
+use flash_model::{Flash, FlashError};
+use machine::{Finding, Reply};
+use sector_map::{SectorMap, is_member};
+use set_log::{Kind, State, append};
+use trailer::{Settling, settle};
+
+/// What a set is settled for: to stay, or to be tried.
+fn settling_for(permanent: bool) -> Settling
+    ensures { is_confirmed result ≡ permanent }
+{
+    if permanent {
+        Settling::Permanent
+    } else {
+        Settling::Test
+    }
+}
+
+/// In Settle or BackSettle: the trailers of one image, where it is of the set.
+fn settle_member<F: Flash>(
+    flash: &mut F,
+    map: &SectorMap,
+    mask: u8,
+    image: u8,
+    settling: Settling,
+) -> Result<(), FlashError>
+    requires { HasImage map.now image (F.chip flash.old) }
+    ensures { SettlesMember map.now mask image settling
+        (F.chip flash.old) (F.chip flash.new) result }
+{
+    if is_member(mask, image) {
+        settle(flash, map, image, settling)?;
+    }
+    Ok(())
+}
+
+/// In Settle or BackSettle: the trailers of the set say what it is.
+pub(crate) fn settle_set<F: Flash>(
+    flash: &mut F,
+    map: &SectorMap,
+    mask: u8,
+    settling: Settling,
+) -> Result<(), FlashError>
+    requires { IsLaidOut map.now (F.chip flash.old) }
+    ensures { SettlesSet map.now mask settling (F.chip flash.old) (F.chip flash.new) result }
+{
+    for image in 0..map.images {
+        settle_member(flash, map, mask, image, settling)?;
+    }
+    Ok(())
+}
+
+/// From Settle to Trial: the set is on trial, of so many boots more.
+fn record_trial<F: Flash>(
+    flash: &mut F,
+    map: &SectorMap,
+    state: &State,
+    left: u8,
+) -> Result<(), FlashError>
+    requires recorded { HasRecordOf map.now Kind.Settle state.now (F.chip flash.old) }
+    requires few { left ≤ 6 }
+    ensures { RecordsTrial map.now left (F.chip flash.old) (F.chip flash.new) result }
+{
+    let trial = State {
+        kind: Kind::Trial,
+        left,
+        ..*state
+    };
+    append(flash, map, &trial)
+}
+
+/// From Settle to Steady: the set is taken for good, with these floors, which are those of the
+/// record past the last image.
+fn record_taken<F: Flash>(
+    flash: &mut F,
+    map: &SectorMap,
+    state: &State,
+    floors: [u32; MOST_IMAGES],
+) -> Result<(), FlashError>
+    requires recorded { HasRecord map.now state.now (F.chip flash.old) }
+    requires rest { (i : ℕ) → map.now.images ≤ i
+        → slice_index floors i ≡ slice_index state.now.floors i }
+    ensures { RecordsTaken map.now floors (F.chip flash.old) (F.chip flash.new) result }
+{
+    let steady = State {
+        kind: Kind::Steady,
+        mask: 0,
+        permanent: false,
+        left: 0,
+        sequence: state.sequence,
+        floors,
+    };
+    append(flash, map, &steady)
+}
+
+/// From Settle on: the trailers are settled, and the set is on trial or taken for good.
+pub(crate) fn settle_and_record<F: Flash>(
+    flash: &mut F,
+    map: &SectorMap,
+    state: &State,
+    left: u8,
+    floors: [u32; MOST_IMAGES],
+) -> Result<(), FlashError>
+    requires recorded { HasRecordOf map.now Kind.Settle state.now (F.chip flash.old) }
+    requires few { left ≤ 6 }
+    requires rest { (i : ℕ) → map.now.images ≤ i
+        → slice_index floors i ≡ slice_index state.now.floors i }
+    ensures { SettlesAndRecords map.now state.now left floors (F.chip flash.old) (F.chip flash.new) result }
+{
+    settle_set(flash, map, state.mask, settling_for(state.permanent))?;
+    if state.permanent {
+        record_taken(flash, map, state, floors)
+    } else {
+        record_trial(flash, map, state, left)
+    }
+}
+
+/// From Settle on, where this was found of the decision: the set is on trial, of so many boots
+/// more, or taken for good; where it wasn't found nothing is done.
+pub(crate) fn settle_found<F: Flash>(
+    flash: &mut F,
+    map: &SectorMap,
+    state: &State,
+    left: u8,
+    finding: Finding,
+) -> Result<Finding, FlashError>
+    requires { CanSettle map.now state.now left finding (F.chip flash.old) }
+    ensures { SettlesFound map.now state.now left finding
+        (F.chip flash.old) (F.chip flash.new) result }
+{
+    match finding {
+        Finding::Decided { table, report } => {
+            let floors = raised_floors(&table, state.mask, &state.floors);
+            settle_and_record(flash, map, state, left, floors)?;
+            Ok(Finding::Decided { table, report })
+        }
+        Finding::Damaged(image) => Ok(Finding::Damaged(image)),
+        Finding::Invalid => Ok(Finding::Invalid),
+    }
+}
+
+/// From Settle on: the decision is found again, and the set is on trial, of so many boots more, or
+/// taken for good. Where it isn't found nothing is written.
+fn finish_settle<F: Flash>(
+    flash: &mut F,
+    map: &SectorMap,
+    state: &State,
+    left: u8,
+) -> Result<Finding, FlashError>
+    requires recorded { HasRecordOf map.now Kind.Settle state.now (F.chip flash.old) }
+    requires few { left ≤ 6 }
+    ensures { FinishesSettle map.now state.now left (F.chip flash.old) (F.chip flash.new) result }
+{
+    let finding = find_again(flash, map, state.mask, &state.floors)?;
+    settle_found(flash, map, state, left, finding)
+}
+
+/// From a record Settle: the upgrade that was swapped is finished.
+pub(crate) fn boot_from_settle<F: Flash>(
+    flash: &mut F,
+    map: &SectorMap,
+    state: &State,
+    left: u8,
+) -> Result<Reply, FlashError>
+    requires recorded { HasRecordOf map.now Kind.Settle state.now (F.chip flash.old) }
+    requires few { left ≤ 6 }
+    ensures { BootsFromSettle map.now state.now left (F.chip flash.old) (F.chip flash.new) result }
+{
+    let finding = finish_settle(flash, map, state, left)?;
+    Ok(reply_to(finding, state.permanent))
+}

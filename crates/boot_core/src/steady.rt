@@ -1,0 +1,92 @@
+//! A boot from a record Steady: the decision is made, and an upgrade begun where one is due.
+//!
+//! It goes on in `swap`.
+
+ghost use Rattle.std.specs.Prelude.{◌≤◌};
+ghost use Rattle.boot_core.specs.FromSteady.{BeginsSwap, BootsFromSteady, Upgrades};
+ghost use Rattle.boot_core.specs.Recorded.{CanTake, HasRecord};
+
+use crate::deciding::{asks_for_good, find, reply_to, taken_mask};
+use crate::preparing::prepare_set;
+use crate::swap::finish_swap;
+use flash_model::{Flash, FlashError};
+use machine::{Fault, Finding, Reply};
+use sector_map::{SectorMap, Side};
+use set_log::{Kind, State, append};
+
+/// From Steady to Swap: the trailers of the set are made ready to count the swap, and then the
+/// decision is recorded, so that no swap begins that no record tells of.
+fn begin_swap<F: Flash>(
+    flash: &mut F,
+    map: &SectorMap,
+    state: &State,
+    mask: u8,
+    permanent: bool,
+) -> Result<(), FlashError>
+    requires { CanTake map.now state.now mask (F.chip flash.old) }
+    ensures { BeginsSwap map.now state.now mask permanent
+        (F.chip flash.old) (F.chip flash.new) result }
+{
+    prepare_set(flash, map, mask, Side::Primary)?;
+    let swap = State {
+        kind: Kind::Swap,
+        mask,
+        permanent,
+        left: 0,
+        ..*state
+    };
+    append(flash, map, &swap)
+}
+
+/// From Steady: a chosen set is taken.
+fn upgrade<F: Flash>(
+    flash: &mut F,
+    map: &SectorMap,
+    state: &State,
+    mask: u8,
+    left: u8,
+) -> Result<Reply, FlashError>
+    requires chosen { CanTake map.now state.now mask (F.chip flash.old) }
+    requires few { left ≤ 6 }
+    ensures { Upgrades map.now mask left (F.chip flash.old) (F.chip flash.new) result }
+{
+    let permanent = asks_for_good(flash, map, mask)?;
+    begin_swap(flash, map, state, mask, permanent)?;
+    let swap = State {
+        kind: Kind::Swap,
+        mask,
+        permanent,
+        left: 0,
+        ..*state
+    };
+    let finding = finish_swap(flash, map, &swap, left)?;
+    Ok(reply_to(finding, permanent))
+}
+
+/// From Steady: the decision is made, and a set that is chosen is taken.
+pub(crate) fn boot_from_steady<F: Flash>(
+    flash: &mut F,
+    map: &SectorMap,
+    state: &State,
+    left: u8,
+) -> Result<Reply, FlashError>
+    requires recorded { HasRecord map.now state.now (F.chip flash.old) }
+    requires few { left ≤ 6 }
+    ensures { BootsFromSteady map.now left (F.chip flash.old) (F.chip flash.new) result }
+{
+    match find(flash, map, &state.floors)? {
+        Finding::Damaged(image) => Ok(Reply::Refused(Fault::RunningDamaged(image))),
+        Finding::Invalid => Ok(Reply::Refused(Fault::InvalidSet)),
+        Finding::Decided { table, report } => {
+            let mask = taken_mask(&report);
+            if mask == 0 {
+                return Ok(Reply::Booted {
+                    table,
+                    report,
+                    permanent: false,
+                });
+            }
+            upgrade(flash, map, state, mask, left)
+        }
+    }
+}

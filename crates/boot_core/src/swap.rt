@@ -1,0 +1,87 @@
+//! A boot from a record Swap: the slots of the set are swapped, from wherever the swap stands.
+//!
+//! It comes from `steady` or from a cut, and goes on in `settle`.
+
+ghost use Rattle.std.specs.Prelude.{◌≤◌};
+ghost use Rattle.boot_core.specs.FromSwap.{BootsFromSwap, CarriesSwap, FinishesSwap, RecordsSettle};
+ghost use Rattle.boot_core.specs.Recorded.{HasRecordOf};
+ghost use Rattle.sector_map.specs.Map.{HasImages};
+ghost use Rattle.set_log.specs.declared.state.Kind.{Kind};
+
+use crate::deciding::{find_again, reply_to};
+use crate::settle::settle_found;
+use flash_model::{Flash, FlashError};
+use machine::{Finding, Reply};
+use sector_map::{SectorMap, Side};
+use set_log::{Kind, State, append};
+use swap_scratch::swap_set;
+
+/// In Swap: the set is swapped, from wherever the swap stands.
+fn carry_swap<F: Flash>(flash: &mut F, map: &SectorMap, mask: u8) -> Result<(), FlashError>
+    requires { HasImages map.now mask (F.chip flash.old) }
+    ensures { CarriesSwap map.now mask (F.chip flash.old) (F.chip flash.new) result }
+{
+    swap_set(flash, map, mask, Side::Primary)
+}
+
+/// From Swap to Settle: the set is swapped.
+fn record_settle<F: Flash>(flash: &mut F, map: &SectorMap, state: &State) -> Result<(), FlashError>
+    requires { HasRecordOf map.now Kind.Swap state.now (F.chip flash.old) }
+    ensures { RecordsSettle map.now state.now (F.chip flash.old) (F.chip flash.new) result }
+{
+    let settle = State {
+        kind: Kind::Settle,
+        ..*state
+    };
+    append(flash, map, &settle)
+}
+
+/// From Swap on: the swap is done, from wherever it stands, the decision is found again, and the
+/// set is on trial, of so many boots more, or taken for good. Where it isn't found nothing but the
+/// swap is written.
+pub(crate) fn finish_swap<F: Flash>(
+    flash: &mut F,
+    map: &SectorMap,
+    state: &State,
+    left: u8,
+) -> Result<Finding, FlashError>
+    requires recorded { HasRecordOf map.now Kind.Swap state.now (F.chip flash.old) }
+    requires few { left ≤ 6 }
+    ensures { FinishesSwap map.now state.now left (F.chip flash.old) (F.chip flash.new) result }
+{
+    let mask = state.mask;
+    carry_swap(flash, map, mask)?;
+    match find_again(flash, map, mask, &state.floors)? {
+        Finding::Decided { table, report } => {
+            record_settle(flash, map, state)?;
+            let settle = State {
+                kind: Kind::Settle,
+                ..*state
+            };
+            settle_found(
+                flash,
+                map,
+                &settle,
+                left,
+                Finding::Decided { table, report },
+            )
+        }
+        Finding::Damaged(image) => Ok(Finding::Damaged(image)),
+        Finding::Invalid => Ok(Finding::Invalid),
+    }
+}
+
+/// From a record Swap: the upgrade that it began is finished.
+pub(crate) fn boot_from_swap<F: Flash>(
+    flash: &mut F,
+    map: &SectorMap,
+    state: &State,
+    left: u8,
+) -> Result<Reply, FlashError>
+    requires recorded { HasRecordOf map.now Kind.Swap state.now (F.chip flash.old) }
+    requires few { left ≤ 6 }
+    ensures { BootsFromSwap map.now state.now left (F.chip flash.old) (F.chip flash.new) result }
+{
+    let finding = finish_swap(flash, map, state, left)?;
+    Ok(reply_to(finding, state.permanent))
+}

@@ -1,0 +1,243 @@
+//! A boot from a record Trial: by the trailers and the slots the trial is over, goes on, or goes
+//! back.
+//!
+//! It goes on in `steady` or in `back`.
+
+ghost use Rattle.std.specs.Prelude.{◌<◌, ◌≤◌, ◌≡◌, ℕ, slice_index, Some};
+ghost use Rattle.boot_core.specs.FromTrial.{AreConfirmedIn, BeginsBack, BootsAgain, BootsBack, BootsConfirmed, BootsFromTrial, DecidesTrial, IsAnyDamagedIn, IsConfirmedIn, IsDamagedIn, IsFloorIn, RaisesFloors, RecordsOver};
+ghost use Rattle.boot_core.specs.Recorded.{HasRecord, HasRecordOf};
+ghost use Rattle.boot_core.specs.Telling.{Tells};
+ghost use Rattle.sector_map.specs.Map.{HasImage, IsLaidOut};
+ghost use Rattle.set_log.specs.Log.{state_of};
+ghost use Rattle.set_log.specs.declared.state.Kind.{Kind};
+
+use crate::back::boot_from_back;
+use crate::device_table::read_slot;
+use crate::preparing::prepare_set;
+use crate::steady::boot_from_steady;
+use common::limits::MOST_IMAGES;
+use flash_model::{Flash, FlashError};
+use machine::{Passage, Reply};
+use sector_map::{SectorMap, Side, is_member};
+use set_log::{Kind, State, append};
+use trailer::read_trailer;
+
+/// Whether an image is confirmed.
+fn is_confirmed<F: Flash>(flash: &mut F, map: &SectorMap, image: u8) -> Result<bool, FlashError>
+    requires { HasImage map.now image (F.chip flash.old) }
+    ensures { Tells (IsConfirmedIn map.now image) (F.chip flash.old) (F.chip flash.new) result }
+{
+    let trailer = read_trailer(flash, map, image, Side::Primary)?;
+    Ok(trailer.image_ok)
+}
+
+/// Whether each image of a set is confirmed.
+fn is_all_confirmed<F: Flash>(flash: &mut F, map: &SectorMap, mask: u8) -> Result<bool, FlashError>
+    requires { IsLaidOut map.now (F.chip flash.old) }
+    ensures { Tells (AreConfirmedIn map.now mask) (F.chip flash.old) (F.chip flash.new) result }
+{
+    for image in 0..map.images {
+        if is_member(mask, image) {
+            let confirmed = is_confirmed(flash, map, image)?;
+            if !confirmed {
+                return Ok(false);
+            }
+        }
+    }
+    Ok(true)
+}
+
+/// Whether the running bytes of an image are no intact image.
+fn is_damaged<F: Flash>(flash: &mut F, map: &SectorMap, image: u8) -> Result<bool, FlashError>
+    requires { HasImage map.now image (F.chip flash.old) }
+    ensures { Tells (IsDamagedIn map.now image) (F.chip flash.old) (F.chip flash.new) result }
+{
+    match read_slot(flash, map, image, Side::Primary)? {
+        None => Ok(true),
+        Some(_) => Ok(false),
+    }
+}
+
+/// Whether a running image is damaged, of the set or not.
+fn is_any_damaged<F: Flash>(flash: &mut F, map: &SectorMap) -> Result<bool, FlashError>
+    requires { IsLaidOut map.now (F.chip flash.old) }
+    ensures { Tells (IsAnyDamagedIn map.now) (F.chip flash.old) (F.chip flash.new) result }
+{
+    for image in 0..map.images {
+        let damaged = is_damaged(flash, map, image)?;
+        if damaged {
+            return Ok(true);
+        }
+    }
+    Ok(false)
+}
+
+/// A floor raised to the counter of the image that runs. A damaged one raises nothing.
+fn floor_of<F: Flash>(
+    flash: &mut F,
+    map: &SectorMap,
+    image: u8,
+    floor: u32,
+) -> Result<u32, FlashError>
+    requires { HasImage map.now image (F.chip flash.old) }
+    ensures { Tells (IsFloorIn map.now image floor) (F.chip flash.old) (F.chip flash.new) result }
+{
+    match read_slot(flash, map, image, Side::Primary)? {
+        None => Ok(floor),
+        Some(entry) => Ok(floor.max(entry.counter)),
+    }
+}
+
+/// Floors raised to the counters of what runs. Those past the last image stay.
+fn raise_running<F: Flash>(
+    flash: &mut F,
+    map: &SectorMap,
+    floors: &[u32; MOST_IMAGES],
+) -> Result<[u32; MOST_IMAGES], FlashError>
+    requires { IsLaidOut map.now (F.chip flash.old) }
+    ensures { RaisesFloors map.now floors.now (F.chip flash.old) (F.chip flash.new) result }
+{
+    let mut raised = *floors;
+    for image in 0..map.images {
+        let floor = floor_of(flash, map, image, floors[usize::from(image)])?;
+        raised[usize::from(image)] = floor;
+    }
+    Ok(raised)
+}
+
+/// How a boot goes on from a trial: it is over where each image of the set is confirmed; else the
+/// set goes back where no boot is left or a running image is damaged; else it is tried again.
+fn decide_trial<F: Flash>(
+    flash: &mut F,
+    map: &SectorMap,
+    state: &State,
+) -> Result<Passage, FlashError>
+    requires laid_out { IsLaidOut map.now (F.chip flash.old) }
+    requires read { state_of map.now (F.chip flash.old) ≡ Some state.now }
+    ensures { DecidesTrial map.now state.now (F.chip flash.old) (F.chip flash.new) result }
+{
+    let confirmed = is_all_confirmed(flash, map, state.mask)?;
+    if confirmed {
+        return Ok(Passage::Over);
+    }
+    if state.left == 0 {
+        return Ok(Passage::Back);
+    }
+    let damaged = is_any_damaged(flash, map)?;
+    if damaged {
+        Ok(Passage::Back)
+    } else {
+        Ok(Passage::Again)
+    }
+}
+
+/// From Trial to Steady: the trial is over, with these floors, which are those of the record past
+/// the last image.
+fn record_over<F: Flash>(
+    flash: &mut F,
+    map: &SectorMap,
+    state: &State,
+    floors: [u32; MOST_IMAGES],
+) -> Result<(), FlashError>
+    requires laid_out { IsLaidOut map.now (F.chip flash.old) }
+    requires read { state_of map.now (F.chip flash.old) ≡ Some state.now }
+    requires rest { (i : ℕ) → map.now.images ≤ i
+        → slice_index floors i ≡ slice_index state.now.floors i }
+    ensures { RecordsOver map.now state.now floors (F.chip flash.old) (F.chip flash.new) result }
+{
+    let steady = State {
+        kind: Kind::Steady,
+        mask: 0,
+        permanent: false,
+        left: 0,
+        sequence: state.sequence,
+        floors,
+    };
+    append(flash, map, &steady)
+}
+
+/// From a trial that is wholly confirmed: the set runs on, with raised floors, and the decision is
+/// made.
+fn boot_over<F: Flash>(
+    flash: &mut F,
+    map: &SectorMap,
+    state: &State,
+    left: u8,
+) -> Result<Reply, FlashError>
+    requires recorded { HasRecord map.now state.now (F.chip flash.old) }
+    requires few { left ≤ 6 }
+    ensures { BootsConfirmed map.now left (F.chip flash.old) (F.chip flash.new) result }
+{
+    let floors = raise_running(flash, map, &state.floors)?;
+    record_over(flash, map, state, floors)?;
+    let steady = State {
+        kind: Kind::Steady,
+        mask: 0,
+        permanent: false,
+        left: 0,
+        sequence: state.sequence,
+        floors,
+    };
+    boot_from_steady(flash, map, &steady, left)
+}
+
+/// From a trial that goes on: one boot less is left.
+fn boot_again<F: Flash>(flash: &mut F, map: &SectorMap, state: &State) -> Result<Reply, FlashError>
+    requires recorded { HasRecordOf map.now Kind.Trial state.now (F.chip flash.old) }
+    requires more { 0 < state.now.left }
+    ensures { BootsAgain map.now (F.chip flash.old) (F.chip flash.new) result }
+{
+    let left = state.left - 1;
+    append(flash, map, &State { left, ..*state })?;
+    Ok(Reply::TrialAgain {
+        set: state.mask,
+        left,
+    })
+}
+
+/// From Trial to Back: the secondary trailers of the set are made ready to count the swap back, and
+/// then going back is recorded. The primary ones stay, which say that it is a trial.
+fn begin_back<F: Flash>(flash: &mut F, map: &SectorMap, state: &State) -> Result<(), FlashError>
+    requires { HasRecordOf map.now Kind.Trial state.now (F.chip flash.old) }
+    ensures { BeginsBack map.now state.now (F.chip flash.old) (F.chip flash.new) result }
+{
+    prepare_set(flash, map, state.mask, Side::Secondary)?;
+    let back = State {
+        kind: Kind::Back,
+        left: 0,
+        ..*state
+    };
+    append(flash, map, &back)
+}
+
+/// From a trial that goes back.
+fn boot_back<F: Flash>(flash: &mut F, map: &SectorMap, state: &State) -> Result<Reply, FlashError>
+    requires { HasRecordOf map.now Kind.Trial state.now (F.chip flash.old) }
+    ensures { BootsBack map.now (F.chip flash.old) (F.chip flash.new) result }
+{
+    begin_back(flash, map, state)?;
+    let back = State {
+        kind: Kind::Back,
+        left: 0,
+        ..*state
+    };
+    boot_from_back(flash, map, &back)
+}
+
+/// From a record Trial.
+pub(crate) fn boot_from_trial<F: Flash>(
+    flash: &mut F,
+    map: &SectorMap,
+    state: &State,
+    left: u8,
+) -> Result<Reply, FlashError>
+    requires recorded { HasRecordOf map.now Kind.Trial state.now (F.chip flash.old) }
+    requires few { left ≤ 6 }
+    ensures { BootsFromTrial map.now left (F.chip flash.old) (F.chip flash.new) result }
+{
+    match decide_trial(flash, map, state)? {
+        Passage::Over => boot_over(flash, map, state, left),
+        Passage::Back => boot_back(flash, map, state),
+        Passage::Again => boot_again(flash, map, state),
+    }
+}
