@@ -34,7 +34,8 @@ group_text group code name = group ␣ decimal code ␣ name
 -- Why an upload is refused. The number of the check that the bytes fail stands behind `NotAnImage`.
 abbrev pub upload_text : UploadError → List ℕ
 upload_text (NotAnImage fault) =
-    group_text (codes "upload") (upload.code_of (NotAnImage fault)) (upload.name_of (NotAnImage fault))
+    group_text (codes "upload")
+    (upload.code_of (NotAnImage fault)) (upload.name_of (NotAnImage fault))
     ␣ decimal (image.code_of fault)
 upload_text error = group_text (codes "upload") (upload.code_of error) (upload.name_of error)
 
@@ -44,7 +45,8 @@ fault_text (Manifest error) =
     group_text (codes "manifest") (manifest.code_of error) (manifest.name_of error)
 fault_text (Upload error) = upload_text error
 fault_text (RunningDamaged image) =
-    group_text (codes "boot") (boot.code_of (RunningDamaged image)) (boot.name_of (RunningDamaged image))
+    group_text (codes "boot")
+    (boot.code_of (RunningDamaged image)) (boot.name_of (RunningDamaged image))
     ␣ decimal image
 fault_text fault = group_text (codes "boot") (boot.code_of fault) (boot.name_of fault)
 

@@ -4,7 +4,7 @@
 //!
 //! Promises: what is written is exactly the text of what the bytes say, or why they say nothing;
 //! where a write fails a beginning of it stands. Nothing here knows a file or the words of a
-//! command: `boot_cli` reads what they name, and calls it.
+//! command. Any program that has read the bytes may call it.
 #![tactic(auto)]
 
 mod check;

@@ -35,7 +35,8 @@ pub fn tell_over<A: Allocator, W: Write>(
     identity: &Identity,
     out: &mut W,
 ) -> ManifestEnd
-    ensures { TellsManifest result identity.now bytes.now (W.contents out.old) (W.contents out.new) }
+    ensures { TellsManifest result identity.now bytes.now
+        (W.contents out.old) (W.contents out.new) }
 {
     let (text, end) = match Manifest::read(alloc, bytes, identity) {
         Ok(manifest) => (manifest_text(heap, &manifest), ManifestEnd::Done),

@@ -21,7 +21,8 @@ pub extern "C" fn bench_describe(bytes: &[u8]) -> u64
     // What the answer says of the bytes.
     ensures answer { IsDescribeAnswer bytes.now result }
     // Each intact image is answered by its length.
-    ensures only { (description : Desc) → IsIntact bytes.now description → result ≡ description.length }
+    ensures only { (description : Desc) → IsIntact bytes.now description
+        → result ≡ description.length }
 {
     match describe(bytes) {
         // An intact image is all of the bytes.

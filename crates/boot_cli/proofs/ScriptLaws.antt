@@ -5,7 +5,7 @@ use Rattle.std.specs.Io.KnownBytes.{Keeps}
 use Rattle.std.specs.List.{AllZip}
 use Rattle.common.specs.Lines.{lines_of}
 use Rattle.flash_model.specs.declared.torn.Armed.{Armed}
-use Rattle.script.specs.declared.reading.Reading.{Reading}
+use Rattle.script.specs.declared.line_order.Reading.{Reading}
 use Rattle.script.specs.InOrder.{AreEvents, AreInOrder, CanFollow}
 use Rattle.script.specs.LineText.{IsLineText}
 use Rattle.script.specs.Said.{Said, SaidEvent, SaidTorn}

@@ -4,8 +4,9 @@
 //!
 //! Promises: status 0 comes only where what the words ask for was done, for what the files that
 //! they name hold; and what `run` writes are the replies of a device to its script, with the cuts
-//! of the script armed on the flash that is made for it. The program gives the commands its words,
-//! the system's files and its standard input and outputs; a test gives them others.
+//! of the script armed on the flash that is made for it. The program and tests may call
+//! it: the program gives the commands its words, the system's files and its standard input and
+//! outputs, and a test gives them others.
 #![tactic(auto)]
 
 mod commands;

@@ -253,7 +253,8 @@ fn part_of<'a, 'h, A: Allocator>(
     bytes: Vec<u8, &'h A>,
     part: Option<PartText<'_>>,
 ) -> Result<Vec<u8, &'h A>, Refusal<'a>>
-    ensures { IfOk result (λ piece. IsPieceOf (option_map part_words part.entry) bytes.entry.items piece.items) }
+    ensures { IfOk result (λ piece.
+        IsPieceOf (option_map part_words part.entry) bytes.entry.items piece.items) }
 {
     let Some(part) = part else {
         return Ok(bytes);

@@ -4,7 +4,7 @@
 //! takes is the greatest valid combination, and it lists the refusals in the standard order. It
 //! looks at all requests once, then again only at those that depend on one that was dropped or have
 //! it as an alternative, and counts these steps. Does not allocate, and never fails. Whoever has a
-//! table calls it: a bootloader for the images of its slots, a program for a table that it has
+//! table may call it: a bootloader for the images of its slots, a program for a table that it has
 //! read. Others can check its report without it, by `certificate::check`.
 #![tactic(auto)]
 

@@ -11,8 +11,8 @@ ghost use Rattle.command_line.specs.Orders.{writes_to_standard_input};
 
 use crate::error::OrderError;
 use crate::escaped::Escaped;
+use crate::order_reading::order;
 use crate::orders::{Order, STANDARD_INPUT};
-use crate::reading::order;
 use crate::{commands, help};
 use clap::error::ErrorKind;
 use clap::{Command, Error};

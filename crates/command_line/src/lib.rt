@@ -4,7 +4,7 @@
 //! Promises: an order has exactly the subcommand, and the names of files, that `clap`'s definition
 //! of the matches gives for the words, and names standard input once at most; each other answer is
 //! a fault in the words, a request for help or the version, or want of memory. Files are named here
-//! and not opened. Allocates to read the words and to make texts. The program calls it.
+//! and not opened. Allocates to read the words and to make texts. The program alone may call it.
 #![tactic(auto)]
 
 mod commands;
@@ -12,11 +12,11 @@ mod error;
 mod escaped;
 mod faults;
 mod help;
+mod order_reading;
 mod orders;
-mod reading;
 
 pub use error::OrderError;
 pub use escaped::Escaped;
 pub use faults::{fault_of, no_text};
+pub use order_reading::order;
 pub use orders::{Order, STANDARD_INPUT};
-pub use reading::order;

@@ -98,8 +98,8 @@ pub fn array<'v>(value: &'v Value, key: &str) -> Option<&'v Vec<Value>>
 }
 
 /// The UUID that the text at a key spells, in any of its forms and in either case
-/// (RFC 9562, section 4). None where no such text stands there, or where the value is no object with
-/// this key. Does not allocate.
+/// (RFC 9562, section 4). None where no such text stands there, or where the value is no object
+/// with this key. Does not allocate.
 pub fn uuid(value: &Value, key: &str) -> Option<Uuid>
     ensures { result ≡ uuid_at key.now (view value.now) }
 {

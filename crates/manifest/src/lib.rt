@@ -4,8 +4,8 @@
 //! Promises: a manifest is read exactly where the bytes are JSON that means it to a device of the
 //! given identity, and a refusal is the lowest one that applies to the JSON value, whatever is met
 //! first. The identifiers of vendors and classes are UUIDs of version 5. Allocates to read a JSON
-//! text, and for nothing else. Whoever takes updates calls it, and `json` is there for other files
-//! of the same kind.
+//! text, and for nothing else. Whoever takes updates may call it, and `json` is there for other
+//! files of the same kind.
 #![tactic(auto)]
 
 mod components;
@@ -14,7 +14,7 @@ mod identity;
 mod ids;
 pub mod json;
 mod manifest;
-mod reading;
+mod manifest_reading;
 
 pub use error::ManifestError;
 pub use identity::Identity;

@@ -4,9 +4,9 @@
 //! comes from, its answer or refusal, and its exit status.
 //!
 //! Promises: a command answers `Done` only where what was asked for was done, for what the files
-//! that its words name hold; and the exit status is 0 only after that answer. `boot_cli` calls it
-//! with the words of the program. What is written is made by `answers`, whose calls are passed on
-//! here.
+//! that its words name hold; and the exit status is 0 only after that answer. A program may call it
+//! with its words, as `boot_cli` does. What is written is made by `answers`, whose calls are passed
+//! on here.
 #![tactic(auto)]
 
 mod answer;

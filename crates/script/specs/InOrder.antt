@@ -1,6 +1,6 @@
 -- In which order the lines of a script stand.
 use Rattle.std.specs.Prelude.{ℕ, ◌<◌, List, [], ◌∷◌, MatchBool}
-use Rattle.script.specs.declared.reading.Reading.{Reading}
+use Rattle.script.specs.declared.line_order.Reading.{Reading}
 use Rattle.script.specs.Said.{Said, Cut, Event}
 
 -- Events alone.

@@ -15,13 +15,13 @@
 mod cuts;
 mod laws;
 mod line;
+mod line_order;
 mod line_reading;
 mod part;
-mod reading;
 mod words;
 
 pub use laws::a_text_says_one_line;
 pub use line::{Instruction, Line, TornText};
+pub use line_order::Reading;
 pub use line_reading::line_of;
 pub use part::PartText;
-pub use reading::Reading;

@@ -30,7 +30,8 @@ pub(crate) enum Occurrence {
 impl Occurrence {
     /// How often the type occurs with this entry too.
     fn with(self, kind: u16, entry: SlotTlv) -> Occurrence
-        ensures { (chip : Chip) (values : List (List ℕ)) (left : List Entry) → CanRead chip entry.value
+        ensures { (chip : Chip) (values : List (List ℕ)) (left : List Entry)
+            → CanRead chip entry.value
             → IsOccurrence chip values (values_of kind (slot_tlv_view chip entry ∷ left)) self
             → IsOccurrence chip values (values_of kind left) result }
     {

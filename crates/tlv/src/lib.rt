@@ -12,8 +12,8 @@
 //! of which one has to be met.
 //!
 //! One reader serves bytes in memory, a file in a slot and the front of a slot, and has one proof:
-//! it reads span by span ([`Span`]), and hashes a flash by pieces of 256 bytes. `upload`,
-//! `boot_core`, `answers` and `bench_exports` call the crate.
+//! it reads span by span ([`Span`]), and hashes a flash by pieces of 256 bytes. Whoever reads or
+//! makes images may call the crate.
 #![tactic(auto)]
 
 mod desc;

@@ -168,7 +168,8 @@ fn tell_made<'a, A: Allocator, O: Write>(
     made: Made,
     out: &mut O,
 ) -> Result<Answer, Refusal<'a>>
-    ensures { IfOk result (λ answer. AnswersMade answer made (O.contents out.old) (O.contents out.new)) }
+    ensures { IfOk result (λ answer.
+        AnswersMade answer made (O.contents out.old) (O.contents out.new)) }
 {
     let (text, answer) = match made {
         Made::Done => (done_text(heap), Answer::Done),

@@ -1,6 +1,7 @@
-//! Swaps on a flash in memory, from every place and after cuts of every write, with the sectors written out. Image
-//! 0 of the map has its primary slot in sectors 0 and 1, the trailer of that in sector 2, and its secondary slot in
-//! sectors 6 and 7; image 1 has them in 3 and 4, 5, and 9 and 10. Sector 12 is scratch.
+//! Swaps on a flash in memory, from every place and after cuts of every write, with the sectors
+//! written out. Image 0 of the map has its primary slot in sectors 0 and 1, the trailer of that in
+//! sector 2, and its secondary slot in sectors 6 and 7; image 1 has them in 3 and 4, 5, and 9 and
+//! 10. Sector 12 is scratch.
 
 ghost use Rattle.std.specs.Prelude.{◌≡◌, ◌<◌, ◌≤◌};
 

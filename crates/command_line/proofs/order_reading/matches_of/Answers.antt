@@ -3,7 +3,7 @@ use Rattle.std.proofs.lemmas.Result.{IfOk-weaker}
 use Rattle.clap.specs.Words.{subcommand_of, subcommand_rows_of}
 use Rattle.command_line.specs.Commands.{bootswap}
 use Rattle.command_line.proofs.Program.{fault_found, subcommand_found}
-use Rattle.command_line.proofs.reading.matches_of.Goals as goal
+use Rattle.command_line.proofs.order_reading.matches_of.Goals as goal
 
 pub returns-clause-found : goal.returns-clause-found
 returns-clause-found g c = IfOk-weaker c.try_get_matches_from.result _

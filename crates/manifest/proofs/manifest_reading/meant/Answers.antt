@@ -2,7 +2,7 @@ use Rattle.std.proofs.Common.{refl, rules}
 use Rattle.std.proofs.lemmas.Bool.{false≢true}
 use Rattle.serde_json.specs.View.{view}
 use Rattle.manifest.specs.Manifest.{IsOfClass, IsOfVendor}
-use Rattle.manifest.proofs.reading.meant.Goals as goal
+use Rattle.manifest.proofs.manifest_reading.meant.Goals as goal
 
 pub returns-then-not-name_images_below-clause-fault :
     goal.returns-then-not-name_images_below-clause-fault

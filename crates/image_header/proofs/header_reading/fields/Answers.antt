@@ -4,7 +4,7 @@ use Rattle.common.specs.Bytes.{IsBytes}
 use Rattle.image_header.specs.declared.header.Header.{Header}
 use Rattle.image_header.specs.Header.{field_bytes}
 use Rattle.image_header.proofs.Fields.{BeginsWith-fields, drop-number_1, drop-number_2, drop-number_4}
-use Rattle.image_header.proofs.reading.fields.Goals as goal
+use Rattle.image_header.proofs.header_reading.fields.Goals as goal
 
 pub returns : goal.returns
 returns c =

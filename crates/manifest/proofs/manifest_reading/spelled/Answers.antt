@@ -3,7 +3,7 @@ use Rattle.std.proofs.lemmas.Slice.Zip.{AllZip-long}
 use Rattle.std.specs.List.{AllZip}
 use Rattle.common.proofs.Options.{IsSomeAnd-at}
 use Rattle.manifest.specs.Component.{IsComponent}
-use Rattle.manifest.proofs.reading.spelled.Goals as goal
+use Rattle.manifest.proofs.manifest_reading.spelled.Goals as goal
 
 pub returns-then-is_empty-clause-other : goal.returns-then-is_empty-clause-other
 returns-then-is_empty-clause-other c =
