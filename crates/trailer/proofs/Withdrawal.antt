@@ -14,7 +14,7 @@ use Rattle.sector_map.proofs.Touched.{slot_of_incoming, trailer_of_incoming}
 use Rattle.trailer.specs.declared.kinds.Magic.TheVariants.{Unset}
 use Rattle.trailer.specs.declared.kinds.Kind.{Kind}
 use Rattle.trailer.specs.Fields.{Fields, are_erased, fields_at, trailer_of, trailer_bytes}
-use Rattle.trailer.specs.Standing.{KeepsBehindFirst, is_good, first_is_set, standing_kind, standing_of, incoming_slot}
+use Rattle.trailer.specs.Standing.{KeepsBehindFirst, is_good, first_is_set, first_sector, standing_kind, standing_of, incoming_slot}
 use Rattle.trailer.proofs.Places.{some_slot, sector_of_part, slot_alone}
 use Rattle.trailer.proofs.Erased.{range_erased, erased_fields_at}
 use Rattle.trailer.proofs.OwnFields.{fields_kept}
@@ -35,6 +35,17 @@ front_erased map chip image sector e side erased laid lt is e_is =
       sector_of_part map (Slot image side) (some_slot map image side laid.is_map lt),
       laid.is_map.trailers 0,
     )) (omega (arith, start)) (omega (arith, start, laid.is_map.trailers 0)))
+
+-- an erased sector is erased whole
+pub sector_erased : (map : SectorMap) (chip : Chip) (image sector e : ℕ) (side : Side) → IsErased chip (sector * e) e
+    → IsLaidOut map chip → image < map.images → sector ≡ first_of map (Slot image side) → e ≡ map.sector_size
+    → are_erased (first_sector map.sector_size (part_of map chip (Slot image side))) ≡ true
+sector_erased map chip image sector e side erased laid lt is e_is =
+    let start : sector * e ≡ start_of map (Slot image side) = ap (λ s. s * e) is ∙ ap
+    (λ x. first_of map (Slot image side) * x) e_is in
+    range_erased map chip (Slot image side) (sector * e) e 0 map.sector_size erased laid
+    (omega (arith, sector_of_part map (Slot image side) (some_slot map image side laid.is_map lt)))
+    (omega (arith, start)) (omega (arith, start, e_is))
 
 -- the withdrawn unit was written, or not
 pub taken_back : (map : SectorMap) (old new : Chip) (image : ℕ) (kind : Kind) → standing_of map old image ≡ Some kind
@@ -77,6 +88,26 @@ still_written map old new image kind stands own laid keeps lt =
     good_not_erased map new image (laid_out_kept map _ old new laid keeps) lt
     (ap (λ (f : Fields). is_good f.magic) own ∙ was.good)
     ∙ sym (good_not_erased map old image laid lt was.good)
+
+-- the slot of a withdrawal where its first unit isn't set ..
+pub unset_kept : (map : SectorMap) (old first second : Chip) (image : ℕ)
+    → Keeps map (only (TrailerOf image Secondary)) old first
+    → (first_is_set (incoming_slot map first image) ≡ false → second ≡ first)
+    → first_is_set (incoming_slot map old image) ≡ false → incoming_slot map second image ≡ incoming_slot map old image
+unset_kept map old first second image keeps idle unset =
+    let slot = keeps.parts (Slot image Secondary) refl in
+    ap (λ chip. incoming_slot map chip image) (idle (ap (λ (xs : List ℕ). first_is_set xs) slot ∙ unset)) ∙ slot
+
+-- .. and where it is
+pub first_gone : (map : SectorMap) (old first second new : Chip) (image : ℕ)
+    → Keeps map (only (TrailerOf image Secondary)) old first → Keeps map (only (TrailerOf image Secondary)) second new
+    → (first_is_set (incoming_slot map first image) ≡ true
+    → are_erased (first_sector map.sector_size (incoming_slot map second image)) ≡ true)
+    → first_is_set (incoming_slot map old image) ≡ true
+    → are_erased (first_sector map.sector_size (incoming_slot map new image)) ≡ true
+first_gone map old first second new image a b erased set =
+    ap (λ (xs : List ℕ). are_erased (first_sector map.sector_size xs)) (b.parts (Slot image Secondary) refl)
+    ∙ erased (ap (λ (xs : List ℕ). first_is_set xs) (a.parts (Slot image Secondary) refl) ∙ set)
 
 -- where no request stands, none stands after the slot's first sector was erased or left
 pub none_after_front : (map : SectorMap) (old new : Chip) (image : ℕ) → standing_of map old image ≡ None

@@ -31,6 +31,10 @@ kind_of image_ok = if image_ok then Permanent else Test
 abbrev pub first_is_set : List ℕ → Bool
 first_is_set slot = is_set (slice_range slot 0 8)
 
+-- The first sector of a slot, whose bytes these are, in sectors of this size.
+abbrev pub first_sector : ℕ → List ℕ → List ℕ
+first_sector size slot = slice_range slot 0 size
+
 -- The request that stands, by the secondary trailer and by whether the first unit of the secondary
 -- slot is set.
 abbrev pub standing_kind : Trailer → Bool → Option Kind

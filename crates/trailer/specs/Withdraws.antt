@@ -8,7 +8,8 @@ use Rattle.sector_map.specs.declared.layout.Side.TheVariants.{Secondary}
 use Rattle.sector_map.specs.Map.{Keeps, part_of}
 use Rattle.sector_map.specs.Part.{Slot, TrailerOf, incoming_of, only}
 use Rattle.trailer.specs.Fields.{are_erased, erased_fields, fields_at, trailer_bytes}
-use Rattle.trailer.specs.Standing.{KeepsBehindFirst, first_is_set, incoming_slot, standing_of}
+use Rattle.trailer.specs.Standing.{KeepsBehindFirst, first_is_set, first_sector, incoming_slot}
+use Rattle.trailer.specs.Standing.{standing_of}
 
 -- A call sets the withdrawn unit, where a request stands.
 pub record TakesBack (map : SectorMap) (image : ℕ) (old new : Chip)
@@ -37,8 +38,11 @@ pub record ErasesFront (map : SectorMap) (image : ℕ) (side : Side) (old new : 
   pub idle : first_is_set (part_of map old (Slot image side)) ≡ false → new ≡ old
   -- and nothing behind its first sector;
   pub rest : KeepsBehindFirst map image side old new
-  -- where the call ends that unit is erased.
+  -- where the call ends that unit is erased,
   pub ok : OnOk result (first_is_set (part_of map new (Slot image side)) ≡ false)
+  -- and if it was set the whole sector.
+  pub first : OnOk result (first_is_set (part_of map old (Slot image side)) ≡ true
+      → are_erased (first_sector map.sector_size (part_of map new (Slot image side))) ≡ true)
   pub erases : OnOk result (new.erases ≡ old.erases
       + (if first_is_set (part_of map old (Slot image side)) then 1 else 0))
   pub ends : Ends result old new
@@ -63,6 +67,12 @@ pub record Withdraws (map : SectorMap) (image : ℕ) (old new : Chip)
   pub bytes : OnOk result (are_erased (trailer_bytes map new image Secondary) ≡ true)
   -- and so is the slot's first unit.
   pub front : OnOk result (first_is_set (incoming_slot map new image) ≡ false)
+  -- If that was set, all of the slot's first sector is erased then,
+  pub first : OnOk result (first_is_set (incoming_slot map old image) ≡ true
+      → are_erased (first_sector map.sector_size (incoming_slot map new image)) ≡ true)
+  -- and otherwise, whatever happened, the slot is as it was.
+  pub unset : first_is_set (incoming_slot map old image) ≡ false
+      → incoming_slot map new image ≡ incoming_slot map old image
   pub erases : OnOk result (new.erases ≡ old.erases
       + (if first_is_set (incoming_slot map old image) then 1 else 0)
       + (if are_erased (trailer_bytes map old image Secondary) then 0 else 1))

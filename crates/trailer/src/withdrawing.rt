@@ -24,7 +24,7 @@ fn take_back<F: Flash>(flash: &mut F, map: &SectorMap, image: u8) -> Result<(), 
 }
 
 /// Erases the first sector of a slot, unless its first unit is erased.
-#[tactic(auto, using(crate::proofs::Places::slot_alone, crate::proofs::Places::slot_within, crate::proofs::Withdrawal::front_erased))]
+#[tactic(auto, using(crate::proofs::Places::slot_alone, crate::proofs::Places::slot_within, crate::proofs::Withdrawal::front_erased, crate::proofs::Withdrawal::sector_erased))]
 fn erase_front<F: Flash>(
     flash: &mut F,
     map: &SectorMap,
