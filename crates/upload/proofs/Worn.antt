@@ -1,9 +1,8 @@
 -- How many sectors aren't erased where what comes in is written.
-use Rattle.std.proofs.Common.{◌≡◌, ℕ, zero, suc, ◌+◌, ◌*◌, ◌<◌, ◌≤◌, ◌==◌, ◌&&◌, Bool, true, false, not, List, [], ◌∷◌, length, drop, get_or, slice_index, IsTrue, ◌↔◌, arith, add-one, refl, sym, ◌∙◌, ap, subst, Some, if◌then◌else◌}
+use Rattle.std.proofs.Common.{◌≡◌, ℕ, zero, suc, ◌+◌, ◌*◌, ◌<◌, ◌≤◌, ◌==◌, ◌&&◌, Bool, true, false, not, List, [], ◌∷◌, length, drop, get_or, slice_index, slice_range, IsTrue, ◌↔◌, arith, add-one, refl, sym, ◌∙◌, ap, subst, Option, Some, None, if◌then◌else◌}
 use Rattle.std.proofs.lemmas.Bool.{eqb-true}
-use Rattle.std.proofs.lemmas.List.{drop_more}
+use Rattle.std.proofs.lemmas.List.{drop_all, drop_more}
 use Rattle.flash_model.specs.Chip.{Chip, IsErased}
-use Rattle.flash_model.proofs.Erased.{erased_joined, erased_none}
 use Rattle.flash_model.proofs.Ranges.{range_same}
 use Rattle.sector_map.specs.declared.layout.SectorMap.{SectorMap}
 use Rattle.sector_map.specs.declared.layout.Side.TheVariants.{Secondary}
@@ -12,15 +11,15 @@ use Rattle.sector_map.specs.Map.{IsLaidOut, Keeps, first_of, length_of, slot_sec
 use Rattle.sector_map.proofs.PartBytes.{length_part, range_of_part}
 use Rattle.sector_map.proofs.Products.{mul_le}
 use Rattle.trailer.specs.Fields.{are_erased, trailer_bytes}
-use Rattle.trailer.specs.Standing.{KeepsBehindFirst, first_is_set, incoming_slot}
+use Rattle.trailer.specs.Standing.{KeepsBehindFirst, first_is_set, first_sector, incoming_slot}
 use Rattle.trailer.proofs.Erased.{each_erased, erased_range, range_erased, range_is_erased, tells_range}
 use Rattle.manifest.specs.declared.manifest.Component.{Component}
 use Rattle.set_log.specs.declared.state.State.{State}
 use Rattle.set_log.specs.Log.{state_of}
 use Rattle.upload.specs.View.{view}
 use Rattle.upload.specs.Sessions.{IsWritten}
-use Rattle.upload.specs.Accepted.{IsBlank}
-use Rattle.upload.specs.Wear.{ErasesFew, most_erases, most_erases_of, most_recording, one_unless_erased, sector_in, worn, worn_in, worn_slot}
+use Rattle.upload.specs.Accepted.{is_named, is_some, latest, or_else}
+use Rattle.upload.specs.Wear.{ErasesWorn, erases_of_record, one_unless_erased, sector_in, worn, worn_in, worn_of, worn_slot}
 use Rattle.upload.proofs.AcceptRow.{same_state}
 use Rattle.upload.proofs.Writing.{behind_at, next_sector, sector_place}
 
@@ -124,94 +123,63 @@ first_worn map chip image laid some = by (are_erased first) refl where
       omega (arith, ap {B = ℕ} (λ t. if not t then 1 else 0) unit)
   by false e = omega (arith, small (first_is_set slot), ap {B = ℕ} (λ t. if t then 0 else 1) e)
 
+-- the first sector of a slot, as the trailer has it
+first_is : (size : ℕ) (bytes : List ℕ) → sector_in size bytes 0 ≡ first_sector size bytes
+first_is size bytes =
+    let none : 0 * size ≡ 0 = omega arith in
+    let one : (0 + 1) * size ≡ size = omega arith in
+    ap (λ k. slice_range bytes k ((0 + 1) * size)) none ∙ ap (λ k. slice_range bytes 0 k) one
+
 -- how many sectors are erased then
 pub open_erases : (map : SectorMap) (old mid : Chip) (image now : ℕ) → IsLaidOut map old → IsLaidOut map mid
     → image < map.images → KeepsBehindFirst map image Secondary old mid
+    → (first_is_set (incoming_slot map old image) ≡ true
+    → are_erased (first_sector map.sector_size (incoming_slot map mid image)) ≡ true)
+    → (first_is_set (incoming_slot map old image) ≡ false → incoming_slot map mid image ≡ incoming_slot map old image)
     → mid.erases ≡ old.erases + (if first_is_set (incoming_slot map old image) then 1 else 0)
     + one_unless_erased (trailer_bytes map old image Secondary)
-    → now ≡ mid.erases + worn_slot map mid image → now ≤ old.erases + (worn map old image + 1)
-open_erases map old mid image now before after there rest first slot =
-    by (slot_sectors map image) refl (before.is_map.counts.some image there) where
+    → now ≡ mid.erases + worn_slot map mid image → now ≡ old.erases + worn map old image
+open_erases map old mid image now before after there rest gone kept first slot =
+    by (first_is_set (incoming_slot map old image)) refl where
       size : ℕ
       size = map.sector_size
 
-      by : (n : ℕ) → slot_sectors map image ≡ n → 0 < n → now ≤ old.erases + (worn map old image + 1)
-      by zero is some = absurd (omega arith)
-      by (suc n) is some =
+      was : List ℕ
+      was = incoming_slot map old image
+
+      is : List ℕ
+      is = incoming_slot map mid image
+
+      more : (n : ℕ) → slot_sectors map image ≡ n → 0 < n → first_is_set was ≡ true
+          → now ≡ old.erases + worn map old image
+      more zero count some set = absurd (omega arith)
+      more (suc n) count some set =
           let part = Slot image Secondary in
-          let same = worn_behind size (incoming_slot map old image) (incoming_slot map mid image) n
+          let same = worn_behind size was is n
           (length_part map mid part after ∙ sym (length_part map old part before)) rest.each in
+          let none = ap one_unless_erased (first_is size is) ∙ ap {B = ℕ} (λ t. if t then 0 else 1) (gone set) in
           omega (
             arith,
             first,
             slot,
             same,
-            ap (λ k. worn_in size (incoming_slot map old image) k) is,
-            ap (λ k. worn_in size (incoming_slot map mid image) k) is,
+            none,
+            ap (λ k. worn_in size was k) count,
+            ap (λ k. worn_in size is k) count,
             first_worn map old image before (before.is_map.counts.some image there),
-            at_most_one (sector_in size (incoming_slot map mid image) 0),
+            at_most_one (sector_in size was 0),
+            ap {B = ℕ} (λ t. if t then 1 else 0) set,
           )
 
--- ---- where no sector is worn
-
-erased_is : (bytes : List ℕ) → one_unless_erased bytes ≡ 0 → are_erased bytes ≡ true
-erased_is bytes none = by (are_erased bytes) none where
-  by : (yes : Bool) → ◌≡◌ {A = ℕ} (if yes then 0 else 1) 0 → yes ≡ true
-  by true e = refl
-  by false e = absurd (omega (arith, e))
-
--- the first sectors of a slot are erased where none of them isn't
-first_erased : (map : SectorMap) (chip : Chip) (image n : ℕ) → IsLaidOut map chip → n ≤ slot_sectors map image
-    → worn_in map.sector_size (incoming_slot map chip image) n ≡ 0
-    → IsErased chip (start_of map (Slot image Secondary)) (n * map.sector_size)
-first_erased map chip image zero laid le none =
-    let zero_is : 0 ≡ 0 * map.sector_size = omega arith in
-    subst (λ k. IsErased chip (start_of map (Slot image Secondary)) k) zero_is (erased_none chip _)
-first_erased map chip image (suc n) laid le none =
-    let part = Slot image Secondary in
-    let size = map.sector_size in
-    let next = next_sector map n in
-    let all = erased_is (sector_in size (incoming_slot map chip image) n) (omega (arith, none)) in
-    let here = range_is_erased map chip part (start_of map part + n * size) size (n * size) ((n + 1) * size) all laid
-    (sector_ends map image n (omega (arith, le))) refl (sym next) in
-    subst (λ k. IsErased chip (start_of map part) k) (sym next ∙ ap (λ k. k * size) (add-one n))
-    (erased_joined chip (start_of map part) (n * size) size
-    (first_erased map chip image n laid (omega (arith, le)) (omega (arith, none))) here)
-
-none_blank : (map : SectorMap) (chip : Chip) (image : ℕ) → IsLaidOut map chip → worn map chip image ≡ 0
-    → IsBlank map chip image
-none_blank map chip image laid none = record {
-  slot = first_erased map chip image (slot_sectors map image) laid (omega arith) (omega (arith, none));
-  trailer = erased_is (trailer_bytes map chip image Secondary) (omega (arith, none));
-}
-
--- none is erased then
-pub idle_erases : (map : SectorMap) (old new : Chip) (image : ℕ) → IsLaidOut map old
-    → (IsBlank map old image → new ≡ old) → new.erases ≤ old.erases + (worn map old image + 1)
-    → new.erases ≤ old.erases + most_erases map old image
-idle_erases map old new image laid idle most = by (worn map old image == 0) refl where
-  by : (b : Bool) → (worn map old image == 0) ≡ b
-      → new.erases ≤ old.erases + (if worn map old image == 0 then 0 else worn map old image + 1)
-  by true e =
-      let same = idle (none_blank map old image laid (eqb-true (worn map old image) 0 e)) in
-      omega (arith, ap (λ chip. chip.erases) same)
-  by false e = omega (arith, most, ap {B = ℕ} (λ t. if t then 0 else worn map old image + 1) e)
-
-most_le : (a b : ℕ) → a ≤ b → (if a == 0 then 0 else a + 1) ≤ (if b == 0 then 0 else b + 1)
-most_le a b le = by (a == 0) (b == 0) refl refl where
-  by : (x y : Bool) → (a == 0) ≡ x → (b == 0) ≡ y
-      → (if a == 0 then 0 else a + 1) ≤ (if b == 0 then 0 else b + 1)
-  by true y is at = omega (arith, ap {B = ℕ} (λ t. if t then 0 else a + 1) is)
-  by false true is at =
-      let none = eqb-true b 0 at in
-      let some : a ≡ 0 = omega (arith, none, le) in
-      absurd (cc (is, some))
-  by false false is at = omega (
-    arith,
-    le,
-    ap {B = ℕ} (λ t. if t then 0 else a + 1) is,
-    ap {B = ℕ} (λ t. if t then 0 else b + 1) at,
-  )
+      by : (set : Bool) → first_is_set was ≡ set → now ≡ old.erases + worn map old image
+      by true e = more (slot_sectors map image) refl (before.is_map.counts.some image there) e
+      by false e = omega (
+        arith,
+        first,
+        slot,
+        ap (λ bytes. worn_in size bytes (slot_sectors map image)) (kept e),
+        ap {B = ℕ} (λ t. if t then 1 else 0) e,
+      )
 
 -- ---- what is erased then
 
@@ -244,58 +212,110 @@ worn_kept map touched old new image keeps slot trailer =
     (keeps.parts (Slot image Secondary) slot) in
     omega (arith, here, ap one_unless_erased (keeps.parts (TrailerOf image Secondary) trailer))
 
--- once an image is erased no image has more to erase
-worn_less : (map : SectorMap) (old new : Chip) (image : ℕ) → Keeps map (incoming_of image) old new
-    → worn map new image ≡ 0 → (j : ℕ) → worn map new j ≤ worn map old j
-worn_less map old new image keeps none j = by (j == image) refl where
-  by : (b : Bool) → (j == image) ≡ b → worn map new j ≤ worn map old j
-  by true e = omega (arith, none, ap (λ k. worn map new k) (eqb-true j image e))
-  by false e =
-      let not_here : ((j == image) && true) ≡ false = ap (λ t. t && true) e in
-      omega (arith, worn_kept map (incoming_of image) old new j keeps not_here not_here)
+-- an image is named by one component more
+named_here : (cs : List Component) (c : Component) (i : ℕ) → (c.image == i) ≡ true → is_named (c ∷ cs) i ≡ true
+named_here cs c i e =
+    ap (λ t. is_some (or_else (latest cs i) (if t then Some c else None))) e ∙ by (latest cs i) where
+      by : (other : Option Component) → is_some (or_else other (Some c)) ≡ true
+      by None = refl
+      by (Some d) = refl
 
-most_less : (map : SectorMap) (old new : Chip) (cs : List Component) → ((j : ℕ) → worn map new j ≤ worn map old j)
-    → most_erases_of map new cs ≤ most_erases_of map old cs
-most_less map old new [] less = omega arith
-most_less map old new (c ∷ cs) less =
-    omega (arith, most_le (worn map new c.image) (worn map old c.image) (less c.image), most_less map old new cs less)
+named_besides : (cs : List Component) (c : Component) (i : ℕ) → (c.image == i) ≡ false
+    → is_named (c ∷ cs) i ≡ is_named cs i
+named_besides cs c i e =
+    ap (λ t. is_some (or_else (latest cs i) (if t then Some c else None))) e ∙ by (latest cs i) where
+      by : (other : Option Component) → is_some (or_else other None) ≡ is_some other
+      by None = refl
+      by (Some d) = refl
+
+one_of : (named : Bool) (n : ℕ) → (if named then 0 else n) + (if named then n else 0) ≡ n
+one_of true n = omega arith
+one_of false n = omega arith
+
+no_more : (named : Bool) (n : ℕ) → n ≡ 0 → ◌≡◌ {A = ℕ} (if named then 0 else n) 0
+no_more true n none = refl
+no_more false n none = none
+
+-- once an image is erased the others have as much to erase, and it has nothing
+worn_less : (map : SectorMap) (old new : Chip) (image : ℕ) (cs : List Component) → Keeps map (incoming_of image) old new
+    → worn map new image ≡ 0
+    → worn_of map old cs ≡ worn_of map new cs + (if is_named cs image then worn map old image else 0)
+worn_less map old new image [] keeps none = omega arith
+worn_less map old new image (c ∷ cs) keeps none =
+    by (worn_less map old new image cs keeps none) (c.image == image) refl where
+      by : worn_of map old cs ≡ worn_of map new cs + (if is_named cs image then worn map old image else 0) → (b : Bool)
+          → (c.image == image) ≡ b
+          → worn_of map old (c ∷ cs)
+          ≡ worn_of map new (c ∷ cs) + (if is_named (c ∷ cs) image then worn map old image else 0)
+      by rest true e =
+          let here = eqb-true c.image image e in
+          omega (
+            arith,
+            rest,
+            ap {B = ℕ} (λ i. if is_named cs i then 0 else worn map old i) here,
+            no_more (is_named cs c.image) (worn map new c.image) (ap (λ i. worn map new i) here ∙ none),
+            one_of (is_named cs image) (worn map old image),
+            ap {B = ℕ} (λ t. if t then worn map old image else 0) (named_here cs c image e),
+          )
+      by rest false e =
+          let not_here : ((c.image == image) && true) ≡ false = ap (λ t. t && true) e in
+          let same = worn_kept map (incoming_of image) old new c.image keeps not_here not_here in
+          omega (
+            arith,
+            rest,
+            ap {B = ℕ} (λ n. if is_named cs c.image then 0 else n) same,
+            ap {B = ℕ} (λ t. if t then worn map old image else 0) (named_besides cs c image e),
+          )
 
 -- one component more
-pub most_more : (map : SectorMap) (old mid new : Chip) (cs : List Component) (i : ℕ) (d : Component) → i < length cs
+pub worn_next : (map : SectorMap) (old mid new : Chip) (cs : List Component) (i : ℕ) (d : Component) → i < length cs
     → Keeps map (incoming_of (get_or cs i d).image) mid new → worn map new (get_or cs i d).image ≡ 0
-    → new.erases ≤ mid.erases + most_erases map mid (get_or cs i d).image
-    → mid.erases + most_erases_of map mid (drop i cs) ≤ old.erases + most_erases_of map old cs
-    → new.erases + most_erases_of map new (drop (i + 1) cs) ≤ old.erases + most_erases_of map old cs
-most_more map old mid new cs i d lt keeps none one before =
-    let next = ap (λ l. most_erases_of map mid l) (drop_more cs i d lt) in
-    let rest = most_less map mid new (drop (i + 1) cs) (worn_less map mid new (get_or cs i d).image keeps none) in
-    omega (arith, one, before, next, rest)
-
--- the log has no part in it
-most_kept : (map : SectorMap) (old new : Chip) (cs : List Component) → Keeps map (only Log) old new
-    → most_erases_of map new cs ≡ most_erases_of map old cs
-most_kept map old new [] keeps = refl
-most_kept map old new (c ∷ cs) keeps =
+    → new.erases ≡ mid.erases + worn map mid (get_or cs i d).image
+    → mid.erases + worn_of map mid (drop i cs) ≡ old.erases + worn_of map old cs
+    → new.erases + worn_of map new (drop (i + 1) cs) ≡ old.erases + worn_of map old cs
+worn_next map old mid new cs i d lt keeps none one before =
+    let image = (get_or cs i d).image in
+    let later = drop (i + 1) cs in
     omega (
       arith,
-      ap {B = ℕ} (λ n. if n == 0 then 0 else n + 1) (worn_kept map (only Log) old new c.image keeps refl refl),
-      most_kept map old new cs keeps,
+      one,
+      before,
+      ap (λ l. worn_of map mid l) (drop_more cs i d lt),
+      worn_less map mid new image later keeps none,
+      one_of (is_named later image) (worn map mid image),
+    )
+
+-- no component is left
+pub worn_last : (map : SectorMap) (chip : Chip) (cs : List Component) (i : ℕ) → length cs ≤ i
+    → worn_of map chip (drop i cs) ≡ 0
+worn_last map chip cs i le = ap (λ l. worn_of map chip l) (drop_all i cs le)
+
+-- the log has no part in it
+worn_as : (map : SectorMap) (old new : Chip) (cs : List Component) → Keeps map (only Log) old new
+    → worn_of map new cs ≡ worn_of map old cs
+worn_as map old new [] keeps = refl
+worn_as map old new (c ∷ cs) keeps =
+    omega (
+      arith,
+      ap {B = ℕ} (λ n. if is_named cs c.image then 0 else n)
+          (worn_kept map (only Log) old new c.image keeps refl refl),
+      worn_as map old new cs keeps,
     )
 
 -- first the sequence number is recorded
-pub few_erased : (map : SectorMap) (old mid new : Chip) (recorded sequence : ℕ) (cs : List Component)
-    → Keeps map (only Log) old mid → mid.erases ≤ old.erases + most_recording recorded sequence
-    → new.erases ≤ mid.erases + most_erases_of map mid cs → ErasesFew map old new recorded sequence cs
-few_erased map old mid new recorded sequence cs keeps first rest =
-    omega (arith, first, rest, most_kept map old mid cs keeps)
+pub worn_erased : (map : SectorMap) (old mid new : Chip) (recorded sequence : ℕ) (cs : List Component)
+    → Keeps map (only Log) old mid → mid.erases ≡ old.erases + erases_of_record map old recorded sequence
+    → new.erases ≡ mid.erases + worn_of map mid cs → ErasesWorn map old new recorded sequence cs
+worn_erased map old mid new recorded sequence cs keeps first rest =
+    omega (arith, first, rest, worn_as map old mid cs keeps)
 
 -- by the state that the log has, whoever read it
-pub few_of_state : (map : SectorMap) (old mid new : Chip) (state found : State) (sequence : ℕ)
+pub worn_of_state : (map : SectorMap) (old mid new : Chip) (state found : State) (sequence : ℕ)
     (named cs : List Component) → mid ≡ old → named ≡ cs → state_of map old ≡ Some state
-    → (view map old).log ≡ Some found → ErasesFew map mid new found.sequence sequence named
-    → ErasesFew map old new state.sequence sequence cs
-few_of_state map old mid new state found sequence named cs same are read is few =
+    → (view map old).log ≡ Some found → ErasesWorn map mid new found.sequence sequence named
+    → ErasesWorn map old new state.sequence sequence cs
+worn_of_state map old mid new state found sequence named cs same are read is worn =
     let one = same_state (view map old) state found read is in
-    subst (λ (st : State). ErasesFew map old new st.sequence sequence cs) (sym one)
-    (subst (λ xs. ErasesFew map old new found.sequence sequence xs) are
-    (subst (λ chip. ErasesFew map chip new found.sequence sequence named) same few))
+    subst (λ (st : State). ErasesWorn map old new st.sequence sequence cs) (sym one)
+    (subst (λ xs. ErasesWorn map old new found.sequence sequence xs) are
+    (subst (λ chip. ErasesWorn map chip new found.sequence sequence named) same worn))

@@ -19,7 +19,7 @@ use Rattle.upload.specs.Steady.{IsSteadyAt}
 use Rattle.upload.specs.Sessions.{AllClosed, AllOpenAt, IsUpAt}
 use Rattle.upload.specs.Ending.{EndsUpload, is_flash}
 use Rattle.upload.specs.Accepted.{Accepts, AreBlank, IsAcceptCut, accepted_parts}
-use Rattle.upload.specs.Wear.{ErasesFew, most_recording}
+use Rattle.upload.specs.Wear.{ErasesWorn, erases_of_record}
 use Rattle.upload.specs.Taking.{EndsAccept, IsTaken, LeavesAccept}
 
 -- The log has this state, which keeps the table of records, and a sequence number may follow its
@@ -40,8 +40,9 @@ pub record RecordsSequence (map : SectorMap) (state : State) (sequence : ℕ) (o
       ⊎ (state_of map new ≡ Some (record state { sequence = sequence }))
   -- and it has that where the call ends.
   pub ok : OnOk result (state_of map new ≡ Some (record state { sequence = sequence }))
-  -- One sector is erased at most,
-  pub erases : OnOk result (new.erases ≤ old.erases + most_recording state.sequence sequence)
+  -- A sector is erased only for a new number, and where no place of the log is free,
+  pub erases : OnOk result (new.erases
+      ≡ old.erases + erases_of_record map old state.sequence sequence)
   -- and an equal sequence number is accepted without a record.
   pub idle : state.sequence ≡ sequence → new ≡ old
   pub ends : Ends result old new
@@ -60,8 +61,8 @@ pub record WritesManifest (map : SectorMap) (state : State) (sequence : ℕ) (cs
   pub leaves : LeavesAccept (view map old) (view map new) sequence
   -- The manifest is taken where the call ends.
   pub ok : OnOk result (IsTaken (view map old) (view map new) told tnew sequence cs)
-  -- No more sectors are erased than the record and opening each image take.
-  pub erases : OnOk result (ErasesFew map old new state.sequence sequence cs)
+  -- Beside the record's, as many sectors are erased as weren't before.
+  pub erases : OnOk result (ErasesWorn map old new state.sequence sequence cs)
   -- An equal sequence number takes no record,
   pub equal : state.sequence ≡ sequence → part_of map new Log ≡ part_of map old Log
   -- and where nothing came in yet nothing is written then.
@@ -82,9 +83,9 @@ pub record TakesManifest (map : SectorMap) (manifest : Manifest) (told tnew : Li
   -- An equal sequence number takes no record.
   pub equal : (state : State) → state_of map old ≡ Some state
       → state.sequence ≡ manifest.sequence → part_of map new Log ≡ part_of map old Log
-  -- No more sectors are erased than the record and opening each image take,
+  -- Beside the record's, as many sectors are erased as weren't before,
   pub erases : OnOk result ((state : State) → state_of map old ≡ Some state
-      → ErasesFew map old new state.sequence manifest.sequence manifest.components.items)
+      → ErasesWorn map old new state.sequence manifest.sequence manifest.components.items)
   -- and with an equal number nothing is written where nothing came in yet.
   pub idle : (state : State) → state_of map old ≡ Some state
       → state.sequence ≡ manifest.sequence → AreBlank map old manifest.components.items
@@ -112,10 +113,10 @@ pub record AcceptsManifest (map : SectorMap) (manifest : Manifest)
   pub idle : (state : State) → state_of map old ≡ Some state
       → state.sequence ≡ manifest.sequence → AreBlank map old manifest.components.items
       → new ≡ old
-  -- Beside the record's, no more sectors are erased than aren't erased, and one for each image that
-  -- has any.
+  -- Beside the record's, as many sectors are erased of the slots of the named images and of their
+  -- trailers as weren't before.
   pub erases : OnOk result ((state : State) → state_of map old ≡ Some state
-      → ErasesFew map old new state.sequence manifest.sequence manifest.components.items)
+      → ErasesWorn map old new state.sequence manifest.sequence manifest.components.items)
   -- Where the flash stops the call all uploads are closed.
   pub closed : is_flash result ≡ true → AllClosed tnew
   -- On a flash that holds a state: the step of a machine that knows whole images.

@@ -1,5 +1,5 @@
 -- What a call does that opens uploads: each record is one call.
-use Rattle.std.specs.Prelude.{◌≡◌, ℕ, ◌+◌, ◌≤◌, List, [], Option, Some, Result, OnOk}
+use Rattle.std.specs.Prelude.{◌≡◌, ℕ, ◌+◌, List, [], Option, Some, Result, OnOk}
 use Rattle.flash_model.specs.declared.error.FlashError.{FlashError}
 use Rattle.flash_model.specs.Chip.{Chip, Ends}
 use Rattle.sector_map.specs.declared.layout.SectorMap.{SectorMap}
@@ -15,7 +15,7 @@ use Rattle.upload.specs.Sessions.{IsWith, IsWritten}
 use Rattle.upload.specs.Withdrawal.{IsKeptOrGone}
 use Rattle.upload.specs.Accepted.{AreBlank, IsBlank, IsFresh, IsOpened, IsOpening, latest}
 use Rattle.upload.specs.Accepted.{named_parts}
-use Rattle.upload.specs.Wear.{most_erases, most_erases_of, worn}
+use Rattle.upload.specs.Wear.{worn, worn_of}
 
 -- A call takes back what is requested for an image, and erases its slot.
 pub record OpensSlot (map : SectorMap) (image : ℕ) (old new : Chip) {T : Type 0}
@@ -27,8 +27,8 @@ pub record OpensSlot (map : SectorMap) (image : ℕ) (old new : Chip) {T : Type 
   -- and trailer and slot are erased where the call ends.
   pub trailer : OnOk result (fields_at map new image Secondary ≡ erased_fields)
   pub slot : OnOk result (IsWritten (incoming_slot map new image) [])
-  -- No sector is erased that was, but the slot's first one, once more, where any wasn't,
-  pub erases : OnOk result (new.erases ≤ old.erases + most_erases map old image)
+  -- As many sectors of them are erased as weren't before,
+  pub erases : OnOk result (new.erases ≡ old.erases + worn map old image)
   -- none is left that isn't erased,
   pub erased : OnOk result (worn map new image ≡ 0)
   -- and nothing changes where nothing came in yet.
@@ -53,8 +53,8 @@ pub record OpensUploads (map : SectorMap) (cs : List Component) (told tnew : Lis
   pub opening : IsOpening (view map old) (view map new) (latest cs)
   -- and each has a new upload and an erased slot where the call ends.
   pub opened : OnOk result (IsOpened (view map old) (view map new) told tnew (latest cs))
-  -- No more sectors are erased than opening each takes,
-  pub erases : OnOk result (new.erases ≤ old.erases + most_erases_of map old cs)
+  -- As many sectors of these parts are erased as weren't before,
+  pub erases : OnOk result (new.erases ≡ old.erases + worn_of map old cs)
   -- and nothing changes where nothing came in yet.
   pub idle : AreBlank map old cs → new ≡ old
   pub ends : Ends result old new

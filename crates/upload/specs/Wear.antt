@@ -1,12 +1,15 @@
--- How many sectors aren't erased where what comes in is written: no more have to be erased.
-use Rattle.std.specs.Prelude.{ℕ, zero, suc, ◌+◌, ◌*◌, ◌≤◌, ◌==◌, List, [], ◌∷◌, slice_range, if◌then◌else◌}
+-- How many sectors aren't erased where what comes in is written: just those have to be erased.
+use Rattle.std.specs.Prelude.{◌≡◌, ℕ, zero, suc, ◌+◌, ◌*◌, ◌==◌, List, [], ◌∷◌, slice_range}
+use Rattle.std.specs.Prelude.{if◌then◌else◌}
 use Rattle.flash_model.specs.Chip.{Chip}
 use Rattle.sector_map.specs.declared.layout.SectorMap.{SectorMap}
 use Rattle.sector_map.specs.declared.layout.Side.TheVariants.{Secondary}
 use Rattle.sector_map.specs.Map.{slot_sectors}
 use Rattle.trailer.specs.Fields.{are_erased, trailer_bytes}
 use Rattle.trailer.specs.Standing.{incoming_slot}
+use Rattle.set_log.specs.Log.{is_place_free}
 use Rattle.manifest.specs.declared.manifest.Component.{Component}
+use Rattle.upload.specs.Accepted.{is_named}
 
 -- 0 where all of these bytes are erased, else 1.
 abbrev pub one_unless_erased : List ℕ → ℕ
@@ -29,22 +32,20 @@ worn_slot map chip i = worn_in map.sector_size (incoming_slot map chip i) (slot_
 abbrev pub worn : SectorMap → Chip → ℕ → ℕ
 worn map chip i = worn_slot map chip i + one_unless_erased (trailer_bytes map chip i Secondary)
 
--- How many sectors are erased at most where an upload of an image is opened: none where all are
--- erased, else those that aren't, and the slot's first one once more: `withdraw` says only that its
--- first unit is erased then.
-abbrev pub most_erases : SectorMap → Chip → ℕ → ℕ
-most_erases map chip i = if worn map chip i == 0 then 0 else worn map chip i + 1
+-- How many aren't of all images that components name, each counted once: for the last component
+-- that names it.
+abbrev pub worn_of : SectorMap → Chip → List Component → ℕ
+worn_of map chip [] = 0
+worn_of map chip (c ∷ cs) =
+    (if is_named cs c.image then 0 else worn map chip c.image) + worn_of map chip cs
 
--- How many are where an upload is opened for each component.
-abbrev pub most_erases_of : SectorMap → Chip → List Component → ℕ
-most_erases_of map chip [] = 0
-most_erases_of map chip (c ∷ cs) = most_erases map chip c.image + most_erases_of map chip cs
+-- How many sectors recording a sequence number erases: none where it is recorded, or a place of the
+-- log is free, and else one.
+abbrev pub erases_of_record : SectorMap → Chip → ℕ → ℕ → ℕ
+erases_of_record map chip recorded sequence =
+    if recorded == sequence then 0 else if is_place_free map chip then 0 else 1
 
--- How many sectors recording a sequence number erases at most: none where it is recorded.
-abbrev pub most_recording : ℕ → ℕ → ℕ
-most_recording recorded sequence = if recorded == sequence then 0 else 1
-
--- Taking a manifest with this sequence number and these components erased no more than that.
-abbrev pub ErasesFew : SectorMap → Chip → Chip → ℕ → ℕ → List Component → Type 0
-ErasesFew map old new recorded sequence cs = new.erases
-    ≤ old.erases + (most_recording recorded sequence + most_erases_of map old cs)
+-- Taking a manifest with this sequence number and these components erased just that many.
+abbrev pub ErasesWorn : SectorMap → Chip → Chip → ℕ → ℕ → List Component → Type 0
+ErasesWorn map old new recorded sequence cs = new.erases
+    ≡ old.erases + (erases_of_record map old recorded sequence + worn_of map old cs)

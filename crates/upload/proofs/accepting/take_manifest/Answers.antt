@@ -3,7 +3,7 @@ use Rattle.upload.specs.View.{view}
 use Rattle.upload.specs.Taking.{CutsAccept, IsTaken, LeavesAccept}
 use Rattle.upload.proofs.Ends.{same_off}
 use Rattle.upload.proofs.TakenRow.{equal_blank, equal_log, stopped}
-use Rattle.upload.proofs.Worn.{few_of_state}
+use Rattle.upload.proofs.Worn.{worn_of_state}
 use Rattle.upload.proofs.accepting.take_manifest.Goals as goal
 
 pub returns-in-Ok-write_manifest : goal.returns-in-Ok-write_manifest
@@ -30,7 +30,7 @@ returns-in-Ok-write_manifest g c =
           equal_log map old judged _ state c.in-Ok.state sequence c.judge_manifest.ensures.same read
           c.in-Ok.ensures.ok.newer.read equal c.write_manifest.ensures.equal;
       erases = λ state read.
-          few_of_state map old judged (g.F.Flash.chip c.write_manifest.new.flash) state c.in-Ok.state sequence
+          worn_of_state map old judged (g.F.Flash.chip c.write_manifest.new.flash) state c.in-Ok.state sequence
           c.as_slice-components.result.now cs c.judge_manifest.ensures.same c.as_slice-components.ensures.value read
           c.in-Ok.ensures.ok.newer.read c.in-Ok-write_manifest.ensures.erases;
       idle = λ state read equal blank.

@@ -10,7 +10,7 @@ use Rattle.upload.proofs.Opened.{log_of_accepted, parts_and_log}
 use Rattle.upload.proofs.AcceptRow.{sequenced, sequence_cut, cut_after, accept_done, opens_all, leaves_early, leaves_late, same_record}
 use Rattle.upload.proofs.TakenRow.{named_fit}
 use Rattle.upload.proofs.Ends.{at_error}
-use Rattle.upload.proofs.Worn.{few_erased}
+use Rattle.upload.proofs.Worn.{worn_erased}
 use Rattle.upload.proofs.accepting.write_manifest.Goals as goal
 
 pub returns-in_err-record_sequence : goal.returns-in_err-record_sequence
@@ -54,7 +54,7 @@ returns g c =
         opens = opens_all _ _ _ cs _ _ kept fit all;
         steps = accept_done _ _ _ cs _ _ kept fit all _ _ read c.in_ok-record_sequence.ensures.ok;
       }) c.open_all.ensures.opened;
-      erases = on_ok_weaker c.open_all.result (λ all. few_erased map _ _ (g.F.Flash.chip c.open_all.new.flash)
+      erases = on_ok_weaker c.open_all.result (λ all. worn_erased map _ _ (g.F.Flash.chip c.open_all.new.flash)
           c.args.state.now.sequence c.args.sequence cs c.record_sequence.ensures.outside
           c.in_ok-record_sequence.ensures.erases all) c.open_all.ensures.erases;
       equal = λ equal. c.open_all.ensures.outside.parts Log refl

@@ -1,11 +1,13 @@
-use Rattle.std.proofs.Common.{rules, arith, ◌+◌, ◌∙◌, false, take, get_or, None, [], refl, subst, sym}
+use Rattle.std.proofs.Common.{rules, arith, ◌+◌, ◌≤◌, ◌∙◌, false, length, take, take_all, get_or, None, [], refl, subst, sym}
+use Rattle.sector_map.specs.Map.{Keeps}
 use Rattle.sector_map.proofs.Parts.{keeps_wider, laid_out_kept}
 use Rattle.manifest.specs.declared.manifest.Component.{Component}
-use Rattle.upload.specs.Accepted.{IsBlank, latest, named_parts}
+use Rattle.upload.specs.View.{view}
+use Rattle.upload.specs.Accepted.{IsBlank, IsOpened, latest, named_parts}
 use Rattle.upload.proofs.Views.{view_kept, view_long}
 use Rattle.upload.proofs.Opened.{first_parts, keeps_more, latest_at, latest_less, opening_more, opening_wider, opened_more, opened_none}
 use Rattle.upload.proofs.Ends.{at_error}
-use Rattle.upload.proofs.Worn.{most_more}
+use Rattle.upload.proofs.Worn.{worn_last, worn_next}
 use Rattle.upload.proofs.opening.open_all.Goals as goal
 
 abbrev blank : Component
@@ -65,7 +67,7 @@ loop-component-preserved g c =
           c.open_one.ensures.opens.either _ _ _
           c.in_ok-open_one.ensures.opens.trailer c.in_ok-open_one.ensures.opens.slot c.in_ok-open_one.ensures.table.0
           c.in_ok-open_one.ensures.table.1 c.in_ok-open_one.ensures.table.2 c.loop-component.invariant.opened;
-      erases = most_more map _ _ _ cs c.loop-component.component-index blank c.loop-component-test.true
+      erases = worn_next map _ _ _ cs c.loop-component.component-index blank c.loop-component-test.true
           c.open_one.ensures.opens.outside c.in_ok-open_one.ensures.opens.erased c.in_ok-open_one.ensures.opens.erases
           c.loop-component.invariant.erases;
       idle = λ still.
@@ -75,4 +77,29 @@ loop-component-preserved g c =
           (still c.loop-component.component-index blank c.loop-component-test.true)) ∙ same;
       uncut = search rules;
       asleep = search rules;
+    }
+
+pub returns : goal.returns
+returns g c =
+    let map = c.args.map.now in
+    let cs = c.args.components.now in
+    let old = g.F.Flash.chip c.args.flash.now in
+    let new = g.F.Flash.chip c.loop-component.flash in
+    let all = c.loop-component.invariant in
+    let past : length cs ≤ c.loop-component.component-index = omega (arith, c.loop-component-test.false) in
+    let whole = take_all c.loop-component.component-index cs past in
+    let opened = subst (λ l. IsOpened (view map old) (view map new) c.args.uploads.now.sessions
+    c.loop-component.uploads.sessions (latest l)) whole all.opened in
+    record {
+      outside = subst (λ l. Keeps map (named_parts l) old new) whole all.outside;
+      opening = opened.opening;
+      opened = opened;
+      erases = omega (arith, worn_last map new cs c.loop-component.component-index past, all.erases);
+      idle = search rules;
+      ends = record {
+        asleep = all.asleep;
+        uncut = all.uncut;
+        cut = λ none. absurd (cc none);
+        off = λ none. absurd (cc none);
+      };
     }

@@ -13,7 +13,7 @@ use Rattle.upload.proofs.Writing.{front_blank}
 use Rattle.upload.proofs.Frames.{erased_stands}
 use Rattle.sector_map.proofs.Parts.{keeps_trans, keeps_wider, laid_out_kept}
 use Rattle.sector_map.proofs.Touched.{slot_of_incoming}
-use Rattle.upload.proofs.Worn.{idle_erases, none_worn, open_erases}
+use Rattle.upload.proofs.Worn.{none_worn, open_erases}
 use Rattle.upload.proofs.opening.open_slot.Goals as goal
 
 pub returns-in_err-withdraw : goal.returns-in_err-withdraw
@@ -50,9 +50,9 @@ returns g c =
       either = inr (erased_stands (new.trailer c.args.image Secondary) (new.slot c.args.image Secondary) kept);
       trailer = on_ok_weaker c.erase_slot.result (λ done. kept) c.erase_slot.ensures.ok;
       slot = c.erase_slot.ensures.ok;
-      erases = on_ok_weaker c.erase_slot.result (λ worn. idle_erases map _ _ c.args.image c.requires.laid_out
-          idle (open_erases map _ _ c.args.image _ c.requires.laid_out laid
-          c.requires.there c.withdraw.ensures.rest c.in_ok-withdraw.ensures.erases worn)) c.erase_slot.ensures.worn;
+      erases = on_ok_weaker c.erase_slot.result (λ worn. open_erases map _ _ c.args.image _ c.requires.laid_out laid
+          c.requires.there c.withdraw.ensures.rest c.in_ok-withdraw.ensures.first c.withdraw.ensures.unset
+          c.in_ok-withdraw.ensures.erases worn) c.erase_slot.ensures.worn;
       erased = on_ok_weaker c.erase_slot.result (λ slot. none_worn map _ c.args.image slot
           (ap are_erased (c.erase_slot.ensures.outside.parts (TrailerOf c.args.image Secondary) refl)
           ∙ c.in_ok-withdraw.ensures.bytes)) c.erase_slot.ensures.ok;
