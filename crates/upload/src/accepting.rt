@@ -77,9 +77,10 @@ fn take_manifest<F: Flash>(
 
 impl Uploads {
     /// Takes a manifest: stores its sequence number in the log, unless it is the one there, then
-    /// takes back what is requested for each image that it names, erases the secondary slot, and
-    /// opens an upload of the image. Where two components name an image the last one counts.
-    /// Uploads of other images go on.
+    /// takes back what is requested for each image that it names, erases each sector of the
+    /// secondary slot that isn't erased, and opens an upload of the image. No sector is erased
+    /// twice. Where two components name an image the last one counts. Uploads of other images go
+    /// on.
     ///
     /// The map is laid out on the flash, the log has a state, of which `read_state` is the test,
     /// and each component names an image of the map.
