@@ -148,8 +148,8 @@ pub record Replies (event : Event) (old new : Whole) (reply : Reply) : Type 0 wh
   -- and else the flash has power.
   pub power : cut_of reply ≡ 0 → new.here.flash.is_on ≡ true
 
--- So does one that is reset after a cut.
-pub record RepliesAgain (event : Event) (old new : Whole) (reply : Reply) : Type 0 where
+-- A device takes a step: it replies to an event, and is reset after a cut.
+pub record Steps (event : Event) (old new : Whole) (reply : Reply) : Type 0 where
   -- What it was made with stays.
   pub setup : new.setup ≡ old.setup
   -- This is a step of the machine, to a state that the device holds then.

@@ -26,4 +26,4 @@ mod trial;
 
 pub use device::Device;
 pub use provisioning::provision;
-pub use running::run;
+pub use running::{run, step};

@@ -1,8 +1,8 @@
-//! Runs: events in order, and a reply to each.
+//! Steps and runs: a reply to an event, and to each of many in order.
 
 ghost use Rattle.std.specs.Prelude.{◌≡◌, true};
 ghost use Rattle.boot_core.specs.Answers.{fault_reply, reply_of_result};
-ghost use Rattle.boot_core.specs.Calls.{Replies, RepliesAgain, Runs};
+ghost use Rattle.boot_core.specs.Calls.{Replies, Runs, Steps};
 
 use crate::device::Device;
 use flash_model::{Flash, FlashError};
@@ -32,7 +32,7 @@ fn answer(given: Result<(), Fault>) -> Reply
 }
 
 /// What a device answers to an event.
-fn call<F: Flash>(alloc: Global, device: &mut Device<F>, event: &Event) -> Reply
+fn call<F: Flash>(alloc: Global, device: &mut Device<F>, event: &Event<'_>) -> Reply
     requires { device.old.here.flash.is_on ≡ true }
     ensures { Replies event.now device.old device.new result }
 {
@@ -53,10 +53,17 @@ fn call<F: Flash>(alloc: Global, device: &mut Device<F>, event: &Event) -> Reply
     }
 }
 
-/// What a device answers to an event. After a cut it is reset.
-fn step<F: Flash>(alloc: Global, device: &mut Device<F>, event: &Event) -> Reply
+/// What a device answers to one event. After a cut the device is reset, which gives its flash power
+/// again, so that what follows is refused with `NotBooted` until it boots.
+///
+/// For every event and wherever power fails in it: where the device holds a state of the machine of
+/// whole images, the event with this reply is a step of that machine to a state which the device
+/// holds then, and the reply is `Cut` exactly where a write was cut. The flash has power as the step
+/// begins, and when it ends; so steps in a row are a run, and a caller who tells each reply before
+/// the next step needs no memory for the replies.
+pub fn step<F: Flash>(alloc: Global, device: &mut Device<F>, event: &Event<'_>) -> Reply
     requires { device.old.here.flash.is_on ≡ true }
-    ensures { RepliesAgain event.now device.old device.new result }
+    ensures { Steps event.now device.old device.new result }
 {
     let reply = call(alloc, device, event);
     match reply {
