@@ -27,6 +27,6 @@ pub use flash::flash_of;
 pub use image::{DescribeEnd, describe_over};
 pub use manifest_file::{ManifestEnd, tell_over};
 pub use refusals::map_refusal_text;
-pub use replies::{refused_fault_text, replies_text};
+pub use replies::{refused_fault_text, reply_text};
 pub use show::{ShowEnd, show_over};
 pub use streams::{read_all, write_all};

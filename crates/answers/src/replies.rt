@@ -2,7 +2,7 @@
 ghost use Rattle.std.specs.Fmt.{WritesOnOk};
 ghost use Rattle.std.specs.Prelude.{◌≡◌, IfOk, Some, decimal, string_bytes};
 ghost use Rattle.common.specs.Lines.{◌␣◌};
-ghost use Rattle.answers.specs.ReplyText.{decision_text, fault_text, group_text, is_some_taken, refused_fault_text, replies_text, reply_text, set_text, upload_text};
+ghost use Rattle.answers.specs.ReplyText.{decision_text, fault_text, group_text, is_some_taken, refused_fault_text, reply_text, set_text, upload_text};
 
 use certificate::{Report, ReportedImage};
 use common::limits::MOST_IMAGES;
@@ -12,27 +12,12 @@ use std::alloc::{AllocError, Allocator};
 use std::fmt;
 use upload::UploadError;
 
-/// What `run` prints of the replies of a device, one to each event, the events numbered from 1:
-/// text in memory of `alloc`.
+/// What `run` prints of the reply of a device to the event of this number, counted from 1: text in
+/// memory of `alloc`. The lines of a report stand behind the line of its boot.
 ///
 /// # Errors
 /// `AllocError` where that memory is refused.
-pub fn replies_text<'a, A: Allocator>(
-    alloc: &'a A,
-    replies: &[Reply],
-) -> Result<String<&'a A>, AllocError>
-    ensures { IfOk result (λ text. string_bytes text ≡ replies_text 1 replies.now) }
-{
-    let mut text = String::new(alloc);
-    for (index, reply) in replies.iter().enumerate() {
-        let said = reply_text(alloc, index + 1, reply)?;
-        text.push_str(&said)?;
-    }
-    Ok(text)
-}
-
-/// The reply to the event of this number. The lines of a report stand behind the line of its boot.
-fn reply_text<'a, A: Allocator>(
+pub fn reply_text<'a, A: Allocator>(
     alloc: &'a A,
     number: usize,
     reply: &Reply,

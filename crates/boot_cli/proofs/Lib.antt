@@ -4,3 +4,4 @@ mod ImageLaws
 mod InputLaws
 mod OrderLaws
 mod ScriptLaws
+mod TellingLaws

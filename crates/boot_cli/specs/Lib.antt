@@ -4,3 +4,4 @@ pub mod OrderEnd
 pub mod ProvisionEnd
 pub mod RunEnd
 pub mod Script
+pub mod Telling

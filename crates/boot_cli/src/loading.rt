@@ -1,5 +1,5 @@
 //! Scripts, with the files that their lines name.
-ghost use Rattle.std.specs.Prelude.{◌≡◌, ◌∷◌, ◌++◌, [], IfOk, map};
+ghost use Rattle.std.specs.Prelude.{◌≡◌, ◌∷◌, ◌++◌, [], IfOk};
 ghost use Rattle.std.specs.Option.{option_map};
 ghost use Rattle.script.specs.Said.{part_words, said, said_event, said_torn};
 ghost use Rattle.boot_cli.specs.Loading.{Adds, Passes, armed_in, armed_of, came_in, came_of};
@@ -10,7 +10,7 @@ use flash_model::Torn;
 use machine::Event;
 use reading_commands::{Host, Refusal, Source};
 use script::{Instruction, Line, PartText, Reading, TornText, line_of};
-use std::alloc::{AllocError, Allocator, Global};
+use std::alloc::{Allocator, Global};
 
 /// A write of the flash that a script has cut.
 #[derive(Drop)]
@@ -42,7 +42,7 @@ pub enum Step<A: Allocator> {
 
 impl<A: Allocator> Step<A> {
     /// The event.
-    fn event(&self) -> Event<'_>
+    pub fn event(&self) -> Event<'_>
         ensures { came_by result ≡ came_of self.now }
     {
         match self {
@@ -64,20 +64,6 @@ pub struct Script<A: Allocator> {
     pub cuts: Vec<Cut>,
     /// The events, in order.
     pub steps: Vec<Step<A>, A>,
-}
-
-/// The events of these steps, in order, in memory of `alloc`.
-pub fn events_of<'s, A: Allocator, B: Allocator>(
-    alloc: A,
-    steps: &'s [Step<B>],
-) -> Result<Vec<Event<'s>, A>, AllocError>
-    ensures { IfOk result (λ events. map came_by events.items ≡ came_in steps.now) }
-{
-    let mut events = Vec::with_capacity(alloc, steps.len())?;
-    for step in steps {
-        events.push(step.event())?;
-    }
-    Ok(events)
 }
 
 /// What the files of a script are read from.

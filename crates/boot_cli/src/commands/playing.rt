@@ -1,5 +1,5 @@
 //! `bootswap run`: what a device answers to the events of a script.
-ghost use Rattle.std.specs.Prelude.{◌≡◌, ◌++◌, IfOk, OnOk, false};
+ghost use Rattle.std.specs.Prelude.{◌≡◌, ◌++◌, IfErr, IfOk, OnOk, Some, false, true};
 ghost use Rattle.std.specs.Io.KnownBytes.{Appends};
 ghost use Rattle.std.specs.Option.{ForSome};
 ghost use Rattle.file_flash.specs.FileFlash.{chip_of as over_chip, new_over, over_file};
@@ -8,18 +8,19 @@ ghost use Rattle.sector_map.specs.Map.{IsLaidOut};
 ghost use Rattle.upload.specs.Sessions.{AllClosed};
 ghost use Rattle.answers.specs.DeviceFile.{IsOfFile};
 ghost use Rattle.answers.specs.FlashOf.{IsFlashOf};
-ghost use Rattle.answers.specs.ReplyText.{replies_text};
+ghost use Rattle.answers.specs.ReplyText.{reply_text};
 ghost use Rattle.boot_cli.specs.Loading.{armed_in, came_in};
-ghost use Rattle.boot_cli.specs.RunEnd.{AnswersRun, IsPlayed, Plays, answer_of, armed_flash, setup_of};
+ghost use Rattle.boot_cli.specs.RunEnd.{AnswersRun, Plays, TellsFirst, answer_after, armed_flash, setup_of};
+ghost use Rattle.boot_cli.specs.Telling.{BreaksOff, TellsAll, TellsSome};
 ghost use Rattle.reading_commands.specs.declared.source.Source.TheVariants as source;
 
 use crate::host::HostFile;
-use crate::loading::{Cut, Script, events_of, load};
-use answers::{DeviceFile, flash_of, replies_text, write_all};
-use boot_core::{Device, run};
+use crate::loading::{Cut, Script, Step, load};
+use answers::{DeviceFile, flash_of, reply_text, write_all};
+use boot_core::{Device, step};
 use file_flash::{FileFlash, FlashFile};
 use flash_model::{Flash, MemFlash};
-use machine::{Event, Reply};
+use machine::Reply;
 use reading_commands::{Answer, Host, Refusal, Source, read_device, read_flash};
 use sector_map::SectorMap;
 use std::alloc::{AllocError, Allocator, Global};
@@ -27,18 +28,9 @@ use std::io::Write;
 use std::marker::Brand;
 use std::sync::ledger::{Blank, Ledger};
 
-/// What came of a run.
-#[derive(Drop)]
-pub struct Played {
-    /// The reply to each event.
-    pub replies: Vec<Reply>,
-    /// Whether a write of the flash file failed.
-    pub has_failed: bool,
-}
-
 /// Reads a device file, the flash of the device and a script from `host`, runs the script's events
-/// on the device, and writes the replies to `out`. What changes on the flash is written through to
-/// its file at once.
+/// on the device, and writes each reply to `out` as its event is done. What changes on the flash is
+/// written through to its file at once.
 ///
 /// The flash stands in memory of `alloc`, and so does what the device needs to run; the script's
 /// text is put into `text`, and all else stands in memory of `heap`. All files are judged before
@@ -68,9 +60,9 @@ pub fn perform<'a, 'h, A: Allocator, H: Host, O: Write>(
     play_script(alloc, heap, &device, bytes, script, file, out)
 }
 
-/// Runs the events of a script on a device that has these bytes on its flash, and writes the
-/// replies to `out`. What changes is written through to the file of the flash, which holds the
-/// bytes.
+/// Runs the events of a script on a device that has these bytes on its flash, and writes each reply
+/// to `out` as its event is done. What changes is written through to the file of the flash, which
+/// holds the bytes.
 fn play_script<'a, 'h, A: Allocator, F: FlashFile + Drop, O: Write>(
     alloc: Global,
     heap: &'h A,
@@ -83,45 +75,43 @@ fn play_script<'a, 'h, A: Allocator, F: FlashFile + Drop, O: Write>(
     requires device { IsOfFile device.now }
     requires whole { IsFlashOf device.now.map bytes.items }
     requires held { ForSome (F.contents file) (λ all. all ≡ bytes.items) }
-    ensures { IfOk result (λ answer.
+    ensures plays { IfOk result (λ answer.
         Plays answer device.now bytes.items (armed_in script.entry.cuts.items)
+        (came_in script.entry.steps.items) (O.contents out.old) (O.contents out.new)) }
+    ensures tells { IfErr result (λ refusal.
+        TellsFirst refusal device.now bytes.items (armed_in script.entry.cuts.items)
         (came_in script.entry.steps.items) (O.contents out.old) (O.contents out.new)) }
 {
     let Script { cuts, steps } = script;
-    let Ok(events) = events_of(heap, &steps) else {
-        return Err(Refusal::NoMemory);
-    };
-    let played = play::<Brand, Brand, F>(
+    play::<Brand, Brand, _, _, _, _>(
         alloc,
+        heap,
         Blank::new(2),
         Blank::new(2),
         device,
         bytes,
         cuts,
-        &events,
+        &steps,
         file,
-    );
-    match played {
-        Ok(played) => tell_played(heap, &played, out),
-        Err(_) => Err(Refusal::NoMemory),
-    }
+        out,
+    )
 }
 
-/// Runs events on a device that has these bytes on its flash, with these writes of the flash cut,
-/// and writes what changes through to the file of the flash, which holds the bytes.
-///
-/// # Errors
-/// Where there is no memory for the cuts or the replies: nothing was done.
-fn play<L: Ledger, M: Ledger, F: FlashFile + Drop>(
+/// Runs the events of these steps on a device that has these bytes on its flash, with these writes
+/// of the flash cut, writes each reply to `out` as its event is done, and what changes to the file
+/// of the flash, which holds the bytes.
+fn play<'a, L: Ledger, M: Ledger, A: Allocator, B: Allocator, F: FlashFile + Drop, O: Write>(
     alloc: Global,
+    heap: &A,
     blank: Blank,
     memory_blank: Blank,
     device: &DeviceFile,
     bytes: Vec<u8>,
     cuts: Vec<Cut>,
-    events: &[Event],
+    steps: &[Step<B>],
     file: F,
-) -> Result<Played, AllocError>
+    out: &mut O,
+) -> Result<Answer, Refusal<'a>>
     requires name { blank.name ≡ L.name }
     requires parts { blank.parts ≡ L.parts }
     requires two { L.parts ≡ 2 }
@@ -131,18 +121,24 @@ fn play<L: Ledger, M: Ledger, F: FlashFile + Drop>(
     requires device { IsOfFile device.now }
     requires whole { IsFlashOf device.now.map bytes.items }
     requires held { ForSome (F.contents file) (λ all. all ≡ bytes.items) }
-    ensures { IfOk result (λ played.
-        IsPlayed device.now bytes.items (armed_in cuts.items) events.now played.replies.items) }
+    ensures plays { IfOk result (λ answer.
+        Plays answer device.now bytes.items (armed_in cuts.items) (came_in steps.now)
+        (O.contents out.old) (O.contents out.new)) }
+    ensures tells { IfErr result (λ refusal.
+        TellsFirst refusal device.now bytes.items (armed_in cuts.items) (came_in steps.now)
+        (O.contents out.old) (O.contents out.new)) }
 {
     let map = &device.map;
-    let flash = armed_flash::<L, M, F>(alloc, blank, memory_blank, map, bytes, cuts, file)?;
+    let Ok(flash) = armed_flash::<L, M, F>(alloc, blank, memory_blank, map, bytes, cuts, file)
+    else {
+        return Err(Refusal::NoMemory);
+    };
     let mut device = device_over(flash, device);
-    let replies = run(alloc, &mut device, events)?;
-    let has_failed = device.flash().has_failed();
-    Ok(Played {
-        replies,
-        has_failed,
-    })
+    let answer = tell_each(alloc, heap, &mut device, steps, out)?;
+    if device.flash().has_failed() {
+        return Err(Refusal::FlashFile);
+    }
+    Ok(answer)
 }
 
 /// A flash that has these bytes, of which these writes are cut, and that writes what changes
@@ -202,38 +198,65 @@ fn device_over<F: Flash>(flash: F, device: &DeviceFile) -> Device<F>
     }
 }
 
-/// Writes to `out` what came of a run.
-fn tell_played<'a, A: Allocator, O: Write>(
+/// Runs the events of these steps on a device, in order, and writes each reply to `out` as its event
+/// is done, before the next one. Where a reply can't be written, no event is run after it.
+fn tell_each<'a, A: Allocator, B: Allocator, F: Flash, O: Write>(
+    alloc: Global,
     heap: &A,
-    played: &Played,
+    device: &mut Device<F>,
+    steps: &[Step<B>],
     out: &mut O,
 ) -> Result<Answer, Refusal<'a>>
-    ensures { IfOk result (λ answer. (answer ≡ answer_of played.now.replies.items)
-        × Appends (O.contents out.old) (O.contents out.new)
-        (replies_text 1 played.now.replies.items)) }
+    requires { device.old.here.flash.is_on ≡ true }
+    ensures all { IfOk result (λ answer.
+        TellsAll answer device.old.setup device.old.here device.new.here (came_in steps.now)
+        (O.contents out.old) (O.contents out.new)) }
+    ensures some { IfErr result (λ refusal.
+        TellsSome refusal device.old.setup device.old.here device.new.here (came_in steps.now)
+        (O.contents out.old) (O.contents out.new)) }
 {
-    let Ok(text) = replies_text(heap, &played.replies) else {
+    let mut answer = Answer::Done;
+    for (index, next) in steps.iter().enumerate() {
+        let event = next.event();
+        let reply = step(alloc, device, &event);
+        tell_reply(heap, index + 1, &reply, out)?;
+        answer = answer_after(&reply);
+    }
+    Ok(answer)
+}
+
+/// Writes the reply to the event of this number to `out`, and flushes it.
+fn tell_reply<'a, A: Allocator, O: Write>(
+    heap: &A,
+    number: usize,
+    reply: &Reply,
+    out: &mut O,
+) -> Result<(), Refusal<'a>>
+    ensures told { OnOk result (Appends (O.contents out.old) (O.contents out.new)
+        (reply_text number reply.now)) }
+    ensures begun { IfErr result (λ refusal.
+        BreaksOff refusal (reply_text number reply.now)
+        (O.contents out.old) (O.contents out.new)) }
+{
+    let Ok(text) = reply_text(heap, number, reply) else {
         return Err(Refusal::NoMemory);
     };
     if write_all(out, text.as_bytes()).is_err() {
         return Err(Refusal::CannotWrite);
     }
-    if !played.has_failed {
-        return Ok(answer_of(&played.replies));
-    }
     match out.flush() {
-        Ok(()) => Err(Refusal::FlashFile),
+        Ok(()) => Ok(()),
         Err(_) => Err(Refusal::CannotWrite),
     }
 }
 
-/// What a run comes to: what its last reply says.
-fn answer_of(replies: &[Reply]) -> Answer
-    ensures { result ≡ answer_of replies.now }
+/// What a run comes to whose last reply this is.
+fn answer_after(reply: &Reply) -> Answer
+    ensures { result ≡ answer_after (Some reply.now) }
 {
-    match replies.last() {
-        Some(Reply::Cut) => Answer::Cut,
-        Some(Reply::Refused(_)) => Answer::Refused,
+    match reply {
+        Reply::Cut => Answer::Cut,
+        Reply::Refused(_) => Answer::Refused,
         _ => Answer::Done,
     }
 }

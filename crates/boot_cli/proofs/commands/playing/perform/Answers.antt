@@ -26,4 +26,4 @@ returns g c =
     c.in_ok-text.ensures.bytes c.in_ok-text.ensures.others
     (λ known stays. subst (λ text. IsScript text known cuts came) c.deref.ensures.value (c.in_ok-script.ensures known stays))
     c.in_ok-bytes.ensures.whole read.1 plays)
-    c.play_script.ensures
+    c.play_script.ensures.plays

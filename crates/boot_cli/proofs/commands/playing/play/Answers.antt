@@ -1,23 +1,60 @@
 use Rattle.std.proofs.Common.{◌∙◌, ap}
+use Rattle.common.proofs.Results.{IfErr-passed}
 use Rattle.file_flash.specs.FileFlash.{over_file}
+use Rattle.boot_cli.specs.Loading.{armed_in, came_in}
+use Rattle.boot_cli.proofs.TellingLaws.{Plays-told, TellsFirst-all, TellsFirst-none, TellsFirst-some}
 use Rattle.boot_cli.proofs.commands.playing.play.Goals as goal
 
--- The device was made over the flash of the bytes and the cuts, and its replies are those of the run.
-pub returns : goal.returns
-returns g c =
-    let armed = c.in_ok-flash.ensures.armed in
-    let ran = rw c.device_over-device.ensures.setup at c.in_ok-replies.ensures.run in
-    record {
-      old = c.device_over-device.result.here;
-      new = c.run.new.device.here;
-      made = record {
-        over = over_file c.in_ok-flash.flash;
-        armed = armed;
-        chip = c.device_over-device.ensures.flash;
-        flash = c.device_over-device.ensures.flash ∙ ap (λ o. o.chip) armed;
-        down = c.device_over-device.ensures.down;
-        closed = c.device_over-device.ensures.closed;
-      };
-      runs = ran;
-      each = c.in_ok-replies.ensures.each;
-    }
+-- There was no memory for the flash.
+pub returns-in_default-clause-tells : goal.returns-in_default-clause-tells
+returns-in_default-clause-tells g c =
+    TellsFirst-none c.args.device.now c.args.bytes.items (armed_in c.args.cuts.items) (came_in c.args.steps.now) _
+
+-- The device was made over the flash of the bytes and the cuts, and not all replies were told.
+pub returns-in_err-answer-clause-tells : goal.returns-in_err-answer-clause-tells
+returns-in_err-answer-clause-tells g c =
+    let armed = c.in-Ok.ensures.armed in
+    let device = c.device_over-device.ensures in
+    IfErr-passed _ _ _ c.from_residual.ensures.1
+    (TellsFirst-some _ c.args.device.now c.args.bytes.items (armed_in c.args.cuts.items) (came_in c.args.steps.now) _ _ _ _
+    (record {
+      over = over_file c.in-Ok.flash;
+      armed = armed;
+      chip = device.flash;
+      flash = device.flash ∙ ap (λ o. o.chip) armed;
+      down = device.down;
+      closed = device.closed;
+    })
+    (rw device.setup at c.in_err-answer.ensures.some))
+
+-- All replies were told, and the flash file failed ..
+pub returns-then-has_failed-clause-tells : goal.returns-then-has_failed-clause-tells
+returns-then-has_failed-clause-tells g c =
+    let armed = c.in-Ok.ensures.armed in
+    let device = c.device_over-device.ensures in
+    TellsFirst-all c.args.device.now c.args.bytes.items (armed_in c.args.cuts.items) (came_in c.args.steps.now) _ _ _ _ _
+    (record {
+      over = over_file c.in-Ok.flash;
+      armed = armed;
+      chip = device.flash;
+      flash = device.flash ∙ ap (λ o. o.chip) armed;
+      down = device.down;
+      closed = device.closed;
+    })
+    (rw device.setup at c.in_ok-answer.ensures.all)
+
+-- .. or not.
+pub returns-clause-plays : goal.returns-clause-plays
+returns-clause-plays g c =
+    let armed = c.in-Ok.ensures.armed in
+    let device = c.device_over-device.ensures in
+    Plays-told c.args.device.now c.args.bytes.items (armed_in c.args.cuts.items) (came_in c.args.steps.now) _ _ _ _ _
+    (record {
+      over = over_file c.in-Ok.flash;
+      armed = armed;
+      chip = device.flash;
+      flash = device.flash ∙ ap (λ o. o.chip) armed;
+      down = device.down;
+      closed = device.closed;
+    })
+    (rw device.setup at c.in_ok-answer.ensures.all)
