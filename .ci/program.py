@@ -6,6 +6,7 @@ beside it NAME.stamp, which says of what sources it was made. So a build that wa
 that it had not yet built.
 """
 
+import contextlib
 import fcntl
 import functools
 import hashlib
@@ -24,7 +25,7 @@ LOG = f"{OUT}/bootswap.log"
 PROGRAM = f"{OUT}/bootswap"
 
 # What is told before a build: as measured on 4 processors, all of them taken.
-COST = "60 to 75 minutes of one processor, 1 GB of disk"
+COST = "40 to 75 minutes of one processor, 1 GB of disk"
 
 # The most memory that the check of a crate has taken, in bytes, and what each further process of one takes.
 MEMORY, MEMORY_OF_JOB = 2_300_000_000, 800_000_000
@@ -220,13 +221,18 @@ class Build:
         It holds the lock of the build too, so that no other build starts while it runs, should this one be killed.
         """
         streams = {"stdin": subprocess.DEVNULL, "stdout": subprocess.PIPE, "stderr": subprocess.STDOUT}
+        start = time.monotonic()
         ran = subprocess.Popen(words, cwd=folder, pass_fds=[self.held.fileno()], **streams)
         self.processes.add(ran)
         if self.is_stopped:
-            ran.kill()
-        said = ran.communicate()[0].decode(errors="replace")
+            kill(ran)
+        with ran.stdout:
+            said = ran.stdout.read().decode(errors="replace")
+        _, status, used = os.wait4(ran.pid, 0)
+        ran.returncode = os.waitstatus_to_exitcode(status)
         self.processes.discard(ran)
-        return ran.returncode, f"{' '.join(words)}\n{said}"
+        cost = f"{time.monotonic() - start:.0f} s, {used.ru_utime + used.ru_stime:.0f} s of a processor"
+        return ran.returncode, f"{' '.join(words)}\n{said}took {cost}\n"
 
     def end(self, crate, result):
         """Tells that a crate is proved, and what is left, or why it isn't."""
@@ -244,7 +250,13 @@ class Build:
         """Ends what still runs, where the build failed or was broken off."""
         self.is_stopped = True
         for ran in [*self.processes]:
-            ran.kill()
+            kill(ran)
+
+
+def kill(ran):
+    """Ends a process that `Build.call` waits for. `Popen.kill` might wait for it too, and then its times were lost."""
+    with contextlib.suppress(ProcessLookupError):
+        os.kill(ran.pid, signal.SIGKILL)
 
 
 def link_words(kit, made):
