@@ -4,7 +4,7 @@ import os
 import subprocess
 
 from checking import EXAMPLES, ONE, PAIR, ROOT, flash_of, read, report, short, shown, table
-from worked import BACK, NEEDS, NO_TRIAL, NOT_UP, PLAIN, SUM_OF_WRITES, TRIED, WORKED
+from worked import BACK, NEEDS, NO_TRIAL, NOT_UP, PLAIN, SUM_OF_WRITES, TRIED, USUAL, WORKED
 from worked import cut_at, event_of, numbered
 
 SCRIPT = f"{EXAMPLES}/scripts/{WORKED}.txt"
@@ -84,39 +84,52 @@ def of_no_file():
             yield numbered(replies)
 
 
-def is_run_after(fault, got, kept, usual, before, after):
+def is_run_after(fault, got, kept, flashes):
     """Whether the worked run may end so, with these bytes in the flash file.
 
-    `before` is what the file held, and `after` what it holds after the usual run.
+    `flashes` is what the file holds before it, and then after each event of it.
     """
     status, out, err = got
-    if (got, kept) == (usual, after):
+    if (got, kept) == ((0, numbered(USUAL), b""), flashes[-1]):
         return True
+    told = max(at for at in range(len(USUAL)) if out.startswith(numbered(USUAL[:at])))
+    # Each event whose reply was told is done, and so is the one whose reply could not be told, or not to its end.
+    is_stopped = kept == flashes[told + 1]
     if fault == "memory":
-        is_refused = (status, err) == (0, b"") and out in of_no_memory() and kept == before
-        return is_refused or got == (1, b"", b"error: memory\n") and kept in (before, after)
+        is_refused = (status, err) == (0, b"") and out in of_no_memory() and kept == flashes[0]
+        return is_refused or got == (1, numbered(USUAL[:told]), b"error: memory\n") and is_stopped
     if fault != "fail":
         return False
     if status == 4:
         return err == b"error: flash file\n" and out in set(of_no_file())
-    is_unread = err.startswith(b"error: cannot read ") and not out and kept == before
-    return status == 1 and (is_unread or not err and usual[1].startswith(out) and kept == after)
+    is_unread = err.startswith(b"error: cannot read ") and not out and kept == flashes[0]
+    return status == 1 and (is_unread or not err and numbered(USUAL).startswith(out) and is_stopped)
+
+
+def flashes_of(checks, before):
+    """What the flash file holds before the worked run, which is given, and then after each event of it."""
+    lines = read(SCRIPT).splitlines(keepends=True)
+    yield before
+    for count in range(1, len(lines) + 1):
+        checks.file("flash", before)
+        checks.run(["run", PAIR, "flash", "-"], given=b"".join(lines[:count]))
+        yield read(f"{checks.folder}/flash")
 
 
 def check_run_faults(checks):
     """The same of the worked run of a device, with the bytes of its flash file afterwards, and a boot from it."""
     before = flash_of(checks)
+    flashes = [*flashes_of(checks, before)]
 
     def run(env=os.environ):
         checks.file("flash", before)
         got = checks.run(["run", PAIR, "flash", SCRIPT], env=env)
         return got, read(f"{checks.folder}/flash")
 
-    usual, after = run()
     for fault in ("fail", "short", "memory"):
         faults = []
         for at, (got, kept) in each_fault(checks, fault, run):
-            if not is_run_after(fault, got, kept, usual, before, after) or not boots_behind(checks):
+            if not is_run_after(fault, got, kept, flashes) or not boots_behind(checks):
                 faults.append(f"at call {at}: {short(got)}")
         checks.tell(f"{fault}: run of a device, {at} calls", faults[:5])
 
