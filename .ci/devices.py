@@ -6,6 +6,7 @@ import re
 import subprocess
 import sys
 import tempfile
+import time
 
 from builders import ABC, VENDOR, component, device, image, little, manifest
 from checking import EXAMPLES, LIMIT, ONE, PAIR, ROOT, flash_of, names_in, read, short
@@ -277,4 +278,40 @@ def check_replies(checks):
     checks.expect("reply: what runs is damaged", ["run", PAIR, "flash", "-"], 1, told, given=b"boot\n")
 
 
-CHECKS = (check_scripts, check_documents, check_provisioning, check_shows, check_script_lines, check_replies)
+# How many boots come to a device whose run is killed: their replies are far more text than a pipe holds.
+MANY = 20_000
+
+
+def check_telling(checks):
+    """Each reply is told before the next event: what a run that is killed has said is a beginning, by whole lines."""
+    whole = flash_of(checks)
+    upload = b"accept examples/manifests/trial.json\npiece 0 examples/images/needing.img\n"
+    script = checks.file("script", MANY * b"boot\n" + upload)
+    replies = "".join(f"{n} plain\nrun 0 1.0.0+0\nrun 1 1.0.0+0\n" for n in range(1, MANY + 1))
+    said = replies.encode() + f"{MANY + 1} done\n{MANY + 2} done\n".encode()
+    words = ["run", PAIR, "flash", script]
+    streams = {"stdin": subprocess.DEVNULL, "stdout": subprocess.PIPE, "stderr": subprocess.DEVNULL}
+    ran = subprocess.Popen([checks.program, *words], cwd=checks.folder, **streams)
+    first = ran.stdout.readline()
+    # The pipe is full long before the last event, which writes the flash, and then the run waits.
+    time.sleep(1)
+    ran.kill()
+    got = first + ran.stdout.read()
+    ran.wait()
+    is_right = said.startswith(got) and got.endswith(b"\n") and len(got) < len(said)
+    checks.tell("run: what a run that is killed has said", [] if is_right else [short(got)])
+    tell_same(checks, "run: the events behind it never came", whole)
+    checks.expect("run: the same to its end", words, 0, said)
+    is_same = read(f"{checks.folder}/flash") == whole
+    checks.tell("run: its last event writes the flash", ["the flash is as it was"] if is_same else [])
+
+
+CHECKS = (
+    check_scripts,
+    check_documents,
+    check_provisioning,
+    check_shows,
+    check_script_lines,
+    check_replies,
+    check_telling,
+)
