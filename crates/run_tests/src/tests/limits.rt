@@ -119,6 +119,21 @@ fn front(text: &str, count: usize) -> &[u8] {
     &bytes[..count.min(bytes.len())]
 }
 
+/// The first lines of a text, so many.
+fn first_lines(text: &str, count: usize) -> &[u8] {
+    let bytes = text.as_bytes();
+    let mut left = count;
+    for (at, byte) in bytes.iter().enumerate() {
+        if *byte == b'\n' {
+            if left <= 1 {
+                return &bytes[..at + 1];
+            }
+            left -= 1;
+        }
+    }
+    bytes
+}
+
 /// Asserts that a command whose outputs have these limits exits with status 1, and has written as
 /// much of what it has to write as there is room for, and nothing after a write that failed.
 fn expect_beginning(
@@ -139,9 +154,11 @@ fn expect_beginning(
         b"",
         limits,
     );
-    let is_out_failed = limits.room < command.out.len()
-        || limits.fails_to_flush && !command.out.is_empty();
-    let err = if is_out_failed { "" } else { command.err };
+    let err = if limits.room < command.out.len() {
+        ""
+    } else {
+        command.err
+    };
     assert!(rt;
         outcome.status == 1
             && outcome.out.taken.as_slice() == front(command.out, limits.room)
@@ -152,7 +169,7 @@ fn expect_beginning(
 }
 
 #[test]
-fn after_a_failed_write_or_flush_nothing_more_is_written(rt: HostRuntime) -> Result<(), Fail> {
+fn after_a_failed_write_nothing_more_is_written(rt: HostRuntime) -> Result<(), Fail> {
     let mut target = two_images(rt.alloc())?;
     let flash = Vec::from_slice(rt.alloc(), target.flash.bytes.as_slice())?;
     for command in COMMANDS {
@@ -166,17 +183,129 @@ fn after_a_failed_write_or_flush_nothing_more_is_written(rt: HostRuntime) -> Res
                 expect_beginning(&rt, &mut target, flash.as_slice(), &command, limits)?;
             }
         }
-        let limits = Limits {
-            fails_to_flush: true,
-            ..AMPLE
-        };
-        expect_beginning(&rt, &mut target, flash.as_slice(), &command, limits)?;
     }
     Ok(())
 }
 
+/// How many lines `run` writes before it flushes for the first time, by the commands above: those
+/// of the reply to the boot.
+const LINES_OF_A_BOOT: usize = 3;
+
+/// Asserts that a command whose outputs can't be flushed exits with status 1, and writes nothing
+/// more once it flushed.
+fn expect_unflushed(
+    rt: &(impl Abort + AllocGlobal),
+    target: &mut Target,
+    flash: &[u8],
+    command: &Command,
+) -> Result<(), Fail> {
+    target.put_flash(flash)?;
+    target.flash.failing = command.failing;
+    let limits = Limits {
+        fails_to_flush: true,
+        ..AMPLE
+    };
+    let script = command.script.as_bytes();
+    let outcome = target.command_within(
+        rt.alloc(),
+        &rt.alloc(),
+        command.words,
+        script,
+        b"",
+        limits,
+    );
+    let out = match command.words {
+        [_, "run", ..] => first_lines(command.out, LINES_OF_A_BOOT),
+        _ => command.out.as_bytes(),
+    };
+    let err = if out.is_empty() { command.err } else { "" };
+    assert!(rt;
+        outcome.status == 1
+            && outcome.out.taken.as_slice() == out
+            && outcome.err.taken.as_slice() == err.as_bytes(),
+        "{command:?} {outcome:?}"
+    );
+    Ok(())
+}
+
+#[test]
+fn after_a_failed_flush_nothing_more_is_written(rt: HostRuntime) -> Result<(), Fail> {
+    let mut target = two_images(rt.alloc())?;
+    let flash = Vec::from_slice(rt.alloc(), target.flash.bytes.as_slice())?;
+    for command in COMMANDS {
+        expect_unflushed(&rt, &mut target, flash.as_slice(), &command)?;
+    }
+    Ok(())
+}
+
+/// The replies of `RUN`, each by itself.
+const REPLIES_OF_RUN: [&str; 5] = [
+    "1 plain\nrun 0 1.0.0+0\nrun 1 1.0.0+0\n",
+    "2 done\n",
+    "3 done\n",
+    "4 done\n",
+    "5 refused upload 7 NotAnImage 1\n",
+];
+
+/// Asserts that `RUN`, with room for so many bytes, writes those, exits with status 1, and leaves
+/// these bytes on the flash.
+fn expect_stop(
+    rt: &(impl Abort + AllocGlobal),
+    target: &mut Target,
+    flash: &[u8],
+    room: usize,
+    left: &[u8],
+) -> Result<(), Fail> {
+    target.put_flash(flash)?;
+    let limits = Limits { room, ..AMPLE };
+    let script = RUN.script.as_bytes();
+    let outcome = target.command_within(rt.alloc(), &rt.alloc(), RUN.words, script, b"", limits);
+    assert!(rt;
+        outcome.status == 1
+            && outcome.out.taken.as_slice() == front(RUN.out, room)
+            && outcome.err.taken.is_empty()
+            && target.flash.bytes.as_slice() == left,
+        "{room} {outcome:?}"
+    );
+    Ok(())
+}
+
+#[test]
+fn after_a_failed_write_no_event_is_run(rt: HostRuntime) -> Result<(), Fail> {
+    let mut target = two_images(rt.alloc())?;
+    let flash = Vec::from_slice(rt.alloc(), target.flash.bytes.as_slice())?;
+    let mut room = 0;
+    let mut changes = 0u8;
+    for (before, reply) in REPLIES_OF_RUN.iter().enumerate() {
+        // The line of the cut, and the events up to the one whose reply can't be written.
+        let script = first_lines(RUN.script, before + 2);
+        target.put_flash(flash.as_slice())?;
+        let _ = target.command(rt.alloc(), RUN.words, script, b"");
+        let left = Vec::from_slice(rt.alloc(), target.flash.bytes.as_slice())?;
+        for _ in 0..reply.len() {
+            expect_stop(&rt, &mut target, flash.as_slice(), room, left.as_slice())?;
+            room = room.saturating_add(1);
+        }
+        if left.as_slice() != flash.as_slice() {
+            changes |= 1 << before;
+        }
+    }
+    // The boot changes nothing, and each event after it is behind one that does.
+    assert!(rt; changes == 0b11110, "{changes:b}");
+    Ok(())
+}
+
+/// Whether this is a beginning of what a command has to write, of whole lines.
+fn is_told(command: &Command, taken: &[u8]) -> bool {
+    front(command.out, taken.len()) == taken
+        && match taken.last() {
+            Some(last) => *last == b'\n',
+            None => true,
+        }
+}
+
 /// Asserts that a command with a heap of this size leaves what it has to, or refuses for want of
-/// memory. Returns whether it leaves what it has to.
+/// memory, after whole lines of it. Returns whether it leaves what it has to.
 fn is_answered(
     rt: &(impl Abort + AllocGlobal),
     target: &mut Target,
@@ -191,14 +320,17 @@ fn is_answered(
     let outcome = target.command_within(rt.alloc(), &heap, command.words, script, b"", AMPLE);
     let is_answered = outcome.is(command.status, command.out, command.err);
     assert!(rt;
-        is_answered || outcome.is(1, "", "error: memory\n"),
+        is_answered
+            || outcome.status == 1
+                && is_told(command, outcome.out.taken.as_slice())
+                && outcome.err.has(b"error: memory\n"),
         "{size} {command:?} {outcome:?}"
     );
     Ok(is_answered)
 }
 
 #[test]
-fn a_heap_of_each_size_gives_the_whole_answer_or_none(rt: HostRuntime) -> Result<(), Fail> {
+fn a_heap_of_each_size_gives_whole_replies(rt: HostRuntime) -> Result<(), Fail> {
     let mut target = two_images(rt.alloc())?;
     let flash = Vec::from_slice(rt.alloc(), target.flash.bytes.as_slice())?;
     for command in COMMANDS {
