@@ -301,6 +301,12 @@ def check_telling(checks):
     is_right = said.startswith(got) and got.endswith(b"\n") and len(got) < len(said)
     checks.tell("run: what a run that is killed has said", [] if is_right else [short(got)])
     tell_same(checks, "run: the events behind it never came", whole)
+    uploads = checks.file("uploads", b"boot\n" + upload)
+    with open("/dev/full", "wb") as full:
+        status, _, err = checks.run(["run", PAIR, "flash", uploads], stdout=full)
+    is_right = (status, err) == (1, b"")
+    checks.tell("run: a reply that can't be written", [] if is_right else [f"{status} {short(err)}"])
+    tell_same(checks, "run: no event is run after it", whole)
     checks.expect("run: the same to its end", words, 0, said)
     is_same = read(f"{checks.folder}/flash") == whole
     checks.tell("run: its last event writes the flash", ["the flash is as it was"] if is_same else [])
