@@ -1,5 +1,5 @@
 //! The flash of a device, in memory.
-ghost use Rattle.std.specs.Prelude.{◌≡◌, ◌≤◌, []};
+ghost use Rattle.std.specs.Prelude.{◌≡◌, ◌≤◌};
 ghost use Rattle.flash_model.specs.Memory.{chip_of, memory_of};
 ghost use Rattle.sector_map.specs.Map.{IsLaidOut};
 ghost use Rattle.answers.specs.FlashOf.{IsFlashOf, flash_of};
@@ -26,7 +26,6 @@ pub fn flash_of<L: Ledger>(
     ensures chip { chip_of result ≡ flash_of map.now bytes.items }
     ensures laid_out { IsLaidOut map.now (chip_of result) }
     ensures writes { (memory_of result).writes ≡ 0 }
-    ensures armed { (memory_of result).armed ≡ [] }
 {
     MemFlash::from_bytes(alloc, blank, map.sector_size, bytes)
 }

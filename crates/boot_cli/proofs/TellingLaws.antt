@@ -6,7 +6,6 @@ use Rattle.std.proofs.KnownBytes.{Appends-nil, Appends-trans}
 use Rattle.std.proofs.Math.Seq.{get_or-append_seam}
 use Rattle.std.proofs.lemmas.List.{length-map, length-take-le, map-append, take-map, take_all, take_more}
 use Rattle.std.proofs.lemmas.Option.{slice_get-get_or}
-use Rattle.file_flash.specs.FileFlash.{new_over}
 use Rattle.flash_model.specs.declared.torn.Armed.{Armed}
 use Rattle.machine.specs.Holding.{DeviceView}
 use Rattle.machine.specs.Intake.{Setup}
@@ -21,12 +20,11 @@ use Rattle.reading_commands.specs.declared.error.Refusal.{Refusal}
 use Rattle.reading_commands.specs.declared.error.Refusal.TheVariants.{FlashFile, NoMemory}
 use Rattle.reading_commands.specs.Status.{status_of_refusal}
 use Rattle.answers.specs.declared.device.DeviceFile.{DeviceFile}
-use Rattle.answers.specs.FlashOf.{flash_of}
 use Rattle.answers.specs.ReplyText.{replies_text, reply_text}
 use Rattle.answers.proofs.ReplyLaws.{replies_text-push}
 use Rattle.boot_cli.specs.declared.loading.Step.{Step}
 use Rattle.boot_cli.specs.Loading.{came_in, came_of}
-use Rattle.boot_cli.specs.RunEnd.{IsMadeOf, Plays, TellsFirst, answer_after, answer_of, armed_flash, setup_of}
+use Rattle.boot_cli.specs.RunEnd.{IsMadeOf, Plays, TellsFirst, answer_after, answer_of, armed_chip, setup_of}
 use Rattle.boot_cli.specs.Script.{Came, came_by}
 use Rattle.boot_cli.specs.Telling.{BreaksOff, TellsAll, TellsSome}
 
@@ -197,7 +195,7 @@ TellsFirst-some refusal device bytes cuts came old new before after made some =
 pub TellsFirst-none : (device : DeviceFile) (bytes : List ℕ) (cuts : List Armed) (came : List Came)
     (written : Option (List ℕ)) → TellsFirst NoMemory device bytes cuts came written written
 TellsFirst-none device bytes cuts came written =
-    let here : DeviceView = seen (flash_of device.map bytes) [] false in
+    let here : DeviceView = seen (armed_chip device.map bytes cuts) [] false in
     record {
       events = [];
       come = refl;
@@ -207,9 +205,6 @@ TellsFirst-none device bytes cuts came written =
         old = here;
         new = here;
         made = record {
-          over = new_over (armed_flash device.map bytes cuts);
-          armed = refl;
-          chip = refl;
           flash = refl;
           down = refl;
           closed = λ j. refl;

@@ -1,9 +1,9 @@
 -- What a run of a device comes to.
 use Rattle.std.specs.Prelude.{◌≡◌, ◌⊎◌, ℕ, ◌+◌, ◌-◌, ◌≤◌, false, List, [], ◌∷◌, ◌++◌, length, take, Option, None, Some, map, slice_get}
 use Rattle.std.specs.Io.KnownBytes.{Appends}
-use Rattle.file_flash.specs.FileFlash.{OverFile, new_over}
 use Rattle.flash_model.specs.declared.torn.Armed.{Armed}
-use Rattle.flash_model.specs.Memory.{Memory}
+use Rattle.flash_model.specs.Chip.{Chip}
+use Rattle.flash_model.specs.Memory.{Memory, with_armed}
 use Rattle.sector_map.specs.declared.layout.SectorMap.{SectorMap}
 use Rattle.upload.specs.Sessions.{AllClosed}
 use Rattle.machine.specs.Holding.{DeviceView}
@@ -31,19 +31,19 @@ use Rattle.boot_cli.specs.Script.{Came, IsScript, Known, came_by, known_after}
 abbrev pub setup_of : DeviceFile → Setup
 setup_of device = made device.map device.identity device.trial_boots
 
--- The flash in memory that has these bytes. It took no write yet, and these are to be cut, as
--- counted from now.
-abbrev pub armed_flash : SectorMap → List ℕ → List Armed → Memory
-armed_flash map bytes cuts = record { chip = flash_of map bytes; writes = 0; armed = cuts }
+-- The flash that has these bytes, of whose writes these are to be cut, as counted from now.
+abbrev pub armed_chip : SectorMap → List ℕ → List Armed → Chip
+armed_chip map bytes cuts = with_armed (flash_of map bytes) cuts
 
--- A device that was just made, over a flash with these bytes of whose writes these are to be cut:
--- the device shows of it what every flash has. It isn't up, and no upload is open.
+-- That flash in memory. It took no write yet.
+abbrev pub armed_flash : SectorMap → List ℕ → List Armed → Memory
+armed_flash map bytes cuts = record { chip = armed_chip map bytes cuts; writes = 0 }
+
+-- A device that was just made, over a flash with these bytes of whose writes these are to be cut, and
+-- no others. It isn't up, and no upload is open.
 pub record IsMadeOf (map : SectorMap) (bytes : List ℕ) (cuts : List Armed) (here : DeviceView)
     : Type 0 where
-  pub over : OverFile
-  pub armed : over ≡ new_over (armed_flash map bytes cuts)
-  pub chip : here.flash ≡ over.chip
-  pub flash : here.flash ≡ flash_of map bytes
+  pub flash : here.flash ≡ armed_chip map bytes cuts
   pub down : here.up ≡ false
   pub closed : AllClosed here.sessions
 

@@ -22,7 +22,7 @@ replaced_range at n old new same inside =
     let long : length range ≡ n = length_range new.bytes at (at + n) ∙ omega (arith, same.size) in
     let front : length (take at old.bytes) ≡ at = length-take at old.bytes ∙ omega arith in
     let put : Chip = record old { bytes = replaced at range old.bytes } in
-    let beside : SameOutside at n old put = outside_of_replaced at n range old put long inside refl refl refl in
+    let beside : SameOutside at n old put = outside_of_replaced at n range old put long inside refl refl refl refl in
     ext_get_or 0 put.bytes new.bytes (beside.size ∙ sym same.size) (λ k lt. ⊎_elim
     (λ (low : k < at). beside.before k low ∙ sym (same.before k low))
     (λ (high : at ≤ k). ⊎_elim

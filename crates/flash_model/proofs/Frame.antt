@@ -9,6 +9,7 @@ pub same_outside_refl : (at n : ℕ) (chip : Chip) → SameOutside at n chip chi
 same_outside_refl at n chip = record {
   sector_size = refl;
   sectors = refl;
+  fixed = refl;
   size = refl;
   before = λ k low. refl;
   after = λ k high. refl;
@@ -19,6 +20,7 @@ pub same_outside_sym : (at n : ℕ) (old new : Chip) → SameOutside at n old ne
 same_outside_sym at n old new same = record {
   sector_size = sym same.sector_size;
   sectors = sym same.sectors;
+  fixed = sym same.fixed;
   size = sym same.size;
   before = λ k low. sym (same.before k low);
   after = λ k high. sym (same.after k high);
@@ -30,6 +32,7 @@ pub same_outside_trans : (at n : ℕ) (old mid new : Chip)
 same_outside_trans at n old mid new first second = record {
   sector_size = second.sector_size ∙ first.sector_size;
   sectors = second.sectors ∙ first.sectors;
+  fixed = second.fixed ∙ first.fixed;
   size = second.size ∙ first.size;
   before = λ k low. second.before k low ∙ first.before k low;
   after = λ k high. second.after k high ∙ first.after k high;
@@ -41,6 +44,7 @@ pub same_outside_wider : (at n from m : ℕ) (old new : Chip)
 same_outside_wider at n from m old new same low high = record {
   sector_size = same.sector_size;
   sectors = same.sectors;
+  fixed = same.fixed;
   size = same.size;
   before = λ k below. same.before k (omega arith);
   after = λ k above. same.after k (omega arith);

@@ -8,6 +8,7 @@ use Rattle.std.proofs.lemmas.Option.{none-some, same_Some}
 use Rattle.flash_model.specs.declared.error.FlashError.TheVariants.{Cut}
 use Rattle.flash_model.specs.declared.torn.Armed.{Armed}
 use Rattle.flash_model.specs.declared.torn.Torn.{Torn}
+use Rattle.flash_model.specs.Chip.{unarmed}
 use Rattle.flash_model.specs.Memory.{Memory, Writes, next_torn, one_more, torn}
 use Rattle.flash_model.specs.Torn.{torn_for}
 
@@ -42,9 +43,9 @@ memory size sectors on armed bytes cuts erases writes = record {
     is_on = on;
     cuts = cuts;
     erases = erases;
+    fixed = record unarmed { armed = armed };
   };
   writes = writes;
-  armed = armed;
 }
 
 -- It is the same where its parts are.

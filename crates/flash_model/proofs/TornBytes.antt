@@ -48,12 +48,14 @@ length-replaced at range bytes inside = simp (length-append, length-take, length
 -- All other bytes are as they were.
 pub outside_of_replaced : (at n : ℕ) (range : List ℕ) (old new : Chip) → length range ≡ n
     → at + n ≤ length old.bytes → new.bytes ≡ replaced at range old.bytes
-    → new.sector_size ≡ old.sector_size → new.sectors ≡ old.sectors → SameOutside at n old new
-outside_of_replaced at n range old new long inside is size sectors =
+    → new.sector_size ≡ old.sector_size → new.sectors ≡ old.sectors → new.fixed ≡ old.fixed
+    → SameOutside at n old new
+outside_of_replaced at n range old new long inside is size sectors fixed =
     let front : length (take at old.bytes) ≡ at = length-take at old.bytes ∙ omega arith in
     record {
       sector_size = size;
       sectors = sectors;
+      fixed = fixed;
       size = ap length is ∙ length-replaced at range old.bytes (omega arith);
       before = λ k low. ap (λ bytes. slice_index bytes k) is
           ∙ get_or_append_left (take at old.bytes) _ 0 k (omega arith) ∙ get_or-take at old.bytes k 0 low;
@@ -80,9 +82,10 @@ length-torn_at torn at done bytes inside =
 -- All other bytes are as they were.
 pub outside_of_torn : (torn : Torn) (at n : ℕ) (done : List ℕ) (old new : Chip) → length done ≡ n
     → at + length done ≤ length old.bytes → new.bytes ≡ torn_at at done torn old.bytes
-    → new.sector_size ≡ old.sector_size → new.sectors ≡ old.sectors → SameOutside at n old new
-outside_of_torn torn at n done old new long inside is size sectors = outside_of_replaced at n _ old new
-    (length-torn_range torn at old.bytes done inside ∙ long) (omega (arith, long, inside)) is size sectors
+    → new.sector_size ≡ old.sector_size → new.sectors ≡ old.sectors → new.fixed ≡ old.fixed
+    → SameOutside at n old new
+outside_of_torn torn at n done old new long inside is size sectors fixed = outside_of_replaced at n _ old new
+    (length-torn_range torn at old.bytes done inside ∙ long) (omega (arith, long, inside)) is size sectors fixed
 
 -- The bytes of an erase that was cut.
 pub torn_blank : (torn : Torn) (at n : ℕ) (old new : List ℕ)

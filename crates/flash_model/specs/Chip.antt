@@ -1,11 +1,24 @@
 -- What a contract sees of a flash, and what its calls do to it, said by address.
-use Rattle.std.specs.Prelude.{◌≡◌, ℕ, ◌+◌, ◌*◌, ◌<◌, ◌≤◌, Bool, false, List, length}
+use Rattle.std.specs.Prelude.{◌≡◌, ℕ, ◌+◌, ◌*◌, ◌<◌, ◌≤◌, Bool, false, List, [], length}
 use Rattle.std.specs.Prelude.{slice_index, Result, OnOk, IsErrOf}
 use Rattle.flash_model.specs.declared.error.FlashError.{FlashError}
 use Rattle.flash_model.specs.declared.error.FlashError.TheVariants.{Cut, Off}
+use Rattle.flash_model.specs.declared.torn.Armed.{Armed}
+
+-- What no call of a driver changes of a flash, beyond its sectors.
+pub record Fixed : Type 0 where
+  -- The writes that are to be cut, where it is one of a simulation: of a real part there are none.
+  pub armed : List Armed
+  -- The name of the borrow of its bytes, where they are somebody else's, and else 0.
+  pub name : ℕ
+
+-- A flash of which no write is to be cut, with bytes of its own.
+abbrev pub unarmed : Fixed
+unarmed = record { armed = []; name = 0 }
 
 -- A flash: so many sectors of so many bytes each, the bytes in the order of their addresses,
--- whether it has power, how often a write of it was cut, and how many erases it completed.
+-- whether it has power, how often a write of it was cut, how many erases it completed, and what is
+-- fixed of it.
 pub record Chip : Type 0 where
   pub sector_size : ℕ
   pub sectors : ℕ
@@ -13,6 +26,7 @@ pub record Chip : Type 0 where
   pub is_on : Bool
   pub cuts : ℕ
   pub erases : ℕ
+  pub fixed : Fixed
 
 -- How many bytes it has.
 abbrev pub size_of : Chip → ℕ
@@ -27,11 +41,12 @@ pub record Reads (chip : Chip) (at : ℕ) (bytes : List ℕ) : Type 0 where
 pub record IsErased (chip : Chip) (at n : ℕ) : Type 0 where
   pub each : (k : ℕ) → at ≤ k → k < at + n → slice_index chip.bytes k ≡ 0xff
 
--- The sectors are the same, and so is each byte outside a range. Of power and counts it says
--- nothing.
+-- The sectors and what is fixed are the same, and so is each byte outside a range. Of power and
+-- counts it says nothing.
 pub record SameOutside (at n : ℕ) (old new : Chip) : Type 0 where
   pub sector_size : new.sector_size ≡ old.sector_size
   pub sectors : new.sectors ≡ old.sectors
+  pub fixed : new.fixed ≡ old.fixed
   pub size : length new.bytes ≡ length old.bytes
   pub before : (k : ℕ) → k < at → slice_index new.bytes k ≡ slice_index old.bytes k
   pub after : (k : ℕ) → at + n ≤ k → slice_index new.bytes k ≡ slice_index old.bytes k

@@ -20,7 +20,8 @@ use crate::error::FlashError;
 ///   left half programmed. A unit that reads erased is erased, so that it may be programmed. A
 ///   driver of a part whose torn units read one way now and another way later has to settle that,
 ///   as by erased-page checks of the part.
-/// - `sector_size` and `sectors` never change.
+/// - `sector_size` and `sectors` never change, nor what is `fixed` of the chip: of a real part no
+///   write is to be cut.
 ///
 /// The counts of cuts and of erases are for contracts alone: a driver keeps no number for them.
 pub trait Flash {

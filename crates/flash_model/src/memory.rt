@@ -20,8 +20,8 @@ use std::sync::ledger::{Blank, Book, Ledger, Share};
 /// Reading, writing and restarting don't allocate: the bytes are there from its making, and those
 /// that cuts leave from `arm`.
 ///
-/// Contracts see it as a `Memory` (`memory_of`): the chip, the number of writes, and the armed cuts
-/// in the order of their arming. The counts of cuts and of completed erases have no bound and take
+/// Contracts see it as a `Memory` (`memory_of`): the chip, which has the armed cuts in the order of
+/// their arming, and the number of writes. The counts of cuts and of completed erases have no bound and take
 /// no bytes: they are tokens of the ledger `L`. So a flash is made in a function that is generic in
 /// `L`, whose caller picks the ledger:
 ///
@@ -94,7 +94,6 @@ impl<L: Ledger> MemFlash<L> {
         ensures chip { IfOk result (λ flash. chip_of flash
             ≡ new_chip sector_size sectors (replicate (sectors * sector_size) 0xff)) }
         ensures writes { IfOk result (λ flash. (memory_of flash).writes ≡ 0) }
-        ensures armed { IfOk result (λ flash. (memory_of flash).armed ≡ []) }
     {
         let bytes = vec![in alloc; 0xff; sectors as usize * sector_size as usize]?;
         Ok(Self::of_sectors(alloc, blank, sector_size, sectors, bytes))
@@ -115,7 +114,6 @@ impl<L: Ledger> MemFlash<L> {
         ensures chip { chip_of result
             ≡ new_chip sector_size (vec_len bytes / sector_size) bytes.items }
         ensures writes { (memory_of result).writes ≡ 0 }
-        ensures armed { (memory_of result).armed ≡ [] }
     {
         let sectors = bytes.len() as u32 / sector_size;
         Self::of_sectors(alloc, blank, sector_size, sectors, bytes)
@@ -136,7 +134,6 @@ impl<L: Ledger> MemFlash<L> {
         requires addressed { vec_len bytes < 2 ^ 32 }
         ensures chip { chip_of result ≡ new_chip sector_size sectors bytes.items }
         ensures writes { (memory_of result).writes ≡ 0 }
-        ensures armed { (memory_of result).armed ≡ [] }
     {
         let (book, mut cuts) = blank.open::<L>();
         let erases = cuts.split_off(1, 0);

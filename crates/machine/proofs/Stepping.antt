@@ -63,6 +63,7 @@ keeps_powered : (map : SectorMap) (touched : Part → Bool) (old new : Chip) →
     → Keeps map touched old new
 keeps_powered map touched old new is = keeps_bytes map touched old new
     (ap (λ (chip : Chip). chip.sector_size) is) (ap (λ (chip : Chip). chip.sectors) is)
+    (ap (λ (chip : Chip). chip.fixed) is)
     (ap (λ (chip : Chip). chip.bytes) is)
 
 -- what stands when power fails stands when it is back
@@ -312,7 +313,7 @@ steps_off setup old mid told happened reply laid steps m holds =
             whole = laid.whole;
             size = laid.size;
           })
-          (λ touched. keeps_bytes setup.map touched on mid refl refl refl) after.2,
+          (λ touched. keeps_bytes setup.map touched on mid refl refl refl refl) after.2,
     )
 
 -- ---- how a run uses steps

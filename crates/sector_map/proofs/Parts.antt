@@ -12,15 +12,17 @@ use Rattle.sector_map.proofs.Products.{mul_le, lower, upper, sector_at}
 
 -- what is the same sector by sector is the same part by part
 pub keeps_of_sectors : (map : SectorMap) (touched : Part → Bool) (old new : Chip) → IsLaidOut map old
-    → new.sector_size ≡ old.sector_size → new.sectors ≡ old.sectors → length new.bytes ≡ length old.bytes
+    → new.sector_size ≡ old.sector_size → new.sectors ≡ old.sectors → new.fixed ≡ old.fixed
+    → length new.bytes ≡ length old.bytes
     → ((part : Part) (s : ℕ) → touched part ≡ false → IsIn map part s → SameSector s old new)
     → ((k : ℕ) → end_of_map map ≤ k → slice_index new.bytes k ≡ slice_index old.bytes k)
     → Keeps map touched old new
 unfolding part_of
-keeps_of_sectors map touched old new laid size sectors long same behind = record {
+keeps_of_sectors map touched old new laid size sectors fixed long same behind = record {
   behind = behind;
   sector_size = size;
   sectors = sectors;
+  fixed = fixed;
   size = long;
   parts = λ part e. range_same _ _ old.bytes new.bytes long (λ k low high.
       let at = sector_at (first_of map part) (count_of map part) map.sector_size k
@@ -49,6 +51,7 @@ pub keeps_refl : (map : SectorMap) (touched : Part → Bool) (chip : Chip) → K
 keeps_refl map touched chip = record {
   sector_size = refl;
   sectors = refl;
+  fixed = refl;
   size = refl;
   parts = λ part e. refl;
   behind = λ k le. refl;
@@ -56,12 +59,13 @@ keeps_refl map touched chip = record {
 
 -- the same bytes have the same parts, whatever the power and the counts
 pub keeps_bytes : (map : SectorMap) (touched : Part → Bool) (old new : Chip) → new.sector_size ≡ old.sector_size
-    → new.sectors ≡ old.sectors → new.bytes ≡ old.bytes
+    → new.sectors ≡ old.sectors → new.fixed ≡ old.fixed → new.bytes ≡ old.bytes
     → Keeps map touched old new
 unfolding part_of
-keeps_bytes map touched old new size sectors same = record {
+keeps_bytes map touched old new size sectors fixed same = record {
   sector_size = size;
   sectors = sectors;
+  fixed = fixed;
   size = ap length same;
   parts = λ part e. ap
       (λ bytes. slice_range bytes (start_of map part)
@@ -75,6 +79,7 @@ pub keeps_trans : (map : SectorMap) (touched : Part → Bool) (old mid new : Chi
 keeps_trans map touched old mid new a b = record {
   sector_size = b.sector_size ∙ a.sector_size;
   sectors = b.sectors ∙ a.sectors;
+  fixed = b.fixed ∙ a.fixed;
   size = b.size ∙ a.size;
   parts = λ part e. b.parts part e ∙ a.parts part e;
   behind = λ k le. b.behind k le ∙ a.behind k le;
@@ -87,6 +92,7 @@ keeps_wider map less more old new wider a =
     record {
       sector_size = a.sector_size;
       sectors = a.sectors;
+      fixed = a.fixed;
       size = a.size;
       parts =
           λ part e. a.parts part (wider part e);
@@ -109,7 +115,7 @@ pub keeps_others : (map : SectorMap) (part : Part) (at n : ℕ) (old new : Chip)
     → first_of map part * map.sector_size ≤ at
     → at + n ≤ (first_of map part + count_of map part) * map.sector_size → Keeps map (only part) old new
 keeps_others map part at n old new laid same low high =
-    keeps_of_sectors map (only part) old new laid same.sector_size same.sectors same.size
+    keeps_of_sectors map (only part) old new laid same.sector_size same.sectors same.fixed same.size
     (λ other s e is_in. record {
       each = λ k o eq lt.
           let o_lt : o < map.sector_size = subst (λ x. o < x) laid.sector_size lt in

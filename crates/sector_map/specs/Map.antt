@@ -98,11 +98,12 @@ part_of map chip part =
 abbrev pub end_of_map : SectorMap → ℕ
 end_of_map map = sectors_of map * map.sector_size
 
--- The sectors are the same, each part that isn't touched is as it was, and so is each byte behind
--- the map.
+-- The sectors and what is fixed are the same, each part that isn't touched is as it was, and so is
+-- each byte behind the map.
 pub record Keeps (map : SectorMap) (touched : Part → Bool) (old new : Chip) : Type 0 where
   pub sector_size : new.sector_size ≡ old.sector_size
   pub sectors : new.sectors ≡ old.sectors
+  pub fixed : new.fixed ≡ old.fixed
   pub size : length new.bytes ≡ length old.bytes
   pub parts : (part : Part) → touched part ≡ false → part_of map new part ≡ part_of map old part
   pub behind : (k : ℕ) → end_of_map map ≤ k → slice_index new.bytes k ≡ slice_index old.bytes k

@@ -143,6 +143,7 @@ log_same map old new at o n laid same here =
     record {
       sector_size = refl;
       sectors = refl;
+      fixed = same.fixed;
       size = second ∙ sym first;
       before = λ k low. part_kept_at map Log at n k old new same (omega (arith, here.inside))
           (inl (omega (arith, here.place)));

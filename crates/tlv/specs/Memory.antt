@@ -1,6 +1,6 @@
 -- Bytes in memory, seen as a flash that is always on.
 use Rattle.std.specs.Prelude.{ℕ, List, length, true}
-use Rattle.flash_model.specs.Chip.{Chip}
+use Rattle.flash_model.specs.Chip.{Chip, unarmed}
 use Rattle.tlv.specs.declared.medium.Memory.{Memory}
 
 abbrev pub memory_chip : List ℕ → Chip
@@ -11,6 +11,7 @@ memory_chip bytes = record {
   is_on = true;
   cuts = 0;
   erases = 0;
+  fixed = unarmed;
 }
 
 abbrev pub chip_of_memory : Memory → Chip

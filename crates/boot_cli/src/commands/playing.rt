@@ -3,7 +3,7 @@ ghost use Rattle.std.specs.Prelude.{◌≡◌, ◌++◌, IfErr, IfOk, OnOk, Some
 ghost use Rattle.std.specs.Io.KnownBytes.{Appends};
 ghost use Rattle.std.specs.Option.{ForSome};
 ghost use Rattle.file_flash.specs.FileFlash.{chip_of as over_chip, new_over, over_file};
-ghost use Rattle.flash_model.specs.Memory.{chip_of, memory_of};
+ghost use Rattle.flash_model.specs.Memory.{chip_of, memory_of, with_armed};
 ghost use Rattle.sector_map.specs.Map.{IsLaidOut};
 ghost use Rattle.upload.specs.Sessions.{AllClosed};
 ghost use Rattle.answers.specs.DeviceFile.{IsOfFile};
@@ -171,10 +171,11 @@ fn armed_flash<L: Ledger, M: Ledger, F: FlashFile + Drop>(
 
 /// Has these writes of a flash cut too, behind those that are to be cut already.
 fn arm_all<M: Ledger>(memory: &mut MemFlash<M>, cuts: Vec<Cut>) -> Result<(), AllocError>
-    ensures chip { chip_of memory.new ≡ chip_of memory.old }
+    ensures chip { chip_of memory.new
+        ≡ with_armed (chip_of memory.old) (chip_of memory.new).fixed.armed }
     ensures writes { (memory_of memory.new).writes ≡ (memory_of memory.old).writes }
-    ensures armed { OnOk result ((memory_of memory.new).armed
-        ≡ (memory_of memory.old).armed ++ armed_in cuts.items) }
+    ensures armed { OnOk result ((chip_of memory.new).fixed.armed
+        ≡ (chip_of memory.old).fixed.armed ++ armed_in cuts.items) }
 {
     for cut in cuts {
         memory.arm(u64::from(cut.write), cut.torn)?;

@@ -1,8 +1,8 @@
-use Rattle.std.proofs.Common.{◌∙◌, ◌++◌, ap}
+use Rattle.std.proofs.Common.{◌∙◌, ap}
 use Rattle.file_flash.specs.FileFlash.{new_over}
 use Rattle.flash_model.specs.Memory.{memory_of}
 use Rattle.boot_cli.specs.Loading.{armed_in}
-use Rattle.boot_cli.proofs.FileLaws.{armed-flash}
+use Rattle.boot_cli.proofs.FileLaws.{armed-chip, armed-flash}
 use Rattle.boot_cli.proofs.commands.playing.armed_flash.Goals as goal
 
 -- The flash in memory has the bytes, and its cuts are those that were given.
@@ -10,6 +10,7 @@ pub returns-clause-armed : goal.returns-clause-armed
 returns-clause-armed g c =
     let cuts = armed_in c.args.cuts.items in
     c.over.ensures.made ∙ ap new_over (armed-flash (memory_of c.arm_all.new.memory) c.args.map.now
-    c.args.bytes.items cuts (c.arm_all.ensures.chip ∙ c.flash_of-memory.ensures.chip)
-    (c.arm_all.ensures.writes ∙ c.flash_of-memory.ensures.writes)
-    (c.in_ok-arm_all.ensures.armed ∙ ap (λ before. before ++ cuts) c.flash_of-memory.ensures.armed))
+    c.args.bytes.items cuts
+    (armed-chip _ _ c.args.map.now c.args.bytes.items cuts c.flash_of-memory.ensures.chip
+    c.arm_all.ensures.chip c.in_ok-arm_all.ensures.armed)
+    (c.arm_all.ensures.writes ∙ c.flash_of-memory.ensures.writes))

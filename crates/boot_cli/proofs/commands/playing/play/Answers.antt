@@ -1,6 +1,5 @@
 use Rattle.std.proofs.Common.{◌∙◌, ap}
 use Rattle.common.proofs.Results.{IfErr-passed}
-use Rattle.file_flash.specs.FileFlash.{over_file}
 use Rattle.boot_cli.specs.Loading.{armed_in, came_in}
 use Rattle.boot_cli.proofs.TellingLaws.{Plays-told, TellsFirst-all, TellsFirst-none, TellsFirst-some}
 use Rattle.boot_cli.proofs.commands.playing.play.Goals as goal
@@ -18,9 +17,6 @@ returns-in_err-answer-clause-tells g c =
     IfErr-passed _ _ _ c.from_residual.ensures.1
     (TellsFirst-some _ c.args.device.now c.args.bytes.items (armed_in c.args.cuts.items) (came_in c.args.steps.now) _ _ _ _
     (record {
-      over = over_file c.in-Ok.flash;
-      armed = armed;
-      chip = device.flash;
       flash = device.flash ∙ ap (λ o. o.chip) armed;
       down = device.down;
       closed = device.closed;
@@ -34,9 +30,6 @@ returns-then-has_failed-clause-tells g c =
     let device = c.device_over-device.ensures in
     TellsFirst-all c.args.device.now c.args.bytes.items (armed_in c.args.cuts.items) (came_in c.args.steps.now) _ _ _ _ _
     (record {
-      over = over_file c.in-Ok.flash;
-      armed = armed;
-      chip = device.flash;
       flash = device.flash ∙ ap (λ o. o.chip) armed;
       down = device.down;
       closed = device.closed;
@@ -50,9 +43,6 @@ returns-clause-plays g c =
     let device = c.device_over-device.ensures in
     Plays-told c.args.device.now c.args.bytes.items (armed_in c.args.cuts.items) (came_in c.args.steps.now) _ _ _ _ _
     (record {
-      over = over_file c.in-Ok.flash;
-      armed = armed;
-      chip = device.flash;
       flash = device.flash ∙ ap (λ o. o.chip) armed;
       down = device.down;
       closed = device.closed;

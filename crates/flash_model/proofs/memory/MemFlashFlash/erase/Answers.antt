@@ -22,7 +22,7 @@ returns-in-Some-clause-chip g c =
       outside = outside_of_torn c.in-Some.torn.now _ _ _ _ _ (length-replicate {A = ℕ} flash.sector_size 255) inside
           (items_after_torn_blank c.in-Some.torn.now _ _ _ _ _
           (rw c.deref_mut-in-Some.ensures.value at c.tear_erase.ensures.bytes) inside (search rules))
-          refl refl;
+          refl refl refl;
       ok = search rules;
       on = search rules;
       erases = search rules;

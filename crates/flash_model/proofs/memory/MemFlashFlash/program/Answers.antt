@@ -19,7 +19,7 @@ returns-in-Some-clause-chip g c =
       outside = outside_of_torn c.in-Some.torn.now _ _ _ _ _ refl inside
           (items_after _ _ _ _ (rw c.deref_mut-in-Some.ensures.value at c.tear_program.ensures.bytes)
           (length-torn_at c.in-Some.torn.now _ _ _ inside) (search rules))
-          refl refl;
+          refl refl refl;
       ok = search rules;
       on = search rules;
       erases = search rules;
