@@ -1,5 +1,5 @@
 -- What a boot does from a record Back or BackSettle: each record is one call.
-use Rattle.std.specs.Prelude.{◌≡◌, ◌⊎◌, ◌+◌, ◌≤◌, ℕ, true, Some, Result, OnOk}
+use Rattle.std.specs.Prelude.{◌≡◌, ◌⊎◌, ◌+◌, ◌≤◌, ℕ, true, Some, Result, IfOk, OnOk}
 use Rattle.flash_model.specs.Chip.{Chip, Ends}
 use Rattle.flash_model.specs.declared.error.FlashError.{FlashError}
 use Rattle.sector_map.specs.Map.{IsLaidOut, Keeps}
@@ -43,7 +43,7 @@ pub record CarriesBack (map : SectorMap) (mask : ℕ) (old new : Chip)
 
 -- From Back to BackSettle: a call records that the set is swapped back.
 pub record RecordsBackSettle (map : SectorMap) (state : State) (old new : Chip)
-    (result : Result Unit FlashError) : Type 0 where
+    (result : Result State FlashError) : Type 0 where
   -- Nothing is written but the log.
   pub outside : Keeps map (only Log) old new
   -- Whatever happened, the device is on its way back,
@@ -53,7 +53,9 @@ pub record RecordsBackSettle (map : SectorMap) (state : State) (old new : Chip)
   pub ok : OnOk result ((s : DeviceState) (trial : Trial)
       → IsSwappedBack (view map old) s trial log.Back
       → IsSwappedBack (view map new) s trial log.BackSettle)
-  pub recorded : OnOk result (state_of map new ≡ Some (record state { kind = log.BackSettle }))
+  -- The log says so then, in the record that is returned.
+  pub recorded : IfOk result (λ now. state_of map new ≡ Some now)
+  pub is : IfOk result (λ now. now ≡ record state { kind = log.BackSettle })
   pub erases : OnOk result (new.erases ≤ old.erases + 1)
   pub ends : Ends result old new
 

@@ -23,12 +23,12 @@ fn carry_back<F: Flash>(flash: &mut F, map: &SectorMap, mask: u8) -> Result<(), 
     swap_set(flash, map, mask, Side::Secondary)
 }
 
-/// From Back to BackSettle: the set is swapped back.
+/// From Back to BackSettle: the set is swapped back, and this is recorded.
 fn record_back_settle<F: Flash>(
     flash: &mut F,
     map: &SectorMap,
     state: &State,
-) -> Result<(), FlashError>
+) -> Result<State, FlashError>
     requires { HasRecordOf map.now Kind.Back state.now (F.chip flash.old) }
     ensures { RecordsBackSettle map.now state.now (F.chip flash.old) (F.chip flash.new) result }
 {
@@ -36,7 +36,8 @@ fn record_back_settle<F: Flash>(
         kind: Kind::BackSettle,
         ..*state
     };
-    append(flash, map, &settle)
+    append(flash, map, &settle)?;
+    Ok(settle)
 }
 
 /// From BackSettle to Steady: the old images run.
@@ -77,11 +78,7 @@ fn finish_back<F: Flash>(flash: &mut F, map: &SectorMap, state: &State) -> Resul
     ensures { FinishesBack map.now state.now (F.chip flash.old) (F.chip flash.new) result }
 {
     carry_back(flash, map, state.mask)?;
-    record_back_settle(flash, map, state)?;
-    let settle = State {
-        kind: Kind::BackSettle,
-        ..*state
-    };
+    let settle = record_back_settle(flash, map, state)?;
     settle_and_return(flash, map, &settle)
 }
 

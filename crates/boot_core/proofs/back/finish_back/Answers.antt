@@ -1,6 +1,7 @@
-use Rattle.std.proofs.Common.{rules, arith, inl, ◌∙◌}
+use Rattle.std.proofs.Common.{rules, ◌≡◌, ap, arith, inl, ◌∙◌}
 use Rattle.std.proofs.lemmas.Result.{on_ok_weaker}
 use Rattle.machine.proofs.Returning.{back_finishes}
+use Rattle.set_log.specs.declared.state.State.{State}
 use Rattle.boot_core.proofs.Records.{stands_within}
 use Rattle.boot_core.proofs.OnMap.{on_more}
 use Rattle.boot_core.proofs.back.finish_back.Goals as goal
@@ -30,8 +31,8 @@ returns-in_err-carry_back g c = record {
   ends = search rules;
 }
 
-pub returns-in_err-record_back_settle : goal.returns-in_err-record_back_settle
-returns-in_err-record_back_settle g c = record {
+pub returns-in_err-settle : goal.returns-in_err-settle
+returns-in_err-settle g c = record {
   laid = search rules;
   on_map = λ start was.
       on_more _ _ start _ _ c.record_back_settle.ensures.outside (on_more _ _ start _ _ c.carry_back.ensures.outside was);
@@ -44,24 +45,27 @@ returns-in_err-record_back_settle g c = record {
 }
 
 pub returns : goal.returns
-returns g c = record {
-  laid = search rules;
-  on_map = λ start was.
-      c.settle_and_return.ensures.on_map start (on_more _ _ start _ _ c.record_back_settle.ensures.outside (on_more _ _ start _ _ c.carry_back.ensures.outside was));
-  stands = λ s trial is was. back_finishes c.args.map.now _ s trial
-      (c.settle_and_return.ensures.stands s trial is (c.in_ok-record_back_settle.ensures.ok s trial
-      (c.in_ok-carry_back.ensures.ok s trial is was)));
-  ok = on_ok_weaker c.settle_and_return.result
-      (λ ends. λ s trial is was. ends s trial is (c.in_ok-record_back_settle.ensures.ok s trial
-      (c.in_ok-carry_back.ensures.ok s trial is was)))
-      c.settle_and_return.ensures.ok;
-  erases = on_ok_weaker c.settle_and_return.result
-      (λ settled. λ s trial is was. omega (
-        arith,
-        c.in_ok-carry_back.ensures.erases s trial is was,
-        c.in_ok-record_back_settle.ensures.erases,
-        settled,
-      ))
-      c.settle_and_return.ensures.erases;
-  ends = search rules;
-}
+returns g c =
+    let same : c.in_ok-settle.settle.mask ≡ c.args.state.now.mask =
+    ap (λ (state : State). state.mask) c.in_ok-settle.ensures.is in
+    record {
+      laid = search rules;
+      on_map = λ start was.
+          c.settle_and_return.ensures.on_map start (on_more _ _ start _ _ c.record_back_settle.ensures.outside (on_more _ _ start _ _ c.carry_back.ensures.outside was));
+      stands = λ s trial is was. back_finishes c.args.map.now _ s trial
+          (c.settle_and_return.ensures.stands s trial (same ∙ is) (c.in_ok-settle.ensures.ok s trial
+          (c.in_ok-carry_back.ensures.ok s trial is was)));
+      ok = on_ok_weaker c.settle_and_return.result
+          (λ ends. λ s trial is was. ends s trial (same ∙ is) (c.in_ok-settle.ensures.ok s trial
+          (c.in_ok-carry_back.ensures.ok s trial is was)))
+          c.settle_and_return.ensures.ok;
+      erases = on_ok_weaker c.settle_and_return.result
+          (λ settled. λ s trial is was. omega (
+            arith,
+            c.in_ok-carry_back.ensures.erases s trial is was,
+            c.in_ok-settle.ensures.erases,
+            rw same at settled,
+          ))
+          c.settle_and_return.ensures.erases;
+      ends = search rules;
+    }
