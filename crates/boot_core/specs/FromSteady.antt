@@ -22,7 +22,7 @@ use Rattle.boot_core.specs.Wear.{AreMeasured, IsAfresh, TakesNothing}
 
 -- From Steady to Swap: a call begins the swap of a set.
 pub record BeginsSwap (map : SectorMap) (state : State) (mask : ℕ) (permanent : Bool)
-    (old new : Chip) (result : Result Unit FlashError) : Type 0 where
+    (old new : Chip) (result : Result State FlashError) : Type 0 where
   -- The map stays laid out on the flash, and what lies behind it is what it was before.
   pub laid : IsLaidOut map new
   pub on_map : (start : Chip) → Keeps map any_part start old → Keeps map any_part start new
@@ -34,13 +34,14 @@ pub record BeginsSwap (map : SectorMap) (state : State) (mask : ℕ) (permanent 
   pub ok : OnOk result ((s : DeviceState) (table : Table)
       → IsSteadyAt (view map old) s → IsDecision s table mask permanent
       → IsSwappingSome map new s table mask permanent)
-  -- The log says so then,
-  pub recorded : OnOk result (state_of map new ≡ Some (record state {
+  -- The log says so then, in the record that is returned,
+  pub recorded : IfOk result (λ now. state_of map new ≡ Some now)
+  pub is : IfOk result (λ now. now ≡ record state {
     kind = log.Swap;
     mask = mask;
     permanent = permanent;
     left = 0;
-  }))
+  })
   -- and the primary trailers of the set how many bytes the swap moves.
   pub moves : OnOk result (AreMeasured (view map old) (view map new) Primary mask)
   -- A sector is erased for each image of the set at most, and one for the record.

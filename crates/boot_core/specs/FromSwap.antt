@@ -46,7 +46,7 @@ pub record CarriesSwap (map : SectorMap) (mask : ℕ) (old new : Chip)
 
 -- From Swap to Settle: a call records that the set is swapped.
 pub record RecordsSettle (map : SectorMap) (state : State) (old new : Chip)
-    (result : Result Unit FlashError) : Type 0 where
+    (result : Result State FlashError) : Type 0 where
   -- Nothing is written but the log.
   pub outside : Keeps map (only Log) old new
   -- Whatever happened, a swap that is done stands recorded as it was, or as done,
@@ -59,7 +59,9 @@ pub record RecordsSettle (map : SectorMap) (state : State) (old new : Chip)
   pub ok : OnOk result ((s : DeviceState) (table : Table) (mask : ℕ) (permanent : Bool)
       → IsSwapped (view map old) s table log.Swap mask permanent
       → IsSwapped (view map new) s table log.Settle mask permanent)
-  pub recorded : OnOk result (state_of map new ≡ Some (record state { kind = log.Settle }))
+  -- The log says so then, in the record that is returned.
+  pub recorded : IfOk result (λ now. state_of map new ≡ Some now)
+  pub is : IfOk result (λ now. now ≡ record state { kind = log.Settle })
   pub erases : OnOk result (new.erases ≤ old.erases + 1)
   pub ends : Ends result old new
 

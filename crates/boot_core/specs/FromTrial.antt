@@ -76,7 +76,7 @@ pub record DecidesTrial (map : SectorMap) (state : State) (old new : Chip)
 
 -- A call records that a trial is over, with these floors.
 pub record RecordsOver (map : SectorMap) (state : State) (floors : List ℕ) (old new : Chip)
-    {T : Type 0} (result : Result T FlashError) : Type 0 where
+    (result : Result State FlashError) : Type 0 where
   -- Nothing is written but the log.
   pub outside : Keeps map (only Log) old new
   -- Whatever happened, the trial stands or is over,
@@ -85,22 +85,23 @@ pub record RecordsOver (map : SectorMap) (state : State) (floors : List ℕ) (ol
   -- and it is over where the call ends.
   pub ok : OnOk result ((s : DeviceState) (trial : Trial) → IsTrialAt (view map old) s trial
       → IsSteadyAt (view map new) (settled s floors))
-  -- The log has the record of a device at rest then.
-  pub recorded : OnOk result (state_of map new ≡ Some (record {
+  -- The log says so then, in the record that is returned: that of a device at rest.
+  pub recorded : IfOk result (λ now. state_of map new ≡ Some now)
+  pub is : IfOk result (λ now. now ≡ record {
     kind = log.Steady;
     mask = 0;
     permanent = false;
     left = 0;
     sequence = state.sequence;
     floors = floors;
-  }))
+  })
   -- One sector is erased at most.
   pub erases : OnOk result (new.erases ≤ old.erases + 1)
   pub ends : Ends result old new
 
 -- From Trial to Back: a call begins the swap back of a set that is on trial.
 pub record BeginsBack (map : SectorMap) (state : State) (old new : Chip)
-    (result : Result Unit FlashError) : Type 0 where
+    (result : Result State FlashError) : Type 0 where
   -- The map stays laid out on the flash, and what lies behind it is what it was before.
   pub laid : IsLaidOut map new
   pub on_map : (start : Chip) → Keeps map any_part start old → Keeps map any_part start new
@@ -111,9 +112,9 @@ pub record BeginsBack (map : SectorMap) (state : State) (old new : Chip)
   -- and it is begun where the call ends.
   pub ok : OnOk result ((s : DeviceState) (trial : Trial) → GoesBack s trial
       → IsTrialOpen (view map old) s trial → IsSwappingBackSome map new s trial)
-  -- The log says so then,
-  pub recorded : OnOk result
-      (state_of map new ≡ Some (record state { kind = log.Back; left = 0 }))
+  -- The log says so then, in the record that is returned,
+  pub recorded : IfOk result (λ now. state_of map new ≡ Some now)
+  pub is : IfOk result (λ now. now ≡ record state { kind = log.Back; left = 0 })
   -- and the secondary trailers of the set how many bytes the swap back moves.
   pub moves : OnOk result (AreMeasured (view map old) (view map new) Secondary state.mask)
   -- A sector is erased for each image of the set at most, and one for the record.

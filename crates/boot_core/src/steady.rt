@@ -22,7 +22,7 @@ fn begin_swap<F: Flash>(
     state: &State,
     mask: u8,
     permanent: bool,
-) -> Result<(), FlashError>
+) -> Result<State, FlashError>
     requires { CanTake map.now state.now mask (F.chip flash.old) }
     ensures { BeginsSwap map.now state.now mask permanent
         (F.chip flash.old) (F.chip flash.new) result }
@@ -35,7 +35,8 @@ fn begin_swap<F: Flash>(
         left: 0,
         ..*state
     };
-    append(flash, map, &swap)
+    append(flash, map, &swap)?;
+    Ok(swap)
 }
 
 /// From Steady: a chosen set is taken.
@@ -51,14 +52,7 @@ fn upgrade<F: Flash>(
     ensures { Upgrades map.now mask left (F.chip flash.old) (F.chip flash.new) result }
 {
     let permanent = asks_for_good(flash, map, mask)?;
-    begin_swap(flash, map, state, mask, permanent)?;
-    let swap = State {
-        kind: Kind::Swap,
-        mask,
-        permanent,
-        left: 0,
-        ..*state
-    };
+    let swap = begin_swap(flash, map, state, mask, permanent)?;
     let finding = finish_swap(flash, map, &swap, left)?;
     Ok(reply_to(finding, permanent))
 }

@@ -24,8 +24,12 @@ fn carry_swap<F: Flash>(flash: &mut F, map: &SectorMap, mask: u8) -> Result<(), 
     swap_set(flash, map, mask, Side::Primary)
 }
 
-/// From Swap to Settle: the set is swapped.
-fn record_settle<F: Flash>(flash: &mut F, map: &SectorMap, state: &State) -> Result<(), FlashError>
+/// From Swap to Settle: the set is swapped, and this is recorded.
+fn record_settle<F: Flash>(
+    flash: &mut F,
+    map: &SectorMap,
+    state: &State,
+) -> Result<State, FlashError>
     requires { HasRecordOf map.now Kind.Swap state.now (F.chip flash.old) }
     ensures { RecordsSettle map.now state.now (F.chip flash.old) (F.chip flash.new) result }
 {
@@ -33,7 +37,8 @@ fn record_settle<F: Flash>(flash: &mut F, map: &SectorMap, state: &State) -> Res
         kind: Kind::Settle,
         ..*state
     };
-    append(flash, map, &settle)
+    append(flash, map, &settle)?;
+    Ok(settle)
 }
 
 /// From Swap on: the swap is done, from wherever it stands, the decision is found again, and the
@@ -53,11 +58,7 @@ pub(crate) fn finish_swap<F: Flash>(
     carry_swap(flash, map, mask)?;
     match find_again(flash, map, mask, &state.floors)? {
         Finding::Decided { table, report } => {
-            record_settle(flash, map, state)?;
-            let settle = State {
-                kind: Kind::Settle,
-                ..*state
-            };
+            let settle = record_settle(flash, map, state)?;
             settle_found(
                 flash,
                 map,

@@ -138,7 +138,7 @@ fn record_over<F: Flash>(
     map: &SectorMap,
     state: &State,
     floors: [u32; MOST_IMAGES],
-) -> Result<(), FlashError>
+) -> Result<State, FlashError>
     requires laid_out { IsLaidOut map.now (F.chip flash.old) }
     requires read { state_of map.now (F.chip flash.old) ≡ Some state.now }
     requires rest { (i : ℕ) → map.now.images ≤ i
@@ -153,7 +153,8 @@ fn record_over<F: Flash>(
         sequence: state.sequence,
         floors,
     };
-    append(flash, map, &steady)
+    append(flash, map, &steady)?;
+    Ok(steady)
 }
 
 /// From a trial that is wholly confirmed: the set runs on, with raised floors, and the decision is
@@ -169,15 +170,7 @@ fn boot_over<F: Flash>(
     ensures { BootsConfirmed map.now left (F.chip flash.old) (F.chip flash.new) result }
 {
     let floors = raise_running(flash, map, &state.floors)?;
-    record_over(flash, map, state, floors)?;
-    let steady = State {
-        kind: Kind::Steady,
-        mask: 0,
-        permanent: false,
-        left: 0,
-        sequence: state.sequence,
-        floors,
-    };
+    let steady = record_over(flash, map, state, floors)?;
     boot_from_steady(flash, map, &steady, left)
 }
 
@@ -197,7 +190,11 @@ fn boot_again<F: Flash>(flash: &mut F, map: &SectorMap, state: &State) -> Result
 
 /// From Trial to Back: the secondary trailers of the set are made ready to count the swap back, and
 /// then going back is recorded. The primary ones stay, which say that it is a trial.
-fn begin_back<F: Flash>(flash: &mut F, map: &SectorMap, state: &State) -> Result<(), FlashError>
+fn begin_back<F: Flash>(
+    flash: &mut F,
+    map: &SectorMap,
+    state: &State,
+) -> Result<State, FlashError>
     requires { HasRecordOf map.now Kind.Trial state.now (F.chip flash.old) }
     ensures { BeginsBack map.now state.now (F.chip flash.old) (F.chip flash.new) result }
 {
@@ -207,7 +204,8 @@ fn begin_back<F: Flash>(flash: &mut F, map: &SectorMap, state: &State) -> Result
         left: 0,
         ..*state
     };
-    append(flash, map, &back)
+    append(flash, map, &back)?;
+    Ok(back)
 }
 
 /// From a trial that goes back.
@@ -215,12 +213,7 @@ fn boot_back<F: Flash>(flash: &mut F, map: &SectorMap, state: &State) -> Result<
     requires { HasRecordOf map.now Kind.Trial state.now (F.chip flash.old) }
     ensures { BootsBack map.now (F.chip flash.old) (F.chip flash.new) result }
 {
-    begin_back(flash, map, state)?;
-    let back = State {
-        kind: Kind::Back,
-        left: 0,
-        ..*state
-    };
+    let back = begin_back(flash, map, state)?;
     boot_from_back(flash, map, &back)
 }
 

@@ -1,5 +1,4 @@
 use Rattle.std.proofs.Common.{rules, arith, inl, refl}
-use Rattle.std.proofs.lemmas.Result.{on_ok_weaker}
 use Rattle.machine.proofs.Frames.{primary_aside, steady_kept}
 use Rattle.machine.proofs.Beginning.{begin_either, begin_ok}
 use Rattle.boot_core.proofs.Measured.{measured}
@@ -27,6 +26,22 @@ returns-in_err-prepare_set g c = record {
       (steady_kept c.args.map.now _ _ _ s c.prepare_set.ensures.outside (primary_aside c.args.mask) was);
   ok = search rules;
   recorded = search rules;
+  is = search rules;
+  moves = search rules;
+  erases = search rules;
+  ends = search rules;
+}
+
+pub returns-in_err-append : goal.returns-in_err-append
+returns-in_err-append g c = record {
+  laid = search rules;
+  on_map = λ start was.
+      on_more _ _ start _ _ c.append.ensures.outside (on_more _ _ start _ _ c.prepare_set.ensures.outside was);
+  stands = begin_either c.args.map.now _ _ _ c.requires.laid_out _ _ _ c.requires.read
+      c.prepare_set.ensures.outside c.in_ok-prepare_set.ensures.ok c.append.ensures.outside c.append.ensures.either;
+  ok = search rules;
+  recorded = search rules;
+  is = search rules;
   moves = search rules;
   erases = search rules;
   ends = search rules;
@@ -39,14 +54,12 @@ returns g c = record {
       on_more _ _ start _ _ c.append.ensures.outside (on_more _ _ start _ _ c.prepare_set.ensures.outside was);
   stands = begin_either c.args.map.now _ _ _ c.requires.laid_out _ _ _ c.requires.read
       c.prepare_set.ensures.outside c.in_ok-prepare_set.ensures.ok c.append.ensures.outside c.append.ensures.either;
-  ok = on_ok_weaker c.append.result
-      (λ recorded. begin_ok c.args.map.now _ _ _ c.requires.laid_out _ _ _ c.requires.read
-      c.prepare_set.ensures.outside c.in_ok-prepare_set.ensures.ok c.append.ensures.outside recorded)
-      c.append.ensures.ok;
+  ok = begin_ok c.args.map.now _ _ _ c.requires.laid_out _ _ _ c.requires.read
+      c.prepare_set.ensures.outside c.in_ok-prepare_set.ensures.ok c.append.ensures.outside c.in_ok-append.ensures.ok;
   recorded = search rules;
-  moves = on_ok_weaker c.append.result
-      (λ recorded. measured c.args.map.now _ _ _ Primary c.args.mask c.prepare_set.ensures.outside
-      c.in_ok-prepare_set.ensures.ready c.append.ensures.outside) c.append.ensures.ok;
+  is = search rules;
+  moves = measured c.args.map.now _ _ _ Primary c.args.mask c.prepare_set.ensures.outside
+      c.in_ok-prepare_set.ensures.ready c.append.ensures.outside;
   erases = search rules;
   ends = search rules;
 }

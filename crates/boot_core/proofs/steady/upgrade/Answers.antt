@@ -29,8 +29,8 @@ returns-in_err-permanent g c = record {
   some = search rules;
 }
 
-pub returns-in_err-begin_swap : goal.returns-in_err-begin_swap
-returns-in_err-begin_swap g c = record {
+pub returns-in_err-swap : goal.returns-in_err-swap
+returns-in_err-swap g c = record {
   boot = record {
     laid = search rules;
     on_map = search rules;
@@ -56,7 +56,7 @@ returns-in_err-finding g c = record {
         let decision = chosen_decision c.args.map.now _ _ c.args.mask _ c.asks_for_good.ensures.same
         c.in_ok-permanent.ensures.ok s at.0 at.1 at.2 in
         ended_cut c.args.map.now _ s at.0 c.args.mask c.args.left _ at.1.trial decision
-        (c.finish_swap.ensures.stands s at.0 (c.in_ok-begin_swap.ensures.ok s at.0
+        ((rw c.in_ok-swap.ensures.is at c.finish_swap.ensures.stands) s at.0 (c.in_ok-swap.ensures.ok s at.0
         (steady_here c.args.map.now _ _ c.args.mask _ c.asks_for_good.ensures.same c.in_ok-permanent.ensures.ok s at.1)
         decision));
     ok = search rules;
@@ -76,7 +76,7 @@ returns g c = record {
         let decision = chosen_decision c.args.map.now _ _ c.args.mask _ c.asks_for_good.ensures.same
         c.in_ok-permanent.ensures.ok s at.0 at.1 at.2 in
         ended_cut c.args.map.now _ s at.0 c.args.mask c.args.left _ at.1.trial decision
-        (c.finish_swap.ensures.stands s at.0 (c.in_ok-begin_swap.ensures.ok s at.0
+        ((rw c.in_ok-swap.ensures.is at c.finish_swap.ensures.stands) s at.0 (c.in_ok-swap.ensures.ok s at.0
         (steady_here c.args.map.now _ _ c.args.mask _ c.asks_for_good.ensures.same c.in_ok-permanent.ensures.ok s at.1)
         decision));
     ok = λ s at.
@@ -85,24 +85,24 @@ returns g c = record {
         subst (λ reply. EndsBoot c.args.map.now (c.args.left + 1) (g.F.Flash.chip c.finish_swap.new.flash) s reply)
         (sym c.reply_to.ensures.is)
         (found_boots c.args.map.now _ s at.0 c.args.mask c.args.left _ _ at.1.trial decision
-        (c.in_ok-finding.ensures.ok s at.0 (c.in_ok-begin_swap.ensures.ok s at.0
+        ((rw c.in_ok-swap.ensures.is at c.in_ok-finding.ensures.ok) s at.0 (c.in_ok-swap.ensures.ok s at.0
         (steady_here c.args.map.now _ _ c.args.mask _ c.asks_for_good.ensures.same c.in_ok-permanent.ensures.ok s at.1)
         decision)));
     erases = λ s at.
         let decision = chosen_decision c.args.map.now _ _ c.args.mask _ c.asks_for_good.ensures.same
         c.in_ok-permanent.ensures.ok s at.0 at.1 at.2 in
         fresh_of c.args.map.now (g.F.Flash.chip c.args.flash.now) (g.F.Flash.chip c.finish_swap.new.flash) c.args.mask
-        c.reply_to.result (c.reply_to.ensures.moved s _ (c.in_ok-finding.ensures.ok s at.0 (c.in_ok-begin_swap.ensures.ok s
+        c.reply_to.result (c.reply_to.ensures.moved s _ ((rw c.in_ok-swap.ensures.is at c.in_ok-finding.ensures.ok) s at.0 (c.in_ok-swap.ensures.ok s
         at.0 (steady_here c.args.map.now _ _ c.args.mask _ c.asks_for_good.ensures.same c.in_ok-permanent.ensures.ok s at.1)
-        decision)).0 c.in_ok-finding.ensures.set)
+        decision)).0 (rw c.in_ok-swap.ensures.is at c.in_ok-finding.ensures.set))
         (fresh_wear c.args.map.now (g.F.Flash.chip c.args.flash.now) (g.F.Flash.chip c.asks_for_good.new.flash)
         (g.F.Flash.chip c.begin_swap.new.flash) (g.F.Flash.chip c.finish_swap.new.flash) Primary c.args.mask
-        c.asks_for_good.ensures.same c.in_ok-begin_swap.ensures.erases c.in_ok-begin_swap.ensures.moves
-        (c.in_ok-finding.ensures.erases s at.0 _ (c.in_ok-begin_swap.ensures.ok s at.0
+        c.asks_for_good.ensures.same c.in_ok-swap.ensures.erases c.in_ok-swap.ensures.moves
+        ((rw c.in_ok-swap.ensures.is at c.in_ok-finding.ensures.erases) s at.0 _ (c.in_ok-swap.ensures.ok s at.0
         (steady_here c.args.map.now _ _ c.args.mask _ c.asks_for_good.ensures.same c.in_ok-permanent.ensures.ok s at.1)
         decision)));
     told = search rules;
     ends = search rules;
   };
-  some = c.reply_to.ensures.some _ c.in_ok-finding.ensures.set c.requires.chosen.some;
+  some = c.reply_to.ensures.some _ (rw c.in_ok-swap.ensures.is at c.in_ok-finding.ensures.set) c.requires.chosen.some;
 }

@@ -29,8 +29,8 @@ record_settle-requires g c = record {
   kind = search rules;
 }
 
-pub returns-in_err-record_settle-in-Decided : goal.returns-in_err-record_settle-in-Decided
-returns-in_err-record_settle-in-Decided g c = record {
+pub returns-in_err-settle-in-Decided : goal.returns-in_err-settle-in-Decided
+returns-in_err-settle-in-Decided g c = record {
   laid = search rules;
   on_map = λ start was.
       on_more _ _ start _ _ c.record_settle.ensures.outside (rw c.find_again.ensures.same (on_more _ _ start _ _ c.carry_swap.ensures.outside was));
@@ -45,27 +45,27 @@ returns-in_err-record_settle-in-Decided g c = record {
   ends = search rules;
 }
 
-pub returns-in_ok-record_settle-in-Decided : goal.returns-in_ok-record_settle-in-Decided
-returns-in_ok-record_settle-in-Decided g c = record {
+pub returns-in_ok-settle-in-Decided : goal.returns-in_ok-settle-in-Decided
+returns-in_ok-settle-in-Decided g c = record {
   laid = search rules;
   on_map = λ start was.
       c.settle_found.ensures.on_map start (on_more _ _ start _ _ c.record_settle.ensures.outside (rw c.find_again.ensures.same (on_more _ _ start _ _ c.carry_swap.ensures.outside was)));
   stands = swap_finishes c.args.map.now _ _ _ c.args.state.now c.args.left
       (swap_settles c.args.map.now _ _ _ _ c.args.state.now c.find_again.ensures.same c.in_ok-carry_swap.ensures.ok
-      c.in_ok-record_settle-in-Decided.ensures.ok) c.settle_found.ensures.stands;
+      c.in_ok-settle-in-Decided.ensures.ok) (rw c.in_ok-settle-in-Decided.ensures.is at c.settle_found.ensures.stands);
   ok = IfOk-weaker c.settle_found.result _ _
       (λ finding holds. λ s table was. holds s table
       (swap_settles c.args.map.now _ _ _ _ c.args.state.now c.find_again.ensures.same c.in_ok-carry_swap.ensures.ok
-      c.in_ok-record_settle-in-Decided.ensures.ok s table was)) c.settle_found.ensures.ok;
+      c.in_ok-settle-in-Decided.ensures.ok s table was)) (rw c.in_ok-settle-in-Decided.ensures.is at c.settle_found.ensures.ok);
   erases = on_ok_weaker c.settle_found.result
       (λ settled. λ s table permanent was. omega (
         arith,
         c.in_ok-carry_swap.ensures.erases s table permanent was,
         ap (λ (chip : Chip). chip.erases) c.find_again.ensures.same,
-        c.in_ok-record_settle-in-Decided.ensures.erases,
+        c.in_ok-settle-in-Decided.ensures.erases,
         settled,
       ))
-      c.settle_found.ensures.erases;
+      (rw c.in_ok-settle-in-Decided.ensures.is at c.settle_found.ensures.erases);
   set = IfOk-weaker c.settle_found.result _ _
       (λ answer is. subst (λ found. IsSetFound c.args.state.now.mask found) (c.in-Decided.is ∙ sym is)
       c.in_ok-table.ensures.set) c.settle_found.ensures.same;
@@ -132,12 +132,12 @@ settle_found-requires g c = record {
   read = search rules;
   kind = search rules;
   few = search rules;
-  found = λ s table permanent can decision.
+  found = rw c.in_ok-settle-in-Decided.ensures.is (λ s table permanent can decision.
       subst (λ found. IsFoundAgain s c.args.state.now.mask found) c.in-Decided.is
       (c.in_ok-table.ensures.ok s table permanent
       (subst (λ chip. CanRead (view c.args.map.now chip) s c.args.state.now.mask c.args.state.now.floors)
       c.find_again.ensures.same
-      (can_read_before c.args.map.now _ _ s c.args.state.now.mask _ c.record_settle.ensures.outside can)) decision);
+      (can_read_before c.args.map.now _ _ s c.args.state.now.mask _ c.record_settle.ensures.outside can)) decision));
   rows = subst (λ found. HasTable c.args.map.now.images found) c.in-Decided.is c.in_ok-table.ensures.rows;
 }
 

@@ -1,5 +1,4 @@
 use Rattle.std.proofs.Common.{rules}
-use Rattle.std.proofs.lemmas.Result.{on_ok_weaker}
 use Rattle.set_log.specs.declared.state.Kind.TheVariants.{Settle, Swap}
 use Rattle.machine.proofs.Swapping.{settle_either, settle_ok}
 use Rattle.boot_core.proofs.Records.{fits_next, kind_of_read}
@@ -11,15 +10,26 @@ append-requires-clause-fits g c =
     fits_next c.args.map.now _ state Settle state.left c.requires.read
     (kind_of_read c.args.map.now _ state Swap c.requires.read c.requires.kind)
 
+pub returns-in_err-append : goal.returns-in_err-append
+returns-in_err-append g c = record {
+  outside = search rules;
+  stands = settle_either c.args.map.now _ _ c.requires.laid_out _ c.requires.read
+      c.append.ensures.outside c.append.ensures.either;
+  ok = search rules;
+  recorded = search rules;
+  is = search rules;
+  erases = search rules;
+  ends = search rules;
+}
+
 pub returns : goal.returns
 returns g c = record {
   outside = search rules;
   stands = settle_either c.args.map.now _ _ c.requires.laid_out _ c.requires.read
       c.append.ensures.outside c.append.ensures.either;
-  ok = on_ok_weaker c.append.result
-      (λ recorded. settle_ok c.args.map.now _ _ _ c.requires.read c.append.ensures.outside recorded)
-      c.append.ensures.ok;
+  ok = settle_ok c.args.map.now _ _ _ c.requires.read c.append.ensures.outside c.in_ok-append.ensures.ok;
   recorded = search rules;
+  is = search rules;
   erases = search rules;
   ends = search rules;
 }

@@ -1,5 +1,4 @@
 use Rattle.std.proofs.Common.{rules, inl, refl}
-use Rattle.std.proofs.lemmas.Result.{on_ok_weaker}
 use Rattle.machine.proofs.Reverting.{back_either, back_kept, back_ok}
 use Rattle.boot_core.proofs.Measured.{measured}
 use Rattle.sector_map.specs.declared.layout.Side.TheVariants.{Secondary}
@@ -26,6 +25,22 @@ returns-in_err-prepare_set g c = record {
       (back_kept c.args.map.now _ _ _ c.requires.read c.prepare_set.ensures.outside s trial was);
   ok = search rules;
   recorded = search rules;
+  is = search rules;
+  moves = search rules;
+  erases = search rules;
+  ends = search rules;
+}
+
+pub returns-in_err-append : goal.returns-in_err-append
+returns-in_err-append g c = record {
+  laid = search rules;
+  on_map = λ start was.
+      on_more _ _ start _ _ c.append.ensures.outside (on_more _ _ start _ _ c.prepare_set.ensures.outside was);
+  stands = back_either c.args.map.now _ _ _ c.requires.laid_out _ c.requires.read
+      c.prepare_set.ensures.outside c.in_ok-prepare_set.ensures.ok c.append.ensures.outside c.append.ensures.either;
+  ok = search rules;
+  recorded = search rules;
+  is = search rules;
   moves = search rules;
   erases = search rules;
   ends = search rules;
@@ -38,14 +53,12 @@ returns g c = record {
       on_more _ _ start _ _ c.append.ensures.outside (on_more _ _ start _ _ c.prepare_set.ensures.outside was);
   stands = back_either c.args.map.now _ _ _ c.requires.laid_out _ c.requires.read
       c.prepare_set.ensures.outside c.in_ok-prepare_set.ensures.ok c.append.ensures.outside c.append.ensures.either;
-  ok = on_ok_weaker c.append.result
-      (λ recorded. back_ok c.args.map.now _ _ _ c.requires.laid_out _ c.requires.read
-      c.prepare_set.ensures.outside c.in_ok-prepare_set.ensures.ok c.append.ensures.outside recorded)
-      c.append.ensures.ok;
+  ok = back_ok c.args.map.now _ _ _ c.requires.laid_out _ c.requires.read
+      c.prepare_set.ensures.outside c.in_ok-prepare_set.ensures.ok c.append.ensures.outside c.in_ok-append.ensures.ok;
   recorded = search rules;
-  moves = on_ok_weaker c.append.result
-      (λ recorded. measured c.args.map.now _ _ _ Secondary c.args.state.now.mask c.prepare_set.ensures.outside
-      c.in_ok-prepare_set.ensures.ready c.append.ensures.outside) c.append.ensures.ok;
+  is = search rules;
+  moves = measured c.args.map.now _ _ _ Secondary c.args.state.now.mask c.prepare_set.ensures.outside
+      c.in_ok-prepare_set.ensures.ready c.append.ensures.outside;
   erases = search rules;
   ends = search rules;
 }

@@ -1,11 +1,12 @@
-use Rattle.std.proofs.Common.{rules}
+use Rattle.std.proofs.Common.{rules, ap}
 use Rattle.std.proofs.lemmas.Result.{IfOk-weaker}
 use Rattle.machine.proofs.Trying.{back_here, open_of, opened_cut}
+use Rattle.set_log.specs.declared.state.State.{State}
 use Rattle.boot_core.proofs.Wears.{fresh_back}
 use Rattle.boot_core.proofs.trial.boot_back.Goals as goal
 
-pub returns-in_err-begin_back : goal.returns-in_err-begin_back
-returns-in_err-begin_back g c = record {
+pub returns-in_err-back : goal.returns-in_err-back
+returns-in_err-back g c = record {
   laid = search rules;
   on_map = search rules;
   stands = λ boots s was.
@@ -23,17 +24,17 @@ returns g c = record {
   on_map = search rules;
   stands = λ boots s was.
       c.boot_from_back.ensures.stands boots s (back_here c.args.map.now _ s was.0
-      (c.in_ok-begin_back.ensures.ok s was.0 was.1 (open_of c.args.map.now _ s was.0 was.2)));
+      (c.in_ok-back.ensures.ok s was.0 was.1 (open_of c.args.map.now _ s was.0 was.2)));
   ok = IfOk-weaker c.boot_from_back.result _ _ (λ reply ends. λ boots s was.
       ends boots s (back_here c.args.map.now _ s was.0
-      (c.in_ok-begin_back.ensures.ok s was.0 was.1 (open_of c.args.map.now _ s was.0 was.2))))
+      (c.in_ok-back.ensures.ok s was.0 was.1 (open_of c.args.map.now _ s was.0 was.2))))
       c.boot_from_back.ensures.ok;
   erases = IfOk-weaker c.boot_from_back.result _ _ (λ reply worn. λ s was.
       fresh_back c.args.map.now (g.F.Flash.chip c.args.flash.now) (g.F.Flash.chip c.begin_back.new.flash)
-      (g.F.Flash.chip c.boot_from_back.new.flash) c.args.state.now.mask reply c.in_ok-begin_back.ensures.erases
-      c.in_ok-begin_back.ensures.moves
-      (worn s (back_here c.args.map.now _ s was.0
-      (c.in_ok-begin_back.ensures.ok s was.0 was.1 (open_of c.args.map.now _ s was.0 was.2)))))
+      (g.F.Flash.chip c.boot_from_back.new.flash) c.args.state.now.mask reply c.in_ok-back.ensures.erases
+      c.in_ok-back.ensures.moves
+      (rw (ap (λ (state : State). state.mask) c.in_ok-back.ensures.is) at (worn s (back_here c.args.map.now _ s was.0
+      (c.in_ok-back.ensures.ok s was.0 was.1 (open_of c.args.map.now _ s was.0 was.2))))))
       c.boot_from_back.ensures.erases;
   told = search rules;
   ends = search rules;

@@ -23,8 +23,8 @@ returns-in_err-floors g c = record {
   ends = search rules;
 }
 
-pub returns-in_err-record_over : goal.returns-in_err-record_over
-returns-in_err-record_over g c = record {
+pub returns-in_err-steady : goal.returns-in_err-steady
+returns-in_err-steady g c = record {
   laid = search rules;
   on_map = λ start was.
       on_more _ _ start _ _ c.record_over.ensures.outside (rw c.raise_running.ensures.same was);
@@ -45,18 +45,18 @@ returns g c = record {
       c.boot_from_steady.ensures.boot.on_map start (on_more _ _ start _ _ c.record_over.ensures.outside (rw c.raise_running.ensures.same was));
   stands = λ s was.
       over_cut c.args.map.now (c.args.left + 1) _ _ _ _ _ c.requires.recorded.read
-      c.raise_running.ensures.same c.in_ok-floors.ensures.ok _ c.in_ok-record_over.ensures.ok
+      c.raise_running.ensures.same c.in_ok-floors.ensures.ok _ c.in_ok-steady.ensures.ok
       c.boot_from_steady.ensures.boot.stands s was.0 was.1 was.2;
   ok = IfOk-weaker c.boot_from_steady.result _ _ (λ reply ends. λ s was.
       over_ends c.args.map.now (c.args.left + 1) _ _ _ _ _ c.requires.recorded.read c.raise_running.ensures.same
-      c.in_ok-floors.ensures.ok _ reply c.in_ok-record_over.ensures.ok ends
+      c.in_ok-floors.ensures.ok _ reply c.in_ok-steady.ensures.ok ends
       s was.0 was.1 was.2) c.boot_from_steady.ensures.boot.ok;
   erases = IfOk-weaker c.boot_from_steady.result _ _ (λ reply worn. λ s was.
       over_worn c.args.map.now (g.F.Flash.chip c.args.flash.now) (g.F.Flash.chip c.raise_running.new.flash)
       (g.F.Flash.chip c.record_over.new.flash) (g.F.Flash.chip c.boot_from_steady.new.flash) _ reply
-      c.raise_running.ensures.same c.in_ok-record_over.ensures.erases
+      c.raise_running.ensures.same c.in_ok-steady.ensures.erases
       c.record_over.ensures.outside
-      c.in_ok-record_over.ensures.ok worn s was.0 was.1 was.2) c.boot_from_steady.ensures.boot.erases;
+      c.in_ok-steady.ensures.ok worn s was.0 was.1 was.2) c.boot_from_steady.ensures.boot.erases;
   told = search rules;
   ends = search rules;
 }
