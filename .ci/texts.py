@@ -277,12 +277,13 @@ def check_words(checks):
         checks.tell(f"wrong words: {words}", [] if is_told else [f"{status} {short(out)} {short(err)}"])
 
 
-# Names of files that aren't there, and how they are told: control characters as text, so that it is one line.
+# Names of files that aren't there, and how they are told: as text what would end the line, or turn its direction.
 ESCAPED = [
     ("a\nb", "a\\nb"),
     ("a\r\tb", "a\\r\\tb"),
     ("\x1b[31m", "\\u{1b}[31m"),
     ("\x7f", "\\u{7f}"),
+    ("a\u202eb", "a\\u{202e}b"),
     ("a\\nb", "a\\nb"),
     ("\u00e9", "\u00e9"),
 ]

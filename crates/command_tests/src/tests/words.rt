@@ -54,7 +54,7 @@ fn a_wrong_usage_is_told_by_the_parser_of_words(rt: HostRuntime) -> Result<(), F
 }
 
 #[test]
-fn control_characters_of_a_name_are_escaped(rt: HostRuntime) -> Result<(), Fail> {
+fn characters_that_change_how_a_line_is_shown_are_escaped(rt: HostRuntime) -> Result<(), Fail> {
     let absent = Case {
         words: &[
             "bootswap",
@@ -73,6 +73,11 @@ fn control_characters_of_a_name_are_escaped(rt: HostRuntime) -> Result<(), Fail>
             Case {
                 words: &["bootswap", "image", "\r"],
                 err: "error: cannot read \\r\n",
+                ..absent
+            },
+            Case {
+                words: &["bootswap", "image", "a\u{202e}gpj.\u{61c}\u{200f}\u{2066}b\u{2069}א"],
+                err: "error: cannot read a\\u{202e}gpj.\\u{61c}\\u{200f}\\u{2066}b\\u{2069}א\n",
                 ..absent
             },
             Case {
