@@ -1,6 +1,5 @@
 -- Replies that are told one by one: what all of them come to, and what stands where one could not be told.
 use Rattle.std.proofs.Common.{◌≡◌, ℕ, ◌+◌, ◌-◌, ◌<◌, ◌≤◌, false, List, [], ◌∷◌, ◌++◌, Option, Some, ap, append-nil, arith, get_or, length, length-append, map, refl, subst, sym, take, ◌∙◌}
-use Rattle.std.specs.List.{slice_get}
 use Rattle.std.specs.Io.KnownBytes.{Appends}
 use Rattle.std.proofs.KnownBytes.{Appends-nil, Appends-trans}
 use Rattle.std.proofs.Math.Seq.{get_or-append_seam}
