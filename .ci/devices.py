@@ -3,13 +3,14 @@
 import hashlib
 import os
 import re
+import stat
 import subprocess
 import sys
 import tempfile
 import time
 
 from builders import ABC, VENDOR, component, device, image, little, manifest
-from checking import EXAMPLES, LIMIT, ONE, PAIR, ROOT, flash_of, names_in, read, short
+from checking import EXAMPLES, LIMIT, ONE, PAIR, ROOT, flash_of, names_in, read, short, shown
 
 
 def status_after(said):
@@ -105,6 +106,8 @@ def check_provisioning(checks):
     more = checks.file("more", image([], body=953 * b"x"))
     checks.expect("provision: an image as long as its slot", ["provision", PAIR, "flash", ONE, full], 0, b"done\n")
     bad, small = checks.file("bad", b"{}"), checks.file("small", device(sector=64))
+    changed = checks.file("changed", one[:-1] + bytes([one[-1] ^ 1]))
+    damaged, unfit = b"refused boot 5 RunningDamaged 1\n", b"refused boot 6 InvalidSet\n"
     refused = [
         ("one image for two", [PAIR, "new", ONE], 1, b"", b"error: image count\n"),
         ("three images for two", [PAIR, "new", "absent", ONE, ONE], 1, b"", b"error: image count\n"),
@@ -113,19 +116,113 @@ def check_provisioning(checks):
         ("an image that isn't there", [PAIR, "new", "absent", more], 1, b"", b"error: cannot read absent\n"),
         ("no device file", [bad, "new", "absent"], 1, b"", b"error: device file\n"),
         ("a refused map", [small, "new", "absent"], 1, b"refused map 1 BadSector\n", b""),
-        ("a file that can't be made", [PAIR, "gone/new", ONE, ONE], 4, b"", b"error: flash file\n"),
-        ("a folder", [PAIR, ".", ONE, ONE], 4, b"", b"error: flash file\n"),
+        ("a damaged image", [PAIR, "new", ONE, changed], 1, damaged, b""),
+        ("images that don't fit", [PAIR, "new", needing, ONE], 1, unfit, b""),
+        ("a damaged image, and a file that can't be made", [PAIR, "gone/new", ONE, changed], 1, damaged, b""),
+        ("a file that can't be made", [PAIR, "gone/new", ONE, ONE], 4, b"", CANNOT_MAKE),
+        ("a folder", [PAIR, ".", ONE, ONE], 4, b"", CANNOT_MAKE),
     ]
     for name, words, status, out, err in refused:
-        checks.expect(f"provision: {name}", ["provision", *words], status, out, err)
-        is_made = os.path.exists(f"{checks.folder}/new")
-        checks.tell(f"provision: {name}: nothing is made", ["there is a file"] if is_made else [])
-    changed = checks.file("changed", one[:-1] + bytes([one[-1] ^ 1]))
-    damaged, unfit = b"refused boot 5 RunningDamaged 1\n", b"refused boot 6 InvalidSet\n"
-    checks.expect("provision: a damaged image", ["provision", PAIR, "flash", ONE, changed], 1, damaged)
-    wanted = placed(8192, {0: one, 1536: read(f"{checks.folder}/{changed}")})
-    same("a damaged image: there is no log", wanted)
-    checks.expect("provision: images that don't fit", ["provision", PAIR, "flash", needing, ONE], 1, unfit)
+        expect_kept(checks, f"provision: {name}: nothing is made", words, status, out, err)
+        checks.file("new", b"what stood there")
+        expect_kept(checks, f"provision: {name}: what is there stays", words, status, out, err)
+        os.remove(f"{checks.folder}/new")
+
+
+CANNOT_MAKE = b"error: flash file\n"
+
+
+def files_in(folder):
+    """The files of a folder, each with what it is, where a link leads, and what a plain one holds."""
+    for name in sorted(os.listdir(folder)):
+        path = f"{folder}/{name}"
+        kind = os.lstat(path).st_mode
+        link = os.readlink(path) if os.path.islink(path) else ""
+        yield name, kind, link, read(path) if stat.S_ISREG(kind) else b""
+
+
+def expect_kept(checks, name, words, status, out=b"", err=b"", **how):
+    """A check: `provision` with these words ends so, and no file is made, changed or removed."""
+    before = [*files_in(checks.folder)]
+    got = checks.run(["provision", *words], **how)
+    changed = {it[0] for it in set(before) ^ set(files_in(checks.folder))}
+    faults = [] if got == (status, out, err) else [f"{short(got)}, and not {short((status, out, err))}"]
+    checks.tell(name, faults + [f"{it} is made, changed or removed" for it in sorted(changed)])
+
+
+def check_replacing(checks):
+    """`provision` replaces a file whole and leaves nothing beside it, and never replaces what it reads."""
+    words = ["provision", PAIR, "flash", ONE, ONE]
+    whole = flash_of(checks)
+    path = lambda name: f"{checks.folder}/{name}"
+
+    def expect_replaced(name, others, words=words):
+        """A check: `provision` makes the file `flash`, and nothing changes but that and these others."""
+        before = [*files_in(checks.folder)]
+        checks.expect(f"provision: {name}", words, 0, b"done\n")
+        changed = {it[0] for it in set(before) ^ set(files_in(checks.folder))} - {"flash", *others}
+        faults = [] if read(path("flash")) == whole else ["it isn't a new flash"]
+        checks.tell(f"provision: {name}: what it leaves", faults + sorted(changed))
+
+    os.remove(path("flash"))
+    expect_replaced("a file that isn't there", [])
+    checks.file("flash", b"old")
+    os.link(path("flash"), path("second"))
+    os.chmod(path("flash"), 0o640)
+    expect_replaced("a file with a second name", [])
+    is_right = read(path("second")) == b"old" and stat.S_IMODE(os.stat(path("flash")).st_mode) == 0o640
+    checks.tell("provision: the second name and the permissions", [] if is_right else ["they changed"])
+    os.remove(path("second"))
+    checks.file("flash", b"old")
+    os.symlink("flash", path("link"))
+    expect_replaced("a file by a link", [], ["provision", PAIR, "link", ONE, ONE])
+    checks.file("flash.new-0", b"another's")
+    os.symlink("another", path("flash.new-1"))
+    checks.file("flash", b"old")
+    expect_replaced("a file beside others that new ones may be named as", [])
+    for name in ("link", "flash.new-0", "flash.new-1"):
+        os.remove(path(name))
+    os.symlink("nowhere", path("astray"))
+    os.mkfifo(path("pipe"))
+    for name in ("astray", "pipe", "/dev/null"):
+        expect_kept(checks, f"provision: {name} is refused", [PAIR, name, ONE, ONE], 4, err=CANNOT_MAKE)
+    os.remove(path("astray"))
+    os.remove(path("pipe"))
+    with open("/dev/full", "wb") as full:
+        status, _, err = checks.run(words, stdout=full)
+    is_right = (status, err, read(path("flash"))) == (1, b"", whole)
+    checks.tell("provision: an answer that can't be written", [] if is_right else [f"{status} {short(err)}"])
+    for limit in (0, 8191):
+        name = f"provision: a flash file of at most {limit} bytes"
+        expect_kept(checks, f"{name} can't be made", [PAIR, "new", ONE, ONE], 4, err=CANNOT_MAKE, most=limit)
+        expect_kept(checks, f"{name} stays", [PAIR, "flash", ONE, ONE], 4, err=CANNOT_MAKE, most=limit)
+
+
+def check_inputs(checks):
+    """A flash file of `provision` that is one of the files that it reads, by each of its names, is refused."""
+    path = lambda name: f"{checks.folder}/{name}"
+    told = b"error: flash is an input\n"
+    checks.file("device", read(PAIR))
+    checks.file("image", read(ONE))
+    checks.file("other", read(f"{EXAMPLES}/images/needing.img"))
+    for name in ("device", "image"):
+        os.symlink(name, path(f"{name}-link"))
+        os.link(path(name), path(f"{name}-second"))
+        names = [name, f"./{name}", path(name), f"{name}-link", f"{name}-second"]
+        for first, second in [*((name, it) for it in names), *((it, name) for it in names), (names[3], names[4])]:
+            given = {"device": [[first, second, ONE, ONE]]}.get(name)
+            for words in given or [[PAIR, second, first, ONE], [PAIR, second, ONE, first]]:
+                expect_kept(checks, f"provision: an input as the flash: {shown(words)}", words, 1, err=told)
+    words = [PAIR, "image", "image", "absent"]
+    expect_kept(checks, "provision: an input as the flash, and one that isn't there", words, 1, err=ABSENT)
+    words = [PAIR, "image", "image", "other"]
+    expect_kept(checks, "provision: an input as the flash, of images that don't fit", words, 1, err=told)
+    for name in ("device", "image"):
+        os.remove(path(f"{name}-link"))
+        os.remove(path(f"{name}-second"))
+
+
+ABSENT = b"error: cannot read absent\n"
 
 
 def check_shows(checks):
@@ -208,11 +305,10 @@ def check_script_lines(checks):
         checks.expect(f"bad script: {name}", words, 1, err=f"error: script line {line}\n".encode())
     for name, script, out in GOOD_SCRIPTS:
         checks.expect(f"script: {name}", ["run", PAIR, "flash", checks.file("script", script)], 0, out)
-    absent = b"error: cannot read absent\n"
     gone = [("a file", b"boot\naccept absent\n"), ("one, before a bad line,", b"piece 0 absent x y\nboots\n")]
     for name, script in gone:
         words = ["run", PAIR, "flash", checks.file("script", script)]
-        checks.expect(f"script: {name} that isn't there", words, 1, err=absent)
+        checks.expect(f"script: {name} that isn't there", words, 1, err=ABSENT)
     script = b"boot\naccept examples/manifests/trial.json\npiece 0 -\nfinish 0\n"
     words = ["run", PAIR, "flash", checks.file("script", script)]
     twice = ["run", PAIR, "flash", "-"]
@@ -316,6 +412,8 @@ CHECKS = (
     check_scripts,
     check_documents,
     check_provisioning,
+    check_replacing,
+    check_inputs,
     check_shows,
     check_script_lines,
     check_replies,

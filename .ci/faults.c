@@ -1,6 +1,6 @@
 /* Loaded before a program, makes one of its calls go wrong, the one whose number is FAULT_AT: of those that open, read,
-   write, size or close a file (FAULT=fail), of those that read or write (FAULT=short, after which the call moves one byte at
-   most), or of the allocations (FAULT=memory). When the program ends, the number of those calls is written to the file
+   write, sync, close, look up or rename a file (FAULT=fail), of those that read or write (FAULT=short, after which the call
+   moves one byte at most), or of the allocations (FAULT=memory). When the program ends, the number of those calls is written to the file
    FAULT_COUNT. `./gate` compiles and uses it. */
 #define _GNU_SOURCE
 #include <errno.h>
@@ -9,6 +9,7 @@
 #include <stdio.h>
 #include <stdlib.h>
 #include <string.h>
+#include <sys/stat.h>
 #include <sys/syscall.h>
 #include <unistd.h>
 
@@ -46,7 +47,15 @@ int open(const char *name, int flags, ...) {
     return has_failed() ? -1 : (int)syscall(SYS_openat, AT_FDCWD, name, flags, mode);
 }
 
-int ftruncate(int file, off_t length) { return has_failed() ? -1 : (int)syscall(SYS_ftruncate, file, length); }
+int fsync(int file) { return has_failed() ? -1 : (int)syscall(SYS_fsync, file); }
+
+int fchmod(int file, mode_t mode) { return has_failed() ? -1 : (int)syscall(SYS_fchmod, file, mode); }
+
+int statx(int folder, const char *name, int flags, unsigned mask, struct statx *found) {
+    return has_failed() ? -1 : (int)syscall(SYS_statx, folder, name, flags, mask, found);
+}
+
+int rename(const char *old, const char *new) { return has_failed() ? -1 : (int)syscall(SYS_rename, old, new); }
 
 /* A close that fails has let go of the file, as on Linux. */
 int close(int file) {

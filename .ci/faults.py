@@ -33,8 +33,6 @@ def is_end_after(fault, got, usual):
         return got == (1, b"", b"error: memory\n")
     if fault != "fail":
         return False
-    if got == (4, b"", b"error: flash file\n"):
-        return usual == (0, b"done\n", b"")
     is_told = err.startswith(b"error: cannot read ") and not out
     return status == 1 and usual[1].startswith(out) and (is_told or usual[2].startswith(err))
 
@@ -45,7 +43,7 @@ def check_faults(checks):
     flash_of(checks)
     runs = [[], ["choose", full[0]], ["check", *full], ["check", "-", report("pair")], ["choose", "absent"]]
     runs += [["image", f"{EXAMPLES}/images/counted.img"], ["manifest", PAIR, f"{EXAMPLES}/manifests/both.json"]]
-    runs += [["provision", PAIR, "made", ONE, ONE], ["show", PAIR, "flash"], ["show", PAIR, "gone"]]
+    runs += [["show", PAIR, "flash"], ["show", PAIR, "gone"]]
     runs += [["frob"], ["--help"]]
     for words in runs:
         usual = checks.run(words, given=pair)
@@ -55,6 +53,44 @@ def check_faults(checks):
                 if got != usual and not is_end_after(fault, got, usual):
                     faults.append(f"at call {at}: {short(got)}")
             checks.tell(f"{fault}: {shown(words)}, {at} calls", faults[:5])
+
+
+def is_provision_after(fault, got, left, kept, made):
+    """Whether `provision` may end so and leave these files, where it found the first others, and makes the second."""
+    status, out, err = got
+    if got == (0, b"done\n", b""):
+        return left == made
+    # The answer is the last that is written, and may fail to be.
+    if fault == "fail" and status == 1 and not err and b"done\n".startswith(out) and left == made:
+        return True
+    if fault == "memory":
+        return got == (1, b"", b"error: memory\n") and left == kept
+    is_told = got == (4, b"", b"error: flash file\n") or (status == 1 and err.startswith(b"error: cannot read "))
+    return fault == "fail" and is_told and not out and left == kept
+
+
+def check_provision_faults(checks):
+    """The same of `provision`, with the files that it leaves: FLASH is as it was or whole, and nothing is beside it."""
+    whole = flash_of(checks)
+    others = {*os.listdir(checks.folder), "count", "faults.so"} - {"flash"}
+    for old in (None, b"old"):
+        kept, made = {} if old is None else {"flash": old}, {"flash": whole}
+
+        def run(env=os.environ):
+            if old is None and os.path.exists(f"{checks.folder}/flash"):
+                os.remove(f"{checks.folder}/flash")
+            elif old is not None:
+                checks.file("flash", old)
+            got = checks.run(["provision", PAIR, "flash", ONE, ONE], env=env)
+            return got, {it: read(f"{checks.folder}/{it}") for it in os.listdir(checks.folder) if it not in others}
+
+        for fault in ("fail", "short", "memory"):
+            faults = []
+            for at, (got, left) in each_fault(checks, fault, run):
+                if not is_provision_after(fault, got, left, kept, made):
+                    faults.append(f"at call {at}: {short(got)}, {sorted(left)}")
+            name = "a flash file that is there" if old else "a new flash file"
+            checks.tell(f"{fault}: provision of {name}, {at} calls", faults[:5])
 
 
 def boots_behind(checks):
@@ -134,4 +170,4 @@ def check_run_faults(checks):
         checks.tell(f"{fault}: run of a device, {at} calls", faults[:5])
 
 
-CHECKS = (check_faults, check_run_faults)
+CHECKS = (check_faults, check_provision_faults, check_run_faults)

@@ -186,9 +186,6 @@ def check_flash_files(checks):
     checks.file("flash", whole)
     name = "a flash file that can't be written, and a boot that writes nothing"
     checks.expect(name, ["run", PAIR, "flash", "-"], 0, numbered([PLAIN]), given=b"boot\n", most=0)
-    for limit in (0, 8191):
-        words = ["provision", PAIR, f"new{limit}", ONE, ONE]
-        checks.expect(f"a flash file of at most {limit} bytes can't be made", words, 4, err=fault, most=limit)
 
 
 CHECKS = (check_cuts, check_alternatives, check_fullest, check_flash_files)

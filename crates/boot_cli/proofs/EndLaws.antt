@@ -25,28 +25,27 @@ not_cut made.Done old new answered =
     let same : 3 ≡ 0 = ap status_of_answer answered.0 in omega (arith, same)
 not_cut (made.Refused fault) old new answered =
     let same : 3 ≡ 1 = ap status_of_answer answered.0 in omega (arith, same)
-not_cut made.FileFailed old new answered = answered
 
 AnswersProvision-made : (answer : Answer) (device : Source) (names : List (List ℕ))
-    (input : Option (List ℕ)) (file : FileBytes) (old new : Option (List ℕ))
-    → MakesDevice answer device names input file old new
-    → AnswersProvision answer device names input file old new
-AnswersProvision-made Done device names input file old new makes = makes
-AnswersProvision-made Refused device names input file old new makes = inl makes
-AnswersProvision-made Cut device names input file old new makes =
+    (input : Option (List ℕ)) (file : FileBytes) (held old new : Option (List ℕ))
+    → MakesDevice answer device names input file held old new
+    → AnswersProvision answer device names input file held old new
+AnswersProvision-made Done device names input file held old new makes = makes
+AnswersProvision-made Refused device names input file held old new makes = inl makes
+AnswersProvision-made Cut device names input file held old new makes =
     absurd (not_cut makes.outcome old new makes.answered)
 
 -- a device file was read, and then its images
 pub AnswersProvision-read : (answer : Answer) (device : Source) (names : List (List ℕ))
-    (input mid_input : Option (List ℕ)) (file mid_file : FileBytes) (old mid new : Option (List ℕ))
-    (of_device : DeviceFile) (bytes : List ℕ) (made : Made)
+    (input mid_input : Option (List ℕ)) (file mid_file : FileBytes)
+    (held old mid new : Option (List ℕ)) (of_device : DeviceFile) (bytes : List ℕ) (made : Made)
     → GivesDevice device input file of_device → KeepsOthers device input file mid_input mid_file
-    → ReadsImages of_device.map names mid_input mid_file bytes → EndsMade made of_device.map bytes
+    → ReadsImages of_device.map names mid_input mid_file bytes → EndsMade made of_device.map bytes held
     → mid ≡ old → AnswersMade answer made mid new
-    → AnswersProvision answer device names input file old new
-AnswersProvision-read answer device names input mid_input file mid_file old mid new of_device bytes made
+    → AnswersProvision answer device names input file held old new
+AnswersProvision-read answer device names input mid_input file mid_file held old mid new of_device bytes made
     given kept read ends same answered =
-    AnswersProvision-made answer device names input file old new (record {
+    AnswersProvision-made answer device names input file held old new (record {
       device_bytes = given.0;
       of_device = of_device;
       sources = read.0;
@@ -56,7 +55,7 @@ AnswersProvision-read answer device names input mid_input file mid_file old mid 
       given = GiveEach-read device read.0 input mid_input file mid_file given.0 read.1 given.1 kept read.3;
       is_device = given.2;
       fit = read.4;
-      made = subst (λ all. EndsMade made of_device.map all) read.5 ends;
+      made = subst (λ all. EndsMade made of_device.map all held) read.5 ends;
       answered = subst (λ o. AnswersMade answer made o new) same answered;
     })
 

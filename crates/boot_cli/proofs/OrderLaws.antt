@@ -22,13 +22,12 @@ AnswersMade-kept made.Done old mid new answered kept =
     (answered.0, Appends-kept old mid new _ answered.1 kept)
 AnswersMade-kept (made.Refused fault) old mid new answered kept =
     (answered.0, Appends-kept old mid new _ answered.1 kept)
-AnswersMade-kept made.FileFailed old mid new answered kept = absurd answered
 
 pub AnswersProvision-kept : (device : Source) (names : List (List ℕ)) (input : Option (List ℕ))
-    (file : FileBytes) (old mid new : Option (List ℕ))
-    → AnswersProvision Done device names input file old mid → Keeps mid new
-    → AnswersProvision Done device names input file old new
-AnswersProvision-kept device names input file old mid new answered kept = record {
+    (file : FileBytes) (held old mid new : Option (List ℕ))
+    → AnswersProvision Done device names input file held old mid → Keeps mid new
+    → AnswersProvision Done device names input file held old new
+AnswersProvision-kept device names input file held old mid new answered kept = record {
   device_bytes = answered.device_bytes;
   of_device = answered.of_device;
   sources = answered.sources;
@@ -67,38 +66,38 @@ AnswersRun-kept device flash script input file old mid new answered kept = recor
   };
 }
 
-pub AnswersOrder-kept : (asked : Order) (input : Option (List ℕ)) (file : FileBytes)
+pub AnswersOrder-kept : (asked : Order) (input : Option (List ℕ)) (file then : FileBytes)
     (old mid new : Option (List ℕ))
-    → AnswersOrder Done asked input file old mid → Keeps mid new
-    → AnswersOrder Done asked input file old new
-AnswersOrder-kept (order.Choose table) input file old mid new answered kept =
+    → AnswersOrder Done asked input file then old mid → Keeps mid new
+    → AnswersOrder Done asked input file then old new
+AnswersOrder-kept (order.Choose table) input file then old mid new answered kept =
     (answered.0, answered.1, AnswersChoice-kept answered.0 input file old mid new answered.2 kept)
-AnswersOrder-kept (order.Check table report) input file old mid new answered kept = (
+AnswersOrder-kept (order.Check table report) input file then old mid new answered kept = (
   answered.0,
   answered.1,
   answered.2,
   AnswersCheck-kept answered.0 answered.1 input file old mid new answered.3 kept,
 )
-AnswersOrder-kept (order.Image image) input file old mid new answered kept =
+AnswersOrder-kept (order.Image image) input file then old mid new answered kept =
     (answered.0, answered.1, AnswersDescription-kept answered.0 input file old mid new answered.2 kept)
-AnswersOrder-kept (order.Manifest device named) input file old mid new answered kept = (
+AnswersOrder-kept (order.Manifest device named) input file then old mid new answered kept = (
   answered.0,
   answered.1,
   answered.2,
   AnswersManifest-kept answered.0 answered.1 input file old mid new answered.3 kept,
 )
-AnswersOrder-kept (order.Provision device flash images) input file old mid new answered kept = (
+AnswersOrder-kept (order.Provision device flash images) input file then old mid new answered kept = (
   answered.0,
   answered.1,
-  AnswersProvision-kept answered.0 (names_of images.items) input file old mid new answered.2 kept,
+  AnswersProvision-kept answered.0 (names_of images.items) input file (then flash.now) old mid new answered.2 kept,
 )
-AnswersOrder-kept (order.Show device flash) input file old mid new answered kept = (
+AnswersOrder-kept (order.Show device flash) input file then old mid new answered kept = (
   answered.0,
   answered.1,
   answered.2,
   AnswersShow-kept answered.0 answered.1 input file old mid new answered.3 kept,
 )
-AnswersOrder-kept (order.Run device flash script) input file old mid new answered kept = (
+AnswersOrder-kept (order.Run device flash script) input file then old mid new answered kept = (
   answered.0,
   answered.1,
   answered.2,

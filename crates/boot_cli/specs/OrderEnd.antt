@@ -15,26 +15,27 @@ use Rattle.boot_cli.specs.RunEnd.{AnswersRun}
 abbrev pub AreNamed : List ℕ → List ℕ → Source → Source → Type 0
 AreNamed first second one other = IsNamed first one × IsNamed second other
 
--- What stands for the answer to an order, by the command that it asks for.
-abbrev pub AnswersOrder : Answer → Order → Option (List ℕ) → FileBytes
+-- What stands for the answer to an order, by the command that it asks for, and what the files hold
+-- then.
+abbrev pub AnswersOrder : Answer → Order → Option (List ℕ) → FileBytes → FileBytes
     → Option (List ℕ) → Option (List ℕ) → Type 0
-AnswersOrder answer (order.Choose table) input file old new =
+AnswersOrder answer (order.Choose table) input file then old new =
     (source : Source) × IsNamed table.now source × AnswersChoice answer source input file old new
-AnswersOrder answer (order.Check table report) input file old new =
+AnswersOrder answer (order.Check table report) input file then old new =
     (one other : Source) × AreNamed table.now report.now one other
     × AnswersCheck answer one other input file old new
-AnswersOrder answer (order.Image image) input file old new =
+AnswersOrder answer (order.Image image) input file then old new =
     (source : Source) × IsNamed image.now source
     × AnswersDescription answer source input file old new
-AnswersOrder answer (order.Manifest device named) input file old new =
+AnswersOrder answer (order.Manifest device named) input file then old new =
     (one other : Source) × AreNamed device.now named.now one other
     × AnswersManifest answer one other input file old new
-AnswersOrder answer (order.Provision device flash images) input file old new =
+AnswersOrder answer (order.Provision device flash images) input file then old new =
     (source : Source) × IsNamed device.now source
-    × AnswersProvision answer source (names_of images.items) input file old new
-AnswersOrder answer (order.Show device flash) input file old new =
+    × AnswersProvision answer source (names_of images.items) input file (then flash.now) old new
+AnswersOrder answer (order.Show device flash) input file then old new =
     (one other : Source) × AreNamed device.now flash.now one other
     × AnswersShow answer one other input file old new
-AnswersOrder answer (order.Run device flash script) input file old new =
+AnswersOrder answer (order.Run device flash script) input file then old new =
     (one other : Source) × AreNamed device.now script.now one other
     × AnswersRun answer one (source.File flash) other input file old new

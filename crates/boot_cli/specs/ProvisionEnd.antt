@@ -1,5 +1,5 @@
 -- What making a flash a device's comes to.
-use Rattle.std.specs.Prelude.{◌≡◌, ◌⊎◌, ℕ, ◌+◌, ◌*◌, ◌≤◌, List, [], ◌∷◌, ◌++◌, length, replicate, slice_get, Option, Some, codes}
+use Rattle.std.specs.Prelude.{◌≡◌, ◌≢◌, ◌⊎◌, ℕ, ◌+◌, ◌*◌, ◌≤◌, List, [], ◌∷◌, ◌++◌, length, replicate, slice_get, Option, Some, codes}
 use Rattle.std.specs.Io.KnownBytes.{Appends}
 use Rattle.std.specs.List.{AllZip}
 use Rattle.flash_model.specs.Chip.{Chip}
@@ -15,10 +15,11 @@ use Rattle.boot_cli.specs.declared.commands.provision.Made.{Made}
 use Rattle.boot_cli.specs.declared.commands.provision.Made.TheVariants as made
 use Rattle.answers.specs.declared.device.DeviceFile.{DeviceFile}
 use Rattle.reading_commands.specs.declared.source.Source.{Source}
+use Rattle.reading_commands.specs.declared.source.Source.TheVariants.{StandardInput, File}
 use Rattle.answers.specs.DeviceFile.{IsDeviceFile}
 use Rattle.answers.specs.FlashOf.{flash_of}
 use Rattle.reading_commands.specs.DeviceInput.{RefusesMap}
-use Rattle.reading_commands.specs.Input.{FileBytes, IsNamed}
+use Rattle.reading_commands.specs.Input.{FileBytes, IsKnownAs, IsNamed}
 use Rattle.boot_cli.specs.Inputs.{GiveEach}
 use Rattle.answers.specs.ReplyText.{refused_fault_text}
 
@@ -39,13 +40,18 @@ pub record FitSlots (map : SectorMap) (files : List (List ℕ)) : Type 0 where
   pub each : (i : ℕ) (file : List ℕ) → slice_get files i ≡ Some file
       → length file ≤ length_of map (Slot i Primary)
 
--- What came of making the flash of these bytes a device's: it is one, or why it isn't. Of a flash
--- whose file failed nothing is said.
-abbrev pub EndsMade : Made → SectorMap → List ℕ → Type 0
-EndsMade made.Done map bytes = (new : Chip) × IsProvisioned map (flash_of map bytes) new
-EndsMade (made.Refused fault) map bytes =
+-- What came of making the flash of these bytes a device's, and what its file is known to hold then:
+-- it is one, and the file has its bytes; or why it isn't.
+abbrev pub EndsMade : Made → SectorMap → List ℕ → Option (List ℕ) → Type 0
+EndsMade made.Done map bytes held =
+    (new : Chip) × IsProvisioned map (flash_of map bytes) new × IsKnownAs held new.bytes
+EndsMade (made.Refused fault) map bytes held =
     (new : Chip) × RefusesMaking map (flash_of map bytes) new fault
-EndsMade made.FileFailed map bytes = Unit {0}
+
+-- A source isn't the file of this name.
+abbrev pub IsOther : List ℕ → Source → Type 0
+IsOther name StandardInput = Unit {0}
+IsOther name (File other) = other.now ≢ name
 
 -- That a flash is a device's.
 abbrev pub done_text : List ℕ
@@ -56,7 +62,6 @@ abbrev pub AnswersMade : Answer → Made → Option (List ℕ) → Option (List 
 AnswersMade answer made.Done old new = (answer ≡ Done) × Appends old new done_text
 AnswersMade answer (made.Refused fault) old new =
     (answer ≡ Refused) × Appends old new (refused_fault_text fault)
-AnswersMade answer made.FileFailed old new = ⊥
 
 -- What was read of image files: they fit their slots, and these are the bytes of their flash.
 abbrev pub ReadsImages : SectorMap → List (List ℕ) → Option (List ℕ) → FileBytes → List ℕ → Type 0
@@ -66,9 +71,9 @@ ReadsImages map names input files bytes =
     × (bytes ≡ new_flash map contents)
 
 -- `provision` read the bytes of a device file and of the images that these words name, made their
--- flash a device's, or found why it can't be, and wrote which ..
+-- flash a device's, whose file holds it then, or found why it can't be, and wrote which ..
 pub record MakesDevice (answer : Answer) (device : Source) (names : List (List ℕ))
-    (input : Option (List ℕ)) (files : FileBytes) (old new : Option (List ℕ)) : Type 0 where
+    (input : Option (List ℕ)) (files : FileBytes) (held old new : Option (List ℕ)) : Type 0 where
   pub device_bytes : List ℕ
   pub of_device : DeviceFile
   pub sources : List Source
@@ -78,14 +83,15 @@ pub record MakesDevice (answer : Answer) (device : Source) (names : List (List �
   pub given : GiveEach (device ∷ sources) input files (device_bytes ∷ contents)
   pub is_device : IsDeviceFile device_bytes of_device
   pub fit : FitSlots of_device.map contents
-  pub made : EndsMade outcome of_device.map (new_flash of_device.map contents)
+  pub made : EndsMade outcome of_device.map (new_flash of_device.map contents) held
   pub answered : AnswersMade answer outcome old new
 
 -- .. or wrote why the sizes of the device file make no map, and then the images don't count.
 abbrev pub AnswersProvision : Answer → Source → List (List ℕ) → Option (List ℕ) → FileBytes
-    → Option (List ℕ) → Option (List ℕ) → Type 0
-AnswersProvision Done device names input files old new =
-    MakesDevice Done device names input files old new
-AnswersProvision Refused device names input files old new =
-    MakesDevice Refused device names input files old new ⊎ RefusesMap device input files old new
-AnswersProvision Cut device names input files old new = ⊥
+    → Option (List ℕ) → Option (List ℕ) → Option (List ℕ) → Type 0
+AnswersProvision Done device names input files held old new =
+    MakesDevice Done device names input files held old new
+AnswersProvision Refused device names input files held old new =
+    MakesDevice Refused device names input files held old new
+    ⊎ RefusesMap device input files old new
+AnswersProvision Cut device names input files held old new = ⊥

@@ -1,9 +1,10 @@
 //! The file that a flash is written through to, and the system as a host.
 
+use crate::replacing;
 use file_flash::FlashFile;
 use reading_commands::Host;
 use std::alloc::Allocator;
-use std::fs::{File, OpenFile, OpenOptions};
+use std::fs::{File, OpenOptions};
 use std::io;
 use std::io::Read;
 use std::os::unix::fs::FileExt;
@@ -55,9 +56,12 @@ where
         self.input.read(buffer)
     }
 
-    fn create_file(&mut self, name: &str, length: u64) -> io::Result<()> {
-        let file = File::create(self.runtime, name)?;
-        file.set_len(length)
+    fn is_same_file(&self, one: &str, other: &str) -> io::Result<bool> {
+        replacing::is_same_file(self.runtime, one, other)
+    }
+
+    fn replace_file<A: Allocator>(&mut self, alloc: A, name: &str, bytes: &[u8]) -> io::Result<()> {
+        replacing::replace_file(self.runtime, &alloc, name, bytes)
     }
 
     fn write_file_at(&mut self, name: &str, at: u64, bytes: &[u8]) -> io::Result<()> {

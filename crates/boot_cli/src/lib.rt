@@ -13,6 +13,7 @@ mod commands;
 mod host;
 mod loading;
 mod program;
+mod replacing;
 
 pub use answers::{
     CheckEnd, ChooseEnd, DescribeEnd, ManifestEnd, ShowEnd, check_over, choose_over, describe_over,

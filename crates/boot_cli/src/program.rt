@@ -70,7 +70,7 @@ pub fn run_order<A: Allocator, H: Host, O: Write, E: Write>(
     err: &mut E,
 ) -> u8
     ensures { result ≡ 0 → AnswersOrder Answer.Done order.entry (H.input host.old) (H.file host.old)
-        (O.contents out.old) (O.contents out.new) }
+        (H.file host.new) (O.contents out.old) (O.contents out.new) }
 {
     // A script's text, in which a refusal may name a file.
     let mut text = Vec::new(heap);
@@ -87,7 +87,8 @@ fn perform<'a, 'h, A: Allocator, H: Host, O: Write>(
     out: &mut O,
 ) -> Result<Answer, Refusal<'a>>
     ensures { IfOk result (λ answer. AnswersOrder answer order.entry
-        (H.input host.old) (H.file host.old) (O.contents out.old) (O.contents out.new)) }
+        (H.input host.old) (H.file host.old) (H.file host.new)
+        (O.contents out.old) (O.contents out.new)) }
 {
     match order {
         Order::Choose { table } => choose::perform(heap, Source::named(table), host, out),

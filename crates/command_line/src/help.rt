@@ -232,7 +232,8 @@ pub const PROVISION: Help = Help {
 of the device's flash, all 0xFF, with each IMAGE at the start of its primary
 slot, the first for image 0, and then what a device starts from: empty trailers,
 and a log with the security counters of the images as floors. It prints `done`.
-A file FLASH that is there is made anew.
+A file FLASH that is there is replaced, once all is done; it is none of those
+that are read.
 
 An IMAGE is an intact image of MCUboot's format that isn't longer than its slot,
 as `bootswap image` describes it. There is one for each image of the device, and
@@ -247,9 +248,9 @@ boots of a trial, 1 to 7; without it there is one:
 
 Where the device can't run the images it prints `refused boot CODE NAME`, such
 as `refused boot 6 InvalidSet`, for an image that isn't intact with its number:
-`refused boot 5 RunningDamaged 1`. FLASH then holds the images, and no device
-starts from it. Where the device's sizes make no map of its flash it prints
-`refused map CODE NAME`, such as `refused map 1 BadSector`.",
+`refused boot 5 RunningDamaged 1`. Where the device's sizes make no map of its
+flash it prints `refused map CODE NAME`, such as `refused map 1 BadSector`.
+A refusal and an error line leave FLASH as it was.",
     after: "Exit status: 0 done, 1 refused, 2 the words are wrong, 4 flash file.
 Example: bootswap provision device.json flash.bin a.img b.img
 `bootswap provision --help` tells what the files look like.",
@@ -258,11 +259,12 @@ Example: bootswap provision device.json flash.bin a.img b.img
   1  the images or the device's sizes are refused; or standard error has a line
      `error: ..`: `device file` where DEVICE is none, `image count` where the
      device has another number of images, `image 1 too big` where that file is
-     longer than its slot, `cannot read NAME`, or `memory`; or the answer could
-     not be written
+     longer than its slot, `flash is an input` where FLASH is one of the files
+     that are read, `cannot read NAME`, or `memory`; or the answer could not be
+     written
   2  the words of the command are wrong
   4  standard error has the line `error: flash file`: FLASH could not be made or
-     written
+     replaced
 
 Examples:
   bootswap provision device.json flash.bin a.img b.img

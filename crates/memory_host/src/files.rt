@@ -12,6 +12,9 @@ pub type Files<'f> = &'f [(&'f str, &'f [u8])];
 /// The name of the file that can be made and written.
 pub const FLASH_FILE: &str = "flash.bin";
 
+/// Another name of that file.
+pub const FLASH_LINK: &str = "link.bin";
+
 /// What a write that fails leaves of its range.
 #[derive(Clone, Copy, Debug, PartialEq, Eq)]
 pub enum Left {
@@ -48,13 +51,18 @@ impl WritableFile {
         }
     }
 
-    /// Makes the file of so many bytes 0, in the place of one that is there.
-    fn create(&mut self, length: u64) -> io::Result<()> {
+    /// Puts a file of these bytes in its place, or makes it. Where that fails it is as it was.
+    fn replace(&mut self, bytes: &[u8]) -> io::Result<()> {
         if !self.can_be_made {
             return Err(io::Error::from(ErrorKind::PermissionDenied));
         }
+        self.writes = self.writes.saturating_add(1);
+        if matches!(self.failing, Some((write, _)) if write == self.writes) {
+            return Err(io::Error::from(ErrorKind::StorageFull));
+        }
+        self.bytes.reserve(bytes.len())?;
         self.bytes.clear();
-        self.bytes.resize(length as usize, 0)?;
+        self.bytes.extend_from_slice(bytes)?;
         self.is_there = true;
         Ok(())
     }
@@ -109,15 +117,20 @@ impl<'f, 'i> MemoryHost<'f, 'i> {
             was_interrupted: false,
         }
     }
+
+    /// Whether this is a name of the file that can be written, and that is there.
+    fn is_flash(&self, name: &str) -> bool {
+        let is_name = name == FLASH_FILE || name == FLASH_LINK;
+        is_name && matches!(&self.flash, Some(flash) if flash.is_there)
+    }
 }
 
 impl Host for MemoryHost<'_, '_> {
     ghost input = { λ host. Some host.input.now };
 
     fn read_file<A: Allocator>(&mut self, alloc: A, name: &str) -> io::Result<Vec<u8, A>> {
-        if name == FLASH_FILE
+        if self.is_flash(name)
             && let Some(flash) = &self.flash
-            && flash.is_there
         {
             return Ok(Vec::from_slice(alloc, flash.bytes.as_slice())?);
         }
@@ -138,9 +151,15 @@ impl Host for MemoryHost<'_, '_> {
         }
     }
 
-    fn create_file(&mut self, name: &str, length: u64) -> io::Result<()> {
+    fn is_same_file(&self, one: &str, other: &str) -> io::Result<bool> {
+        Ok(self.is_flash(one) && self.is_flash(other))
+    }
+
+    fn replace_file<A: Allocator>(&mut self, alloc: A, name: &str, bytes: &[u8]) -> io::Result<()> {
+        // The system puts together the name of a new file.
+        let _name = Vec::from_slice(alloc, name.as_bytes())?;
         match &mut self.flash {
-            Some(flash) if name == FLASH_FILE => flash.create(length),
+            Some(flash) if name == FLASH_FILE => flash.replace(bytes),
             _ => Err(io::Error::from(ErrorKind::PermissionDenied)),
         }
     }

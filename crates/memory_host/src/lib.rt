@@ -10,7 +10,7 @@ pub mod samples;
 mod target;
 mod writer;
 
-pub use files::{FLASH_FILE, Files, Left, MemoryHost, WritableFile};
+pub use files::{FLASH_FILE, FLASH_LINK, Files, Left, MemoryHost, WritableFile};
 pub use outcome::{Case, Outcome, expect_each, expect_outcome, run, run_within};
 pub use target::{
     Device, Fresh, SCRIPT, TOO_LONG, TWO_IMAGES, Target, expect_run, expect_shown, has,

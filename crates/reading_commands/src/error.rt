@@ -21,6 +21,9 @@ pub enum Refusal<'a> {
     /// The flash file isn't as long as the map of the device.
     #[error("flash size")]
     FlashSize,
+    /// The flash file that is to be made is one of the files that are read for it.
+    #[error("flash is an input")]
+    FlashIsInput,
     /// There are not as many image files as the map of the device has images.
     #[error("image count")]
     ImageCount,

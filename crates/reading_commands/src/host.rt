@@ -1,6 +1,6 @@
 //! What the program asks of the system: the bytes of files and of standard input, and a file to
 //! write.
-ghost use Rattle.std.specs.Prelude.{IfOk, List, ℕ, None, Option};
+ghost use Rattle.std.specs.Prelude.{IfErr, IfOk, List, ℕ, None, OnOk, Option};
 ghost use Rattle.std.specs.Io.{ReadsAtMost};
 ghost use Rattle.std.specs.Io.KnownBytes.{Keeps, ReadConsumes};
 ghost use Rattle.reading_commands.specs.Input.{IsKnownAs, KeepsFiles};
@@ -12,8 +12,8 @@ use std::io::Read;
 /// Where the program's input comes from, and the file that it writes. A test stands in for the
 /// system with bytes in memory.
 ///
-/// Where a file or standard input is read, an error of kind `OutOfMemory` says that memory ran out,
-/// and any other that the read failed.
+/// Where a file or standard input is read, or a file is replaced, an error of kind `OutOfMemory`
+/// says that memory ran out, and any other that the read or the write failed.
 pub trait Host {
     // What is left of standard input, where it is known.
     ghost input: { Self → Option (List ℕ) } = { λ _. None };
@@ -33,9 +33,15 @@ pub trait Host {
         ensures bytes { ReadConsumes (input self.old) (input self.new) result buffer.new }
         ensures files { KeepsFiles (file self.old) (file self.new) };
 
-    /// Makes a file of this name that has so many bytes. One that is there is emptied first. What
-    /// the bytes are is not said.
-    fn create_file(&mut self, name: &str, length: u64) -> io::Result<()>
+    /// Whether two names are of one file that is there, also where it has several names.
+    fn is_same_file(&self, one: &str, other: &str) -> io::Result<bool>;
+
+    /// Puts a file that holds `bytes` in the place of the file of this name, or makes it where there
+    /// is none. Until it is done that file is as it was, and so it is where this fails. What takes
+    /// memory is in that of `alloc`.
+    fn replace_file<A: Allocator>(&mut self, alloc: A, name: &str, bytes: &[u8]) -> io::Result<()>
+        ensures done { OnOk result (IsKnownAs (file self.new name.now) bytes.now) }
+        ensures failed { IfErr result (λ _. KeepsFiles (file self.old) (file self.new)) }
         ensures input { Keeps (input self.old) (input self.new) };
 
     /// Writes all of `bytes` to the file of this name, which is there, from its byte `at` on. Does

@@ -1,40 +1,44 @@
-//! `bootswap provision`: the file of a flash is made, and made a device's.
-ghost use Rattle.std.specs.Prelude.{◌≡◌, ◌+◌, ◌<◌, ◌≤◌, [], IfOk, IfSome, length, slice_get, string_bytes};
-ghost use Rattle.std.specs.Option.{ForSome};
+//! `bootswap provision`: a flash is made and made a device's, and then its file is written.
+ghost use Rattle.std.specs.Prelude.{◌≡◌, ◌+◌, ◌<◌, ◌≤◌, [], IfErr, IfOk, IfSome, OnOk, Ok, length, slice_get, string_bytes};
+ghost use Rattle.std.specs.Io.KnownBytes.{Appends};
 ghost use Rattle.flash_model.specs.Torn.{replaced};
 ghost use Rattle.answers.specs.FlashOf.{IsFlashOf};
-ghost use Rattle.reading_commands.specs.Input.{IsNamed};
+ghost use Rattle.reading_commands.specs.Input.{IsKnownAs, IsNamed, KeepsFiles};
 ghost use Rattle.boot_cli.specs.Inputs.{names_of};
-ghost use Rattle.boot_cli.specs.ProvisionEnd.{AnswersMade, AnswersProvision, EndsMade, ReadsImages, done_text, new_flash};
+ghost use Rattle.boot_cli.specs.ProvisionEnd.{AnswersMade, AnswersProvision, EndsMade, IsOther, ReadsImages, done_text, new_flash};
 
-use crate::host::HostFile;
 use answers::{flash_of, refused_fault_text, write_all};
-use file_flash::{FileFlash, FlashFile};
 use machine::Fault;
 use reading_commands::{Answer, Host, Refusal, Source, read_device};
 use sector_map::{SectorMap, Side};
 use std::alloc::{AllocError, Allocator, Global};
-use std::io::Write;
+use std::io::{ErrorKind, Write};
 use std::marker::Brand;
 use std::sync::ledger::{Blank, Ledger};
 
 /// How making a flash ended.
 #[derive(Clone, Copy)]
 pub enum Made {
-    /// It is a device's.
+    /// It is a device's, and stands in its file.
     Done,
-    /// It is none, for this reason.
+    /// It is none, for this reason, and no file was written.
     Refused(Fault),
-    /// Its file could not be written.
-    FileFailed,
 }
 
-/// Reads a device file and its images from `host`, makes the file of the flash, with each image at
-/// the front of its primary slot, and makes it a device's. Writes to `out` that it is done, or why
-/// it is refused. The flash stands in memory of `alloc`, and so does what the device file is as a
-/// JSON value; all else stands in memory of `heap`.
+/// The name of the file of a flash.
+#[derive(Clone, Copy)]
+pub struct FlashName<'a> {
+    /// As the words of the command have it.
+    pub name: &'a str,
+}
+
+/// Reads a device file and its images from `host`, makes a flash with each image at the front of its
+/// primary slot, makes it a device's, and then makes or replaces its file. Writes to `out` that it
+/// is done, or why it is refused. The flash stands in memory of `alloc`, and so does what the device
+/// file is as a JSON value; all else stands in memory of `heap`.
 ///
-/// The device file and then the images are judged before the file is made.
+/// All is judged before the file is touched, which is none of those that are read. Unless the answer
+/// is `Done`, or can't be written, the file is as it was.
 pub fn perform<'a, A: Allocator, H: Host, O: Write>(
     alloc: Global,
     heap: &A,
@@ -45,23 +49,18 @@ pub fn perform<'a, A: Allocator, H: Host, O: Write>(
     out: &mut O,
 ) -> Result<Answer, Refusal<'a>>
     ensures { IfOk result (λ answer. AnswersProvision answer device.entry (names_of images.now)
-        (H.input host.old) (H.file host.old) (O.contents out.old) (O.contents out.new)) }
+        (H.input host.old) (H.file host.old) (H.file host.new flash.now)
+        (O.contents out.old) (O.contents out.new)) }
 {
-    let Some(device) = read_device(alloc, heap, device, host, out)? else {
+    let source = device;
+    let Some(device) = read_device(alloc, heap, source, host, out)? else {
         return Ok(Answer::Refused);
     };
     let bytes = read_images(alloc, heap, &device.map, images, host)?;
-    make_file(flash, &bytes, host)?;
-    let file = HostFile { host, name: flash };
-    let made = make_device::<Brand, Brand, _>(
-        alloc,
-        Blank::new(2),
-        Blank::new(2),
-        &device.map,
-        bytes,
-        file,
-    );
-    tell_made(heap, made, out)
+    refuse_inputs(host, flash, source, images)?;
+    let (blank, file) = (Blank::new(2), FlashName { name: flash });
+    let made = make_flash::<Brand, _, _>(alloc, heap, blank, &device.map, bytes, file, host);
+    tell_made(heap, made?, out)
 }
 
 /// The bytes of a flash that holds these images, each at the front of its primary slot, and is
@@ -118,51 +117,83 @@ fn put(bytes: &mut Vec<u8>, at: u32, file: &[u8])
     bytes[at..at + file.len()].copy_from_slice(file);
 }
 
-/// Makes a file of these bytes.
-fn make_file<'a, H: Host>(name: &str, bytes: &[u8], host: &mut H) -> Result<(), Refusal<'a>> {
-    match host.create_file(name, bytes.len() as u64) {
-        Ok(()) => {}
-        Err(_) => return Err(Refusal::FlashFile),
+/// Refuses a flash whose file is one of those that are read.
+fn refuse_inputs<'a, H: Host>(
+    host: &H,
+    flash: &str,
+    device: Source<'_>,
+    images: &[&str],
+) -> Result<(), Refusal<'a>>
+    ensures { OnOk result (IsOther flash.now device.entry) }
+{
+    refuse_input(host, flash, device)?;
+    for image in images {
+        refuse_input(host, flash, Source::named(image))?;
     }
-    match host.write_file_at(name, 0, bytes) {
-        Ok(()) => Ok(()),
+    Ok(())
+}
+
+/// Refuses a flash whose file is what is read here, by whatever name.
+fn refuse_input<'a, H: Host>(host: &H, flash: &str, source: Source<'_>) -> Result<(), Refusal<'a>>
+    ensures { OnOk result (IsOther flash.now source.entry) }
+{
+    let Source::File(name) = source else {
+        return Ok(());
+    };
+    if name == flash {
+        return Err(Refusal::FlashIsInput);
+    }
+    match host.is_same_file(name, flash) {
+        Ok(false) => Ok(()),
+        Ok(true) => Err(Refusal::FlashIsInput),
         Err(_) => Err(Refusal::FlashFile),
     }
 }
 
-/// Makes the flash of these bytes a device's, and writes what changes through to its file, which
-/// holds the bytes.
-fn make_device<L: Ledger, M: Ledger, F: FlashFile + Drop>(
+/// Makes the flash of these bytes a device's, and then makes or replaces its file.
+fn make_flash<'a, L: Ledger, A: Allocator, H: Host>(
     alloc: Global,
+    heap: &A,
     blank: Blank,
-    memory_blank: Blank,
     map: &SectorMap,
     bytes: Vec<u8>,
-    file: F,
-) -> Made
+    file: FlashName<'_>,
+    host: &mut H,
+) -> Result<Made, Refusal<'a>>
     requires name { blank.name ≡ L.name }
     requires parts { blank.parts ≡ L.parts }
     requires two { L.parts ≡ 2 }
-    requires memory_name { memory_blank.name ≡ M.name }
-    requires memory_parts { memory_blank.parts ≡ M.parts }
-    requires memory_two { M.parts ≡ 2 }
     requires whole { IsFlashOf map.now bytes.items }
-    requires held { ForSome (F.contents file) (λ all. all ≡ bytes.items) }
-    ensures { EndsMade result map.now bytes.items }
+    ensures made { IfOk result (λ made.
+        EndsMade made map.now bytes.items (H.file host.new file.entry.name.now)) }
+    ensures kept { (result ≡ Ok Made.Done → ⊥) → KeepsFiles (H.file host.old) (H.file host.new) }
 {
-    let memory = flash_of::<M>(alloc, memory_blank, map, bytes);
-    let mut flash = FileFlash::<F, L, M>::over(memory, blank, file);
-    let made = boot_core::provision(&mut flash, map);
-    if flash.has_failed() {
-        return Made::FileFailed;
+    let mut flash = flash_of::<L>(alloc, blank, map, bytes);
+    if let Err(fault) = boot_core::provision(&mut flash, map) {
+        return Ok(Made::Refused(fault));
     }
-    match made {
-        Ok(()) => Made::Done,
-        Err(fault) => Made::Refused(fault),
+    replace(heap, file.name, flash.bytes(), host)?;
+    Ok(Made::Done)
+}
+
+/// Makes or replaces the file of a flash of these bytes.
+fn replace<'a, A: Allocator, H: Host>(
+    heap: &A,
+    name: &str,
+    bytes: &[u8],
+    host: &mut H,
+) -> Result<(), Refusal<'a>>
+    ensures done { OnOk result (IsKnownAs (H.file host.new name.now) bytes.now) }
+    ensures failed { IfErr result (λ _. KeepsFiles (H.file host.old) (H.file host.new)) }
+{
+    match host.replace_file(heap, name, bytes) {
+        Ok(()) => Ok(()),
+        Err(error) if error.kind() == ErrorKind::OutOfMemory => Err(Refusal::NoMemory),
+        Err(_) => Err(Refusal::FlashFile),
     }
 }
 
-/// Writes to `out` what came of making a flash.
+/// Writes to `out` what came of making a flash. Of one that is made it takes no memory to tell.
 fn tell_made<'a, A: Allocator, O: Write>(
     heap: &A,
     made: Made,
@@ -171,23 +202,24 @@ fn tell_made<'a, A: Allocator, O: Write>(
     ensures { IfOk result (λ answer.
         AnswersMade answer made (O.contents out.old) (O.contents out.new)) }
 {
-    let (text, answer) = match made {
-        Made::Done => (done_text(heap), Answer::Done),
-        Made::Refused(fault) => (refused_fault_text(heap, fault), Answer::Refused),
-        Made::FileFailed => return Err(Refusal::FlashFile),
-    };
-    let Ok(text) = text else {
-        return Err(Refusal::NoMemory);
-    };
-    match write_all(out, text.as_bytes()) {
-        Ok(()) => Ok(answer),
-        Err(_) => Err(Refusal::CannotWrite),
+    match made {
+        Made::Done => tell(b"done\n", Answer::Done, out),
+        Made::Refused(fault) => {
+            let Ok(text) = refused_fault_text(heap, fault) else {
+                return Err(Refusal::NoMemory);
+            };
+            tell(text.as_bytes(), Answer::Refused, out)
+        }
     }
 }
 
-/// That a flash is a device's.
-fn done_text<A: Allocator>(heap: &A) -> Result<String<&A>, AllocError>
-    ensures { IfOk result (λ text. string_bytes text ≡ done_text) }
+/// Writes the text of an answer to `out`, and returns the answer.
+fn tell<'a, O: Write>(text: &[u8], answer: Answer, out: &mut O) -> Result<Answer, Refusal<'a>>
+    ensures { IfOk result (λ told. (told ≡ answer)
+        × Appends (O.contents out.old) (O.contents out.new) text.now) }
 {
-    format!(in heap; "done\n")
+    match write_all(out, text) {
+        Ok(()) => Ok(answer),
+        Err(_) => Err(Refusal::CannotWrite),
+    }
 }

@@ -1,6 +1,9 @@
 //! `provision`: what the flash file holds that it makes, and what it refuses before and after.
-use memory_host::samples::{COUNTED_FIVE, NEEDY, RUNNING};
-use memory_host::{Device, FLASH_FILE, Left, Target, expect_run, expect_shown, has, provisioned};
+use linked_list_allocator::LocalHeap;
+use memory_host::samples::{COUNTED_FIVE, DEVICE, RUNNING};
+use memory_host::{
+    AMPLE, Device, FLASH_FILE, Left, TWO_IMAGES, Target, expect_run, expect_shown, has, provisioned,
+};
 use std::process::Abort;
 use std::test::Fail;
 
@@ -84,22 +87,46 @@ run 7 1.0.0+0
     Ok(())
 }
 
-/// Asserts that these images are refused with this error line, and that no file is made.
+/// What stands in a flash file before it is provisioned. It is longer than the flash.
+const BEFORE: [u8; 9000] = [0x5a; 9000];
+
+/// Asserts that `provision` with these words behind its name leaves this status and these outputs,
+/// and makes no file and changes none.
+fn expect_untouched(
+    rt: &(impl Abort + AllocGlobal),
+    words: &[&str],
+    status: u8,
+    out: &str,
+    err: &str,
+) -> Result<(), Fail> {
+    let mut line = Vec::from_slice(rt.alloc(), &["bootswap", "provision"])?;
+    line.extend_from_slice(words)?;
+    for is_there in [false, true] {
+        let mut target = Target::new(rt.alloc(), Device::TwoImages);
+        target.put_flash(&BEFORE)?;
+        target.flash.is_there = is_there;
+        let outcome = target.command(rt.alloc(), line.as_slice(), b"", b"");
+        assert!(rt; outcome.is(status, out, err), "{words:?} {outcome:?}");
+        let flash = &target.flash;
+        assert!(rt;
+            flash.is_there == is_there && flash.writes == 0 && flash.bytes.as_slice() == &BEFORE,
+            "{words:?}"
+        );
+    }
+    Ok(())
+}
+
+/// Asserts that these images are refused with this error line, and that no file is touched.
 fn expect_not_made(
     rt: &(impl Abort + AllocGlobal),
-    device: Device,
+    device: &str,
     images: &[&str],
     refused: &str,
 ) -> Result<(), Fail> {
-    let mut target = Target::new(rt.alloc(), device);
-    let outcome = target.provision(rt.alloc(), images)?;
+    let mut words = Vec::from_slice(rt.alloc(), &[device, FLASH_FILE])?;
+    words.extend_from_slice(images)?;
     let err = format!(in rt.alloc(); "error: {refused}\n")?;
-    assert!(rt; outcome.is(1, "", &err), "{images:?} {outcome:?}");
-    assert!(rt;
-        !target.flash.is_there && target.flash.writes == 0,
-        "{images:?}"
-    );
-    Ok(())
+    expect_untouched(rt, words.as_slice(), 1, "", &err)
 }
 
 #[test]
@@ -117,14 +144,14 @@ fn what_is_wrong_with_images_is_told_before_a_file_is_made(rt: HostRuntime) -> R
         // Whether a file is an image is judged last.
         (["abc", "long.img"].as_slice(), "image 1 too big"),
     ] {
-        expect_not_made(&rt, Device::TwoImages, images, refused)?;
+        expect_not_made(&rt, TWO_IMAGES, images, refused)?;
     }
     let images = ["slot.img", "slot.img"];
-    expect_not_made(&rt, Device::Uneven, &images, "image 1 too big")
+    expect_not_made(&rt, "uneven.json", &images, "image 1 too big")
 }
 
 #[test]
-fn images_that_cannot_run_are_refused_and_stand_in_the_file(rt: HostRuntime) -> Result<(), Fail> {
+fn images_that_cannot_run_are_refused_before_a_file_is_made(rt: HostRuntime) -> Result<(), Fail> {
     for (images, out) in [
         (["abc", "running.img"], "refused boot 5 RunningDamaged 0\n"),
         (["running.img", "abc"], "refused boot 5 RunningDamaged 1\n"),
@@ -135,54 +162,150 @@ fn images_that_cannot_run_are_refused_and_stand_in_the_file(rt: HostRuntime) -> 
         ),
         (["needy.img", "running.img"], "refused boot 6 InvalidSet\n"),
     ] {
-        let mut target = Target::new(rt.alloc(), Device::TwoImages);
-        let outcome = target.provision(rt.alloc(), &images)?;
-        assert!(rt; outcome.is(1, out, ""), "{images:?} {outcome:?}");
-        assert!(rt; target.flash.bytes.len() == 8192, "{images:?}");
+        let words = [TWO_IMAGES, FLASH_FILE, images[0], images[1]];
+        expect_untouched(&rt, &words, 1, out, "")?;
     }
-    let mut target = Target::new(rt.alloc(), Device::TwoImages);
-    let outcome = target.provision(rt.alloc(), &["needy.img", "running.img"])?;
-    assert!(rt; outcome.status == 1, "{outcome:?}");
-    let parts = [(0, NEEDY.as_slice()), (1536, RUNNING.as_slice())];
-    expect_flash(&rt, &target, 8192, &parts)
+    // Bytes that are no image may fill a slot.
+    let words = ["uneven.json", FLASH_FILE, "slot.img", "half-slot.img"];
+    let out = "refused boot 5 RunningDamaged 0\n";
+    expect_untouched(&rt, &words, 1, out, "")
 }
 
 #[test]
 fn a_slot_may_be_full(rt: HostRuntime) -> Result<(), Fail> {
-    let mut target = Target::new(rt.alloc(), Device::Uneven);
-    // Bytes that are no image fill each of the two slots.
-    let outcome = target.provision(rt.alloc(), &["slot.img", "half-slot.img"])?;
-    let out = "refused boot 5 RunningDamaged 0\n";
-    assert!(rt; outcome.is(1, out, ""), "{outcome:?}");
-    assert!(rt; has(&target, 0, &[0x5a; 1024]) && has(&target, 1536, &[0x5a; 512]));
+    // An image, and bytes behind it to the end of its slot.
+    let mut full = [0x5a; 1024];
+    full[..RUNNING.len()].copy_from_slice(&RUNNING);
+    let mut target = Target::new(rt.alloc(), Device::TwoImages);
+    let line = "provision device.json flash.bin running.img script.txt";
+    let outcome = target.line(rt.alloc(), line, &full, b"")?;
+    assert!(rt; outcome.is(0, "done\n", ""), "{outcome:?}");
+    assert!(rt; has(&target, 1536, &full) && has(&target, 0, &RUNNING));
+    Ok(())
+}
+
+/// Commands whose flash file is one that they read, by each of its names, and what they tell.
+const OF_INPUTS: [(&str, &str); 9] = [
+    (
+        "provision flash.bin flash.bin running.img running.img",
+        "flash is an input",
+    ),
+    (
+        "provision link.bin flash.bin running.img running.img",
+        "flash is an input",
+    ),
+    (
+        "provision device.json flash.bin flash.bin running.img",
+        "flash is an input",
+    ),
+    (
+        "provision device.json flash.bin running.img flash.bin",
+        "flash is an input",
+    ),
+    (
+        "provision device.json flash.bin running.img link.bin",
+        "flash is an input",
+    ),
+    (
+        "provision device.json link.bin flash.bin running.img",
+        "flash is an input",
+    ),
+    // What is wrong with the files themselves is told first ..
+    (
+        "provision device.json flash.bin flash.bin absent",
+        "cannot read absent",
+    ),
+    (
+        "provision device.json flash.bin flash.bin long.img",
+        "image 1 too big",
+    ),
+    // .. and whether they are images isn't judged.
+    (
+        "provision device.json flash.bin flash.bin abc",
+        "flash is an input",
+    ),
+];
+
+#[test]
+fn a_flash_file_that_is_an_input_is_refused(rt: HostRuntime) -> Result<(), Fail> {
+    for (line, refused) in OF_INPUTS {
+        let file = if line.starts_with("provision device.json") {
+            RUNNING.as_slice()
+        } else {
+            DEVICE.as_bytes()
+        };
+        let mut target = Target::new(rt.alloc(), Device::TwoImages);
+        target.put_flash(file)?;
+        let outcome = target.line(rt.alloc(), line, b"", b"")?;
+        let err = format!(in rt.alloc(); "error: {refused}\n")?;
+        assert!(rt; outcome.is(1, "", &err), "{line} {outcome:?}");
+        let flash = &target.flash;
+        assert!(rt;
+            flash.writes == 0 && flash.bytes.as_slice() == file,
+            "{line}"
+        );
+    }
+    Ok(())
+}
+
+#[test]
+fn a_flash_file_that_is_not_there_is_no_input(rt: HostRuntime) -> Result<(), Fail> {
+    let mut target = Target::new(rt.alloc(), Device::TwoImages);
+    let line = "provision device.json flash.bin link.bin running.img";
+    let outcome = target.line(rt.alloc(), line, b"", b"")?;
+    let err = "error: cannot read link.bin\n";
+    assert!(rt; outcome.is(1, "", err), "{outcome:?}");
+    Ok(())
+}
+
+#[test]
+fn without_memory_a_flash_file_is_as_it_was(rt: HostRuntime) -> Result<(), Fail> {
+    let words = [
+        "bootswap",
+        "provision",
+        TWO_IMAGES,
+        FLASH_FILE,
+        "running.img",
+        "running.img",
+    ];
+    let mut refused = 0u32;
+    for size in (0..4096).step_by(16) {
+        let mut target = Target::new(rt.alloc(), Device::TwoImages);
+        target.put_flash(&BEFORE)?;
+        let heap = LocalHeap::new(rt.alloc(), size)?;
+        let outcome = target.command_within(rt.alloc(), &heap, &words, b"", b"", AMPLE);
+        let is_same = target.flash.bytes.as_slice() == &BEFORE;
+        let is_refused = outcome.is(1, "", "error: memory\n");
+        assert!(rt; is_refused == is_same, "{size} {outcome:?}");
+        assert!(rt;
+            is_refused || outcome.is(0, "done\n", ""),
+            "{size} {outcome:?}"
+        );
+        refused = refused.saturating_add(u32::from(is_refused));
+    }
+    assert!(rt; 0 < refused && refused < 256, "{refused}");
     Ok(())
 }
 
 #[test]
 fn a_flash_file_that_cannot_be_made_or_written_is_told(rt: HostRuntime) -> Result<(), Fail> {
     let images = ["running.img", "running.img"];
-    let mut target = Target::new(rt.alloc(), Device::TwoImages);
-    target.flash.can_be_made = false;
-    let outcome = target.provision(rt.alloc(), &images)?;
-    assert!(rt; outcome.is(4, "", "error: flash file\n"), "{outcome:?}");
-    target.flash.can_be_made = true;
-    let outcome = target.provision(rt.alloc(), &images)?;
-    assert!(rt; outcome.is(0, "done\n", ""), "{outcome:?}");
-    let writes = target.flash.writes;
-    assert!(rt; writes < 1000, "{writes}");
-    for write in 1..=writes {
-        for left in [Left::Old, Left::Half] {
+    for is_there in [false, true] {
+        for (can_be_made, failing) in [(false, None), (true, Some((1, Left::Half)))] {
             let mut target = Target::new(rt.alloc(), Device::TwoImages);
-            target.flash.failing = Some((write, left));
+            target.put_flash(&BEFORE)?;
+            target.flash.is_there = is_there;
+            target.flash.can_be_made = can_be_made;
+            target.flash.failing = failing;
             let outcome = target.provision(rt.alloc(), &images)?;
-            assert!(rt;
-                outcome.is(4, "", "error: flash file\n"),
-                "{write} {outcome:?}"
-            );
-            assert!(rt; target.flash.writes == write && target.flash.bytes.len() == 8192);
+            assert!(rt; outcome.is(4, "", "error: flash file\n"), "{outcome:?}");
+            assert!(rt; target.flash.is_there == is_there);
+            assert!(rt; target.flash.bytes.as_slice() == &BEFORE);
+            target.flash.can_be_made = true;
             target.flash.failing = None;
             let outcome = target.provision(rt.alloc(), &images)?;
-            assert!(rt; outcome.is(0, "done\n", ""), "{write} {outcome:?}");
+            assert!(rt; outcome.is(0, "done\n", ""), "{outcome:?}");
+            assert!(rt; target.flash.bytes.len() == 8192);
         }
     }
     Ok(())

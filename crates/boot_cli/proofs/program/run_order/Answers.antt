@@ -7,5 +7,6 @@ returns g c = λ zero.
     let done = c.finish.ensures.status zero in
     let answered = rw done at c.perform.ensures in
     AnswersOrder-kept c.args.order (g.H.Host.input c.args.host.now) (g.H.Host.file c.args.host.now)
+    (g.H.Host.file c.perform.new.host)
     (g.O.Write.contents c.args.out.now) (g.O.Write.contents c.perform.new.out) (g.O.Write.contents c.finish.new.out)
     answered c.finish.ensures.kept

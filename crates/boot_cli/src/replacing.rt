@@ -1,0 +1,124 @@
+//! A file that is replaced whole: what it held stays until all that it is to hold is on the disk.
+
+use std::alloc::{AllocError, Allocator};
+use std::fs::{File, Metadata, OpenFile, OpenOptions, Permissions};
+use std::io::{ErrorKind, Write};
+use std::os::unix::fs::MetadataExt;
+use std::path::PathBuf;
+use std::rt::Files;
+use std::{fs, io};
+
+/// How many names are tried for the new file. A name is taken where a run before was killed, and
+/// left its own.
+const MOST_NAMES: u32 = 100;
+
+/// Whether two names are of one file that is there: each is looked up as far as symbolic links lead,
+/// and names of one file have its number in common.
+pub fn is_same_file<R: Files>(runtime: &R, one: &str, other: &str) -> io::Result<bool> {
+    match (found(runtime, one)?, found(runtime, other)?) {
+        (Some(one), Some(other)) => Ok(one.dev() == other.dev() && one.ino() == other.ino()),
+        _ => Ok(false),
+    }
+}
+
+/// What the system says of the file of this name, if there is one.
+fn found<R: Files>(runtime: &R, name: &str) -> io::Result<Option<Metadata>> {
+    match fs::metadata(runtime, name) {
+        Ok(metadata) => Ok(Some(metadata)),
+        Err(error) if error.kind() == ErrorKind::NotFound => Ok(None),
+        Err(error) => Err(error),
+    }
+}
+
+/// Puts a file of these bytes in the place of the file of this name, or makes it where there is
+/// none.
+///
+/// The bytes are written to a new file in the same folder, which takes the name once they are on the
+/// disk. Where that fails the new file is removed. A file that is replaced has to be a plain one
+/// that can be written, and its permissions stay; a symbolic link to it stays too, and one that
+/// leads nowhere is refused.
+pub fn replace_file<R: Files, A: Allocator>(
+    runtime: &R,
+    alloc: &A,
+    name: &str,
+    bytes: &[u8],
+) -> io::Result<()> {
+    match found(runtime, name)? {
+        Some(old) => {
+            if !old.is_file() {
+                return Err(io::Error::from(ErrorKind::InvalidInput));
+            }
+            OpenOptions::new().write(true).open(runtime, name)?;
+            let path = runtime.canonicalize(alloc, name)?;
+            put_file(
+                runtime,
+                alloc,
+                path.as_str(),
+                Some(old.permissions()),
+                bytes,
+            )
+        }
+        None => {
+            if fs::symlink_metadata(runtime, name).is_ok() {
+                return Err(io::Error::from(ErrorKind::NotFound));
+            }
+            put_file(runtime, alloc, name, None, bytes)
+        }
+    }
+}
+
+/// Writes a new file of these bytes and has it take this name. It has these permissions, or else
+/// those of any new file.
+fn put_file<R: Files, A: Allocator>(
+    runtime: &R,
+    alloc: &A,
+    name: &str,
+    permissions: Option<Permissions>,
+    bytes: &[u8],
+) -> io::Result<()> {
+    let (file, new) = new_file(runtime, alloc, name)?;
+    let put = match fill(file, permissions, bytes) {
+        Ok(()) => fs::rename(runtime, new.as_str(), name),
+        Err(error) => Err(error),
+    };
+    if put.is_err() {
+        // Nothing can be done where the new file can't be removed either.
+        let _ = fs::remove_file(runtime, new.as_str());
+    }
+    put
+}
+
+/// An empty file that was not there, beside the one of this name, and its own name.
+fn new_file<'a, R: Files, A: Allocator>(
+    runtime: &R,
+    alloc: &'a A,
+    name: &str,
+) -> io::Result<(R::File, String<&'a A>)> {
+    for number in 0..MOST_NAMES {
+        let new = format!(in alloc; "{name}.new-{number}")?;
+        let made = OpenOptions::new()
+            .write(true)
+            .create_new(true)
+            .open(runtime, new.as_str());
+        match made {
+            Ok(file) => return Ok((file, new)),
+            Err(error) if error.kind() == ErrorKind::AlreadyExists => {}
+            Err(error) => return Err(error),
+        }
+    }
+    Err(io::Error::from(ErrorKind::AlreadyExists))
+}
+
+/// Gives a new file its permissions and its bytes, and closes it once they are on the disk.
+fn fill<F: OpenFile + Write + Drop>(
+    file: F,
+    permissions: Option<Permissions>,
+    bytes: &[u8],
+) -> io::Result<()> {
+    let mut file = file;
+    if let Some(permissions) = permissions {
+        file.set_permissions(permissions)?;
+    }
+    file.write_all(bytes)?;
+    file.sync_all()
+}
