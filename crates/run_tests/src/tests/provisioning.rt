@@ -90,85 +90,93 @@ run 7 1.0.0+0
 /// What stands in a flash file before it is provisioned. It is longer than the flash.
 const BEFORE: [u8; 9000] = [0x5a; 9000];
 
-/// Asserts that `provision` with these words behind its name leaves this status and these outputs,
-/// and makes no file and changes none.
+/// Asserts that this line leaves this status and these outputs, and makes no file and changes none.
 fn expect_untouched(
     rt: &(impl Abort + AllocGlobal),
-    words: &[&str],
+    line: &str,
     status: u8,
     out: &str,
     err: &str,
 ) -> Result<(), Fail> {
-    let mut line = Vec::from_slice(rt.alloc(), &["bootswap", "provision"])?;
-    line.extend_from_slice(words)?;
     for is_there in [false, true] {
         let mut target = Target::new(rt.alloc(), Device::TwoImages);
         target.put_flash(&BEFORE)?;
         target.flash.is_there = is_there;
-        let outcome = target.command(rt.alloc(), line.as_slice(), b"", b"");
-        assert!(rt; outcome.is(status, out, err), "{words:?} {outcome:?}");
+        let outcome = target.line(rt.alloc(), line, b"", b"")?;
+        assert!(rt; outcome.is(status, out, err), "{line} {outcome:?}");
         let flash = &target.flash;
-        assert!(rt;
-            flash.is_there == is_there && flash.writes == 0 && flash.bytes.as_slice() == &BEFORE,
-            "{words:?}"
-        );
+        assert!(rt; flash.is_there == is_there && flash.writes == 0, "{line}");
+        assert!(rt; flash.bytes.as_slice() == BEFORE.as_slice(), "{line}");
     }
     Ok(())
 }
 
-/// Asserts that these images are refused with this error line, and that no file is touched.
-fn expect_not_made(
-    rt: &(impl Abort + AllocGlobal),
-    device: &str,
-    images: &[&str],
-    refused: &str,
-) -> Result<(), Fail> {
-    let mut words = Vec::from_slice(rt.alloc(), &[device, FLASH_FILE])?;
-    words.extend_from_slice(images)?;
-    let err = format!(in rt.alloc(); "error: {refused}\n")?;
-    expect_untouched(rt, words.as_slice(), 1, "", &err)
-}
-
 #[test]
 fn what_is_wrong_with_images_is_told_before_a_file_is_made(rt: HostRuntime) -> Result<(), Fail> {
-    for (images, refused) in [
-        (["running.img"].as_slice(), "image count"),
-        (["running.img"; 3].as_slice(), "image count"),
-        (["absent"; 3].as_slice(), "image count"),
-        (["absent", "missing"].as_slice(), "cannot read absent"),
-        (["running.img", "missing"].as_slice(), "cannot read missing"),
-        (["long.img", "absent"].as_slice(), "image 0 too big"),
-        (["absent", "long.img"].as_slice(), "cannot read absent"),
-        (["running.img", "long.img"].as_slice(), "image 1 too big"),
-        (["long.img", "long.img"].as_slice(), "image 0 too big"),
+    for (words, refused) in [
+        ("device.json flash.bin running.img", "image count"),
+        (
+            "device.json flash.bin running.img running.img running.img",
+            "image count",
+        ),
+        ("device.json flash.bin absent absent absent", "image count"),
+        ("device.json flash.bin absent missing", "cannot read absent"),
+        (
+            "device.json flash.bin running.img missing",
+            "cannot read missing",
+        ),
+        ("device.json flash.bin long.img absent", "image 0 too big"),
+        (
+            "device.json flash.bin absent long.img",
+            "cannot read absent",
+        ),
+        (
+            "device.json flash.bin running.img long.img",
+            "image 1 too big",
+        ),
+        ("device.json flash.bin long.img long.img", "image 0 too big"),
         // Whether a file is an image is judged last.
-        (["abc", "long.img"].as_slice(), "image 1 too big"),
+        ("device.json flash.bin abc long.img", "image 1 too big"),
+        ("uneven.json flash.bin slot.img slot.img", "image 1 too big"),
     ] {
-        expect_not_made(&rt, TWO_IMAGES, images, refused)?;
+        let line = format!(in rt.alloc(); "provision {words}")?;
+        let err = format!(in rt.alloc(); "error: {refused}\n")?;
+        expect_untouched(&rt, &line, 1, "", &err)?;
     }
-    let images = ["slot.img", "slot.img"];
-    expect_not_made(&rt, "uneven.json", &images, "image 1 too big")
+    Ok(())
 }
 
 #[test]
 fn images_that_cannot_run_are_refused_before_a_file_is_made(rt: HostRuntime) -> Result<(), Fail> {
-    for (images, out) in [
-        (["abc", "running.img"], "refused boot 5 RunningDamaged 0\n"),
-        (["running.img", "abc"], "refused boot 5 RunningDamaged 1\n"),
-        (["abc", "slot.img"], "refused boot 5 RunningDamaged 0\n"),
+    for (words, fault) in [
         (
-            ["slot.img", "needy.img"],
-            "refused boot 5 RunningDamaged 0\n",
+            "device.json flash.bin abc running.img",
+            "5 RunningDamaged 0",
         ),
-        (["needy.img", "running.img"], "refused boot 6 InvalidSet\n"),
+        (
+            "device.json flash.bin running.img abc",
+            "5 RunningDamaged 1",
+        ),
+        ("device.json flash.bin abc slot.img", "5 RunningDamaged 0"),
+        (
+            "device.json flash.bin slot.img needy.img",
+            "5 RunningDamaged 0",
+        ),
+        (
+            "device.json flash.bin needy.img running.img",
+            "6 InvalidSet",
+        ),
+        // Bytes that are no image may fill a slot.
+        (
+            "uneven.json flash.bin slot.img half-slot.img",
+            "5 RunningDamaged 0",
+        ),
     ] {
-        let words = [TWO_IMAGES, FLASH_FILE, images[0], images[1]];
-        expect_untouched(&rt, &words, 1, out, "")?;
+        let line = format!(in rt.alloc(); "provision {words}")?;
+        let out = format!(in rt.alloc(); "refused boot {fault}\n")?;
+        expect_untouched(&rt, &line, 1, &out, "")?;
     }
-    // Bytes that are no image may fill a slot.
-    let words = ["uneven.json", FLASH_FILE, "slot.img", "half-slot.img"];
-    let out = "refused boot 5 RunningDamaged 0\n";
-    expect_untouched(&rt, &words, 1, out, "")
+    Ok(())
 }
 
 #[test]
@@ -274,7 +282,7 @@ fn without_memory_a_flash_file_is_as_it_was(rt: HostRuntime) -> Result<(), Fail>
         target.put_flash(&BEFORE)?;
         let heap = LocalHeap::new(rt.alloc(), size)?;
         let outcome = target.command_within(rt.alloc(), &heap, &words, b"", b"", AMPLE);
-        let is_same = target.flash.bytes.as_slice() == &BEFORE;
+        let is_same = target.flash.bytes.as_slice() == BEFORE.as_slice();
         let is_refused = outcome.is(1, "", "error: memory\n");
         assert!(rt; is_refused == is_same, "{size} {outcome:?}");
         assert!(rt;
@@ -300,7 +308,7 @@ fn a_flash_file_that_cannot_be_made_or_written_is_told(rt: HostRuntime) -> Resul
             let outcome = target.provision(rt.alloc(), &images)?;
             assert!(rt; outcome.is(4, "", "error: flash file\n"), "{outcome:?}");
             assert!(rt; target.flash.is_there == is_there);
-            assert!(rt; target.flash.bytes.as_slice() == &BEFORE);
+            assert!(rt; target.flash.bytes.as_slice() == BEFORE.as_slice());
             target.flash.can_be_made = true;
             target.flash.failing = None;
             let outcome = target.provision(rt.alloc(), &images)?;
