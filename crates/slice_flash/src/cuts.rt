@@ -1,0 +1,60 @@
+//! The writes that are to be cut, and what they leave.
+
+ghost use Rattle.std.specs.Prelude.{◌≡◌, option_copied};
+ghost use Rattle.slice_flash.specs.SliceFlash.{left_for, left_bytes};
+ghost use Rattle.flash_model.specs.Torn.{with_pattern};
+
+/// What a cut leaves in its range.
+#[derive(Clone, Copy)]
+pub enum Left<'a> {
+    /// What was there before.
+    Keep,
+    /// What the write was to leave.
+    Done,
+    /// These bytes over the range, again and again from its first byte on. No bytes at all are
+    /// `Keep`.
+    Bytes(&'a [u8]),
+}
+
+/// A write that is to be cut.
+#[derive(Clone, Copy)]
+pub struct Cut<'a> {
+    /// Its number, counted from the making of the flash, from 1.
+    pub write: u64,
+    /// What the cut leaves.
+    pub left: Left<'a>,
+}
+
+/// What the cut of write `number` leaves, where that write is to be cut: the first row counts.
+pub(crate) fn left_for<'a>(table: &[Cut<'a>], number: u64) -> Option<Left<'a>>
+    ensures { result ≡ left_for number table.now }
+{
+    table
+        .iter()
+        .find(|cut| cut.write == number)
+        .map(|cut| cut.left)
+}
+
+/// Puts a pattern over the bytes, again and again from the first one on.
+#[tactic(auto, using(flash_model::proofs::TornBytes::with_pattern_none, flash_model::proofs::TornBytes::with_pattern_each))]
+fn repeat(bytes: &mut [u8], pattern: &[u8])
+    ensures { bytes.new ≡ with_pattern pattern.now bytes.old }
+{
+    if pattern.is_empty() {
+        return;
+    }
+    for i in 0..bytes.len() {
+        bytes[i] = pattern[i % pattern.len()];
+    }
+}
+
+/// Leaves in a range what a write leaves that was to put a pattern over it.
+pub(crate) fn write_over(range: &mut [u8], pattern: &[u8], cut: Option<Left<'_>>)
+    ensures { range.new ≡ left_bytes cut.entry pattern.now range.old }
+{
+    match cut {
+        None | Some(Left::Done) => repeat(range, pattern),
+        Some(Left::Keep) => {}
+        Some(Left::Bytes(torn)) => repeat(range, torn),
+    }
+}
