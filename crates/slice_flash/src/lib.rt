@@ -1,9 +1,9 @@
 //! A flash over bytes that somebody else lends.
 #![tactic(auto)]
 
-mod cuts;
 mod flash;
+mod table;
 mod uses;
 
-pub use cuts::{Cut, Left};
 pub use flash::SliceFlash;
+pub use table::{Cut, Left};

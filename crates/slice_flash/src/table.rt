@@ -1,8 +1,8 @@
-//! The writes that are to be cut, and what they leave.
+//! Which writes are to be cut, and what a write leaves of its range.
 
-ghost use Rattle.std.specs.Prelude.{◌≡◌, option_copied};
-ghost use Rattle.slice_flash.specs.SliceFlash.{left_for, left_bytes};
+ghost use Rattle.std.specs.Prelude.{◌≡◌};
 ghost use Rattle.flash_model.specs.Torn.{with_pattern};
+ghost use Rattle.slice_flash.specs.SliceFlash.{left_for, written};
 
 /// What a cut leaves in its range.
 #[derive(Clone, Copy)]
@@ -35,26 +35,15 @@ pub(crate) fn left_for<'a>(table: &[Cut<'a>], number: u64) -> Option<Left<'a>>
         .map(|cut| cut.left)
 }
 
-/// Puts a pattern over the bytes, again and again from the first one on.
+/// Puts a pattern over a range, again and again from its first byte on.
 #[tactic(auto, using(flash_model::proofs::TornBytes::with_pattern_none, flash_model::proofs::TornBytes::with_pattern_each))]
-fn repeat(bytes: &mut [u8], pattern: &[u8])
-    ensures { bytes.new ≡ with_pattern pattern.now bytes.old }
+pub(crate) fn repeat(range: &mut [u8], pattern: &[u8])
+    ensures { range.new ≡ with_pattern pattern.now range.old }
 {
     if pattern.is_empty() {
         return;
     }
-    for i in 0..bytes.len() {
-        bytes[i] = pattern[i % pattern.len()];
-    }
-}
-
-/// Leaves in a range what a write leaves that was to put a pattern over it.
-pub(crate) fn write_over(range: &mut [u8], pattern: &[u8], cut: Option<Left<'_>>)
-    ensures { range.new ≡ left_bytes cut.entry pattern.now range.old }
-{
-    match cut {
-        None | Some(Left::Done) => repeat(range, pattern),
-        Some(Left::Keep) => {}
-        Some(Left::Bytes(torn)) => repeat(range, torn),
+    for i in 0..range.len() {
+        range[i] = pattern[i % pattern.len()];
     }
 }

@@ -1,0 +1,105 @@
+-- Ranges that a pattern fills, and erases by way of the writes that they are.
+use Rattle.std.proofs.Common.{◌≡◌, ℕ, ◌+◌, ◌-◌, ◌*◌, ◌%◌, ◌<◌, ◌≤◌, List, [], ◌∷◌, length, replicate, slice_index, slice_range}
+use Rattle.std.proofs.Common.{Result, Ok, Err, refl, sym, ◌∙◌, ap, subst, arith}
+use Rattle.std.specs.Result.{is_ok}
+use Rattle.std.proofs.Math.Nat.{mod-eq_of_lt}
+use Rattle.std.proofs.lemmas.Bool.{false≢true}
+use Rattle.std.proofs.lemmas.List.{get_or-replicate, length-replicate}
+use Rattle.flash_model.specs.declared.error.FlashError.{FlashError}
+use Rattle.flash_model.specs.Chip.{Chip, SameOutside}
+use Rattle.flash_model.specs.Calls.{Erases, Programs}
+use Rattle.flash_model.specs.Torn.{with_pattern}
+use Rattle.flash_model.proofs.Frame.{product_le}
+use Rattle.flash_model.proofs.Ranges.{length_range}
+use Rattle.flash_model.proofs.TornBytes.{with_pattern_each}
+use Rattle.slice_flash.specs.SliceFlash.{Slice, Writes, done, erased}
+
+-- A pattern as long as the range.
+pub pattern_once : (pattern old : List ℕ) → length pattern ≡ length old → pattern ≡ with_pattern pattern old
+pattern_once [] [] same = refl
+pattern_once [] (o ∷ os) same = absurd (omega (arith, same))
+pattern_once (b ∷ bs) old same = with_pattern_each (b ∷ bs) old (b ∷ bs) (omega arith) same (λ k below.
+    let within : k < length (b ∷ bs) = omega (arith, below, same) in
+    ap (λ i. slice_index (b ∷ bs) i) (sym (mod-eq_of_lt within)))
+
+-- A pattern of one byte.
+pub pattern_of_one : (b n : ℕ) (old : List ℕ) → length old ≡ n → replicate n b ≡ with_pattern (b ∷ []) old
+pattern_of_one b n old long =
+    let all : List ℕ = replicate n b in
+    with_pattern_each (b ∷ []) old all (omega arith) (length-replicate {A = ℕ} n b ∙ sym long) (λ k below.
+    let place : 0 ≡ k % length (b ∷ []) = omega arith in
+    get_or-replicate n k b 0 (omega (arith, below, long)) ∙ ap (λ i. slice_index (b ∷ []) i) place)
+
+-- The pattern of an erase.
+pub blank_pattern : (sector sectors n : ℕ) (bytes : List ℕ) → sector < sectors → length bytes ≡ sectors * n
+    → replicate n 255 ≡ with_pattern (255 ∷ []) (slice_range bytes (sector * n) (sector * n + n))
+blank_pattern sector sectors n bytes below whole =
+    let long = length_range bytes (sector * n) (sector * n + n) in
+    pattern_of_one 255 n _ (long ∙ omega (arith, whole, product_le sector sectors n below))
+
+-- An erase that was done, which is counted behind the write that it is, ..
+pub erase_done : (sector m : ℕ) (old new : Chip) → m ≡ new.erases + 1
+    → Programs (sector * old.sector_size) (replicate old.sector_size 255) old new {T = Unit {0}} (Ok tt)
+    → Erases sector old (record new { erases = m }) {T = Unit {0}} (Ok tt)
+erase_done sector m old new counted write =
+    let outside = write.outside in
+    let long : length {A = ℕ} (replicate old.sector_size 255) ≡ old.sector_size = length-replicate {A = ℕ} old.sector_size 255 in
+    record {
+      outside = record {
+        sector_size = outside.sector_size;
+        sectors = outside.sectors;
+        fixed = outside.fixed;
+        size = outside.size;
+        before = outside.before;
+        after = λ k high. outside.after k (omega (arith, high, long));
+      };
+      ok = record {
+        each = λ k low high.
+            write.ok.each k (k - sector * old.sector_size) (omega arith) (omega (arith, long))
+            ∙ get_or-replicate old.sector_size (k - sector * old.sector_size) 255 0 (omega arith);
+      };
+      on = write.on;
+      erases = counted ∙ ap (λ e. e + 1) write.erases;
+      uncounted = tt;
+      ends = record {
+        asleep = λ off. absurd (false≢true (sym off ∙ write.on));
+        uncut = record { on = write.ends.uncut.on; cuts = write.ends.uncut.cuts };
+        cut = λ is. absurd (false≢true (sym (ap is_ok is)));
+        off = λ is. absurd (false≢true (sym (ap is_ok is)));
+      };
+    }
+
+-- .. or was cut or refused.
+pub erase_failed : (sector : ℕ) (error : FlashError) (old new : Chip)
+    → Programs (sector * old.sector_size) (replicate old.sector_size 255) old new {T = Unit {0}} (Err error)
+    → Erases sector old new {T = Unit {0}} (Err error)
+erase_failed sector error old new write = record {
+  outside = subst (λ m. SameOutside (sector * old.sector_size) m old new)
+      (length-replicate {A = ℕ} old.sector_size 255) write.outside;
+  ok = tt;
+  on = tt;
+  erases = tt;
+  uncounted = write.erases;
+  ends = write.ends;
+}
+
+-- An erase that was done ..
+pub told_done : (at : ℕ) (range : List ℕ) (old mid new : Slice)
+    → Writes (Ok tt) at range (done at range old) old mid
+    → new ≡ record mid { chip = record (mid.chip) { erases = mid.chip.erases + 1 } }
+    → Writes (Ok tt) at range (erased at range old) old new
+told_done at range old mid new write counted = record {
+  off = λ off. absurd (false≢true (sym (ap is_ok (write.off off).0)));
+  on = λ on none. (refl, counted ∙ ap (λ (s : Slice). record s { chip = record (s.chip) { erases = s.chip.erases + 1 } }) (write.on on none).1);
+  cut = λ left on some. absurd (false≢true (sym (ap is_ok (write.cut left on some).0)));
+}
+
+-- .. or wasn't, by the table.
+pub told_failed : (at : ℕ) (range : List ℕ) (error : FlashError) (old new : Slice)
+    → Writes (Err error) at range (done at range old) old new
+    → Writes (Err error) at range (erased at range old) old new
+told_failed at range error old new write = record {
+  off = write.off;
+  on = λ on none. absurd (false≢true (write.on on none).0);
+  cut = write.cut;
+}
