@@ -1,16 +1,18 @@
 -- A flash over lent bytes: what a contract sees of it, and what a write of it leaves.
 use Rattle.std.specs.Prelude.{◌≡◌, ℕ, ◌+◌, ◌-◌, ◌*◌, ◌/◌, ◌^◌, ◌==◌, List, true, false, length, nat_lt}
-use Rattle.std.specs.Prelude.{Option, Some, None, option_map, find, if◌then◌else◌, replicate, slice_range, Result, IsOk, IsErrOf}
+use Rattle.std.specs.Prelude.{Option, Some, None, option_map, find, if◌then◌else◌, replicate, slice_range}
+use Rattle.std.specs.Prelude.{Result, IsOk, IsErrOf}
 use Rattle.std.specs.Borrow.{MutBor}
 use Rattle.flash_model.specs.declared.error.FlashError.{FlashError}
 use Rattle.flash_model.specs.declared.error.FlashError.TheVariants.{Cut, Off}
+use Rattle.flash_model.specs.Calls.{Programs}
 use Rattle.flash_model.specs.Chip.{Chip, unarmed}
 use Rattle.flash_model.specs.Memory.{new_chip, one_more}
 use Rattle.flash_model.specs.Torn.{replaced, with_pattern}
+use Rattle.slice_flash.specs.declared.flash.SliceFlash.{SliceFlash}
 use Rattle.slice_flash.specs.declared.table.Cut as row
 use Rattle.slice_flash.specs.declared.table.Left.{Left}
 use Rattle.slice_flash.specs.declared.table.Left.TheVariants.{Keep, Done, Bytes}
-use Rattle.slice_flash.specs.declared.flash.SliceFlash.{SliceFlash}
 
 -- A flash over lent bytes: the flash itself, how many programs and erases it took (up to
 -- 2 ^ 64 - 1), and which of them are to be cut.
@@ -19,7 +21,7 @@ pub record Slice : Type 0 where
   pub writes : ℕ
   pub table : List row.Cut
 
--- The flash itself. The name of the borrow tells that it is over the same bytes still.
+-- The flash itself. By the name of the borrow it is over the same bytes for as long as it lasts.
 abbrev pub chip_of : {L : Type 0} → SliceFlash L → Chip
 chip_of flash = record {
   sector_size = flash.sector_size;
@@ -35,7 +37,7 @@ chip_of flash = record {
 abbrev pub slice_of : {L : Type 0} → SliceFlash L → Slice
 slice_of flash = record { chip = chip_of flash; writes = flash.writes; table = flash.table.now }
 
--- A flash over these bytes that was just made.
+-- A flash that was just made over these bytes, in sectors of this size.
 abbrev pub new_slice : ℕ → MutBor (List ℕ) → List row.Cut → Slice
 new_slice size lent table = record {
   chip = record (new_chip size (length lent.now / size) lent.now) {
@@ -49,27 +51,21 @@ new_slice size lent table = record {
 abbrev pub left_for : ℕ → List row.Cut → Option Left
 left_for number table = option_map (λ cut. cut.left) (find (λ cut. cut.write == number) table)
 
--- What the cut of the next write leaves, where it is to be cut. Counting stops at 2 ^ 64 - 1, and no
--- write behind that is cut.
+-- What the cut of the next write leaves, where it is to be cut. Numbers end at 2 ^ 64 - 1, and no
+-- write behind that one is cut.
 abbrev pub next_left : Slice → Option Left
 next_left slice =
     if nat_lt slice.writes (2 ^ 64 - 1) then left_for (slice.writes + 1) slice.table else None
 
--- After one more write was counted.
+-- With one write more.
 abbrev pub counted : Slice → Slice
 counted old = record old { writes = one_more old.writes }
 
--- What a write leaves of a range, which is to have these bytes, or the cut of it.
-abbrev pub written : Option Left → List ℕ → List ℕ → List ℕ
-written None done old = done
-written (Some Keep) done old = old
-written (Some Done) done old = done
-written (Some (Bytes pattern)) done old = with_pattern pattern.now old
-
--- All bytes after a write of these at an address, or the cut of it.
-abbrev pub written_at : ℕ → List ℕ → Option Left → List ℕ → List ℕ
-written_at at done cut bytes =
-    replaced at (written cut done (slice_range bytes at (at + length done))) bytes
+-- What a cut leaves in a range, of the bytes that it had and those that it was to have.
+abbrev pub torn_bytes : Left → List ℕ → List ℕ → List ℕ
+torn_bytes Keep old done = old
+torn_bytes Done old done = done
+torn_bytes (Bytes pattern) old done = with_pattern pattern.now old
 
 -- After a write of these bytes that was done, ..
 abbrev pub done : ℕ → List ℕ → Slice → Slice
@@ -78,7 +74,7 @@ done at range old = record old {
   writes = one_more old.writes;
 }
 
--- .. after an erase that was done, which is counted, ..
+-- .. after an erase that was done, ..
 abbrev pub erased : ℕ → List ℕ → Slice → Slice
 erased at range old =
     let after = done at range old in
@@ -86,17 +82,19 @@ erased at range old =
 
 -- .. and after a write that was cut.
 abbrev pub torn : ℕ → List ℕ → Left → Slice → Slice
-torn at range left old = record old {
-  chip = record (old.chip) {
-    bytes = written_at at range (Some left) old.chip.bytes;
-    is_on = false;
-    cuts = old.chip.cuts + 1;
-  };
-  writes = one_more old.writes;
-}
+torn at range left old =
+    let before = slice_range old.chip.bytes at (at + length range) in
+    record old {
+      chip = record (old.chip) {
+        bytes = replaced at (torn_bytes left before range) old.chip.bytes;
+        is_on = false;
+        cuts = old.chip.cuts + 1;
+      };
+      writes = one_more old.writes;
+    }
 
--- A write ends as the table says. A flash that is off refuses it, and doesn't count it; one that
--- isn't in the table is done; one that is is cut, and leaves what stands there.
+-- A write of these bytes ends as the table says. A flash that is off refuses it, and doesn't count
+-- it; one that isn't in the table is done; one that is in it is cut, and leaves what stands there.
 pub record Writes (result : Result Unit FlashError) (at : ℕ) (range : List ℕ) (done old new : Slice)
     : Type 0 where
   pub off : old.chip.is_on ≡ false → IsErrOf result Off × (new ≡ old)
@@ -114,3 +112,13 @@ ErasesAsTold sector old new result =
     let at = sector * old.chip.sector_size in
     let blank = replicate old.chip.sector_size 0xff in
     Writes result at blank (erased at blank old) old new
+
+-- A call puts a pattern over so many bytes, as a write of the bytes that it gives there.
+pub record Puts (at n : ℕ) (pattern : List ℕ) (old new : Slice) (result : Result Unit FlashError)
+    : Type 0 where
+  pub chip : (range : List ℕ) → length range ≡ n
+      → range ≡ with_pattern pattern (slice_range old.chip.bytes at (at + n))
+      → Programs at range old.chip new.chip result
+  pub slice : (range : List ℕ) → length range ≡ n
+      → range ≡ with_pattern pattern (slice_range old.chip.bytes at (at + n))
+      → Writes result at range (done at range old) old new

@@ -1,22 +1,38 @@
 //! A flash over bytes that somebody else lends.
 
-ghost use Rattle.std.specs.Prelude.{◌≡◌, ◌+◌, ◌*◌, ◌%◌, ◌^◌, ◌<◌, ◌≤◌, ℕ, List, length, slice_index, slice_range};
-ghost use Rattle.flash_model.specs.Calls.{Programs};
-ghost use Rattle.flash_model.specs.Torn.{with_pattern};
+ghost use Rattle.std.specs.Prelude.{◌≡◌, ◌+◌, ◌*◌, ◌%◌, ◌^◌, ◌<◌, ◌≤◌, ℕ, length, slice_index, slice_range};
 
 use crate::table::{Cut, Left, left_for, repeat};
 use flash_model::{Flash, FlashError};
 use std::sync::ledger::{Blank, Book, Ledger, Share};
 
-fn copy(bytes: &mut [u8], at: usize, out: &mut [u8])
-    requires { at + length out.old ≤ length bytes.old }
-    ensures same { bytes.new ≡ bytes.old }
-    ensures read { out.new ≡ slice_range bytes.old at (at + length out.old) }
-{
-    out.copy_from_slice(&bytes[at..at + out.len()]);
-}
-
-/// A flash over bytes that somebody else lends.
+/// A flash over bytes that somebody else lends, of which any write can be cut.
+///
+/// A *write* is a program or an erase. The k-th one, counted from the making of the flash, from 1,
+/// is cut where the table has a row for it, and the first such row counts: it answers `Cut`, leaves
+/// in its range exactly what the row says and all else as it was, and the flash is off until
+/// `restart`. No other write is cut. A write that a flash refuses since it is off isn't counted.
+///
+/// No call allocates. Once the flash is dropped, the bytes lent are those of the flash.
+///
+/// Contracts see it as a `Slice` (`slice_of`): the chip, the number of writes, and the table. It is
+/// made in a function that is generic in the ledger, as a `MemFlash` is, whose page says what the
+/// caller of that function writes:
+///
+/// ```text
+/// fn helper<L: Ledger>(blank: Blank, bytes: &mut [u8])
+///     requires name { blank.name ≡ L.name }
+///     requires parts { blank.parts ≡ L.parts }
+///     requires two { L.parts ≡ 2 }
+///     requires whole { length bytes.old ≡ 8192 }
+/// {
+///     let table = [Cut { write: 3, left: Left::Bytes(&[0x5a, 0xa5]) }];
+///     let mut flash = SliceFlash::<L>::new(blank, bytes, 512, &table);
+///     ..
+/// }
+///
+/// helper::<Brand>(Blank::new(2), &mut bytes);
+/// ```
 pub struct SliceFlash<'a, 'b, L: Ledger> {
     bytes: &'a mut [u8],
     sector_size: u32,
@@ -34,9 +50,45 @@ pub struct SliceFlash<'a, 'b, L: Ledger> {
     ghost counts_erases: { 0 < erases.parts },
 }
 
-impl<'a, 'b, L: Ledger> SliceFlash<'a, 'b, L> {
-    ghost use Rattle.slice_flash.specs.SliceFlash.{chip_of, slice_of, new_slice, next_left, counted, done, Writes};
+// Written out for its clause, by which the lender knows the bytes again: a derived `drop` of a
+// struct that owns more than the borrow tells nothing of it.
+impl<'a, 'b, L: Ledger> Drop for SliceFlash<'a, 'b, L> {
+    ghost use Rattle.slice_flash.specs.SliceFlash.{chip_of};
 
+    fn drop(self)
+        ensures { self.exit.0.now ≡ (chip_of self.entry).bytes }
+    {
+        let SliceFlash {
+            bytes,
+            sector_size,
+            sectors,
+            is_on,
+            writes,
+            table,
+            book,
+            cuts,
+            erases,
+        } = self;
+    }
+}
+
+/// Reads from an address on. The bytes are borrowed as `&mut`, since a field that is a `&mut` and
+/// is lent as `&` isn't known to be as it was.
+fn read_from(bytes: &mut [u8], at: usize, out: &mut [u8])
+    requires { at + length out.old ≤ length bytes.old }
+    ensures same { bytes.new ≡ bytes.old }
+    ensures read { out.new ≡ slice_range bytes.old at (at + length out.old) }
+{
+    out.copy_from_slice(&bytes[at..at + out.len()]);
+}
+
+impl<'a, 'b, L: Ledger> SliceFlash<'a, 'b, L> {
+    ghost use Rattle.slice_flash.specs.SliceFlash.{chip_of, counted, new_slice, next_left, slice_of, Puts};
+
+    /// A flash that holds the bytes lent, whole sectors of `sector_size` bytes each, and is on.
+    ///
+    /// It has 4294967295 bytes at most. The ledger's token has two parts, as `Blank::new(2)` makes
+    /// it.
     pub fn new(blank: Blank, bytes: &'a mut [u8], sector_size: u32, table: &'b [Cut<'b>]) -> Self
         requires name { blank.name ≡ L.name }
         requires parts { blank.parts ≡ L.parts }
@@ -63,7 +115,7 @@ impl<'a, 'b, L: Ledger> SliceFlash<'a, 'b, L> {
     }
 
     /// Counts a write, and tells what its cut leaves, where it is to be cut.
-    fn count(&mut self) -> Option<Left<'b>>
+    fn count_write(&mut self) -> Option<Left<'b>>
         ensures left { result ≡ next_left (slice_of self.old) }
         ensures counted { slice_of self.new ≡ counted (slice_of self.old) }
     {
@@ -74,21 +126,15 @@ impl<'a, 'b, L: Ledger> SliceFlash<'a, 'b, L> {
         left_for(self.table, self.writes)
     }
 
-    /// Puts a pattern over `n` bytes, as one write.
+    /// A write: puts a pattern over `n` bytes from `at` on, or cuts that.
     fn write(&mut self, at: usize, n: usize, pattern: &[u8]) -> Result<(), FlashError>
         requires { at + n ≤ length (chip_of self.old).bytes }
-        ensures chip { (range : List ℕ) → length range ≡ n
-            → range ≡ with_pattern pattern.now (slice_range (chip_of self.old).bytes at (at + n))
-            → Programs at range (chip_of self.old) (chip_of self.new) result }
-        ensures slice { (range : List ℕ) → length range ≡ n
-            → range ≡ with_pattern pattern.now (slice_range (chip_of self.old).bytes at (at + n))
-            → Writes result at range (done at range (slice_of self.old)) (slice_of self.old)
-                (slice_of self.new) }
+        ensures { Puts at n pattern.now (slice_of self.old) (slice_of self.new) result }
     {
         if !self.is_on {
             return Err(FlashError::Off);
         }
-        let left = self.count();
+        let left = self.count_write();
         let bytes = &mut *self.bytes;
         let range = &mut bytes[at..at + n];
         match left {
@@ -105,31 +151,10 @@ impl<'a, 'b, L: Ledger> SliceFlash<'a, 'b, L> {
     }
 }
 
-impl<'a, 'b, L: Ledger> Drop for SliceFlash<'a, 'b, L> {
-    ghost use Rattle.slice_flash.specs.SliceFlash.{chip_of};
-
-    fn drop(self)
-        ensures { self.exit.0.now ≡ (chip_of self.entry).bytes }
-    {
-        let SliceFlash {
-            bytes,
-            sector_size,
-            sectors,
-            is_on,
-            writes,
-            table,
-            book,
-            cuts,
-            erases,
-        } = self;
-        drop((book, cuts, erases));
-    }
-}
-
 impl<'a, 'b, L: Ledger> Flash for SliceFlash<'a, 'b, L> {
     ghost use Rattle.std.specs.Prelude.{◌≡◌, ◌+◌, ◌<◌, ◌≤◌, length, true};
     ghost use Rattle.flash_model.specs.Chip.{size_of};
-    ghost use Rattle.flash_model.specs.Calls.{Erases, Programs, ReadsBytes};
+    ghost use Rattle.flash_model.specs.Calls.{CanProgram, Erases, Programs, ReadsBytes};
     ghost use Rattle.slice_flash.specs.SliceFlash.{chip_of, slice_of, ErasesAsTold, ProgramsAsTold};
 
     ghost chip = { chip_of };
@@ -156,13 +181,12 @@ impl<'a, 'b, L: Ledger> Flash for SliceFlash<'a, 'b, L> {
         if !self.is_on {
             return Err(FlashError::Off);
         }
-        let at = at as usize;
-        copy(&mut *self.bytes, at, out);
+        read_from(self.bytes, at as usize, out);
         Ok(())
     }
 
     fn program(&mut self, at: u32, bytes: &[u8]) -> Result<(), FlashError>
-        requires { at + length bytes.now ≤ size_of (chip_of self.old) }
+        requires { CanProgram at (length bytes.now) (chip_of self.old) }
         ensures chip { Programs at bytes.now (chip_of self.old) (chip_of self.new) result }
         ensures slice { ProgramsAsTold at bytes.now (slice_of self.old) (slice_of self.new) result }
     {

@@ -1,11 +1,11 @@
-//! Which writes are to be cut, and what a write leaves of its range.
+//! Which writes are to be cut, and the bytes that are put over a range.
 
 ghost use Rattle.std.specs.Prelude.{◌≡◌};
 ghost use Rattle.flash_model.specs.Torn.{with_pattern};
-ghost use Rattle.slice_flash.specs.SliceFlash.{left_for, written};
+ghost use Rattle.slice_flash.specs.SliceFlash.{left_for};
 
 /// What a cut leaves in its range.
-#[derive(Clone, Copy)]
+#[derive(Clone, Copy, Debug, PartialEq, Eq)]
 pub enum Left<'a> {
     /// What was there before.
     Keep,
@@ -17,7 +17,7 @@ pub enum Left<'a> {
 }
 
 /// A write that is to be cut.
-#[derive(Clone, Copy)]
+#[derive(Clone, Copy, Debug, PartialEq, Eq)]
 pub struct Cut<'a> {
     /// Its number, counted from the making of the flash, from 1.
     pub write: u64,
@@ -25,7 +25,8 @@ pub struct Cut<'a> {
     pub left: Left<'a>,
 }
 
-/// What the cut of write `number` leaves, where that write is to be cut: the first row counts.
+/// What the cut of write `number` leaves, where that write is to be cut: the first row for it
+/// counts.
 pub(crate) fn left_for<'a>(table: &[Cut<'a>], number: u64) -> Option<Left<'a>>
     ensures { result ≡ left_for number table.now }
 {
