@@ -33,13 +33,13 @@ use std::sync::ledger::{Blank, Book, Ledger, Share};
 ///
 /// helper::<Brand>(Blank::new(2), &mut bytes);
 /// ```
-pub struct SliceFlash<'a, 'b, L: Ledger> {
+pub struct SliceFlash<'a, L: Ledger> {
     bytes: &'a mut [u8],
     sector_size: u32,
     sectors: u32,
     is_on: bool,
     writes: u64,
-    table: &'b [Cut<'b>],
+    table: &'a [Cut<'a>],
     book: Book<L>,
     cuts: Share<L>,
     erases: Share<L>,
@@ -52,7 +52,7 @@ pub struct SliceFlash<'a, 'b, L: Ledger> {
 
 // Written out for its clause, by which the lender knows the bytes again: a derived `drop` of a
 // struct that owns more than the borrow tells nothing of it.
-impl<'a, 'b, L: Ledger> Drop for SliceFlash<'a, 'b, L> {
+impl<'a, L: Ledger> Drop for SliceFlash<'a, L> {
     ghost use Rattle.slice_flash.specs.SliceFlash.{chip_of};
 
     fn drop(self)
@@ -82,14 +82,14 @@ fn read_from(bytes: &mut [u8], at: usize, out: &mut [u8])
     out.copy_from_slice(&bytes[at..at + out.len()]);
 }
 
-impl<'a, 'b, L: Ledger> SliceFlash<'a, 'b, L> {
+impl<'a, L: Ledger> SliceFlash<'a, L> {
     ghost use Rattle.slice_flash.specs.SliceFlash.{chip_of, counted, new_slice, next_left, slice_of, Puts};
 
     /// A flash that holds the bytes lent, whole sectors of `sector_size` bytes each, and is on.
     ///
     /// It has 4294967295 bytes at most. The ledger's token has two parts, as `Blank::new(2)` makes
     /// it.
-    pub fn new(blank: Blank, bytes: &'a mut [u8], sector_size: u32, table: &'b [Cut<'b>]) -> Self
+    pub fn new(blank: Blank, bytes: &'a mut [u8], sector_size: u32, table: &'a [Cut<'a>]) -> Self
         requires name { blank.name ≡ L.name }
         requires parts { blank.parts ≡ L.parts }
         requires two { L.parts ≡ 2 }
@@ -115,7 +115,7 @@ impl<'a, 'b, L: Ledger> SliceFlash<'a, 'b, L> {
     }
 
     /// Counts a write, and tells what its cut leaves, where it is to be cut.
-    fn count_write(&mut self) -> Option<Left<'b>>
+    fn count_write(&mut self) -> Option<Left<'a>>
         ensures left { result ≡ next_left (slice_of self.old) }
         ensures counted { slice_of self.new ≡ counted (slice_of self.old) }
     {
@@ -151,7 +151,7 @@ impl<'a, 'b, L: Ledger> SliceFlash<'a, 'b, L> {
     }
 }
 
-impl<'a, 'b, L: Ledger> Flash for SliceFlash<'a, 'b, L> {
+impl<'a, L: Ledger> Flash for SliceFlash<'a, L> {
     ghost use Rattle.std.specs.Prelude.{◌≡◌, ◌+◌, ◌<◌, ◌≤◌, length, true};
     ghost use Rattle.flash_model.specs.Chip.{size_of};
     ghost use Rattle.flash_model.specs.Calls.{CanProgram, Erases, Programs, ReadsBytes};

@@ -19,5 +19,3 @@ mod table;
 
 pub use flash::SliceFlash;
 pub use table::{Cut, Left};
-
-mod uses;

@@ -1,8 +1,5 @@
-use Rattle.std.proofs.Common.{arith, rules, refl, sym, ap, ◌≡◌, ◌∙◌, ◌+◌, ◌*◌, ◌<◌, ℕ, List, [], ◌∷◌, length, replicate, slice_range, Err}
+use Rattle.std.proofs.Common.{rules, ◌≡◌, ℕ, Err}
 use Rattle.std.proofs.lemmas.List.{length-replicate}
-use Rattle.flash_model.specs.Torn.{with_pattern}
-use Rattle.flash_model.proofs.Frame.{product_le}
-use Rattle.flash_model.proofs.Ranges.{length_range}
 use Rattle.slice_flash.proofs.Writes.{blank_pattern, erase_done, erase_failed, told_done, told_failed}
 use Rattle.slice_flash.proofs.flash.SliceFlashFlash.erase.Goals as goal
 

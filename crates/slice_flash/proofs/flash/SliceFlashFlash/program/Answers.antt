@@ -1,4 +1,4 @@
-use Rattle.std.proofs.Common.{arith, rules, refl, sym, ◌∙◌}
+use Rattle.std.proofs.Common.{arith, refl, sym, ◌∙◌}
 use Rattle.flash_model.proofs.Ranges.{length_range}
 use Rattle.slice_flash.proofs.Writes.{pattern_once}
 use Rattle.slice_flash.proofs.flash.SliceFlashFlash.program.Goals as goal
