@@ -3,8 +3,8 @@
 //! `SliceFlash` keeps the trait `Flash` and allocates nothing, neither to be made nor to have its
 //! writes cut: the bytes are lent to it, and so is the table of the writes that are to be cut. It
 //! cuts exactly those, and leaves exactly what the table says. Once it is dropped, its lender knows
-//! of the bytes what the flash's contracts said of them, also where generic code was called on it
-//! between. A device without a heap may call it, and a test that has bytes of its own.
+//! of the bytes what the flash's contracts said of them, also where generic calls borrowed it in
+//! between. A program without a heap may call it, and a test that has bytes of its own.
 //!
 //! What a driver is made of, by the example of this one:
 //! - a `Chip` for contracts, `chip_of`, and the laws of `Flash`: three ghost fields of the struct;
