@@ -43,7 +43,7 @@ pub erase_done : (sector m : ℕ) (old new : Chip) → m ≡ new.erases + 1
     → Erases sector old (record new { erases = m }) {T = Unit {0}} (Ok tt)
 erase_done sector m old new counted write =
     let outside = write.outside in
-    let long : length {A = ℕ} (replicate old.sector_size 255) ≡ old.sector_size = length-replicate {A = ℕ} old.sector_size 255 in
+    let long = length-replicate {A = ℕ} old.sector_size 255 in
     record {
       outside = record {
         sector_size = outside.sector_size;
@@ -90,7 +90,9 @@ pub told_done : (at : ℕ) (range : List ℕ) (old mid new : Slice)
     → Writes (Ok tt) at range (erased at range old) old new
 told_done at range old mid new write counted = record {
   off = λ off. absurd (false≢true (sym (ap is_ok (write.off off).0)));
-  on = λ on none. (refl, counted ∙ ap (λ (s : Slice). record s { chip = record (s.chip) { erases = s.chip.erases + 1 } }) (write.on on none).1);
+  on = λ on none.
+      let more : Slice → Slice = λ s. record s { chip = record (s.chip) { erases = s.chip.erases + 1 } } in
+      (refl, counted ∙ ap more (write.on on none).1);
   cut = λ left on some. absurd (false≢true (sym (ap is_ok (write.cut left on some).0)));
 }
 
