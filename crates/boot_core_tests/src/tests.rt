@@ -7,6 +7,7 @@ mod damaged_flashes;
 mod damaged_sets;
 mod erases;
 mod images;
+mod lent_flashes;
 mod longer_flashes;
 mod manifests;
 mod older_records;
