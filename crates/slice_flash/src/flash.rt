@@ -13,7 +13,9 @@ use std::sync::ledger::{Blank, Book, Ledger, Share};
 /// in its range exactly what the row says and all else as it was, and the flash is off until
 /// `restart`. No other write is cut. A write that a flash refuses since it is off isn't counted.
 ///
-/// No call allocates. Once the flash is dropped, the bytes lent are those of the flash.
+/// No call allocates. Once the flash is dropped, the bytes lent are those of the flash. The lender
+/// knows that where calls borrowed the flash; where it was moved into another struct it knows the
+/// length alone.
 ///
 /// Contracts see it as a `Slice` (`slice_of`): the chip, the number of writes, and the table. It is
 /// made in a function that is generic in the ledger, as a `MemFlash` is, whose page says what the
