@@ -9,6 +9,7 @@ mod SwapSizes
 pub mod Again
 pub mod Stopping
 pub mod Texts
+pub mod Given
 pub mod Steps
 mod Afresh
 mod OnMap

@@ -1,11 +1,16 @@
 -- What the calls of a device do, and what a run of events on it does.
 use Rattle.std.specs.Prelude.{◌≡◌, ◌⊎◌, ℕ, ◌+◌, Bool, true, false, List, length, None, Some, Vec}
 use Rattle.std.specs.Prelude.{Result, Err, IfErr, IfOk}
+use Rattle.std.specs.Borrow.{Bor}
 use Rattle.flash_model.specs.Chip.{Chip}
 use Rattle.sector_map.specs.declared.layout.SectorMap.{SectorMap}
 use Rattle.sector_map.specs.Map.{Keeps}
 use Rattle.sector_map.specs.Part.{Part, any_part, incoming_of}
+use Rattle.manifest.specs.declared.error.ManifestError.TheVariants.{NoComponent}
 use Rattle.manifest.specs.declared.identity.Identity.{Identity}
+use Rattle.manifest.specs.declared.manifest.Manifest as given
+use Rattle.manifest.specs.Fault.{IsManifest}
+use Rattle.manifest.specs.Manifest.{NamesImages}
 use Rattle.set_log.specs.Log.{state_of}
 use Rattle.set_log.specs.declared.state.Kind.{Kind}
 use Rattle.set_log.specs.declared.state.State.{State}
@@ -17,6 +22,7 @@ use Rattle.machine.specs.Passing.{RunsTo, StepsTo, reply_of}
 use Rattle.machine.specs.States.{asleep}
 use Rattle.machine.specs.Steps.{cut_of, cuts_in}
 use Rattle.machine.specs.declared.error.Fault.{Fault}
+use Rattle.machine.specs.declared.error.Fault.TheVariants as no
 use Rattle.machine.specs.declared.error.Fault.TheVariants.{NotProvisioned}
 use Rattle.machine.specs.declared.event.Event.{Event}
 use Rattle.machine.specs.declared.event.Event.TheVariants as event
@@ -24,8 +30,9 @@ use Rattle.machine.specs.declared.finding.Finding.{Finding}
 use Rattle.machine.specs.declared.reply.Reply.{Reply}
 use Rattle.boot_core.specs.Answers.{EndsCall, IsBootReply, IsNotBooted, is_stop, is_stopped}
 use Rattle.boot_core.specs.Answers.{reply_of_boot, reply_of_result}
-use Rattle.boot_core.specs.Device.{Whole, made}
+use Rattle.boot_core.specs.Device.{StaysHeld, Whole, made}
 use Rattle.boot_core.specs.Found.{IsStopped}
+use Rattle.boot_core.specs.Ready.{LogsNoTrial, RefusesManifest}
 use Rattle.boot_core.specs.Wear.{IsWorn, TakesNothing}
 
 -- A device is new: made over a flash, with this map and identity, and with so many boots a trial.
@@ -103,6 +110,36 @@ pub record Takes (event : Event) (touched : Part → Bool) (old new : Whole)
   -- and nothing where a refusal is not of the flash.
   pub refused : IfErr result (λ fault. is_stop fault ≡ false
       → new.here.flash ≡ old.here.flash)
+  -- A cut is told where a write was cut and nowhere else, and that the flash is off where it was.
+  pub ends : EndsCall (reply_of_result result) old.here new.here
+
+-- A device takes a manifest that was read already.
+pub record TakesManifest (manifest : given.Manifest) (old new : Whole) (result : Result Unit Fault)
+    : Type 0 where
+  -- What it was made with stays.
+  pub setup : new.setup ≡ old.setup
+  -- On a flash with power, and for any text that means the manifest to this device, the call is the
+  -- step of the machine that takes the text, to a state that the device holds then.
+  pub steps : (text : Bor (List ℕ)) → old.here.flash.is_on ≡ true
+      → IsManifest old.setup.identity text.now manifest
+      → StepsTo old.setup old.here new.here (event.Accept text) (reply_of_result result)
+  -- Whatever the manifest asks for, the device holds a state of the machine then if it held one.
+  pub holds : old.here.flash.is_on ≡ true → StaysHeld old.setup.map old.here new.here
+  -- On any flash only parts of the map are touched:
+  pub outside : Keeps old.setup.map any_part old.here.flash new.here.flash
+  -- nothing where the device isn't up, which is the answer then,
+  pub down : old.here.up ≡ false → IsNotBooted result old.here new.here
+  -- nothing where it takes uploads and the manifest names an image that it lacks, which is the
+  -- answer then,
+  pub lacks : old.here.flash.is_on ≡ true → old.here.up ≡ true
+      → LogsNoTrial (state_of old.setup.map old.here.flash)
+      → (NamesImages old.setup.identity manifest → ⊥)
+      → (result ≡ Err (no.Manifest NoComponent)) × (new.here ≡ old.here)
+  -- and nothing where a refusal is not of the flash.
+  pub refused : IfErr result (λ fault. is_stop fault ≡ false
+      → new.here.flash ≡ old.here.flash)
+  -- No other refusal is of the manifest as such.
+  pub told : IfErr result (RefusesManifest old.setup.identity manifest)
   -- A cut is told where a write was cut and nowhere else, and that the flash is off where it was.
   pub ends : EndsCall (reply_of_result result) old.here new.here
 

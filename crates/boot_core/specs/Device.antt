@@ -8,7 +8,8 @@ use Rattle.upload.specs.View.{view}
 use Rattle.upload.specs.Sessions.{AllOpenAt}
 use Rattle.upload.specs.declared.sessions.Upload.{Upload}
 use Rattle.machine.specs.Intake.{Setup}
-use Rattle.machine.specs.Holding.{DeviceView}
+use Rattle.upload.specs.Device.{Machine}
+use Rattle.machine.specs.Holding.{DeviceView, Holds}
 
 -- A device as contracts see it: what it was made with, and what there is of it now.
 pub record Whole : Type 0 where
@@ -22,6 +23,10 @@ made map identity boots = record { map = map; identity = identity; boots = boots
 -- .. and what there is of it now.
 abbrev pub seen : Chip → List (Option Upload) → Bool → DeviceView
 seen chip sessions up = record { flash = chip; sessions = sessions; up = up }
+
+-- A device that held a state of the machine holds one after a call.
+abbrev pub StaysHeld : SectorMap → DeviceView → DeviceView → Type 0
+StaysHeld map old new = (m : Machine) → Holds map old m → (next : Machine) × Holds map new next
 
 -- What is true of each device.
 pub record IsDevice (map : SectorMap) (identity : Identity) (chip : Chip)

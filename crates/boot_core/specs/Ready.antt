@@ -2,7 +2,9 @@
 use Rattle.std.specs.Prelude.{◌≡◌, ℕ, Bool, true, false, List, Option, Some, None, Result, Ok, Err}
 use Rattle.flash_model.specs.declared.error.FlashError.TheVariants as flash
 use Rattle.manifest.specs.declared.identity.Identity.{Identity}
+use Rattle.manifest.specs.declared.manifest.Manifest.{Manifest}
 use Rattle.manifest.specs.Fault.{IsRefusal}
+use Rattle.manifest.specs.Manifest.{NamesImages}
 use Rattle.manifest.specs.declared.error.ManifestError.{ManifestError}
 use Rattle.manifest.specs.declared.error.ManifestError.TheVariants as text
 use Rattle.set_log.specs.declared.state.State.{State}
@@ -45,3 +47,12 @@ abbrev pub RefusesText : Identity → List ℕ → Fault → Type 0
 RefusesText identity bytes (no.Manifest error) = IsRefusal identity bytes error
 RefusesText identity bytes no.NoMemory = Unit
 RefusesText identity bytes other = ⊥
+
+-- What is refused of a manifest that was read already: that it names an image which the device
+-- lacks, and no memory is wanted. Other refusals aren't of the manifest as such.
+abbrev pub RefusesManifest : Identity → Manifest → Fault → Type 0
+RefusesManifest identity manifest (no.Manifest text.NoComponent) =
+    NamesImages identity manifest → ⊥
+RefusesManifest identity manifest (no.Manifest error) = ⊥
+RefusesManifest identity manifest no.NoMemory = ⊥
+RefusesManifest identity manifest other = Unit

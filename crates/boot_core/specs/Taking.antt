@@ -1,12 +1,16 @@
 -- What a call does that takes an event of a device: on the flash, in the table of uploads, and to
 -- whether it is up.
-use Rattle.std.specs.Prelude.{◌≡◌, ℕ, Bool, true, false, List, Option, Result, IfErr}
+use Rattle.std.specs.Prelude.{◌≡◌, ℕ, Bool, true, false, List, Option, Result, Err, IfErr}
 use Rattle.std.specs.Borrow.{Bor}
 use Rattle.flash_model.specs.Chip.{Chip}
 use Rattle.sector_map.specs.declared.layout.SectorMap.{SectorMap}
 use Rattle.sector_map.specs.Map.{IsLaidOut, Keeps}
 use Rattle.sector_map.specs.Part.{Part, any_part, incoming_of}
+use Rattle.manifest.specs.declared.error.ManifestError.TheVariants.{NoComponent}
 use Rattle.manifest.specs.declared.identity.Identity.{Identity}
+use Rattle.manifest.specs.declared.manifest.Manifest as given
+use Rattle.manifest.specs.Fault.{IsManifest}
+use Rattle.manifest.specs.Manifest.{NamesImages}
 use Rattle.set_log.specs.Log.{state_of}
 use Rattle.upload.specs.Sessions.{AllClosed, AllOpenAt}
 use Rattle.upload.specs.View.{view}
@@ -14,11 +18,12 @@ use Rattle.upload.specs.declared.sessions.Upload.{Upload}
 use Rattle.machine.specs.Holding.{DeviceView}
 use Rattle.machine.specs.Passing.{StepsTo}
 use Rattle.machine.specs.declared.error.Fault.{Fault}
+use Rattle.machine.specs.declared.error.Fault.TheVariants as no
 use Rattle.machine.specs.declared.event.Event.{Event}
 use Rattle.machine.specs.declared.event.Event.TheVariants as event
 use Rattle.boot_core.specs.Answers.{EndsCall, IsNotBooted, is_stop, reply_of_result}
-use Rattle.boot_core.specs.Device.{made}
-use Rattle.boot_core.specs.Ready.{IsReadiness}
+use Rattle.boot_core.specs.Device.{StaysHeld, made}
+use Rattle.boot_core.specs.Ready.{IsReadiness, LogsNoTrial, RefusesManifest}
 
 -- A call asks whether uploads are taken now.
 pub record ChecksReady (map : SectorMap) (is_up : Bool) (old new : Chip)
@@ -76,6 +81,57 @@ pub record AcceptsHere (map : SectorMap) (identity : Identity) (text : Bor (List
   pub down : old.up ≡ false → IsNotBooted result old new
   -- and nothing of the flash where a refusal is not of the flash.
   pub refused : IfErr result (λ fault. is_stop fault ≡ false → new.flash ≡ old.flash)
+  pub ends : EndsCall (reply_of_result result) old new
+
+-- A call opens the uploads of a manifest, on a device that takes uploads.
+pub record OpensUploads (map : SectorMap) (identity : Identity) (manifest : given.Manifest)
+    (old new : DeviceView) (result : Result Unit Fault) : Type 0 where
+  -- The map is still laid out on the flash,
+  pub laid : IsLaidOut map new.flash
+  -- and the open uploads stand on it.
+  pub opens : AllOpenAt (view map new.flash) new.sessions
+  -- On a flash with power it is the step of the machine that takes any text which means the
+  -- manifest, however many boots its trials have.
+  pub steps : (boots : ℕ) (text : Bor (List ℕ)) → old.flash.is_on ≡ true
+      → IsManifest identity text.now manifest
+      → StepsTo (made map identity boots) old new (event.Accept text) (reply_of_result result)
+  -- Whatever the manifest asks for, a state is held then if one was.
+  pub holds : old.flash.is_on ≡ true → StaysHeld map old new
+  -- Only parts of the map are touched,
+  pub outside : Keeps map any_part old.flash new.flash
+  -- and nothing of the flash where a refusal is not of the flash.
+  pub refused : IfErr result (λ fault. is_stop fault ≡ false → new.flash ≡ old.flash)
+  -- It isn't refused as no manifest.
+  pub told : IfErr result (RefusesManifest identity manifest)
+  pub ends : EndsCall (reply_of_result result) old new
+
+-- A call takes a manifest that was read already, of a device that has this map and this identity.
+pub record TakesManifestHere (map : SectorMap) (identity : Identity) (manifest : given.Manifest)
+    (old new : DeviceView) (result : Result Unit Fault) : Type 0 where
+  -- The map is still laid out on the flash,
+  pub laid : IsLaidOut map new.flash
+  -- and the open uploads stand on it.
+  pub opens : AllOpenAt (view map new.flash) new.sessions
+  -- On a flash with power it is the step of the machine that takes any text which means the
+  -- manifest, however many boots its trials have.
+  pub steps : (boots : ℕ) (text : Bor (List ℕ)) → old.flash.is_on ≡ true
+      → IsManifest identity text.now manifest
+      → StepsTo (made map identity boots) old new (event.Accept text) (reply_of_result result)
+  -- Whatever the manifest asks for, a state is held then if one was.
+  pub holds : old.flash.is_on ≡ true → StaysHeld map old new
+  -- Only parts of the map are touched:
+  pub outside : Keeps map any_part old.flash new.flash
+  -- nothing where the device isn't up,
+  pub down : old.up ≡ false → IsNotBooted result old new
+  -- nothing where uploads are taken and the manifest names an image that the device lacks, which
+  -- is the answer then,
+  pub lacks : old.flash.is_on ≡ true → old.up ≡ true → LogsNoTrial (state_of map old.flash)
+      → (NamesImages identity manifest → ⊥)
+      → (result ≡ Err (no.Manifest NoComponent)) × (new ≡ old)
+  -- and nothing of the flash where a refusal is not of the flash.
+  pub refused : IfErr result (λ fault. is_stop fault ≡ false → new.flash ≡ old.flash)
+  -- No other refusal is of the manifest as such.
+  pub told : IfErr result (RefusesManifest identity manifest)
   pub ends : EndsCall (reply_of_result result) old new
 
 -- A call finishes an upload of a device that has this map.

@@ -6,13 +6,14 @@ ghost use Rattle.sector_map.specs.Map.{IsLaidOut};
 ghost use Rattle.sector_map.specs.Part.{Slot, TrailerOf, any_part, incoming_of, only};
 ghost use Rattle.sector_map.specs.declared.layout.Side.TheVariants.{Primary, Secondary};
 ghost use Rattle.boot_core.specs.Calls.{BootsDevice, FinishesUpload, IsNew, Resets, Takes};
+ghost use Rattle.boot_core.specs.Calls.{TakesManifest};
 
 use crate::boots::boot_device;
 use crate::confirming::confirm_on;
-use crate::intake::{accept, finish, piece, withdraw};
+use crate::intake::{accept, accept_manifest, finish, piece, withdraw};
 use flash_model::Flash;
 use machine::{Fault, Reply};
-use manifest::Identity;
+use manifest::{Identity, Manifest};
 use sector_map::SectorMap;
 use std::alloc::Global;
 use std::marker::Model;
@@ -137,6 +138,28 @@ impl<F: Flash> Device<F> {
             &mut self.is_up,
             alloc,
             text,
+        )
+    }
+
+    /// Takes a manifest that was read already, as `accept` takes it by any text that means it: an
+    /// upload is opened for each image that it names, and what was requested for these is gone. Its
+    /// vendor and class are whoever's to check that read it. Does not allocate.
+    ///
+    /// # Errors
+    /// The first of: `NotBooted`; `OnTrial`; `NotProvisioned` where the log has no state;
+    /// `Manifest` with `NoComponent` where it names an image that the device lacks; `Upload` with
+    /// `OldSequence`, `TooBig` or `WrongPrecursor`. Nothing changed then. `Upload` with `Flash`
+    /// where power failed or the flash was off, as in `accept`.
+    pub fn accept_manifest(&mut self, manifest: &Manifest) -> Result<(), Fault>
+        ensures { TakesManifest manifest.now self.old self.new result }
+    {
+        accept_manifest(
+            &mut self.flash,
+            &self.map,
+            &self.identity,
+            &mut self.uploads,
+            &mut self.is_up,
+            manifest,
         )
     }
 

@@ -1,18 +1,21 @@
 //! Uploads: what the device asks before it passes a call on, and what it does where the flash stops
 //! one.
 
-ghost use Rattle.std.specs.Prelude.{◌≡◌, IfErr, IfOk};
+ghost use Rattle.std.specs.Prelude.{◌≡◌, ◌↔◌, IfErr, IfOk, IsTrue, true};
 ghost use Rattle.machine.specs.declared.event.Event.TheVariants as event;
 ghost use Rattle.manifest.specs.Fault.{IsManifest};
+ghost use Rattle.manifest.specs.Manifest.{NamesImages};
 ghost use Rattle.sector_map.specs.Map.{IsLaidOut};
 ghost use Rattle.sector_map.specs.Part.{Slot, incoming_of, only};
 ghost use Rattle.sector_map.specs.declared.layout.Side.TheVariants.{Secondary};
+ghost use Rattle.set_log.specs.Log.{state_of};
 ghost use Rattle.upload.specs.Sessions.{AllOpenAt};
 ghost use Rattle.upload.specs.View.{view};
 ghost use Rattle.boot_core.specs.Answers.{is_stop};
 ghost use Rattle.boot_core.specs.Device.{seen};
-ghost use Rattle.boot_core.specs.Ready.{RefusesText, text_fault};
-ghost use Rattle.boot_core.specs.Taking.{AcceptsHere, ChecksReady, FinishesHere, Stops, TakesHere};
+ghost use Rattle.boot_core.specs.Ready.{LogsNoTrial, RefusesText, text_fault};
+ghost use Rattle.boot_core.specs.Taking.{AcceptsHere, ChecksReady, FinishesHere, OpensUploads};
+ghost use Rattle.boot_core.specs.Taking.{Stops, TakesHere, TakesManifestHere};
 
 use crate::confirming::is_trial;
 use flash_model::Flash;
@@ -115,6 +118,40 @@ fn read_manifest(alloc: Global, bytes: &[u8], identity: &Identity) -> Result<Man
     }
 }
 
+/// Whether a manifest names images of the device alone.
+fn names_images(manifest: &Manifest, identity: &Identity) -> bool
+    ensures { IsTrue result ↔ NamesImages identity.now manifest.now }
+{
+    let images = identity.images;
+    let components = manifest.components.as_slice();
+    components.iter().all(|component| component.image < images)
+}
+
+/// Opens the uploads of a manifest, where uploads are taken.
+fn open_uploads<F: Flash>(
+    flash: &mut F,
+    map: &SectorMap,
+    identity: &Identity,
+    uploads: &mut Uploads,
+    is_up: &mut bool,
+    manifest: &Manifest,
+) -> Result<(), Fault>
+    requires laid_out { IsLaidOut map.now (F.chip flash.old) }
+    requires images { identity.now.images ≡ map.now.images }
+    requires opens { AllOpenAt (view map.now (F.chip flash.old)) uploads.old.sessions }
+    requires up { is_up.old ≡ true }
+    requires rests { LogsNoTrial (state_of map.now (F.chip flash.old)) }
+    requires names { NamesImages identity.now manifest.now }
+    ensures { OpensUploads map.now identity.now manifest.now
+        (seen (F.chip flash.old) uploads.old.sessions is_up.old)
+        (seen (F.chip flash.new) uploads.new.sessions is_up.new) result }
+{
+    match uploads.accept(flash, map, manifest) {
+        Ok(()) => Ok(()),
+        Err(error) => Err(stop(uploads, is_up, Fault::Upload(error))),
+    }
+}
+
 /// Takes a manifest, given by the bytes of its text.
 pub(crate) fn accept<F: Flash>(
     flash: &mut F,
@@ -140,10 +177,33 @@ pub(crate) fn accept<F: Flash>(
         Ok(manifest) => manifest,
         Err(fault) => return Err(fault),
     };
-    match uploads.accept(flash, map, &manifest) {
-        Ok(()) => Ok(()),
-        Err(error) => Err(stop(uploads, is_up, Fault::Upload(error))),
+    open_uploads(flash, map, identity, uploads, is_up, &manifest)
+}
+
+/// Takes a manifest that was read already.
+pub(crate) fn accept_manifest<F: Flash>(
+    flash: &mut F,
+    map: &SectorMap,
+    identity: &Identity,
+    uploads: &mut Uploads,
+    is_up: &mut bool,
+    manifest: &Manifest,
+) -> Result<(), Fault>
+    requires laid_out { IsLaidOut map.now (F.chip flash.old) }
+    requires images { identity.now.images ≡ map.now.images }
+    requires opens { AllOpenAt (view map.now (F.chip flash.old)) uploads.old.sessions }
+    ensures { TakesManifestHere map.now identity.now manifest.now
+        (seen (F.chip flash.old) uploads.old.sessions is_up.old)
+        (seen (F.chip flash.new) uploads.new.sessions is_up.new) result }
+{
+    match check_ready(flash, map, *is_up) {
+        Ok(()) => {}
+        Err(fault) => return Err(stop(uploads, is_up, fault)),
     }
+    if !names_images(manifest, identity) {
+        return Err(Fault::Manifest(ManifestError::NoComponent));
+    }
+    open_uploads(flash, map, identity, uploads, is_up, manifest)
 }
 
 /// Takes a piece of an upload.

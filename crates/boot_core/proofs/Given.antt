@@ -1,0 +1,127 @@
+-- Manifests that were read already: what is held after one is taken, and what isn't refused of it.
+use Rattle.std.proofs.Common.{◌≡◌, Bool, true, false, List, Option, Some, None, Result, Err, IsErrOf, refl, sym, ◌∙◌, ap, subst, inl}
+use Rattle.flash_model.specs.Chip.{Chip}
+use Rattle.flash_model.specs.declared.error.FlashError.TheVariants as flash
+use Rattle.sector_map.specs.declared.layout.SectorMap.{SectorMap}
+use Rattle.set_log.specs.declared.state.State.{State}
+use Rattle.set_log.specs.declared.state.Kind.TheVariants as log
+use Rattle.manifest.specs.declared.identity.Identity.{Identity}
+use Rattle.manifest.specs.declared.manifest.Manifest as given
+use Rattle.upload.specs.View.{view}
+use Rattle.upload.specs.Device.{Machine}
+use Rattle.upload.specs.Ending.{EndsUpload, is_flash}
+use Rattle.upload.specs.Sessions.{AllClosed, IsUpAt}
+use Rattle.upload.specs.declared.sessions.Upload.{Upload}
+use Rattle.upload.specs.declared.error.UploadError.{UploadError}
+use Rattle.upload.specs.declared.error.UploadError.TheVariants as upload
+use Rattle.machine.specs.Holding.{DeviceView, Holds, Rests}
+use Rattle.machine.specs.Intake.{Row}
+use Rattle.machine.specs.States.{asleep}
+use Rattle.machine.specs.declared.error.Fault.{Fault}
+use Rattle.machine.specs.declared.error.Fault.TheVariants as no
+use Rattle.machine.proofs.Uploading.{TakesRow, rest_steady}
+use Rattle.boot_core.specs.Answers.{is_stop}
+use Rattle.boot_core.specs.Device.{StaysHeld, seen}
+use Rattle.boot_core.specs.Ready.{IsReadiness, LogsNoTrial, RefusesManifest}
+use Rattle.boot_core.specs.Taking.{OpensUploads}
+use Rattle.boot_core.proofs.Stopping.{IsStopped, error_is, holds_down}
+
+true_false : true ≡ false → ⊥
+true_false e = cc
+
+-- ---- what is held
+
+module _ (map : SectorMap) (old new : Chip) (told tmid : List (Option Upload)) (up : Bool) (is_up : up ≡ true)
+    (rests : LogsNoTrial (view map old).log) (row : Machine → Row) (result : Result Unit UploadError)
+    (takes : TakesRow map old new told tmid row result) where
+  taken : (m : Machine) → Holds map (seen old told up) m → (next : Machine) × IsUpAt (view map new) tmid next
+  taken m holds =
+      let here = holds.is_up ∙ is_up in
+      let after = takes m (record {
+        up = here;
+        rest = rest_steady map old m.kept rests.0 rests.1 rests.2 (holds.rest here);
+        open_ones = holds.open_ones;
+      }) in (after.0, after.2)
+
+  pub held_up : StaysHeld map (seen old told up) (seen new tmid up)
+  held_up m holds =
+      let after = taken m holds in (
+        after.0,
+        record {
+          stands = Rests after.1.rest;
+          is_up = after.1.up ∙ sym is_up;
+          rest = λ e. inl after.1.rest;
+          open_ones = after.1.open_ones;
+          closed = λ e. absurd (true_false (sym after.1.up ∙ e));
+        },
+      )
+
+  pub held_down : (tnew : List (Option Upload)) → AllClosed tnew
+      → StaysHeld map (seen old told up) (seen new tnew false)
+  held_down tnew none m holds =
+      let after = taken m holds in
+      (asleep after.0.kept, holds_down map new tnew after.0.kept none (Rests after.1.rest))
+
+-- after an upload that is refused
+pub held_failed : (map : SectorMap) (was : DeviceView) (old new : Chip) (tmid tnew : List (Option Upload))
+    (up upn : Bool) (error : UploadError) → old.is_on ≡ true → EndsUpload {T = Unit} (Err error) old new
+    → IsStopped (no.Upload error) tmid tnew up upn
+    → (AllClosed tnew → StaysHeld map was (seen new tnew false)) → StaysHeld map was (seen new tmid up)
+    → StaysHeld map was (seen new tnew upn)
+held_failed map was old new tmid tnew up upn error on ends stopped down kept =
+    error_is error
+    (λ (cut : error ≡ upload.Flash flash.Cut).
+    let told_so : is_stop (no.Upload error) ≡ true = ap (λ e. is_stop (no.Upload e)) cut in
+    subst (λ b. StaysHeld map was (seen new tnew b)) (sym (stopped.down told_so)) (down (stopped.closed told_so)))
+    (λ (off : error ≡ upload.Flash flash.Off).
+    absurd (true_false (sym on ∙ ends.off (subst (λ e. IsErrOf {T = Unit} (Err e) (upload.Flash flash.Off))
+    (sym off) refl))))
+    (λ (own : is_flash {T = Unit} (Err error) ≡ false).
+    subst (λ b. StaysHeld map was (seen new tnew b)) (sym (stopped.stays own))
+    (subst (λ l. StaysHeld map was (seen new l up)) (sym (stopped.kept own)) kept))
+
+-- the call that asks first leaves the flash as it was
+pub opened_after : (map : SectorMap) (identity : Identity) (manifest : given.Manifest) (old mid : Chip)
+    (told : List (Option Upload)) (up : Bool) (new : DeviceView) (result : Result Unit Fault) → mid ≡ old
+    → OpensUploads map identity manifest (seen mid told up) new result
+    → OpensUploads map identity manifest (seen old told up) new result
+opened_after map identity manifest old mid told up new result same opens =
+    subst (λ chip. OpensUploads map identity manifest (seen chip told up) new result) same opens
+
+-- ---- what is refused
+
+-- a device that takes no uploads says nothing of a manifest
+pub not_ready_told : (identity : Identity) (manifest : given.Manifest) (up : Bool) (recorded : Option State) (on : Bool)
+    (fault : Fault) → IsReadiness (Err fault) up recorded on → RefusesManifest identity manifest fault
+not_ready_told identity manifest up recorded on no.NotBooted is = tt
+not_ready_told identity manifest up recorded on no.OnTrial is = tt
+not_ready_told identity manifest up recorded on no.NotOnTrial is = tt
+not_ready_told identity manifest up recorded on no.NotProvisioned is = tt
+not_ready_told identity manifest up recorded on (no.RunningDamaged image) is = tt
+not_ready_told identity manifest up recorded on no.InvalidSet is = tt
+not_ready_told identity manifest up recorded on (no.Flash error) is = tt
+not_ready_told identity manifest up recorded on no.NoMemory is = absurd is
+not_ready_told identity manifest up recorded on (no.Manifest error) is = absurd is
+not_ready_told identity manifest up recorded on (no.Upload error) is = tt
+
+-- and one that takes them isn't refused for it
+pub ready_not : (up : Bool) (recorded : Option State) (on : Bool) (fault : Fault)
+    → IsReadiness (Err fault) up recorded on → on ≡ true → up ≡ true → LogsNoTrial recorded → ⊥
+ready_not up recorded on no.NotBooted is powered here rests = true_false (sym here ∙ is)
+ready_not up recorded on no.OnTrial is powered here rests =
+    let one : recorded ≡ Some is.1.0 = is.1.1 in
+    let other : recorded ≡ Some rests.0 = rests.1 in
+    let kind : is.1.0.kind ≡ log.Trial = is.1.2 in
+    rests.2 (cc)
+ready_not up recorded on no.NotProvisioned is powered here rests =
+    let one : recorded ≡ None = is.1 in
+    let other : recorded ≡ Some rests.0 = rests.1 in
+    cc
+ready_not up recorded on (no.Flash flash.Off) is powered here rests = true_false (sym powered ∙ is.1)
+ready_not up recorded on (no.Flash flash.Cut) is powered here rests = is
+ready_not up recorded on no.NotOnTrial is powered here rests = is
+ready_not up recorded on (no.RunningDamaged image) is powered here rests = is
+ready_not up recorded on no.InvalidSet is powered here rests = is
+ready_not up recorded on no.NoMemory is powered here rests = is
+ready_not up recorded on (no.Manifest error) is powered here rests = is
+ready_not up recorded on (no.Upload error) is powered here rests = is
