@@ -190,11 +190,7 @@ fn boot_again<F: Flash>(flash: &mut F, map: &SectorMap, state: &State) -> Result
 
 /// From Trial to Back: the secondary trailers of the set are made ready to count the swap back, and
 /// then going back is recorded. The primary ones stay, which say that it is a trial.
-fn begin_back<F: Flash>(
-    flash: &mut F,
-    map: &SectorMap,
-    state: &State,
-) -> Result<State, FlashError>
+fn begin_back<F: Flash>(flash: &mut F, map: &SectorMap, state: &State) -> Result<State, FlashError>
     requires { HasRecordOf map.now Kind.Trial state.now (F.chip flash.old) }
     ensures { BeginsBack map.now state.now (F.chip flash.old) (F.chip flash.new) result }
 {
