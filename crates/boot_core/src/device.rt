@@ -141,9 +141,10 @@ impl<F: Flash> Device<F> {
         )
     }
 
-    /// Takes a manifest that was read already, as `accept` takes it by any text that means it: an
-    /// upload is opened for each image that it names, and what was requested for these is gone. Its
-    /// vendor and class are whoever's to check that read it. Does not allocate.
+    /// Takes a manifest that was read already, as `accept` takes any text that means it: an upload is
+    /// opened for each image that it names, and what was requested for these is gone. Where two
+    /// components name an image the last one counts. A manifest has neither vendor nor class: who
+    /// reads it compares them. Does not allocate.
     ///
     /// # Errors
     /// The first of: `NotBooted`; `OnTrial`; `NotProvisioned` where the log has no state;
