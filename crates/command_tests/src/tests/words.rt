@@ -76,7 +76,11 @@ fn characters_that_change_how_a_line_is_shown_are_escaped(rt: HostRuntime) -> Re
                 ..absent
             },
             Case {
-                words: &["bootswap", "image", "a\u{202e}gpj.\u{61c}\u{200f}\u{2066}b\u{2069}א"],
+                words: &[
+                    "bootswap",
+                    "image",
+                    "a\u{202e}gpj.\u{61c}\u{200f}\u{2066}b\u{2069}א",
+                ],
                 err: "error: cannot read a\\u{202e}gpj.\\u{61c}\\u{200f}\\u{2066}b\\u{2069}א\n",
                 ..absent
             },
