@@ -141,8 +141,8 @@ impl<F: Flash> Device<F> {
         )
     }
 
-    /// Takes a manifest that was read already, as `accept` takes any text that means it: an upload is
-    /// opened for each image that it names, and what was requested for these is gone. Where two
+    /// Takes a manifest that was read already, as `accept` takes any text that means it: an upload
+    /// is opened for each image that it names, and what was requested for these is gone. Where two
     /// components name an image the last one counts. A manifest has neither vendor nor class: who
     /// reads it compares them. Does not allocate.
     ///

@@ -6,6 +6,7 @@ mod cuts;
 mod damaged_flashes;
 mod damaged_sets;
 mod erases;
+mod given_manifests;
 mod images;
 mod lent_flashes;
 mod longer_flashes;
