@@ -1,9 +1,12 @@
 -- What was answered, by what was read in turn and written.
-use Rattle.std.proofs.Common.{◌≡◌, ℕ, List, [], ◌∷◌, Option, ap, arith, inl, subst}
+use Rattle.std.proofs.Common.{◌≡◌, ℕ, List, [], ◌∷◌, Option, Result, Ok, Err, IfErr, IfOk, ap, arith, inl, refl, subst}
 use Rattle.std.specs.Borrow.{Bor}
 use Rattle.reading_commands.specs.declared.answer.Answer.{Answer}
 use Rattle.reading_commands.specs.declared.answer.Answer.TheVariants.{Done, Refused, Cut}
 use Rattle.flash_model.specs.declared.torn.Armed.{Armed}
+use Rattle.reading_commands.specs.declared.error.Refusal.{Refusal}
+use Rattle.reading_commands.specs.declared.error.Refusal.TheVariants as no
+use Rattle.machine.specs.declared.error.Fault.{Fault}
 use Rattle.boot_cli.specs.declared.commands.provision.Made.{Made}
 use Rattle.boot_cli.specs.declared.commands.provision.Made.TheVariants as made
 use Rattle.answers.specs.declared.device.DeviceFile.{DeviceFile}
@@ -11,8 +14,8 @@ use Rattle.reading_commands.specs.declared.source.Source.{Source}
 use Rattle.reading_commands.specs.declared.source.Source.TheVariants as source
 use Rattle.answers.specs.FlashOf.{IsFlashOf}
 use Rattle.reading_commands.specs.DeviceInput.{GivesDevice}
-use Rattle.reading_commands.specs.Input.{FileBytes, Gives, KeepsOthers}
-use Rattle.boot_cli.specs.ProvisionEnd.{AnswersMade, AnswersProvision, EndsMade, MakesDevice, ReadsImages}
+use Rattle.reading_commands.specs.Input.{FileBytes, Gives, KeepsFiles, KeepsOthers}
+use Rattle.boot_cli.specs.ProvisionEnd.{AnswersMade, AnswersProvision, EndsBefore, EndsMade, MakesDevice, ReadsImages}
 use Rattle.boot_cli.specs.RunEnd.{AnswersRun, Plays, RunsDevice}
 use Rattle.boot_cli.specs.Script.{Came, IsScript, Known, StaysKnown, known_after}
 use Rattle.reading_commands.specs.Status.{status_of_answer}
@@ -58,6 +61,34 @@ AnswersProvision-read answer device names input mid_input file mid_file held old
       made = subst (λ all. EndsMade made of_device.map all held) read.5 ends;
       answered = subst (λ o. AnswersMade answer made o new) same answered;
     })
+
+-- a flash that is refused isn't made
+abbrev made_number : Made → ℕ
+made_number made.Done = 0
+made_number (made.Refused fault) = 1
+
+not_done : (fault : Fault) → made.Refused fault ≡ made.Done → ⊥
+not_done fault same = let numbers : 1 ≡ 0 = ap made_number same in omega (arith, numbers)
+
+-- where it ended before the file was replaced, all files were kept
+pub KeepsFiles-told : (result : Result Answer Refusal) (outcome : Made) (files new_files : FileBytes)
+    (old new : Option (List ℕ)) → IfOk result (λ answer. AnswersMade answer outcome old new)
+    → (outcome ≡ made.Done → IfErr result (λ refusal. refusal ≡ no.CannotWrite))
+    → ((outcome ≡ made.Done → ⊥) → KeepsFiles files new_files)
+    → EndsBefore result → KeepsFiles files new_files
+KeepsFiles-told (Ok Done) outcome files new_files old new answered late kept ends = absurd ends
+KeepsFiles-told (Ok Refused) made.Done files new_files old new answered late kept ends =
+    let same : 1 ≡ 0 = ap status_of_answer answered.0 in absurd (omega (arith, same))
+KeepsFiles-told (Ok Cut) made.Done files new_files old new answered late kept ends =
+    let same : 3 ≡ 0 = ap status_of_answer answered.0 in absurd (omega (arith, same))
+KeepsFiles-told (Err refusal) made.Done files new_files old new answered late kept ends =
+    absurd (subst (λ one. EndsBefore (Err one)) (late refl) ends)
+KeepsFiles-told (Ok Refused) (made.Refused fault) files new_files old new answered late kept ends =
+    kept (not_done fault)
+KeepsFiles-told (Ok Cut) (made.Refused fault) files new_files old new answered late kept ends =
+    kept (not_done fault)
+KeepsFiles-told (Err refusal) (made.Refused fault) files new_files old new answered late kept ends =
+    kept (not_done fault)
 
 AnswersRun-runs : (answer : Answer) (device flash script : Source) (input : Option (List ℕ))
     (file : FileBytes) (old new : Option (List ℕ))

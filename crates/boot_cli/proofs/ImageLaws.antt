@@ -15,10 +15,10 @@ use Rattle.sector_map.proofs.Products.{mul_le}
 use Rattle.sector_map.proofs.Places.{before_within}
 use Rattle.reading_commands.specs.declared.source.Source.{Source}
 use Rattle.answers.specs.FlashOf.{IsFlashOf}
-use Rattle.reading_commands.specs.Input.{FileBytes, Gives, IsNamed, KeepsOthers}
-use Rattle.boot_cli.specs.Inputs.{GiveEach, names_of}
+use Rattle.reading_commands.specs.Input.{FileBytes, Gives, IsNamed, KeepsFiles, KeepsOthers}
+use Rattle.boot_cli.specs.Inputs.{GiveEach, NameFiles, names_of}
 use Rattle.boot_cli.specs.ProvisionEnd.{new_flash, with_files}
-use Rattle.boot_cli.proofs.InputLaws.{GiveEach-read}
+use Rattle.boot_cli.proofs.InputLaws.{GiveEach-read, KeepsFiles-itself, KeepsFiles-read, KeepsFiles-twice}
 
 -- a slot lies in the flash
 pub slot_within : (map : SectorMap) (image : ℕ) → IsMap map → image < map.images
@@ -66,6 +66,7 @@ pub record AreRead (map : SectorMap) (names : List (Bor (List ℕ))) (count : �
       → length content ≤ length_of map (Slot i Primary)
   pub put : bytes ≡ new_flash map contents
   pub whole : IsFlashOf map bytes
+  pub kept : NameFiles (names_of names) → KeepsFiles old_file file
 
 -- none was read
 pub AreRead-none : (map : SectorMap) (names : List (Bor (List ℕ))) (input : Option (List ℕ))
@@ -80,6 +81,7 @@ AreRead-none map names input file bytes put whole = record {
   fit = λ i content is. absurd (none-some content is);
   put = put;
   whole = whole;
+  kept = λ all. KeepsFiles-itself file;
 }
 
 -- the word at the next place names a source more
@@ -130,4 +132,6 @@ AreRead-more map names count old_input old_file input file new_input new_file by
           ∙ sym (with_files-push map 0 contents content (replicate (sectors_of map * map.sector_size) 0xff));
       whole = ap (λ all. length all) put ∙ length-replaced (start_of map (Slot count Primary)) content bytes inside
           ∙ before.whole;
+      kept = λ all. KeepsFiles-twice old_file file new_file (before.kept all)
+          (KeepsFiles-read names count source input new_input file new_file within all named keeps);
     }

@@ -1,10 +1,12 @@
 -- What sources give that are read one after the other.
-use Rattle.std.proofs.Common.{ℕ, List, [], ◌∷◌, Option}
+use Rattle.std.proofs.Common.{◌≢◌, ℕ, zero, suc, ◌<◌, List, [], ◌∷◌, Option, None, Some, IfSome, arith, codes, length, refl, ◌∙◌}
+use Rattle.std.specs.Borrow.{Bor}
+use Rattle.std.specs.List.{slice_get}
 use Rattle.std.specs.Io.KnownBytes.{Keeps}
 use Rattle.reading_commands.specs.declared.source.Source.{Source}
 use Rattle.reading_commands.specs.declared.source.Source.TheVariants.{StandardInput, File}
-use Rattle.reading_commands.specs.Input.{FileBytes, Gives, KeepsFiles, KeepsOthers}
-use Rattle.boot_cli.specs.Inputs.{GiveEach}
+use Rattle.reading_commands.specs.Input.{FileBytes, Gives, IsNamed, KeepsFiles, KeepsOthers}
+use Rattle.boot_cli.specs.Inputs.{GiveEach, LeavesFiles, NameFiles, names_of}
 use Rattle.reading_commands.proofs.AnswerLaws.{Gives-kept}
 
 -- what sources give after a read that kept it, they gave before
@@ -36,3 +38,49 @@ pub GiveEach-one : (source : Source) (input : Option (List ℕ)) (file : FileByt
     → Gives source input file bytes → GiveEach (source ∷ []) input file (bytes ∷ [])
 GiveEach-one StandardInput input file bytes given = given
 GiveEach-one (File name) input file bytes given = (given, tt)
+
+-- what is known, and was kept twice
+pub kept_twice : (known mid new : Option (List ℕ)) → Keeps known mid → Keeps mid new → Keeps known new
+kept_twice None mid new first second = tt
+kept_twice (Some xs) None new first second = absurd first
+kept_twice (Some xs) (Some ys) None first second = second
+kept_twice (Some xs) (Some ys) (Some zs) first second = second ∙ first
+
+pub kept_itself : (known : Option (List ℕ)) → Keeps known known
+kept_itself None = tt
+kept_itself (Some xs) = refl
+
+pub KeepsFiles-itself : (files : FileBytes) → KeepsFiles files files
+KeepsFiles-itself files = λ name. kept_itself (files name)
+
+pub KeepsFiles-twice : (old mid new : FileBytes) → KeepsFiles old mid → KeepsFiles mid new
+    → KeepsFiles old new
+KeepsFiles-twice old mid new first second =
+    λ name. kept_twice (old name) (mid name) (new name) (first name) (second name)
+
+-- a word that isn't `-` names a file, and to read that keeps all files
+file_kept : (name : List ℕ) (source : Source) (input new_input : Option (List ℕ))
+    (files new_files : FileBytes) → name ≢ codes "-" → IsNamed name source
+    → KeepsOthers source input files new_input new_files → KeepsFiles files new_files
+file_kept name StandardInput input new_input files new_files other named kept = absurd (other named)
+file_kept name (File word) input new_input files new_files other named kept = kept.1
+
+-- so does each of such words
+pub KeepsFiles-read : (names : List (Bor (List ℕ))) (place : ℕ) (source : Source)
+    (input new_input : Option (List ℕ)) (files new_files : FileBytes) → place < length names
+    → NameFiles (names_of names) → IfSome (slice_get names place) (λ name. IsNamed name.now source)
+    → KeepsOthers source input files new_input new_files → KeepsFiles files new_files
+KeepsFiles-read [] place source input new_input files new_files within all named kept =
+    absurd (omega (arith, within))
+KeepsFiles-read (name ∷ rest) zero source input new_input files new_files within all named kept =
+    file_kept name.now source input new_input files new_files all.0 named kept
+KeepsFiles-read (name ∷ rest) (suc place) source input new_input files new_files within all named kept =
+    KeepsFiles-read rest place source input new_input files new_files (omega (arith, within)) all.1 named kept
+
+-- a source was read, and then others were
+pub LeavesFiles-read : (source : Source) (names : List (List ℕ)) (input new_input : Option (List ℕ))
+    (old mid new : FileBytes) → KeepsOthers source input old new_input mid
+    → (NameFiles names → KeepsFiles mid new) → LeavesFiles source names old new
+LeavesFiles-read StandardInput names input new_input old mid new kept after = tt
+LeavesFiles-read (File name) names input new_input old mid new kept after =
+    λ all. KeepsFiles-twice old mid new kept.1 (after all)

@@ -18,17 +18,7 @@ use Rattle.boot_cli.specs.declared.loading.Step.{Step}
 use Rattle.boot_cli.specs.Loading.{Adds, Passes, armed_in, armed_of, came_in, came_of}
 use Rattle.boot_cli.specs.Script.{AllCome, AllCut, Came, Comes, IsCutBy, IsRead, IsScript, Known, StaysKnown, known_after}
 use Rattle.reading_commands.proofs.AnswerLaws.{Gives-kept}
-
--- what is known, and was kept twice
-kept_twice : (known mid new : Option (List ℕ)) → Keeps known mid → Keeps mid new → Keeps known new
-kept_twice None mid new first second = tt
-kept_twice (Some xs) None new first second = absurd first
-kept_twice (Some xs) (Some ys) None first second = second
-kept_twice (Some xs) (Some ys) (Some zs) first second = second ∙ first
-
-kept_itself : (known : Option (List ℕ)) → Keeps known known
-kept_itself None = tt
-kept_itself (Some xs) = refl
+use Rattle.boot_cli.proofs.InputLaws.{kept_itself, kept_twice}
 
 -- what is known of a host, where nothing happened
 pub StaysKnown-itself : (input : Option (List ℕ)) (files : FileBytes)

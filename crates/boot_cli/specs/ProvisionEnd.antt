@@ -1,5 +1,5 @@
 -- What making a flash a device's comes to.
-use Rattle.std.specs.Prelude.{◌≡◌, ◌≢◌, ◌⊎◌, ℕ, ◌+◌, ◌*◌, ◌≤◌, List, [], ◌∷◌, ◌++◌, length, replicate, slice_get, Option, Some, codes}
+use Rattle.std.specs.Prelude.{◌≡◌, ◌≢◌, ◌⊎◌, ℕ, ◌+◌, ◌*◌, ◌≤◌, List, [], ◌∷◌, ◌++◌, length, replicate, slice_get, Option, Some, codes, Result, Ok, Err}
 use Rattle.std.specs.Io.KnownBytes.{Appends}
 use Rattle.std.specs.List.{AllZip}
 use Rattle.flash_model.specs.Chip.{Chip}
@@ -11,6 +11,8 @@ use Rattle.sector_map.specs.Part.{Slot}
 use Rattle.boot_core.specs.Provisioned.{IsProvisioned, RefusesMaking}
 use Rattle.reading_commands.specs.declared.answer.Answer.{Answer}
 use Rattle.reading_commands.specs.declared.answer.Answer.TheVariants.{Done, Refused, Cut}
+use Rattle.reading_commands.specs.declared.error.Refusal.{Refusal}
+use Rattle.reading_commands.specs.declared.error.Refusal.TheVariants as no
 use Rattle.boot_cli.specs.declared.commands.provision.Made.{Made}
 use Rattle.boot_cli.specs.declared.commands.provision.Made.TheVariants as made
 use Rattle.answers.specs.declared.device.DeviceFile.{DeviceFile}
@@ -62,6 +64,15 @@ abbrev pub AnswersMade : Answer → Made → Option (List ℕ) → Option (List 
 AnswersMade answer made.Done old new = (answer ≡ Done) × Appends old new done_text
 AnswersMade answer (made.Refused fault) old new =
     (answer ≡ Refused) × Appends old new (refused_fault_text fault)
+
+-- `provision` ended without a flash of which the file was replaced: but for `Done`, and for an
+-- answer that could not be written, whatever it came to.
+abbrev pub EndsBefore : Result Answer Refusal → Type 0
+EndsBefore (Ok Done) = ⊥
+EndsBefore (Ok Refused) = Unit {0}
+EndsBefore (Ok Cut) = Unit {0}
+EndsBefore (Err no.CannotWrite) = ⊥
+EndsBefore (Err refusal) = Unit {0}
 
 -- What was read of image files: they fit their slots, and these are the bytes of their flash.
 abbrev pub ReadsImages : SectorMap → List (List ℕ) → Option (List ℕ) → FileBytes → List ℕ → Type 0

@@ -1,11 +1,11 @@
 //! `bootswap provision`: a flash is made and made a device's, and then its file is written.
-ghost use Rattle.std.specs.Prelude.{◌≡◌, ◌+◌, ◌<◌, ◌≤◌, [], IfErr, IfOk, IfSome, OnOk, Ok, length, slice_get, string_bytes};
+ghost use Rattle.std.specs.Prelude.{◌≡◌, ◌≢◌, ◌+◌, ◌<◌, ◌≤◌, [], IfErr, IfOk, IfSome, OnOk, length, slice_get, string_bytes};
 ghost use Rattle.std.specs.Io.KnownBytes.{Appends};
 ghost use Rattle.flash_model.specs.Torn.{replaced};
 ghost use Rattle.answers.specs.FlashOf.{IsFlashOf};
 ghost use Rattle.reading_commands.specs.Input.{IsKnownAs, IsNamed, KeepsFiles};
-ghost use Rattle.boot_cli.specs.Inputs.{names_of};
-ghost use Rattle.boot_cli.specs.ProvisionEnd.{AnswersMade, AnswersProvision, EndsMade, IsOther, ReadsImages, done_text, new_flash};
+ghost use Rattle.boot_cli.specs.Inputs.{LeavesFiles, NameFiles, names_of};
+ghost use Rattle.boot_cli.specs.ProvisionEnd.{AnswersMade, AnswersProvision, EndsBefore, EndsMade, IsOther, ReadsImages, done_text, new_flash};
 
 use answers::{flash_of, refused_fault_text, write_all};
 use machine::Fault;
@@ -48,9 +48,12 @@ pub fn perform<'a, A: Allocator, H: Host, O: Write>(
     host: &mut H,
     out: &mut O,
 ) -> Result<Answer, Refusal<'a>>
-    ensures { IfOk result (λ answer. AnswersProvision answer device.entry (names_of images.now)
+    ensures answers { IfOk result (λ answer.
+        AnswersProvision answer device.entry (names_of images.now)
         (H.input host.old) (H.file host.old) (H.file host.new flash.now)
         (O.contents out.old) (O.contents out.new)) }
+    ensures kept { EndsBefore result
+        → LeavesFiles device.entry (names_of images.now) (H.file host.old) (H.file host.new) }
 {
     let source = device;
     let Some(device) = read_device(alloc, heap, source, host, out)? else {
@@ -75,6 +78,8 @@ fn read_images<'a, A: Allocator, H: Host>(
     ensures read { IfOk result (λ bytes. ReadsImages map.now (names_of images.now)
         (H.input host.old) (H.file host.old) bytes.items) }
     ensures whole { IfOk result (λ bytes. IsFlashOf map.now bytes.items) }
+    ensures kept { NameFiles (names_of images.now)
+        → KeepsFiles (H.file host.old) (H.file host.new) }
 {
     if images.len() != usize::from(map.images) {
         return Err(Refusal::ImageCount);
@@ -166,7 +171,9 @@ fn make_flash<'a, L: Ledger, A: Allocator, H: Host>(
     requires whole { IsFlashOf map.now bytes.items }
     ensures made { IfOk result (λ made.
         EndsMade made map.now bytes.items (H.file host.new file.entry.name.now)) }
-    ensures kept { (result ≡ Ok Made.Done → ⊥) → KeepsFiles (H.file host.old) (H.file host.new) }
+    ensures refused { IfOk result (λ made. made ≢ Made.Done
+        → KeepsFiles (H.file host.old) (H.file host.new)) }
+    ensures failed { IfErr result (λ _. KeepsFiles (H.file host.old) (H.file host.new)) }
 {
     let mut flash = flash_of::<L>(alloc, blank, map, bytes);
     if let Err(fault) = boot_core::provision(&mut flash, map) {
@@ -199,8 +206,9 @@ fn tell_made<'a, A: Allocator, O: Write>(
     made: Made,
     out: &mut O,
 ) -> Result<Answer, Refusal<'a>>
-    ensures { IfOk result (λ answer.
+    ensures told { IfOk result (λ answer.
         AnswersMade answer made (O.contents out.old) (O.contents out.new)) }
+    ensures late { made ≡ Made.Done → IfErr result (λ refusal. refusal ≡ Refusal.CannotWrite) }
 {
     match made {
         Made::Done => tell(b"done\n", Answer::Done, out),
@@ -215,8 +223,9 @@ fn tell_made<'a, A: Allocator, O: Write>(
 
 /// Writes the text of an answer to `out`, and returns the answer.
 fn tell<'a, O: Write>(text: &[u8], answer: Answer, out: &mut O) -> Result<Answer, Refusal<'a>>
-    ensures { IfOk result (λ told. (told ≡ answer)
+    ensures told { IfOk result (λ told. (told ≡ answer)
         × Appends (O.contents out.old) (O.contents out.new) text.now) }
+    ensures untold { IfErr result (λ refusal. refusal ≡ Refusal.CannotWrite) }
 {
     match write_all(out, text) {
         Ok(()) => Ok(answer),

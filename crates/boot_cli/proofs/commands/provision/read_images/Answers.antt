@@ -8,6 +8,7 @@ use Rattle.sector_map.specs.Part.{Slot}
 use Rattle.reading_commands.specs.Input.{IsNamed}
 use Rattle.boot_cli.specs.Inputs.{names_of}
 use Rattle.boot_cli.proofs.ImageLaws.{AreRead-more, AreRead-none, slot_within}
+use Rattle.boot_cli.proofs.InputLaws.{KeepsFiles-itself, KeepsFiles-read, KeepsFiles-twice}
 use Rattle.boot_cli.proofs.commands.provision.read_images.Goals as goal
 
 -- Nothing was read, and the flash is erased.
@@ -65,3 +66,30 @@ returns-clause-read g c =
       record { count = omega (arith, read.counted, c.loop-image-test.false, c.loop-image.auto.image-end); each = read.fit },
       read.put,
     )
+
+-- Nothing was read where the number of images is wrong, or there is no memory for the flash.
+pub returns-then-images-from-clause-kept : goal.returns-then-images-from-clause-kept
+returns-then-images-from-clause-kept g c = λ all. KeepsFiles-itself _
+
+pub returns-in_default-clause-kept : goal.returns-in_default-clause-kept
+returns-in_default-clause-kept g c = λ all. KeepsFiles-itself _
+
+-- A file that could not be read changes nothing, and nor does one that is too long.
+pub returns-in_err-file-clause-kept : goal.returns-in_err-file-clause-kept
+returns-in_err-file-clause-kept g c = λ all.
+    let image = c.loop-image.image in
+    let names = c.args.images.now in
+    let within : image < length names = omega (arith, c.loop-image-test.true, c.if-images-from.false, c.from.ensures) in
+    KeepsFiles-twice _ _ _ (c.loop-image.invariant.kept all)
+    (KeepsFiles-read names image c.source_at-source.result _ _ _ _ within all c.source_at-source.ensures c.in_err-file.ensures.others)
+
+pub returns-then-len-slot_length-clause-kept : goal.returns-then-len-slot_length-clause-kept
+returns-then-len-slot_length-clause-kept g c = λ all.
+    let image = c.loop-image.image in
+    let names = c.args.images.now in
+    let within : image < length names = omega (arith, c.loop-image-test.true, c.if-images-from.false, c.from.ensures) in
+    KeepsFiles-twice _ _ _ (c.loop-image.invariant.kept all)
+    (KeepsFiles-read names image c.source_at-source.result _ _ _ _ within all c.source_at-source.ensures c.in_ok-file.ensures.others)
+
+pub returns-clause-kept : goal.returns-clause-kept
+returns-clause-kept g c = c.loop-image.invariant.kept
