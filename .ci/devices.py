@@ -1,5 +1,6 @@
 """What the built program does with devices: flash files, scripts, and the documents that run them."""
 
+import fcntl
 import hashlib
 import os
 import re
@@ -222,6 +223,66 @@ def check_inputs(checks):
         os.remove(path(f"{name}-second"))
 
 
+IN_USE = b"error: flash in use\n"
+
+
+def check_holding(checks):
+    """A flash file that another program works on is refused, and what takes its name isn't written."""
+    whole = flash_of(checks)
+    path = lambda name: f"{checks.folder}/{name}"
+    run, show = ["run", PAIR, "flash", "-"], ["show", PAIR, "flash"]
+    made = ["provision", PAIR, "flash", ONE, ONE]
+    os.symlink("flash", path("by-link"))
+    others = [run, made, show, ["run", PAIR, "by-link", "-"], ["provision", PAIR, "by-link", ONE, ONE]]
+
+    def expect_held(name, how, refused):
+        """A check of each command, where another program holds the file so."""
+        for words in [*others, ["show", PAIR, "by-link"]]:
+            with open(path("flash"), "rb") as held:
+                fcntl.flock(held, how)
+                got = checks.run(words, given=b"reset\n")
+            wanted = (1, b"", IN_USE) if words[0] in refused else (0, got[1], b"")
+            faults = [] if got == wanted and read(path("flash")) == whole else [short(got)]
+            checks.tell(f"a flash file that is {name}: {shown(words)}", faults)
+
+    expect_held("written", fcntl.LOCK_EX, {"run", "provision", "show"})
+    expect_held("read", fcntl.LOCK_SH, {"run", "provision"})
+    checks.file("long", whole + b"x")
+    with open(path("long"), "rb") as held:
+        fcntl.flock(held, fcntl.LOCK_EX)
+        checks.expect("a flash file that is written, and too long", ["run", PAIR, "long", "-"], 1, err=IN_USE)
+    # A run that waits for its script has judged and holds the file.
+    waits = subprocess.Popen(
+        [checks.program, *run], cwd=checks.folder, stdin=subprocess.PIPE, stdout=subprocess.PIPE
+    )
+    tries = iter(range(100))
+    while checks.run(show)[2] != IN_USE and next(tries, None) is not None:
+        time.sleep(0.05)
+    for words in others:
+        checks.expect(f"a flash file of a run that waits: {shown(words)}", words, 1, err=IN_USE)
+    os.rename(path("flash"), path("moved"))
+    checks.file("flash", b"another")
+    script = f"boot\naccept {EXAMPLES}/manifests/trial.json\n".encode()
+    said, _ = waits.communicate(script, timeout=LIMIT)
+    faults = [] if said.endswith(b"2 done\n") else [short(said)]
+    faults += [] if read(path("flash")) == b"another" else ["what took the name was written"]
+    faults += [] if read(path("moved")) != whole else ["the file wasn't written"]
+    checks.tell("a flash file that loses its name in a run", faults)
+    os.rename(path("moved"), path("flash"))
+    checks.expect("a flash file that nobody holds any more", ["run", PAIR, "flash", "-"], 0)
+    os.remove(path("by-link"))
+    os.mkfifo(path("pipe"))
+    for name in ("pipe", ".", "/dev/null"):
+        told = f"error: cannot read {name}\n".encode()
+        for command in (["show", PAIR, name], ["run", PAIR, name, "-"]):
+            checks.expect(f"a flash file that is none: {shown(command)}", command, 1, err=told)
+    os.remove(path("pipe"))
+    with open(path("huge"), "wb") as huge:
+        huge.truncate(1 << 40)
+    checks.expect("a flash file of 2^40 bytes", ["run", PAIR, "huge", "-"], 1, err=b"error: flash size\n")
+    os.remove(path("huge"))
+
+
 ABSENT = b"error: cannot read absent\n"
 
 
@@ -414,6 +475,7 @@ CHECKS = (
     check_provisioning,
     check_replacing,
     check_inputs,
+    check_holding,
     check_shows,
     check_script_lines,
     check_replies,

@@ -1,5 +1,5 @@
-/* Loaded before a program, makes one of its calls go wrong, the one whose number is FAULT_AT: of those that open, read,
-   write, sync, close, look up or rename a file (FAULT=fail), of those that read or write (FAULT=short, after which the call
+/* Loaded before a program, makes one of its calls go wrong, the one whose number is FAULT_AT: of those that open, lock,
+   read, write, sync, close, look up or rename a file (FAULT=fail), of those that read or write (FAULT=short, after which the call
    moves one byte at most), or of the allocations (FAULT=memory). When the program ends, the number of those calls is written to the file
    FAULT_COUNT. `./gate` compiles and uses it. */
 #define _GNU_SOURCE
@@ -47,6 +47,12 @@ int open(const char *name, int flags, ...) {
     return has_failed() ? -1 : (int)syscall(SYS_openat, AT_FDCWD, name, flags, mode);
 }
 
+int flock(int file, int how) { return has_failed() ? -1 : (int)syscall(SYS_flock, file, how); }
+
+off_t lseek(int file, off_t at, int from) { return has_failed() ? -1 : (off_t)syscall(SYS_lseek, file, at, from); }
+
+off_t lseek64(int file, off_t at, int from) { return has_failed() ? -1 : (off_t)syscall(SYS_lseek, file, at, from); }
+
 int fsync(int file) { return has_failed() ? -1 : (int)syscall(SYS_fsync, file); }
 
 int fchmod(int file, mode_t mode) { return has_failed() ? -1 : (int)syscall(SYS_fchmod, file, mode); }
@@ -80,6 +86,10 @@ ssize_t read(int file, void *bytes, size_t length) { return moved(SYS_read, file
 ssize_t write(int file, const void *bytes, size_t length) { return moved(SYS_write, file, bytes, length, 0); }
 
 ssize_t __write(int file, const void *bytes, size_t length) { return moved(SYS_write, file, bytes, length, 0); }
+
+ssize_t pread(int file, void *bytes, size_t length, off_t at) { return moved(SYS_pread64, file, bytes, length, at); }
+
+ssize_t pread64(int file, void *bytes, size_t length, off_t at) { return moved(SYS_pread64, file, bytes, length, at); }
 
 ssize_t pwrite(int file, const void *bytes, size_t length, off_t at) {
     return moved(SYS_pwrite64, file, bytes, length, at);

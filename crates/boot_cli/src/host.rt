@@ -1,27 +1,26 @@
 //! The file that a flash is written through to, and the system as a host.
 
-use crate::replacing;
+use crate::holding::HeldFile;
+use crate::{holding, replacing};
 use file_flash::FlashFile;
-use reading_commands::Host;
+use reading_commands::{Access, FlashFault, Host};
 use std::alloc::Allocator;
-use std::fs::{File, OpenOptions};
+use std::fs::File;
 use std::io;
-use std::io::Read;
+use std::io::{ErrorKind, Read};
 use std::os::unix::fs::FileExt;
 use std::rt::Files;
 
-/// The file of a name, which a flash is written through to.
+/// The file of a flash that a host opened last, which the flash is written through to.
 #[derive(Drop)]
-pub struct HostFile<'a, 'n, H> {
+pub struct HostFile<'a, H> {
     /// Where the file is.
     pub host: &'a mut H,
-    /// Its name.
-    pub name: &'n str,
 }
 
-impl<H: Host> FlashFile for HostFile<'_, '_, H> {
+impl<H: Host> FlashFile for HostFile<'_, H> {
     fn write_at(&mut self, at: u32, bytes: &[u8]) -> io::Result<()> {
-        self.host.write_file_at(self.name, u64::from(at), bytes)
+        self.host.write_flash(u64::from(at), bytes)
     }
 }
 
@@ -30,19 +29,21 @@ impl<H: Host> FlashFile for HostFile<'_, '_, H> {
 pub struct SystemHost<'a, R: Files, I: Read> {
     runtime: &'a R,
     input: I,
+    flash: Option<HeldFile>,
 }
 
 impl<'a, R: Files, I: Read> SystemHost<'a, R, I> {
     /// The files of `runtime`, and `input` as standard input.
     pub fn new(runtime: &'a R, input: I) -> Self {
-        SystemHost { runtime, input }
+        SystemHost {
+            runtime,
+            input,
+            flash: None,
+        }
     }
 }
 
-impl<R: Files, I: Read> Host for SystemHost<'_, R, I>
-where
-    R::File: FileExt,
-{
+impl<R: Files<File = File>, I: Read> Host for SystemHost<'_, R, I> {
     ghost input = { λ host. I.remaining host.input };
 
     fn read_file<A: Allocator>(&mut self, alloc: A, name: &str) -> io::Result<Vec<u8, A>> {
@@ -60,12 +61,41 @@ where
         replacing::is_same_file(self.runtime, one, other)
     }
 
-    fn replace_file<A: Allocator>(&mut self, alloc: A, name: &str, bytes: &[u8]) -> io::Result<()> {
-        replacing::replace_file(self.runtime, &alloc, name, bytes)
+    fn open_flash<A: Allocator>(
+        &mut self,
+        alloc: A,
+        name: &str,
+        length: u64,
+        access: Access,
+    ) -> Result<Vec<u8, A>, FlashFault> {
+        let held = holding::open(self.runtime, name, length, access)?;
+        let Ok(mut bytes) = vec![in alloc; 0; length as usize] else {
+            return Err(FlashFault::NoMemory);
+        };
+        if held.file.read_exact_at(&mut bytes, 0).is_err() {
+            return Err(FlashFault::Failed);
+        }
+        self.flash = Some(held);
+        Ok(bytes)
     }
 
-    fn write_file_at(&mut self, name: &str, at: u64, bytes: &[u8]) -> io::Result<()> {
-        let file = OpenOptions::new().write(true).open(self.runtime, name)?;
-        file.write_all_at(bytes, at)
+    fn write_flash(&mut self, at: u64, bytes: &[u8]) -> io::Result<()> {
+        let Some(held) = &self.flash else {
+            return Err(io::Error::from(ErrorKind::NotFound));
+        };
+        held.file.write_all_at(bytes, at)?;
+        if held.is_device {
+            held.file.sync_data()?;
+        }
+        Ok(())
+    }
+
+    fn replace_file<A: Allocator>(
+        &mut self,
+        alloc: A,
+        name: &str,
+        bytes: &[u8],
+    ) -> Result<(), FlashFault> {
+        replacing::replace_file(self.runtime, &alloc, name, bytes)
     }
 }

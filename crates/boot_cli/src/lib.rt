@@ -10,6 +10,7 @@
 #![tactic(auto)]
 
 mod commands;
+mod holding;
 mod host;
 mod loading;
 mod program;
@@ -22,4 +23,4 @@ pub use answers::{
 pub use command_line::{Order, OrderError, order};
 pub use host::SystemHost;
 pub use program::{cli, refuse_words, run_order};
-pub use reading_commands::{Host, StandardInput};
+pub use reading_commands::{Access, FlashFault, Host, StandardInput};

@@ -1,9 +1,10 @@
 //! A file that is replaced whole: what it held stays until all that it is to hold is on the disk.
 
+use crate::holding::{hold, is_one_file};
+use reading_commands::{Access, FlashFault};
 use std::alloc::{AllocError, Allocator};
 use std::fs::{File, Metadata, OpenFile, OpenOptions, Permissions};
 use std::io::{ErrorKind, Write};
-use std::os::unix::fs::MetadataExt;
 use std::path::PathBuf;
 use std::rt::Files;
 use std::{fs, io};
@@ -16,7 +17,7 @@ const MOST_NAMES: u32 = 100;
 /// and names of one file have its number in common.
 pub fn is_same_file<R: Files>(runtime: &R, one: &str, other: &str) -> io::Result<bool> {
     match (found(runtime, one)?, found(runtime, other)?) {
-        (Some(one), Some(other)) => Ok(one.dev() == other.dev() && one.ino() == other.ino()),
+        (Some(one), Some(other)) => Ok(is_one_file(&one, &other)),
         _ => Ok(false),
     }
 }
@@ -35,36 +36,67 @@ fn found<R: Files>(runtime: &R, name: &str) -> io::Result<Option<Metadata>> {
 ///
 /// The bytes are written to a new file in the same folder, which takes the name once they are on the
 /// disk. Where that fails the new file is removed. A file that is replaced has to be a plain one
-/// that can be written, and its permissions stay; a symbolic link to it stays too, and one that
-/// leads nowhere is refused.
-pub fn replace_file<R: Files, A: Allocator>(
+/// that can be written, and it is held meanwhile. Its permissions stay; a symbolic link to it stays
+/// too, and one that leads nowhere is refused.
+pub fn replace_file<R: Files<File = File>, A: Allocator>(
+    runtime: &R,
+    alloc: &A,
+    name: &str,
+    bytes: &[u8],
+) -> Result<(), FlashFault> {
+    let put = match found(runtime, name) {
+        Ok(Some(old)) => {
+            let _held = open_old(runtime, name, &old)?;
+            put_over(runtime, alloc, name, old.permissions(), bytes)
+        }
+        Ok(None) => put_first(runtime, alloc, name, bytes),
+        Err(error) => Err(error),
+    };
+    put.map_err(|error| match error.kind() {
+        ErrorKind::OutOfMemory => FlashFault::NoMemory,
+        _ => FlashFault::Failed,
+    })
+}
+
+/// Opens and holds the file that is to be replaced, which is a plain one that can be written.
+fn open_old<R: Files<File = File>>(
+    runtime: &R,
+    name: &str,
+    old: &Metadata,
+) -> Result<File, FlashFault> {
+    if !old.is_file() {
+        return Err(FlashFault::Failed);
+    }
+    let Ok(file) = OpenOptions::new().write(true).open(runtime, name) else {
+        return Err(FlashFault::Failed);
+    };
+    hold(runtime, name, &file, Access::Write)?;
+    Ok(file)
+}
+
+/// Puts a file in the place of one that is there, where it stands, not where a link to it does.
+fn put_over<R: Files, A: Allocator>(
+    runtime: &R,
+    alloc: &A,
+    name: &str,
+    permissions: Permissions,
+    bytes: &[u8],
+) -> io::Result<()> {
+    let path = runtime.canonicalize(alloc, name)?;
+    put_file(runtime, alloc, path.as_str(), Some(permissions), bytes)
+}
+
+/// Makes a file where there is none.
+fn put_first<R: Files, A: Allocator>(
     runtime: &R,
     alloc: &A,
     name: &str,
     bytes: &[u8],
 ) -> io::Result<()> {
-    match found(runtime, name)? {
-        Some(old) => {
-            if !old.is_file() {
-                return Err(io::Error::from(ErrorKind::InvalidInput));
-            }
-            OpenOptions::new().write(true).open(runtime, name)?;
-            let path = runtime.canonicalize(alloc, name)?;
-            put_file(
-                runtime,
-                alloc,
-                path.as_str(),
-                Some(old.permissions()),
-                bytes,
-            )
-        }
-        None => {
-            if fs::symlink_metadata(runtime, name).is_ok() {
-                return Err(io::Error::from(ErrorKind::NotFound));
-            }
-            put_file(runtime, alloc, name, None, bytes)
-        }
+    if fs::symlink_metadata(runtime, name).is_ok() {
+        return Err(io::Error::from(ErrorKind::NotFound));
     }
+    put_file(runtime, alloc, name, None, bytes)
 }
 
 /// Writes a new file of these bytes and has it take this name. It has these permissions, or else

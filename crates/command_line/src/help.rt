@@ -260,8 +260,8 @@ Example: bootswap provision device.json flash.bin a.img b.img
      `error: ..`: `device file` where DEVICE is none, `image count` where the
      device has another number of images, `image 1 too big` where that file is
      longer than its slot, `flash is an input` where FLASH is one of the files
-     that are read, `cannot read NAME`, or `memory`; or the answer could not be
-     written
+     that are read, `flash in use` where another program works on FLASH,
+     `cannot read NAME`, or `memory`; or the answer could not be written
   2  the words of the command are wrong
   4  standard error has the line `error: flash file`: FLASH could not be made or
      replaced
@@ -297,8 +297,9 @@ Example: bootswap show device.json flash.bin
   0  what stands on the flash is printed
   1  nothing stands there, or the device's sizes are refused; or standard error
      has a line `error: ..`: `device file` where DEVICE is none, `flash size`
-     where FLASH isn't as long as the device's flash, `cannot read NAME`, or
-     `memory`; or the answer could not be written
+     where FLASH isn't as long as the device's flash, `flash in use` where
+     another program writes to FLASH, `cannot read NAME`, or `memory`; or the
+     answer could not be written
   2  the words of the command are wrong
 
 Examples:
@@ -309,7 +310,8 @@ Examples:
 pub const RUN: Help = Help {
     about: "Runs a device on a flash file by a script, and prints its replies",
     long_about: "Runs a device on a flash file by a script, and prints a reply to each event.
-Each write goes to FLASH at once, so that the next run goes on from there.
+Each write goes to FLASH at once, so that the next run goes on from there. FLASH
+may be a block device, where each write is synced; no other program may use it.
 `bootswap help provision` tells what a device file looks like, and makes a flash
 file. In a script first come the writes that are cut, if any:
   cut WRITE TORN
@@ -360,8 +362,9 @@ Example: bootswap run device.json flash.bin script.txt
   1  the last reply is a refusal, or the device's sizes are refused; or standard
      error has a line `error: ..`: `device file` where DEVICE is none,
      `flash size` where FLASH isn't as long as the device's flash,
-     `script line 3` for the first line that is wrong, `cannot read NAME`, or
-     `memory`; or the replies could not be written
+     `flash in use` where another program works on FLASH, `script line 3` for
+     the first line that is wrong, `cannot read NAME`, or `memory`; or the
+     replies could not be written
   2  the words of the command are wrong
   3  the last reply is `cut`
   4  standard error has the line `error: flash file`: a write of FLASH failed,

@@ -1,7 +1,7 @@
 //! Files and standard input in memory.
 ghost use Rattle.std.specs.Prelude.{Some};
 
-use boot_cli::Host;
+use boot_cli::{Access, FlashFault, Host};
 use std::alloc::{Allocator, Global};
 use std::io;
 use std::io::{ErrorKind, Read};
@@ -33,6 +33,10 @@ pub struct WritableFile {
     pub is_there: bool,
     /// Whether it can be made.
     pub can_be_made: bool,
+    /// What another program has opened it for, and holds it.
+    pub held: Option<Access>,
+    /// What the program has opened it for.
+    pub open: Option<Access>,
     /// How many writes were tried.
     pub writes: u64,
     /// The write that fails, counted from 1, and what it leaves.
@@ -46,23 +50,53 @@ impl WritableFile {
             bytes: Vec::new(alloc),
             is_there: false,
             can_be_made: true,
+            held: None,
+            open: None,
             writes: 0,
             failing: None,
         }
     }
 
+    /// Whether what another program has opened it for keeps it from being opened for this.
+    fn is_in_use(&self, access: Access) -> bool {
+        match self.held {
+            None => false,
+            Some(held) => held == Access::Write || access == Access::Write,
+        }
+    }
+
+    /// Opens it, if it has this length.
+    fn open(&mut self, length: u64, access: Access) -> Result<(), FlashFault> {
+        if self.is_in_use(access) {
+            return Err(FlashFault::InUse);
+        }
+        if self.bytes.len() as u64 != length {
+            return Err(FlashFault::WrongLength);
+        }
+        self.open = Some(access);
+        Ok(())
+    }
+
     /// Puts a file of these bytes in its place, or makes it. Where that fails it is as it was.
-    fn replace(&mut self, bytes: &[u8]) -> io::Result<()> {
+    fn replace(&mut self, bytes: &[u8]) -> Result<(), FlashFault> {
+        if self.is_there && self.is_in_use(Access::Write) {
+            return Err(FlashFault::InUse);
+        }
         if !self.can_be_made {
-            return Err(io::Error::from(ErrorKind::PermissionDenied));
+            return Err(FlashFault::Failed);
         }
         self.writes = self.writes.saturating_add(1);
         if matches!(self.failing, Some((write, _)) if write == self.writes) {
-            return Err(io::Error::from(ErrorKind::StorageFull));
+            return Err(FlashFault::Failed);
         }
-        self.bytes.reserve(bytes.len())?;
+        if self.bytes.reserve(bytes.len()).is_err() {
+            return Err(FlashFault::NoMemory);
+        }
         self.bytes.clear();
-        self.bytes.extend_from_slice(bytes)?;
+        match self.bytes.extend_from_slice(bytes) {
+            Ok(()) => {}
+            Err(_) => return Err(FlashFault::NoMemory),
+        }
         self.is_there = true;
         Ok(())
     }
@@ -71,7 +105,10 @@ impl WritableFile {
     fn write_at(&mut self, at: u64, bytes: &[u8]) -> io::Result<()> {
         self.writes = self.writes.saturating_add(1);
         let at = at as usize;
-        if !self.is_there || at > self.bytes.len() || bytes.len() > self.bytes.len() - at {
+        if self.open != Some(Access::Write)
+            || at > self.bytes.len()
+            || bytes.len() > self.bytes.len() - at
+        {
             return Err(io::Error::from(ErrorKind::UnexpectedEof));
         }
         let failing = match self.failing {
@@ -155,19 +192,46 @@ impl Host for MemoryHost<'_, '_> {
         Ok(self.is_flash(one) && self.is_flash(other))
     }
 
-    fn replace_file<A: Allocator>(&mut self, alloc: A, name: &str, bytes: &[u8]) -> io::Result<()> {
-        // The system puts together the name of a new file.
-        let _name = Vec::from_slice(alloc, name.as_bytes())?;
-        match &mut self.flash {
-            Some(flash) if name == FLASH_FILE => flash.replace(bytes),
-            _ => Err(io::Error::from(ErrorKind::PermissionDenied)),
+    fn open_flash<A: Allocator>(
+        &mut self,
+        alloc: A,
+        name: &str,
+        length: u64,
+        access: Access,
+    ) -> Result<Vec<u8, A>, FlashFault> {
+        if self.is_flash(name)
+            && let Some(flash) = &mut self.flash
+        {
+            flash.open(length, access)?;
+        }
+        match self.read_file(alloc, name) {
+            Ok(bytes) if bytes.len() as u64 == length => Ok(bytes),
+            Ok(_) => Err(FlashFault::WrongLength),
+            Err(error) if error.kind() == ErrorKind::OutOfMemory => Err(FlashFault::NoMemory),
+            Err(_) => Err(FlashFault::Failed),
         }
     }
 
-    fn write_file_at(&mut self, name: &str, at: u64, bytes: &[u8]) -> io::Result<()> {
+    fn write_flash(&mut self, at: u64, bytes: &[u8]) -> io::Result<()> {
         match &mut self.flash {
-            Some(flash) if name == FLASH_FILE => flash.write_at(at, bytes),
-            _ => Err(io::Error::from(ErrorKind::NotFound)),
+            Some(flash) => flash.write_at(at, bytes),
+            None => Err(io::Error::from(ErrorKind::NotFound)),
+        }
+    }
+
+    fn replace_file<A: Allocator>(
+        &mut self,
+        alloc: A,
+        name: &str,
+        bytes: &[u8],
+    ) -> Result<(), FlashFault> {
+        // The system puts together the name of a new file.
+        let Ok(_name) = Vec::from_slice(alloc, name.as_bytes()) else {
+            return Err(FlashFault::NoMemory);
+        };
+        match &mut self.flash {
+            Some(flash) if name == FLASH_FILE => flash.replace(bytes),
+            _ => Err(FlashFault::Failed),
         }
     }
 }

@@ -10,6 +10,7 @@ pub mod samples;
 mod target;
 mod writer;
 
+pub use boot_cli::Access;
 pub use files::{FLASH_FILE, FLASH_LINK, Files, Left, MemoryHost, WritableFile};
 pub use outcome::{Case, Outcome, expect_each, expect_outcome, run, run_within};
 pub use target::{

@@ -112,6 +112,7 @@ impl Target {
         self.flash.bytes.clear();
         self.flash.bytes.extend_from_slice(bytes)?;
         self.flash.is_there = true;
+        self.flash.held = None;
         self.flash.writes = 0;
         self.flash.failing = None;
         Ok(())
@@ -158,6 +159,7 @@ impl Target {
     ) -> Outcome {
         let files = files_with(script);
         let mut host = MemoryHost::new(files.as_slice(), input);
+        self.flash.open = None;
         host.flash = Some(mem::replace(&mut self.flash, WritableFile::absent(alloc)));
         let outcome = run_within(alloc, heap, &mut host, words, limits);
         if let Some(flash) = host.flash.take() {

@@ -16,6 +16,7 @@ status_of_refusal (no.ReportLine line) = 1
 status_of_refusal no.NotValid = 1
 status_of_refusal no.DeviceFile = 1
 status_of_refusal no.FlashSize = 1
+status_of_refusal no.FlashInUse = 1
 status_of_refusal no.FlashIsInput = 1
 status_of_refusal no.ImageCount = 1
 status_of_refusal (no.ImageTooBig image) = 1

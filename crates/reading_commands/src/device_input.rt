@@ -1,13 +1,13 @@
 //! What the commands of a device read: its device file, and the bytes of its flash.
 ghost use Rattle.std.specs.Prelude.{IfOk};
-ghost use Rattle.std.specs.Io.KnownBytes.{Appends};
+ghost use Rattle.std.specs.Io.KnownBytes.{Appends, Keeps};
 ghost use Rattle.answers.specs.AnswerText.{map_refusal_text};
 ghost use Rattle.answers.specs.FlashOf.{IsFlashOf};
 ghost use Rattle.reading_commands.specs.DeviceInput.{ReadsDevice};
-ghost use Rattle.reading_commands.specs.Input.{Gives, KeepsOthers};
+ghost use Rattle.reading_commands.specs.Input.{Gives, IsKnownAs, KeepsFiles, KeepsOthers};
 
 use crate::error::Refusal;
-use crate::host::Host;
+use crate::host::{Access, FlashFault, Host};
 use crate::source::Source;
 use answers::{DeviceFault, DeviceFile, map_refusal_text, write_all};
 use sector_map::{MapError, SectorMap};
@@ -60,11 +60,12 @@ fn tell_map<'a, A: Allocator, O: Write>(
 }
 
 /// The bytes of a device's flash, which are as many as its map says, from `host`, in memory of
-/// `alloc`.
+/// `alloc`. A file of a flash is opened for `access`, and held from then on.
 pub fn read_flash<'a, H: Host>(
     alloc: Global,
     flash: Source<'a>,
     map: &SectorMap,
+    access: Access,
     host: &mut H,
 ) -> Result<Vec<u8>, Refusal<'a>>
     ensures bytes { IfOk result (λ bytes.
@@ -73,9 +74,33 @@ pub fn read_flash<'a, H: Host>(
     ensures others { KeepsOthers flash.entry (H.input host.old) (H.file host.old)
         (H.input host.new) (H.file host.new) }
 {
-    let bytes = flash.read(alloc, host)?;
+    let bytes = match flash {
+        Source::StandardInput => flash.read(alloc, host)?,
+        Source::File(name) => open_flash(alloc, name, map, access, host)?,
+    };
     if bytes.len() != map.bytes_in_all() as usize {
         return Err(Refusal::FlashSize);
     }
     Ok(bytes)
+}
+
+/// The bytes of the file of a device's flash, which is opened and held.
+fn open_flash<'a, H: Host>(
+    alloc: Global,
+    name: &'a str,
+    map: &SectorMap,
+    access: Access,
+    host: &mut H,
+) -> Result<Vec<u8>, Refusal<'a>>
+    ensures bytes { IfOk result (λ bytes. IsKnownAs (H.file host.old name.entry.now) bytes.items) }
+    ensures files { KeepsFiles (H.file host.old) (H.file host.new) }
+    ensures input { Keeps (H.input host.old) (H.input host.new) }
+{
+    host.open_flash(alloc, name, u64::from(map.bytes_in_all()), access)
+        .map_err(|fault| match fault {
+            FlashFault::InUse => Refusal::FlashInUse,
+            FlashFault::WrongLength => Refusal::FlashSize,
+            FlashFault::NoMemory => Refusal::NoMemory,
+            FlashFault::Failed => Refusal::CannotRead(Source::File(name)),
+        })
 }

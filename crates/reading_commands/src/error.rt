@@ -21,6 +21,9 @@ pub enum Refusal<'a> {
     /// The flash file isn't as long as the map of the device.
     #[error("flash size")]
     FlashSize,
+    /// Another program uses the flash file.
+    #[error("flash in use")]
+    FlashInUse,
     /// The flash file that is to be made is one of the files that are read for it.
     #[error("flash is an input")]
     FlashIsInput,

@@ -1,5 +1,5 @@
-//! What the program asks of the system: the bytes of files and of standard input, and a file to
-//! write.
+//! What the program asks of the system: the bytes of files and of standard input, and the file of a
+//! flash.
 ghost use Rattle.std.specs.Prelude.{IfErr, IfOk, List, ℕ, None, OnOk, Option};
 ghost use Rattle.std.specs.Io.{ReadsAtMost};
 ghost use Rattle.std.specs.Io.KnownBytes.{Keeps, ReadConsumes};
@@ -9,11 +9,33 @@ use std::alloc::Allocator;
 use std::io;
 use std::io::Read;
 
-/// Where the program's input comes from, and the file that it writes. A test stands in for the
-/// system with bytes in memory.
+/// What the file of a flash is opened for.
+#[derive(Clone, Copy, Debug, PartialEq, Eq)]
+pub enum Access {
+    /// It is read. Other programs may read it at the same time.
+    Read,
+    /// It is read and then written. No other program may use it at the same time.
+    Write,
+}
+
+/// Why the file of a flash can't be had, or not be replaced. It is as it was.
+#[derive(Clone, Copy, Debug, PartialEq, Eq)]
+pub enum FlashFault {
+    /// Another program uses it.
+    InUse,
+    /// It isn't as long as the flash.
+    WrongLength,
+    /// Memory ran out.
+    NoMemory,
+    /// The system could not open, lock, read, make or replace it.
+    Failed,
+}
+
+/// Where the program's input comes from, and the file of a flash that it writes. A test stands in
+/// for the system with bytes in memory.
 ///
-/// Where a file or standard input is read, or a file is replaced, an error of kind `OutOfMemory`
-/// says that memory ran out, and any other that the read or the write failed.
+/// Where a file or standard input is read, an error of kind `OutOfMemory` says that memory ran out,
+/// and any other that the read failed.
 pub trait Host {
     // What is left of standard input, where it is known.
     ghost input: { Self → Option (List ℕ) } = { λ _. None };
@@ -36,17 +58,36 @@ pub trait Host {
     /// Whether two names are of one file that is there, also where it has several names.
     fn is_same_file(&self, one: &str, other: &str) -> io::Result<bool>;
 
-    /// Puts a file that holds `bytes` in the place of the file of this name, or makes it where there
-    /// is none. Until it is done that file is as it was, and so it is where this fails. What takes
-    /// memory is in that of `alloc`.
-    fn replace_file<A: Allocator>(&mut self, alloc: A, name: &str, bytes: &[u8]) -> io::Result<()>
-        ensures done { OnOk result (IsKnownAs (file self.new name.now) bytes.now) }
-        ensures failed { IfErr result (λ _. KeepsFiles (file self.old) (file self.new)) }
+    /// Opens the file of this name, which is that of a flash of so many bytes, and returns them, in
+    /// memory of `alloc`. It is held until the host is dropped, or the next one is opened. Its
+    /// length is compared before a byte is read.
+    fn open_flash<A: Allocator>(
+        &mut self,
+        alloc: A,
+        name: &str,
+        length: u64,
+        access: Access,
+    ) -> Result<Vec<u8, A>, FlashFault>
+        ensures bytes { IfOk result (λ bytes. IsKnownAs (file self.old name.now) bytes.items) }
+        ensures files { KeepsFiles (file self.old) (file self.new) }
         ensures input { Keeps (input self.old) (input self.new) };
 
-    /// Writes all of `bytes` to the file of this name, which is there, from its byte `at` on. Does
-    /// not allocate.
-    fn write_file_at(&mut self, name: &str, at: u64, bytes: &[u8]) -> io::Result<()>
+    /// Writes all of `bytes` to the file of a flash that was opened last, and for writing, from its
+    /// byte `at` on. Does not allocate.
+    fn write_flash(&mut self, at: u64, bytes: &[u8]) -> io::Result<()>
+        ensures input { Keeps (input self.old) (input self.new) };
+
+    /// Puts a file that holds `bytes` in the place of the file of this name, or makes it where there
+    /// is none. Until it is done that file is as it was, and so it is where this fails. No other
+    /// program may use it meanwhile. What takes memory is in that of `alloc`.
+    fn replace_file<A: Allocator>(
+        &mut self,
+        alloc: A,
+        name: &str,
+        bytes: &[u8],
+    ) -> Result<(), FlashFault>
+        ensures done { OnOk result (IsKnownAs (file self.new name.now) bytes.now) }
+        ensures failed { IfErr result (λ _. KeepsFiles (file self.old) (file self.new)) }
         ensures input { Keeps (input self.old) (input self.new) };
 }
 

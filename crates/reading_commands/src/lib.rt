@@ -23,5 +23,5 @@ mod source;
 pub use answer::{Answer, finish, refuse, status_after};
 pub use device_input::{read_device, read_flash};
 pub use error::Refusal;
-pub use host::{Host, StandardInput};
+pub use host::{Access, FlashFault, Host, StandardInput};
 pub use source::Source;

@@ -5,7 +5,7 @@ ghost use Rattle.reading_commands.specs.AnswerEnd.{AnswersShow};
 use crate::answer::Answer;
 use crate::device_input::{read_device, read_flash};
 use crate::error::Refusal;
-use crate::host::Host;
+use crate::host::{Access, Host};
 use crate::source::Source;
 use answers::{ShowEnd, show_over};
 use std::alloc::{Allocator, Global};
@@ -30,7 +30,7 @@ pub fn perform<'a, A: Allocator, H: Host, O: Write>(
     let Some(of_device) = read_device(alloc, heap, device, host, out)? else {
         return Ok(Answer::Refused);
     };
-    let bytes = read_flash(alloc, flash, &of_device.map, host)?;
+    let bytes = read_flash(alloc, flash, &of_device.map, Access::Read, host)?;
     match show_over::<Brand, A, O>(alloc, heap, Blank::new(2), &of_device.map, bytes, out) {
         ShowEnd::Done => Ok(Answer::Done),
         ShowEnd::Refused => Ok(Answer::Refused),

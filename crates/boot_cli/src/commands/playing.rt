@@ -21,7 +21,7 @@ use boot_core::{Device, step};
 use file_flash::{FileFlash, FlashFile};
 use flash_model::{Flash, MemFlash};
 use machine::Reply;
-use reading_commands::{Answer, Host, Refusal, Source, read_device, read_flash};
+use reading_commands::{Access, Answer, Host, Refusal, Source, read_device, read_flash};
 use sector_map::SectorMap;
 use std::alloc::{AllocError, Allocator, Global};
 use std::io::Write;
@@ -34,7 +34,7 @@ use std::sync::ledger::{Blank, Ledger};
 ///
 /// The flash stands in memory of `alloc`, and so does what the device needs to run; the script's
 /// text is put into `text`, and all else stands in memory of `heap`. All files are judged before
-/// anything is run.
+/// anything is run, and the flash's is held from then on.
 pub fn perform<'a, 'h, A: Allocator, H: Host, O: Write>(
     alloc: Global,
     heap: &'h A,
@@ -53,10 +53,10 @@ pub fn perform<'a, 'h, A: Allocator, H: Host, O: Write>(
     let Some(device) = read_device(alloc, heap, device, host, out)? else {
         return Ok(Answer::Refused);
     };
-    let bytes = read_flash(alloc, Source::File(flash), &device.map, host)?;
+    let bytes = read_flash(alloc, Source::File(flash), &device.map, Access::Write, host)?;
     *text = script.read(heap, host)?;
     let script = load(alloc, heap, text, is_input_read, host)?;
-    let file = HostFile { host, name: flash };
+    let file = HostFile { host };
     play_script(alloc, heap, &device, bytes, script, file, out)
 }
 

@@ -9,10 +9,10 @@ ghost use Rattle.boot_cli.specs.ProvisionEnd.{AnswersMade, AnswersProvision, End
 
 use answers::{flash_of, refused_fault_text, write_all};
 use machine::Fault;
-use reading_commands::{Answer, Host, Refusal, Source, read_device};
+use reading_commands::{Answer, FlashFault, Host, Refusal, Source, read_device};
 use sector_map::{SectorMap, Side};
 use std::alloc::{AllocError, Allocator, Global};
-use std::io::{ErrorKind, Write};
+use std::io::Write;
 use std::marker::Brand;
 use std::sync::ledger::{Blank, Ledger};
 
@@ -195,8 +195,9 @@ fn replace<'a, A: Allocator, H: Host>(
 {
     match host.replace_file(heap, name, bytes) {
         Ok(()) => Ok(()),
-        Err(error) if error.kind() == ErrorKind::OutOfMemory => Err(Refusal::NoMemory),
-        Err(_) => Err(Refusal::FlashFile),
+        Err(FlashFault::InUse) => Err(Refusal::FlashInUse),
+        Err(FlashFault::NoMemory) => Err(Refusal::NoMemory),
+        Err(FlashFault::WrongLength | FlashFault::Failed) => Err(Refusal::FlashFile),
     }
 }
 

@@ -1,5 +1,5 @@
 //! The system that the program runs on: its files, and a reader in the place of standard input.
-use boot_cli::{Host, StandardInput, SystemHost};
+use boot_cli::{Access, FlashFault, Host, StandardInput, SystemHost};
 use std::fs::File;
 use std::io::{ErrorKind, Read};
 use std::path::PathBuf;
@@ -70,25 +70,85 @@ fn a_file_is_replaced_and_written_in_its_place(rt: HostRuntime) -> Result<(), Fa
     let name = path.as_str();
     let alloc = rt.alloc();
     let mut host = SystemHost::new(&rt, b"".as_slice());
-    host.replace_file(alloc, name, b"0123456789abcdef")?;
-    host.write_file_at(name, 4, b"XYZ")?;
-    host.write_file_at(name, 14, b"!?")?;
-    expect_alone(&rt, name, b"0123XYZ789abcd!?")?;
-    host.replace_file(alloc, name, b"short")?;
+    assert!(rt; host.replace_file(alloc, name, b"0123456789abcdef").is_ok());
+    expect_alone(&rt, name, b"0123456789abcdef")?;
+    assert!(rt; host.replace_file(alloc, name, b"short").is_ok());
     expect_alone(&rt, name, b"short")?;
     fs::remove_file(&rt, name)?;
-    assert!(rt; host.write_file_at(name, 0, b"0").is_err());
     assert!(rt; host.read_file(alloc, name).is_err());
-    host.replace_file(alloc, name, b"made")?;
+    assert!(rt; host.replace_file(alloc, name, b"made").is_ok());
     expect_alone(&rt, name, b"made")?;
     fs::remove_file(&rt, name)?;
-    assert!(rt;
-        host.replace_file(alloc, "/no/such/folder/file", b"")
-            .is_err()
-    );
     // A folder and a device are no plain files.
-    assert!(rt; host.replace_file(alloc, "/", b"").is_err());
-    assert!(rt; host.replace_file(alloc, "/dev/null", b"").is_err());
+    for name in ["/no/such/folder/file", "/", "/dev/null"] {
+        let replaced = host.replace_file(alloc, name, b"");
+        assert!(rt; replaced == Err(FlashFault::Failed), "{name}");
+    }
+    Ok(())
+}
+
+#[test]
+fn a_flash_file_is_written_where_it_was_opened(rt: HostRuntime) -> Result<(), Fail> {
+    let path = new_file(&rt)?;
+    let (name, alloc) = (path.as_str(), rt.alloc());
+    let other = format!(in alloc; "{name}.other")?;
+    let mut host = SystemHost::new(&rt, b"".as_slice());
+    fs::write(&rt, name, b"0123456789abcdef")?;
+    assert!(rt; host.write_flash(0, b"0").is_err(), "none is open");
+    for length in [0, 15, 17] {
+        let opened = host.open_flash(alloc, name, length, Access::Write);
+        assert!(rt; matches!(opened, Err(FlashFault::WrongLength)), "{length}");
+    }
+    let Ok(bytes) = host.open_flash(alloc, name, 16, Access::Write) else {
+        return Err(Fail::new("it can't be opened"));
+    };
+    assert_eq!(rt; bytes.as_slice(), b"0123456789abcdef".as_slice());
+    host.write_flash(4, b"XYZ")?;
+    host.write_flash(14, b"!?")?;
+    expect_alone(&rt, name, b"0123XYZ789abcd!?")?;
+    // What takes the name later isn't written.
+    fs::rename(&rt, name, other.as_str())?;
+    fs::write(&rt, name, b"another")?;
+    host.write_flash(0, b"=")?;
+    expect_alone(&rt, name, b"another")?;
+    expect_alone(&rt, other.as_str(), b"=123XYZ789abcd!?")?;
+    fs::remove_file(&rt, name)?;
+    fs::remove_file(&rt, other.as_str())?;
+    for name in [name, "/", "/dev/null"] {
+        let opened = host.open_flash(alloc, name, 0, Access::Read);
+        assert!(rt; matches!(opened, Err(FlashFault::Failed)), "{name}");
+    }
+    Ok(())
+}
+
+/// Whether a flash file of no bytes is in use for who opens it for this.
+fn is_in_use(rt: &(impl Files<File = File> + AllocGlobal), name: &str, access: Access) -> bool {
+    let mut host = SystemHost::new(rt, b"".as_slice());
+    let opened = host.open_flash(rt.alloc(), name, 0, access);
+    matches!(opened, Err(FlashFault::InUse))
+}
+
+#[test]
+fn a_flash_file_that_is_open_is_in_use(rt: HostRuntime) -> Result<(), Fail> {
+    let path = new_file(&rt)?;
+    let (name, alloc) = (path.as_str(), rt.alloc());
+    {
+        let mut host = SystemHost::new(&rt, b"".as_slice());
+        assert!(rt; host.open_flash(alloc, name, 0, Access::Read).is_ok());
+        assert!(rt; !is_in_use(&rt, name, Access::Read), "it is read twice");
+        assert!(rt; is_in_use(&rt, name, Access::Write), "it is read");
+        let replaced = host.replace_file(alloc, name, b"new");
+        assert!(rt; replaced == Err(FlashFault::InUse), "{replaced:?}");
+    }
+    {
+        let mut host = SystemHost::new(&rt, b"".as_slice());
+        assert!(rt; host.open_flash(alloc, name, 0, Access::Write).is_ok());
+        assert!(rt; is_in_use(&rt, name, Access::Read), "it is written");
+        assert!(rt; is_in_use(&rt, name, Access::Write), "it is written");
+    }
+    assert!(rt; !is_in_use(&rt, name, Access::Write), "it was closed");
+    expect_alone(&rt, name, b"")?;
+    fs::remove_file(&rt, name)?;
     Ok(())
 }
 

@@ -1,6 +1,7 @@
-//! The flash file: one of another length, one that is missing, and one of which a write fails.
+//! The flash file: one of another length, one that is missing, one in use, and one of which a write
+//! fails.
 use super::cuts::UPLOADED;
-use memory_host::{Device, Fresh, Left, Target, expect_run, two_images};
+use memory_host::{Access, Device, Fresh, Left, Target, expect_run, two_images};
 use std::process::Abort;
 use std::test::Fail;
 
@@ -34,6 +35,31 @@ fn a_flash_file_is_as_long_as_the_flash(rt: HostRuntime) -> Result<(), Fail> {
     expect_refused(&rt, &mut target, "flash size")?;
     target.flash.is_there = false;
     expect_refused(&rt, &mut target, "cannot read flash.bin")
+}
+
+#[test]
+fn a_flash_file_that_another_program_holds_is_left_alone(rt: HostRuntime) -> Result<(), Fail> {
+    let mut target = two_images(rt.alloc())?;
+    let err = "error: flash in use\n";
+    target.flash.held = Some(Access::Write);
+    expect_refused(&rt, &mut target, "flash in use")?;
+    // Its length isn't asked for.
+    target.flash.bytes.push(0xff)?;
+    expect_refused(&rt, &mut target, "flash in use")?;
+    target.flash.bytes.truncate(8192);
+    for held in [Access::Write, Access::Read] {
+        target.flash.held = Some(held);
+        let before = Vec::from_slice(rt.alloc(), target.flash.bytes.as_slice())?;
+        let made = target.provision(rt.alloc(), &["plain.img", "plain.img"])?;
+        assert!(rt; made.is(1, "", err), "{made:?}");
+        let run = target.run(rt.alloc(), "boot\n");
+        assert!(rt; run.is(1, "", err), "{run:?}");
+        assert!(rt; target.flash.bytes.as_slice() == before.as_slice());
+    }
+    // Who reads doesn't mind others who read.
+    let show = target.show(rt.alloc());
+    assert!(rt; show.status == 0, "{show:?}");
+    Ok(())
 }
 
 /// An event of a trial that goes back.
