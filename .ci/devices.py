@@ -370,6 +370,15 @@ def check_script_lines(checks):
     for name, script in gone:
         words = ["run", PAIR, "flash", checks.file("script", script)]
         checks.expect(f"script: {name} that isn't there", words, 1, err=ABSENT)
+    with open(f"{checks.folder}/huge", "wb") as huge:
+        huge.truncate(1 << 40)
+    script = f"piece 0 huge {(1 << 40) - 8} 8\n".encode()
+    words = ["run", PAIR, "flash", checks.file("script", script)]
+    out = b"1 refused boot 1 NotBooted\n"
+    checks.expect("script: the last bytes of a file of 2^40", words, 1, out)
+    checks.file("script", f"piece 0 huge {1 << 40} 1\n".encode())
+    checks.expect("bad script: a part behind 2^40 bytes", words, 1, err=b"error: script line 1\n")
+    os.remove(f"{checks.folder}/huge")
     script = b"boot\naccept examples/manifests/trial.json\npiece 0 -\nfinish 0\n"
     words = ["run", PAIR, "flash", checks.file("script", script)]
     twice = ["run", PAIR, "flash", "-"]

@@ -1,6 +1,10 @@
 -- Scripts that are read line by line, and what comes by them.
-use Rattle.std.proofs.Common.{◌≡◌, ℕ, List, [], ◌∷◌, ◌++◌, ◌↔◌, Bool, Option, None, Some, MatchBool, true, false, refl, ap, sym, ◌∙◌, subst, append_assoc, arith, length}
-use Rattle.std.proofs.lemmas.List.{append-nil, map-append}
+use Rattle.std.proofs.Common.{◌≡◌, ◌≢◌, ℕ, ◌+◌, ◌-◌, ◌≤◌, List, [], ◌∷◌, ◌++◌, ◌↔◌, Bool, Option, None, Some, MatchBool, true, false, refl, ap, sym, ◌∙◌, subst, append_assoc, arith, codes, decimal, length, length-append, take}
+use Rattle.std.proofs.Math.ListN.{replicate}
+use Rattle.std.proofs.Math.Seq.{drop-append_seam, take-length}
+use Rattle.std.proofs.lemmas.List.{append-nil, length-replicate, map-append}
+use Rattle.std.specs.Borrow.{Bor}
+use Rattle.std.specs.List.{slice_range}
 use Rattle.std.specs.Io.KnownBytes.{Keeps}
 use Rattle.std.specs.List.{AllZip}
 use Rattle.common.specs.Lines.{lines_of}
@@ -8,15 +12,16 @@ use Rattle.flash_model.specs.declared.torn.Armed.{Armed}
 use Rattle.script.specs.declared.line_order.Reading.{Reading}
 use Rattle.script.specs.InOrder.{AreEvents, AreInOrder, CanFollow}
 use Rattle.script.specs.LineText.{IsLineText}
-use Rattle.script.specs.Said.{Said, SaidEvent, SaidTorn}
+use Rattle.script.specs.Part.{IsPart}
+use Rattle.script.specs.Said.{PartWords, Said, SaidEvent, SaidTorn}
 use Rattle.script.specs.Said as said
 use Rattle.reading_commands.specs.declared.source.Source.{Source}
 use Rattle.reading_commands.specs.declared.source.Source.TheVariants.{StandardInput, File}
-use Rattle.reading_commands.specs.Input.{FileBytes, Gives, IsNamed, KeepsOthers}
+use Rattle.reading_commands.specs.Input.{FileBytes, Gives, IsKnownAs, IsKnownPart, IsNamed, KeepsFiles, KeepsOthers}
 use Rattle.boot_cli.specs.declared.loading.Cut.{Cut}
 use Rattle.boot_cli.specs.declared.loading.Step.{Step}
-use Rattle.boot_cli.specs.Loading.{Adds, Passes, armed_in, armed_of, came_in, came_of}
-use Rattle.boot_cli.specs.Script.{AllCome, AllCut, Came, Comes, IsCutBy, IsRead, IsScript, Known, StaysKnown, known_after}
+use Rattle.boot_cli.specs.Loading.{Adds, Passes, ReadsPiece, armed_in, armed_of, came_in, came_of}
+use Rattle.boot_cli.specs.Script.{AllCome, AllCut, Came, Comes, IsCutBy, IsPieceOf, IsRead, IsScript, Known, StaysKnown, known_after}
 use Rattle.reading_commands.proofs.AnswerLaws.{Gives-kept}
 use Rattle.boot_cli.proofs.InputLaws.{kept_itself, kept_twice}
 
@@ -55,6 +60,67 @@ IsRead-read name source input new_input files new_files bytes named given kept =
   },
   StaysKnown-read source known input new_input files new_files stays kept,
 )
+
+-- what is known of a part stays known
+IsKnownPart-kept : (old new : Option (List ℕ)) (from count : ℕ) (part : List ℕ)
+    → Keeps old new → IsKnownPart new from count part → IsKnownPart old from count part
+IsKnownPart-kept None new from count part kept is = record { many = is.many; there = tt; same = tt }
+IsKnownPart-kept (Some xs) None from count part kept is = absurd kept
+IsKnownPart-kept (Some xs) (Some ys) from count part kept is =
+    subst (λ held. IsKnownPart (Some held) from count part) kept is
+
+-- bytes behind others are a part of all
+behind : (before part : List ℕ) → part ≡ slice_range (before ++ part) (length before) (length before + length part)
+behind before part =
+    let many : length before + length part - length before ≡ length part = omega arith in
+    sym (ap (λ rest. take (length before + length part - length before) rest) (drop-append_seam before part)
+    ∙ ap (λ n. take n part) many ∙ take-length part)
+
+-- a part of what is known of a file is one of some bytes of it
+IsPart-known : (known : Option (List ℕ)) (words : PartWords) (from count : ℕ) (part : List ℕ)
+    → words.from ≡ decimal from → words.count ≡ decimal count → IsKnownPart known from count part
+    → (bytes : List ℕ) × IsKnownAs known bytes × IsPart words bytes part
+IsPart-known None words from count part first many is =
+    let before = replicate from 0 in
+    let long : length before ≡ from = length-replicate from 0 in
+    let there : from + count ≤ length (before ++ part) = omega (arith, long, is.many, length-append before part) in
+    let same = subst (λ n. part ≡ slice_range (before ++ part) n (n + length part)) long (behind before part) in (
+      before ++ part,
+      tt,
+      (
+        from,
+        count,
+        first,
+        many,
+        there,
+        subst (λ n. part ≡ slice_range (before ++ part) from (from + n)) is.many same,
+      ),
+    )
+IsPart-known (Some held) words from count part first many is =
+    (held, refl, (from, count, first, many, is.there, is.same))
+
+-- a part of a file was read
+pub ReadsPiece-part : (name : Bor (List ℕ)) (words : PartWords) (from count : ℕ) (part : List ℕ)
+    (input new_input : Option (List ℕ)) (files new_files : FileBytes) → name.now ≢ codes "-"
+    → words.from ≡ decimal from → words.count ≡ decimal count
+    → IsKnownPart (files name.now) from count part → Keeps input new_input → KeepsFiles files new_files
+    → Passes (ReadsPiece name.now (Some words) part) input files new_input new_files
+ReadsPiece-part name words from count part input new_input files new_files named first many is input_kept files_kept =
+    λ known stays.
+    let still = IsKnownPart-kept (known.files name.now) (files name.now) from count part (stays.files_kept name.now) is in
+    let found = IsPart-known (known.files name.now) words from count part first many still in (
+      known,
+      (found.0, record { source = File name; named = (named, refl); given = found.1; then = refl }, found.2),
+      StaysKnown-read (File name) known input new_input files new_files stays (input_kept, files_kept),
+    )
+
+-- a file was read, and this is a part of it
+pub ReadsPiece-read : (name : List ℕ) (part : Option PartWords) (bytes piece : List ℕ)
+    (input new_input : Option (List ℕ)) (files new_files : FileBytes)
+    → Passes (λ known after. IsRead name known bytes after) input files new_input new_files
+    → IsPieceOf part bytes piece → Passes (ReadsPiece name part piece) input files new_input new_files
+ReadsPiece-read name part bytes piece input new_input files new_files read is = λ known stays.
+    let found = read known stays in (found.0, (bytes, found.1, is), found.2)
 
 -- a step more is the last that comes, and what is known passes as by its line
 pub Adds-step : {A : Type 0} (event : SaidEvent) (cuts : List Cut) (old new : List (Step A)) (step : Step A)

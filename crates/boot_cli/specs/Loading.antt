@@ -1,13 +1,13 @@
 -- What reading a script leaves, line by line: for the private contracts of its readers.
 use Rattle.std.specs.Prelude.{◌≡◌, ℕ, List, [], ◌∷◌, ◌++◌, Option, map}
 use Rattle.flash_model.specs.declared.torn.Armed.{Armed}
-use Rattle.script.specs.Said.{Said}
+use Rattle.script.specs.Said.{PartWords, Said}
 use Rattle.script.specs.Said as said
 use Rattle.boot_cli.specs.declared.loading.Cut.{Cut}
 use Rattle.boot_cli.specs.declared.loading.Step.{Step}
 use Rattle.boot_cli.specs.declared.loading.Step.TheVariants as step
 use Rattle.reading_commands.specs.Input.{FileBytes}
-use Rattle.boot_cli.specs.Script.{Accept, Boot, Came, Comes, Confirm, Finish, IsCutBy, Known, Piece, Reset, StaysKnown, Withdraw}
+use Rattle.boot_cli.specs.Script.{Accept, Boot, Came, Comes, Confirm, Finish, IsCutBy, IsPieceOf, IsRead, Known, Piece, Reset, StaysKnown, Withdraw}
 
 -- What comes to the device by a step.
 abbrev pub came_of : {A : Type 0} → Step A → Came
@@ -37,6 +37,11 @@ abbrev pub Passes : (Known → Known → Type 0) → Option (List ℕ) → FileB
 Passes Says old_input old_files new_input new_files =
     (known : Known) → StaysKnown known old_input old_files
     → (after : Known) × Says known after × StaysKnown after new_input new_files
+
+-- A file was read, of which this is the part that two words name, or all of it.
+abbrev pub ReadsPiece : List ℕ → Option PartWords → List ℕ → Known → Known → Type 0
+ReadsPiece name part piece known after =
+    (bytes : List ℕ) × IsRead name known bytes after × IsPieceOf part bytes piece
 
 -- What a line adds to the writes that are to be cut, and to what comes.
 abbrev pub Adds : Said → List Armed → List Armed → List Came → List Came → Known → Known → Type 0

@@ -1,7 +1,7 @@
 //! The file that a flash is written through to, and the system as a host.
 
 use crate::holding::HeldFile;
-use crate::{holding, replacing};
+use crate::{holding, part_reading, replacing};
 use file_flash::FlashFile;
 use reading_commands::{Access, FlashFault, Host};
 use std::alloc::Allocator;
@@ -51,6 +51,16 @@ impl<R: Files<File = File>, I: Read> Host for SystemHost<'_, R, I> {
         let mut bytes = Vec::new(alloc);
         file.read_to_end(&mut bytes)?;
         Ok(bytes)
+    }
+
+    fn read_part<A: Allocator>(
+        &mut self,
+        alloc: A,
+        name: &str,
+        from: usize,
+        count: usize,
+    ) -> io::Result<Option<Vec<u8, A>>> {
+        part_reading::read_part(self.runtime, alloc, name, from, count)
     }
 
     fn read_standard_input(&mut self, buffer: &mut [u8]) -> io::Result<usize> {

@@ -13,6 +13,7 @@ mod commands;
 mod holding;
 mod host;
 mod loading;
+mod part_reading;
 mod program;
 mod replacing;
 

@@ -1,8 +1,10 @@
 //! Scripts, with the files that their lines name.
-ghost use Rattle.std.specs.Prelude.{◌≡◌, ◌∷◌, ◌++◌, [], IfOk};
+ghost use Rattle.std.specs.Prelude.{◌≡◌, ◌≢◌, ◌∷◌, ◌++◌, [], IfOk, IfSome, Some, codes};
+ghost use Rattle.std.specs.Io.KnownBytes.{Keeps};
 ghost use Rattle.std.specs.Option.{option_map};
+ghost use Rattle.reading_commands.specs.Input.{IsKnownPart, KeepsFiles};
 ghost use Rattle.script.specs.Said.{part_words, said, said_event, said_torn};
-ghost use Rattle.boot_cli.specs.Loading.{Adds, Passes, armed_in, armed_of, came_in, came_of};
+ghost use Rattle.boot_cli.specs.Loading.{Adds, Passes, ReadsPiece, armed_in, armed_of, came_in, came_of};
 ghost use Rattle.boot_cli.specs.Script.{Comes, IsCutBy, IsPieceOf, IsRead, IsScript, Known, StaysKnown, came_by};
 
 use common::lines::first_line;
@@ -11,6 +13,7 @@ use machine::Event;
 use reading_commands::{Host, Refusal, Source};
 use script::{Instruction, Line, PartText, Reading, TornText, line_of};
 use std::alloc::{Allocator, Global};
+use std::io::ErrorKind;
 
 /// A write of the flash that a script has cut.
 #[derive(Drop)]
@@ -201,8 +204,7 @@ fn step_of<'a, 'h, A: Allocator, H: Host>(
             Ok(Step::Accept(bytes))
         }
         Instruction::Piece { image, file, part } => {
-            let bytes = bytes_of(reader, number, file)?;
-            let piece = part_of(reader.heap, number, bytes, part)?;
+            let piece = piece_of(reader, number, file, part)?;
             Ok(Step::Piece(image, piece))
         }
         Instruction::Finish(image) => Ok(Step::Finish(image)),
@@ -232,7 +234,74 @@ fn bytes_of<'a, 'h, A: Allocator, H: Host>(
     source.read(reader.heap, reader.host)
 }
 
-/// The part of a file that the line of this number names, or all of it.
+/// The part of a file that the line of this number names, or all of it. Of a file no other part is
+/// read.
+fn piece_of<'a, 'h, A: Allocator, H: Host>(
+    reader: &mut Reader<'h, '_, A, H>,
+    number: usize,
+    name: &'a str,
+    part: Option<PartText<'_>>,
+) -> Result<Vec<u8, &'h A>, Refusal<'a>>
+    ensures { IfOk result (λ piece. Passes
+        (ReadsPiece name.now (option_map part_words part.entry) piece.items)
+        (H.input reader.old.host.now) (H.file reader.old.host.now)
+        (H.input reader.new.host.now) (H.file reader.new.host.now)) }
+{
+    match (Source::named(name), part) {
+        (Source::File(name), Some(part)) => file_part(reader, number, name, part),
+        _ => {
+            let bytes = bytes_of(reader, number, name)?;
+            part_of(reader.heap, number, bytes, part)
+        }
+    }
+}
+
+/// The part of a file, which isn't standard input, that the line of this number names. The file is
+/// read also where the words are no numbers, so that one that can't be read is told first.
+fn file_part<'a, 'h, A: Allocator, H: Host>(
+    reader: &mut Reader<'h, '_, A, H>,
+    number: usize,
+    name: &'a str,
+    part: PartText<'_>,
+) -> Result<Vec<u8, &'h A>, Refusal<'a>>
+    requires { name.now ≢ codes "-" }
+    ensures { IfOk result (λ piece. Passes
+        (ReadsPiece name.now (Some (part_words part.entry)) piece.items)
+        (H.input reader.old.host.now) (H.file reader.old.host.now)
+        (H.input reader.new.host.now) (H.file reader.new.host.now)) }
+{
+    let Some((from, count)) = part.numbers() else {
+        part_at(reader, name, 0, 0)?;
+        return Err(Refusal::ScriptLine(number));
+    };
+    let Some(part) = part_at(reader, name, from, count)? else {
+        return Err(Refusal::ScriptLine(number));
+    };
+    Ok(part)
+}
+
+/// So many bytes of a file from that number on, if it has them.
+fn part_at<'a, 'h, A: Allocator, H: Host>(
+    reader: &mut Reader<'h, '_, A, H>,
+    name: &'a str,
+    from: usize,
+    count: usize,
+) -> Result<Option<Vec<u8, &'h A>>, Refusal<'a>>
+    ensures part { IfOk result (λ read. IfSome read (λ part.
+        IsKnownPart (H.file reader.old.host.now name.now) from count part.items)) }
+    ensures files { KeepsFiles (H.file reader.old.host.now) (H.file reader.new.host.now) }
+    ensures input { Keeps (H.input reader.old.host.now) (H.input reader.new.host.now) }
+{
+    reader
+        .host
+        .read_part(reader.heap, name, from, count)
+        .map_err(|error| match error.kind() {
+            ErrorKind::OutOfMemory => Refusal::NoMemory,
+            _ => Refusal::CannotRead(Source::File(name)),
+        })
+}
+
+/// The part of what was read that the line of this number names, or all of it.
 fn part_of<'a, 'h, A: Allocator>(
     heap: &'h A,
     number: usize,

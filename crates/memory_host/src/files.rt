@@ -141,6 +141,8 @@ pub struct MemoryHost<'f, 'i> {
     pub failure: Option<ErrorKind>,
     /// Whether the read before was interrupted.
     pub was_interrupted: bool,
+    /// How many bytes of files were read.
+    pub read: u64,
 }
 
 impl<'f, 'i> MemoryHost<'f, 'i> {
@@ -152,6 +154,20 @@ impl<'f, 'i> MemoryHost<'f, 'i> {
             input,
             failure: None,
             was_interrupted: false,
+            read: 0,
+        }
+    }
+
+    /// What the file of this name holds.
+    fn bytes_of(&self, name: &str) -> io::Result<&[u8]> {
+        if self.is_flash(name)
+            && let Some(flash) = &self.flash
+        {
+            return Ok(flash.bytes.as_slice());
+        }
+        match self.files.iter().find(|file| file.0 == name) {
+            Some(file) => Ok(file.1),
+            None => Err(io::Error::from(ErrorKind::NotFound)),
         }
     }
 
@@ -166,15 +182,25 @@ impl Host for MemoryHost<'_, '_> {
     ghost input = { λ host. Some host.input.now };
 
     fn read_file<A: Allocator>(&mut self, alloc: A, name: &str) -> io::Result<Vec<u8, A>> {
-        if self.is_flash(name)
-            && let Some(flash) = &self.flash
-        {
-            return Ok(Vec::from_slice(alloc, flash.bytes.as_slice())?);
+        let bytes = Vec::from_slice(alloc, self.bytes_of(name)?)?;
+        self.read = self.read.saturating_add(bytes.len() as u64);
+        Ok(bytes)
+    }
+
+    fn read_part<A: Allocator>(
+        &mut self,
+        alloc: A,
+        name: &str,
+        from: usize,
+        count: usize,
+    ) -> io::Result<Option<Vec<u8, A>>> {
+        let bytes = self.bytes_of(name)?;
+        if from > bytes.len() || count > bytes.len() - from {
+            return Ok(None);
         }
-        match self.files.iter().find(|file| file.0 == name) {
-            Some(file) => Ok(Vec::from_slice(alloc, file.1)?),
-            None => Err(io::Error::from(ErrorKind::NotFound)),
-        }
+        let part = Vec::from_slice(alloc, &bytes[from..from + count])?;
+        self.read = self.read.saturating_add(count as u64);
+        Ok(Some(part))
     }
 
     fn read_standard_input(&mut self, buffer: &mut [u8]) -> io::Result<usize> {

@@ -96,6 +96,8 @@ pub struct Target {
     pub device: Device,
     /// The flash file.
     pub flash: WritableFile,
+    /// How many bytes of files the last command read.
+    pub read: u64,
 }
 
 impl Target {
@@ -104,6 +106,7 @@ impl Target {
         Target {
             device,
             flash: WritableFile::absent(alloc),
+            read: 0,
         }
     }
 
@@ -162,6 +165,7 @@ impl Target {
         self.flash.open = None;
         host.flash = Some(mem::replace(&mut self.flash, WritableFile::absent(alloc)));
         let outcome = run_within(alloc, heap, &mut host, words, limits);
+        self.read = host.read;
         if let Some(flash) = host.flash.take() {
             self.flash = flash;
         }

@@ -1,6 +1,6 @@
 -- What a host is known to hold: what is left of its standard input, and what each of its files
 -- holds.
-use Rattle.std.specs.Prelude.{◌≡◌, ◌≢◌, ℕ, List, Option, IfSome, codes}
+use Rattle.std.specs.Prelude.{◌≡◌, ◌≢◌, ℕ, ◌+◌, ◌≤◌, List, length, Option, IfSome, codes, slice_range}
 use Rattle.std.specs.Io.KnownBytes.{Keeps}
 use Rattle.reading_commands.specs.declared.source.Source.{Source}
 use Rattle.reading_commands.specs.declared.source.Source.TheVariants.{StandardInput, File}
@@ -17,6 +17,12 @@ FileBytes = List ℕ → Option (List ℕ)
 -- These bytes are the known ones, where any are known.
 abbrev pub IsKnownAs : Option (List ℕ) → List ℕ → Type 0
 IsKnownAs known bytes = IfSome known (λ held. bytes ≡ held)
+
+-- These are so many of the known bytes, from that number on, where any are known; and always so many.
+pub record IsKnownPart (known : Option (List ℕ)) (from count : ℕ) (part : List ℕ) : Type 0 where
+  pub many : length part ≡ count
+  pub there : IfSome known (λ held. from + count ≤ length held)
+  pub same : IfSome known (λ held. part ≡ slice_range held from (from + count))
 
 -- Each file whose bytes are known keeps them.
 abbrev pub KeepsFiles : FileBytes → FileBytes → Type 0

@@ -1,9 +1,9 @@
 //! What the program asks of the system: the bytes of files and of standard input, and the file of a
 //! flash.
-ghost use Rattle.std.specs.Prelude.{IfErr, IfOk, List, ℕ, None, OnOk, Option};
+ghost use Rattle.std.specs.Prelude.{IfErr, IfOk, IfSome, List, ℕ, None, OnOk, Option};
 ghost use Rattle.std.specs.Io.{ReadsAtMost};
 ghost use Rattle.std.specs.Io.KnownBytes.{Keeps, ReadConsumes};
-ghost use Rattle.reading_commands.specs.Input.{IsKnownAs, KeepsFiles};
+ghost use Rattle.reading_commands.specs.Input.{IsKnownAs, IsKnownPart, KeepsFiles};
 
 use std::alloc::Allocator;
 use std::io;
@@ -46,6 +46,20 @@ pub trait Host {
     /// All bytes of the file of this name, in memory of `alloc`.
     fn read_file<A: Allocator>(&mut self, alloc: A, name: &str) -> io::Result<Vec<u8, A>>
         ensures bytes { IfOk result (λ bytes. IsKnownAs (file self.old name.now) bytes.items) }
+        ensures files { KeepsFiles (file self.old) (file self.new) }
+        ensures input { Keeps (input self.old) (input self.new) };
+
+    /// So many bytes of the file of this name, from its byte `from` on, in memory of `alloc`. No
+    /// other byte of a plain file is read. There are none where the file doesn't have them.
+    fn read_part<A: Allocator>(
+        &mut self,
+        alloc: A,
+        name: &str,
+        from: usize,
+        count: usize,
+    ) -> io::Result<Option<Vec<u8, A>>>
+        ensures part { IfOk result (λ read. IfSome read (λ part.
+            IsKnownPart (file self.old name.now) from count part.items)) }
         ensures files { KeepsFiles (file self.old) (file self.new) }
         ensures input { Keeps (input self.old) (input self.new) };
 

@@ -1,6 +1,6 @@
 //! The part of a file that a line names.
 
-ghost use Rattle.std.specs.Prelude.{◌≡◌, List, ℕ, IfNone, IfSome};
+ghost use Rattle.std.specs.Prelude.{◌≡◌, List, ℕ, IfNone, IfSome, decimal};
 ghost use Rattle.std.specs.Option.{option_map};
 ghost use Rattle.script.specs.LineReading.{part_of};
 ghost use Rattle.script.specs.Part.{IsPart};
@@ -30,6 +30,17 @@ impl<'a> PartText<'a> {
         let from = word(from)?;
         let count = word(rest?)?;
         Some(PartText { from, count })
+    }
+
+    /// The numbers that the words are: that of the first byte, from 0, and how many there are. `None`
+    /// where a word is no decimal number without leading zeros, or isn't below 2^64.
+    pub fn numbers(self) -> Option<(usize, usize)>
+        ensures { IfSome result (λ numbers. ((part_words self.entry).from ≡ decimal numbers.0)
+            × ((part_words self.entry).count ≡ decimal numbers.1)) }
+    {
+        let from = number_usize(self.from)?;
+        let count = number_usize(self.count)?;
+        Some((from, count))
     }
 
     /// The part of these bytes. `None` where a word is no decimal number without leading zeros, and

@@ -3,6 +3,7 @@ use super::stories::Step::Run;
 use super::stories::{BOOTED, Step, expect_each_step};
 use memory_host::samples::{DEVICE, SAMPLE};
 use memory_host::{FLASH_FILE, SCRIPT, TWO_IMAGES, Target, two_images};
+use std::fmt::Write;
 use std::process::Abort;
 use std::test::Fail;
 
@@ -303,5 +304,21 @@ fn a_line_that_reads_standard_input_again_is_bad(rt: HostRuntime) -> Result<(), 
         let err = format!(in rt.alloc(); "error: {fault}\n")?;
         outcome.expect(1, "", &err, script)?;
     }
+    Ok(())
+}
+
+#[test]
+fn of_a_part_of_a_file_no_other_byte_is_read(rt: HostRuntime) -> Result<(), Fail> {
+    let mut target = two_images(rt.alloc())?;
+    let mut script = String::new(rt.alloc());
+    for part in ["1020 5", "0 0", "1025 0", "7 1"] {
+        for _ in 0..50 {
+            write!(script, "piece 0 long.img {part}\n")?;
+        }
+    }
+    let outcome = target.run(rt.alloc(), &script);
+    assert!(rt; outcome.status == 1 && outcome.err.has(b""), "{outcome:?}");
+    let files = DEVICE.len() + 8192 + script.len();
+    assert_eq!(rt; target.read, files as u64 + 50 * (5 + 1));
     Ok(())
 }

@@ -1,0 +1,51 @@
+//! A part of a file, read without the rest of it.
+
+ghost use Rattle.std.specs.Prelude.{◌≡◌, IfOk, IfSome, length};
+
+use std::alloc::Allocator;
+use std::fs::{File, OpenFile};
+use std::io;
+use std::io::Read;
+use std::os::unix::fs::FileExt;
+use std::rt::Files;
+
+/// So many bytes of the file of this name, from its byte `from` on, in memory of `alloc`, where it
+/// has them. Of a plain file nothing else is read. A pipe or a device, whose length isn't known, is
+/// read to its end.
+pub fn read_part<R: Files<File = File>, A: Allocator>(
+    runtime: &R,
+    alloc: A,
+    name: &str,
+    from: usize,
+    count: usize,
+) -> io::Result<Option<Vec<u8, A>>>
+    ensures many { IfOk result (λ read. IfSome read (λ part. length part.items ≡ count)) }
+{
+    let mut file = File::open(runtime, name)?;
+    let found = file.metadata()?;
+    if !found.is_file() {
+        let mut bytes = Vec::new(alloc);
+        file.read_to_end(&mut bytes)?;
+        return Ok(part_of(bytes, from, count));
+    }
+    match from.checked_add(count) {
+        Some(end) if end as u64 <= found.len() => {}
+        _ => return Ok(None),
+    }
+    let mut part = vec![in alloc; 0; count]?;
+    file.read_exact_at(&mut part, from as u64)?;
+    Ok(Some(part))
+}
+
+/// So many of these bytes, from that number on, where there are as many.
+fn part_of<A: Allocator>(bytes: Vec<u8, A>, from: usize, count: usize) -> Option<Vec<u8, A>>
+    ensures { IfSome result (λ part. length part.items ≡ count) }
+{
+    let mut bytes = bytes;
+    if from > bytes.len() || count > bytes.len() - from {
+        return None;
+    }
+    bytes.copy_within(from..from + count, 0);
+    bytes.truncate(count);
+    Some(bytes)
+}
