@@ -77,8 +77,7 @@ IsFinding s Invalid = (table : Table) × IsTableOf s table × (IsValid table run
 abbrev pub IsFoundAgain : DeviceState → ℕ → Finding → Type 0
 IsFoundAgain s mask (Decided table report) =
     IsReported s table report × (is_member mask ≡ taken_in report)
-IsFoundAgain s mask (Damaged i) = ⊥
-IsFoundAgain s mask Invalid = ⊥
+IsFoundAgain s mask other = ⊥
 
 -- The first floors raised to the counters of a table's combination.
 pub record AreRaisedBy (images : List Image) (mask n : ℕ) (old new : List ℕ) : Type 0 where

@@ -2,7 +2,7 @@
 use Rattle.std.specs.Prelude.{◌≡◌, ℕ, List}
 use Rattle.serde_json.specs.Data.{Data}
 use Rattle.manifest.specs.declared.error.ManifestError.{ManifestError}
-use Rattle.manifest.specs.declared.error.ManifestError.TheVariants.{NotJson, BadKey, BadValue, WrongVendor, WrongClass, NoComponent, RepeatedComponent, NoMemory}
+use Rattle.manifest.specs.declared.error.ManifestError.TheVariants.{NotJson, BadKey, BadValue, WrongVendor, WrongClass, NoComponent, RepeatedComponent}
 use Rattle.manifest.specs.declared.identity.Identity.{Identity}
 use Rattle.manifest.specs.declared.manifest.Manifest.{Manifest}
 use Rattle.manifest.specs.Json.{IsJson}
@@ -31,7 +31,6 @@ MeetsImages identity value manifest =
 -- The lowest refusal that applies to a value: its own demand isn't met, and all before it are.
 -- That bytes are no JSON, or that memory runs out, is no property of a value.
 abbrev pub IsLowestFault : Identity → Data → ManifestError → Type 0
-IsLowestFault identity value NotJson = ⊥
 IsLowestFault identity value BadKey = HasKeys value → ⊥
 IsLowestFault identity value BadValue =
     HasKeys value × ((manifest : Manifest) → Spells value manifest → ⊥)
@@ -45,7 +44,7 @@ IsLowestFault identity value NoComponent =
     × (NamesImages identity manifest → ⊥)
 IsLowestFault identity value RepeatedComponent =
     (manifest : Manifest) × MeetsImages identity value manifest × (NamesEachOnce manifest → ⊥)
-IsLowestFault identity value NoMemory = ⊥
+IsLowestFault identity value other = ⊥
 
 -- Bytes are the JSON text of a value that means this manifest.
 pub record IsManifest (identity : Identity) (bytes : List ℕ) (manifest : Manifest) : Type 0 where

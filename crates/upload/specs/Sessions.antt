@@ -59,10 +59,9 @@ session_of upload written = record {
 -- An upload of the table and on the flash is the session of an image.
 abbrev pub HasSession : View → ℕ → Option Upload → Option Session → Type 0
 HasSession w i None None = Unit
-HasSession w i None (Some session) = ⊥
-HasSession w i (Some upload) None = ⊥
 HasSession w i (Some upload) (Some session) =
     (written : List ℕ) × IsUploadAt w i upload written × (session ≡ session_of upload written)
+HasSession w i upload session = ⊥
 
 -- The sessions of a device are those of a table.
 pub record HasSessions (w : View) (sessions : List (Option Upload)) (session : ℕ → Option Session)
