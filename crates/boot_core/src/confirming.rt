@@ -47,14 +47,7 @@ pub(crate) fn is_trial(kind: Kind) -> bool
     ensures yes { result ≡ true → kind ≡ Kind.Trial }
     ensures other { result ≡ false → kind ≡ Kind.Trial → ⊥ }
 {
-    match kind {
-        Kind::Trial => true,
-        Kind::Steady => false,
-        Kind::Swap => false,
-        Kind::Settle => false,
-        Kind::Back => false,
-        Kind::BackSettle => false,
-    }
+    matches!(kind, Kind::Trial)
 }
 
 /// An image is confirmed, where it is on trial; whether it is.

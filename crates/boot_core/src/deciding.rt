@@ -130,11 +130,8 @@ fn is_for_good<F: Flash>(flash: &mut F, map: &SectorMap, image: u8) -> Result<bo
     requires { HasImage map.now image (F.chip flash.old) }
     ensures { Tells (IsForGoodIn map.now image) (F.chip flash.old) (F.chip flash.new) result }
 {
-    match standing(flash, map, image)? {
-        Some(Kind::Permanent) => Ok(true),
-        Some(Kind::Test) => Ok(false),
-        None => Ok(false),
-    }
+    let standing = standing(flash, map, image)?;
+    Ok(matches!(standing, Some(Kind::Permanent)))
 }
 
 /// Whether each image of a set asks to be permanent.

@@ -52,30 +52,10 @@ fn check_ready<F: Flash>(flash: &mut F, map: &SectorMap, is_up: bool) -> Result<
 fn is_stop(fault: Fault) -> bool
     ensures { result ≡ is_stop fault }
 {
-    match fault {
-        Fault::Flash(_) => true,
-        Fault::Upload(error) => match error {
-            UploadError::Flash(_) => true,
-            UploadError::OldSequence => false,
-            UploadError::TooBig => false,
-            UploadError::NoSession => false,
-            UploadError::TooMuch => false,
-            UploadError::SizeWrong => false,
-            UploadError::DigestWrong => false,
-            UploadError::NotAnImage(_) => false,
-            UploadError::WrongPrecursor => false,
-            UploadError::NothingRequested => false,
-            UploadError::NoMemory => false,
-        },
-        Fault::NotBooted => false,
-        Fault::OnTrial => false,
-        Fault::NotOnTrial => false,
-        Fault::NotProvisioned => false,
-        Fault::RunningDamaged(_) => false,
-        Fault::InvalidSet => false,
-        Fault::NoMemory => false,
-        Fault::Manifest(_) => false,
-    }
+    matches!(
+        fault,
+        Fault::Flash(_) | Fault::Upload(UploadError::Flash(_))
+    )
 }
 
 /// Passes a refusal on. Where the call stopped at the flash all uploads are closed, and the device

@@ -20,10 +20,7 @@ use sector_map::{SectorMap, Side};
 fn is_confirmed(settling: Settling) -> bool
     ensures { result ≡ is_confirmed settling }
 {
-    match settling {
-        Settling::Test => false,
-        Settling::Permanent | Settling::Back => true,
-    }
+    matches!(settling, Settling::Permanent | Settling::Back)
 }
 
 /// Whether a unit is erased or set as a flag.
@@ -37,10 +34,7 @@ fn is_flag_or_erased(unit: &[u8; 8]) -> bool
 fn is_whole_magic(magic: Magic) -> bool
     ensures { result ≡ is_whole_magic magic }
 {
-    match magic {
-        Magic::Good | Magic::Unset => true,
-        Magic::Bad => false,
-    }
+    matches!(magic, Magic::Good | Magic::Unset)
 }
 
 /// Whether a flag of a trailer is erased or holds its value, so that no write of it was torn.
