@@ -97,6 +97,33 @@ fn bytes_at<L: Ledger>(rt: &impl Abort, flash: &MemFlash<L>, at: usize, wanted: 
     &flash.bytes()[at..at + wanted.len()] == wanted
 }
 
+/// Asserts the bytes after the appends of some of these numbers.
+fn expect_bytes_after<L: Ledger>(rt: &impl Abort, flash: &MemFlash<L>, sequence: u32) {
+    match sequence {
+        6 => {
+            for place in 0..7 {
+                assert!(rt; bytes_at(rt, flash, 6656 + 64 * place + 56, &FLAG));
+            }
+            assert!(rt; bytes_at(rt, flash, 7160, &[0xff; 8]));
+        }
+        7 => {
+            assert!(rt; bytes_at(rt, flash, 7168, &[1, 0, 0, 0, 7, 0, 0, 0]));
+            assert!(rt; bytes_at(rt, flash, 7224, &FLAG));
+            assert!(rt; bytes_at(rt, flash, 7160, &FLAG));
+            assert!(rt; bytes_at(rt, flash, 7672, &[0xff; 8]));
+        }
+        14 => {
+            // Sector 15, which was closed at the beginning, is erased and has a record.
+            same(rt, "the erases", &flash.erases(), &5);
+            assert!(rt; bytes_at(rt, flash, 7680, &[1, 0, 0, 0, 14, 0, 0, 0]));
+            assert!(rt; bytes_at(rt, flash, 7736, &FLAG));
+            assert!(rt; bytes_at(rt, flash, 7744, &[0xff; 448]));
+            assert!(rt; bytes_at(rt, flash, 7672, &FLAG));
+        }
+        _ => {}
+    }
+}
+
 /// Fifty appends after a beginning.
 fn fifty_appends<L: Ledger>(rt: &impl Abort, alloc: Global, blank: Blank) -> Result<(), Fail>
     requires name { blank.name ≡ L.name }
@@ -127,26 +154,7 @@ fn fifty_appends<L: Ledger>(rt: &impl Abort, alloc: Global, blank: Blank) -> Res
             &flash.writes(),
             &(6 + u64::from(2 * sequence + 2 * (sequence / 7))),
         );
-        if sequence == 6 {
-            for place in 0..7 {
-                assert!(rt; bytes_at(rt, &flash, 6656 + 64 * place + 56, &FLAG));
-            }
-            assert!(rt; bytes_at(rt, &flash, 7160, &[0xff; 8]));
-        }
-        if sequence == 7 {
-            assert!(rt; bytes_at(rt, &flash, 7168, &[1, 0, 0, 0, 7, 0, 0, 0]));
-            assert!(rt; bytes_at(rt, &flash, 7224, &FLAG));
-            assert!(rt; bytes_at(rt, &flash, 7160, &FLAG));
-            assert!(rt; bytes_at(rt, &flash, 7672, &[0xff; 8]));
-        }
-        if sequence == 14 {
-            // Sector 15, which was closed at the beginning, is erased and has a record.
-            same(rt, "the erases", &flash.erases(), &5);
-            assert!(rt; bytes_at(rt, &flash, 7680, &[1, 0, 0, 0, 14, 0, 0, 0]));
-            assert!(rt; bytes_at(rt, &flash, 7736, &FLAG));
-            assert!(rt; bytes_at(rt, &flash, 7744, &[0xff; 448]));
-            assert!(rt; bytes_at(rt, &flash, 7672, &FLAG));
-        }
+        expect_bytes_after(rt, &flash, sequence);
     }
     Ok(())
 }
