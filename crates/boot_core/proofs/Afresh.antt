@@ -30,7 +30,8 @@ use Rattle.certificate.specs.Combination.{entry_in, IsValid, running_set}
 use Rattle.upload.specs.View.{view}
 use Rattle.upload.proofs.Views.{view_kept}
 use Rattle.upload.specs.Device.{DeviceState}
-use Rattle.upload.specs.Steady.{IsFront, IsSteadyAt, Starts}
+use Rattle.common.specs.Bytes.{Starts}
+use Rattle.upload.specs.Steady.{IsFront, IsSteadyAt}
 use Rattle.machine.specs.States.{entry_of}
 use Rattle.machine.specs.Boots.{IsEntryOf, IsSound, IsTableOf}
 use Rattle.machine.specs.Reading.{AreRaisedBy}

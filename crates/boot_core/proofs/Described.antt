@@ -13,7 +13,8 @@ use Rattle.tlv.specs.Fault.{IsFrontFault}
 use Rattle.tlv.specs.Image.{BeginsIntact, IsIntact, image_bytes}
 use Rattle.tlv.specs.Slot.{slot_bytes}
 use Rattle.tlv.proofs.Descriptions.{front-unique, front_has_no_fault}
-use Rattle.upload.specs.Steady.{IsFront, Starts}
+use Rattle.common.specs.Bytes.{Starts}
+use Rattle.upload.specs.Steady.{IsFront}
 use Rattle.boot_core.specs.SwapSize.{IsUsed}
 
 -- an intact image is as long as its description says

@@ -19,7 +19,8 @@ use Rattle.certificate.specs.declared.table.Image.{Image}
 use Rattle.certificate.specs.declared.table.Request.TheVariants as request
 use Rattle.certificate.specs.Combination.{IsValid, running_set}
 use Rattle.upload.specs.Device.{DeviceState}
-use Rattle.upload.specs.Steady.{IsImage, IsSteadyAt, Starts}
+use Rattle.common.specs.Bytes.{Starts}
+use Rattle.upload.specs.Steady.{IsImage, IsSteadyAt}
 use Rattle.upload.specs.View.{view}
 use Rattle.machine.specs.Boots.{IsAllSound, IsSound}
 use Rattle.machine.specs.States.{entry_of}

@@ -17,7 +17,8 @@ use Rattle.swap_scratch.specs.Used.{used_bytes}
 use Rattle.upload.specs.View.{view}
 use Rattle.upload.proofs.Views.{view_kept}
 use Rattle.upload.specs.Device.{DeviceState, Trial}
-use Rattle.upload.specs.Steady.{Starts, IsFront, logged}
+use Rattle.common.specs.Bytes.{Starts}
+use Rattle.upload.specs.Steady.{IsFront, logged}
 use Rattle.machine.specs.Boots.{GoesBack}
 use Rattle.machine.specs.Holding.{IsTriedAt, IsTrialOpen, IsSwappedBack}
 use Rattle.machine.specs.Passing.{IsSwappingBackSome}

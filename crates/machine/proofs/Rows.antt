@@ -11,7 +11,8 @@ use Rattle.tlv.specs.declared.desc.Desc.{Desc}
 use Rattle.tlv.specs.Image.{IsIntact}
 use Rattle.upload.specs.View.{view}
 use Rattle.upload.specs.Device.{DeviceState, Wanted}
-use Rattle.upload.specs.Steady.{Starts, IsFront, IsRequested, told_by}
+use Rattle.common.specs.Bytes.{Starts}
+use Rattle.upload.specs.Steady.{IsFront, IsRequested, told_by}
 use Rattle.certificate.specs.declared.table.Table.{Table}
 use Rattle.certificate.specs.declared.table.Image.{Image}
 use Rattle.certificate.specs.declared.table.Entry.{Entry}

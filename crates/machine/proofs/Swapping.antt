@@ -16,7 +16,8 @@ use Rattle.swap_scratch.specs.Swap.{IsSwapAt}
 use Rattle.upload.specs.View.{view}
 use Rattle.upload.proofs.Views.{view_kept}
 use Rattle.upload.specs.Device.{DeviceState}
-use Rattle.upload.specs.Steady.{Starts, IsFront, IsImageAt, logged}
+use Rattle.common.specs.Bytes.{Starts}
+use Rattle.upload.specs.Steady.{IsFront, IsImageAt, logged}
 use Rattle.certificate.specs.declared.table.Table.{Table}
 use Rattle.machine.specs.States.{wanted_bytes}
 use Rattle.machine.specs.Holding.{IsSwapped, IsSettledAt}

@@ -7,7 +7,7 @@ use Rattle.tlv.proofs.Descriptions.{intact-unique}
 use Rattle.upload.proofs.Images.{same_front}
 use Rattle.machine.specs.States.{entry_of}
 use Rattle.upload.specs.Device.{DeviceState, Wanted}
-use Rattle.upload.specs.Steady.{Starts}
+use Rattle.common.specs.Bytes.{Starts}
 use Rattle.certificate.specs.declared.table.Table.{Table}
 use Rattle.certificate.specs.declared.table.Image.{Image}
 use Rattle.certificate.specs.declared.table.Entry.{Entry}

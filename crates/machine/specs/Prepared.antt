@@ -4,7 +4,7 @@ use Rattle.sector_map.specs.declared.layout.Side.{Side}
 use Rattle.tlv.specs.declared.desc.Desc.{Desc}
 use Rattle.tlv.specs.Image.{IsIntact}
 use Rattle.upload.specs.View.{View}
-use Rattle.upload.specs.Steady.{Starts}
+use Rattle.common.specs.Bytes.{Starts}
 
 -- An intact image that bytes begin with is no longer than a size.
 pub record IsRoomFor (whole : List ℕ) (size : ℕ) : Type 0 where

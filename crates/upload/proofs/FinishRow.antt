@@ -10,7 +10,8 @@ use Rattle.trailer.specs.Fields.{erased_fields, trailer_of}
 use Rattle.trailer.specs.Standing.{is_permanent, kind_of, requested_fields, standing_kind}
 use Rattle.upload.specs.View.{View, KeepsView}
 use Rattle.upload.specs.Device.{Machine, Session, Wanted, closed}
-use Rattle.upload.specs.Steady.{IsFront, IsImage, IsRequested, IsSteadyAt, Starts, told_by, request_in}
+use Rattle.common.specs.Bytes.{Starts}
+use Rattle.upload.specs.Steady.{IsFront, IsImage, IsRequested, IsSteadyAt, told_by, request_in}
 use Rattle.upload.specs.Sessions.{upload_at, AllOpenAt, IsWith, IsUploadAt, session_of, HasSessions, IsUpAt}
 use Rattle.upload.specs.Ending.{IsClosedAfter, is_flash}
 use Rattle.upload.specs.Piece.{with_session}

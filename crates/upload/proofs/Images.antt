@@ -4,7 +4,7 @@ use Rattle.trailer.specs.Standing.{first_is_set}
 use Rattle.tlv.specs.declared.desc.Desc.{Desc}
 use Rattle.tlv.specs.Image.{BeginsWithImage, Image, IsIntact, image_bytes}
 use Rattle.tlv.proofs.ImageLaws.{image-unique}
-use Rattle.upload.specs.Steady.{Starts}
+use Rattle.common.specs.Bytes.{Starts}
 
 -- an image at the front, and what follows it
 front_image : (whole bytes : List ℕ) (image : Image) (starts : Starts whole bytes) → BeginsWithImage bytes image []

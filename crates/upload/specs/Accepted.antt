@@ -16,7 +16,7 @@ use Rattle.upload.specs.declared.error.UploadError.TheVariants as no
 use Rattle.upload.specs.declared.sessions.Upload.{Upload}
 use Rattle.upload.specs.View.{View}
 use Rattle.upload.specs.Device.{DeviceState, Machine, Session, Wanted, closed}
-use Rattle.upload.specs.Steady.{Starts}
+use Rattle.common.specs.Bytes.{Starts}
 use Rattle.upload.specs.Sessions.{IsWritten, upload_at}
 use Rattle.upload.specs.Withdrawal.{IsKeptOrGone}
 

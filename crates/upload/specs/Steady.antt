@@ -1,5 +1,6 @@
 -- What ties a flash to a state of the device, where no swap or trial is under way.
-use Rattle.std.specs.Prelude.{◌≡◌, ℕ, ◌<◌, Bool, false, List, ◌++◌, Option, Some, None, option_map}
+use Rattle.std.specs.Prelude.{◌≡◌, ℕ, ◌<◌, Bool, false, List, Option, Some, None, option_map}
+use Rattle.common.specs.Bytes.{Starts}
 use Rattle.sector_map.specs.declared.layout.Side.TheVariants.{Primary, Secondary}
 use Rattle.trailer.specs.Fields.{Fields, trailer_of}
 use Rattle.trailer.specs.Standing.{first_is_set, standing_kind}
@@ -11,10 +12,6 @@ use Rattle.tlv.specs.declared.desc.Desc.{Desc}
 use Rattle.tlv.specs.Image.{IsIntact}
 use Rattle.upload.specs.View.{View}
 use Rattle.upload.specs.Device.{DeviceState, Wanted}
-
--- Bytes begin with these.
-abbrev pub Starts : List ℕ → List ℕ → Type 0
-Starts whole front = (rest : List ℕ) × (whole ≡ front ++ rest)
 
 -- Bytes are an intact image.
 abbrev pub IsImage : List ℕ → Type 0
