@@ -1,5 +1,5 @@
 -- What `parse` gives of a text is what the text of a number spells.
-use Rattle.std.proofs.Common.{◌≡◌, ◌≢◌, ℕ, ◌+◌, ◌^◌, ◌<◌, ◌⊎◌, List, [], ◌∷◌, length, get_or, Option, Some, None, Bor, MatchResult, Result, Ok, Err, refl, sym, ap, ◌∙◌, inl, inr, arith}
+use Rattle.std.proofs.Common.{◌≡◌, ◌≢◌, ℕ, ◌+◌, ◌^◌, ◌<◌, List, [], ◌∷◌, length, get_or, Option, Some, None, Bor, MatchResult, Result, Ok, Err, refl, sym, ap, ◌∙◌, inl, inr, arith}
 use Rattle.std.specs.Prelude.{decimal, IsUtf8, IfSome, IfNone}
 use Rattle.std.specs.Result.{result_ok}
 use Rattle.std.specs.declared.str.Utf8Error.{Utf8Error}
@@ -10,7 +10,7 @@ use Rattle.std.proofs.lemmas.Fmt.{decimal_digit, decimal_is_IsNumeral, first_dec
 use Rattle.std.proofs.lemmas.Str.{IsUtf8-from_ascii}
 use Rattle.std.proofs.lemmas.Str.Parse.{IsNumeralModel, numerals_by_value, tells_digits, parse_plain}
 use Rattle.std.proofs.lemmas.Option.{none-some, same_Some}
-use Rattle.common.specs.Ascii.{number_of}
+use Rattle.common.specs.Ascii.{IsPadded, number_of}
 use Rattle.common.proofs.AsciiLaws.{number_of-decimal, number_of-spelled}
 
 -- the text is the text of no number below the limit
@@ -35,10 +35,6 @@ IfSome_number text (Some n) read = (number_of-spelled text n (sym read)).0
 pub IfNone_number : (text : List ℕ) (result : Option ℕ) → result ≡ number_of text → IfNone result (IsOther text)
 IfNone_number text None read = λ n fits e. none-some n (read ∙ ap number_of e ∙ number_of-decimal n fits)
 IfNone_number text (Some n) read = tt
-
--- a plus sign, or a zero before anything else
-abbrev pub IsPadded : List ℕ → Type 0
-IsPadded text = (get_or text 0 0 ≡ 43) ⊎ ((get_or text 0 0 ≡ 48) × (1 < length text))
 
 -- nothing that is printed begins so
 decimal_begins : (n : ℕ) → n < 2 ^ 32 → IsPadded (decimal n) → ⊥

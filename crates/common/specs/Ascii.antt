@@ -1,8 +1,12 @@
 -- Numbers and separators in ASCII text.
-use Rattle.std.specs.Prelude.{◌≢◌, ℕ, ◌^◌, ◌==◌, ◌&&◌, List, [], ◌∷◌, Option, Some, None, option_and_then, decimal, nat_lt, if◌then◌else◌}
+use Rattle.std.specs.Prelude.{◌≡◌, ◌≢◌, ◌⊎◌, ℕ, ◌^◌, ◌<◌, ◌==◌, ◌&&◌, List, [], ◌∷◌, length, slice_index, Option, Some, None, option_and_then, decimal, nat_lt, if◌then◌else◌}
 use Rattle.std.specs.List.{AllByRecursion}
 use Rattle.std.specs.Str.{bytes_eq}
 use Rattle.std.specs.Str.Parse.{digits_value}
+
+-- A text begins as no number is printed: with a plus sign, or with a zero before anything else.
+abbrev pub IsPadded : List ℕ → Type 0
+IsPadded text = (slice_index text 0 ≡ 43) ⊎ ((slice_index text 0 ≡ 48) × (1 < length text))
 
 -- The number that a text spells: decimal, without leading zeros, below 2 ^ 32.
 unfoldable pub number_of : List ℕ → Option ℕ

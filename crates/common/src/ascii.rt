@@ -1,7 +1,7 @@
 //! Numbers and separators in ASCII text.
 
-ghost use Rattle.std.specs.Prelude.{◌≡◌, ◌≢◌, ◌==◌, ℕ, ◌^◌, ◌<◌, ◌↔◌, ◌⊎◌, IfNone, IfSome, IsTrue, decimal, length, option_copied, position, slice_index};
-ghost use Rattle.common.specs.Ascii.{cut, number_below, number_of};
+ghost use Rattle.std.specs.Prelude.{◌≡◌, ◌≢◌, ◌==◌, ℕ, ◌^◌, ◌<◌, ◌↔◌, IfNone, IfSome, IsTrue, decimal, option_copied, position};
+ghost use Rattle.common.specs.Ascii.{IsPadded, cut, number_below, number_of};
 
 /// The place of the first `separator` in a text.
 fn place_of(text: &[u8], separator: u8) -> Option<usize>
@@ -27,9 +27,8 @@ pub fn cut(text: &[u8], separator: u8) -> (&[u8], Option<&[u8]>)
 
 /// Whether a text begins as no number is printed: with a plus sign, or with a zero before anything
 /// else.
-fn begins_padded(text: &[u8]) -> bool
-    ensures { IsTrue result ↔ ((slice_index text.now 0 ≡ 43)
-        ⊎ ((slice_index text.now 0 ≡ 48) × (1 < length text.now))) }
+pub fn begins_padded(text: &[u8]) -> bool
+    ensures { IsTrue result ↔ IsPadded text.now }
 {
     matches!(text, [b'+', ..] | [b'0', _, ..])
 }

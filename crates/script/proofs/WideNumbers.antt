@@ -9,7 +9,8 @@ use Rattle.std.proofs.lemmas.Fmt.{decimal_digit, decimal_is_IsNumeral, first_dec
 use Rattle.std.proofs.lemmas.Option.{none-some}
 use Rattle.std.proofs.lemmas.Str.{IsUtf8-from_ascii}
 use Rattle.std.proofs.lemmas.Str.Parse.{IsNumeralModel, numerals_by_value, tells_digits, parse_plain}
-use Rattle.common.proofs.Numbers.{Decodes, IsPadded}
+use Rattle.common.specs.Ascii.{IsPadded}
+use Rattle.common.proofs.Numbers.{Decodes}
 
 -- The text is the text of no number of 64 bits.
 abbrev pub IsOther : List ℕ → Type 0

@@ -1,10 +1,10 @@
 //! Words of a line.
 
-ghost use Rattle.std.specs.Prelude.{◌≡◌, ◌≢◌, ◌^◌, ◌<◌, ◌↔◌, ◌⊎◌, ℕ, IfNone, IfSome, IsTrue, decimal, length, slice_index};
+ghost use Rattle.std.specs.Prelude.{◌≡◌, ◌≢◌, ◌^◌, ◌<◌, ℕ, IfNone, IfSome, decimal};
 ghost use Rattle.std.specs.Option.{option_copied};
 ghost use Rattle.script.specs.LineReading.{name_of, word_of};
 
-use common::ascii::cut;
+use common::ascii::{begins_padded, cut};
 
 /// The word that a text is: some bytes, and no space among them.
 #[tactic(auto, unfolding(crate::specs::LineReading::word_of))]
@@ -24,15 +24,6 @@ pub(crate) fn name(text: &[u8]) -> Option<&str>
     ensures { option_copied result ≡ name_of text.now }
 {
     str::from_utf8(word(text)?).ok()
-}
-
-/// Whether a text begins as no number is printed: with a plus sign, or with a zero before anything
-/// else.
-fn begins_padded(text: &[u8]) -> bool
-    ensures { IsTrue result ↔ ((slice_index text.now 0 ≡ 43)
-        ⊎ ((slice_index text.now 0 ≡ 48) × (1 < length text.now))) }
-{
-    matches!(text, [b'+', ..] | [b'0', _, ..])
 }
 
 /// The number that a text spells, decimal and without leading zeros, as `common::ascii::number`

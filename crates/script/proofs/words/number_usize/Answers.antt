@@ -1,6 +1,7 @@
 use Rattle.std.proofs.Common.{◌≡◌, refl}
 use Rattle.std.proofs.lemmas.Bool.{false≢true}
-use Rattle.common.proofs.Numbers.{IsPadded, same_text_at_some}
+use Rattle.common.specs.Ascii.{IsPadded}
+use Rattle.common.proofs.Numbers.{same_text_at_some}
 use Rattle.script.proofs.WideNumbers.{padded_is_other, parsed_is_printed, undecoded_is_other, unparsed_is_other}
 use Rattle.script.proofs.words.number_usize.Goals as goal
 
