@@ -1,8 +1,35 @@
 -- Ranges that are erased.
-use Rattle.std.proofs.Common.{◌≡◌, ◌⊎◌, ◌≢◌, ℕ, zero, suc, ◌+◌, ◌-◌, ◌<◌, ◌≤◌, List, length}
-use Rattle.std.proofs.Common.{slice_index, EachIndex, arith, refl, sym, ◌∙◌, ap, inl, inr, ⊎_elim}
+use Rattle.std.proofs.Common.{◌≡◌, ◌⊎◌, ◌≢◌, ℕ, zero, suc, ◌+◌, ◌-◌, ◌<◌, ◌≤◌, ◌==◌, ◌&&◌, Bool, true, false}
+use Rattle.std.proofs.Common.{List, [], ◌∷◌, length}
+use Rattle.std.proofs.Common.{slice_index, arith, refl, sym, ◌∙◌, ap, inl, inr, ⊎_elim}
 use Rattle.std.proofs.lemmas.Bool.{cases_eq, cases_lt}
+use Rattle.std.proofs.lemmas.Bool.Decides.{nat_tests}
 use Rattle.flash_model.specs.Chip.{Chip, Reads, IsErased, SameOutside}
+use Rattle.flash_model.specs.Units.{are_erased}
+
+both : (a b : Bool) → (a && b) ≡ true → (a ≡ true) × (b ≡ true)
+both true b e = (refl, e)
+both false b e = (e, cc)
+
+eq_is : (a b : ℕ) → (a == b) ≡ true → a ≡ b
+eq_is a b e = grind (arith, nat_tests, e)
+
+eq_true : (a b : ℕ) → a ≡ b → (a == b) ≡ true
+eq_true a b e = grind (arith, nat_tests, e)
+
+-- Each byte of erased bytes is 0xFF ..
+pub erased_each : (bytes : List ℕ) (k : ℕ) → are_erased bytes ≡ true → k < length bytes → slice_index bytes k ≡ 0xff
+erased_each [] k all lt = absurd (omega (arith, lt))
+erased_each (b ∷ bytes) zero all lt = eq_is b 0xff (both (b == 0xff) (are_erased bytes) all).0
+erased_each (b ∷ bytes) (suc k) all lt = erased_each bytes k (both (b == 0xff) (are_erased bytes) all).1
+    (omega (arith, lt))
+
+-- .. and where each is, they are erased.
+pub each_erased : (bytes : List ℕ) → ((k : ℕ) → k < length bytes → slice_index bytes k ≡ 0xff) → are_erased bytes ≡ true
+each_erased [] each = refl
+each_erased (b ∷ bytes) each =
+    ap (λ t. t && are_erased bytes) (eq_true b 0xff (each 0 (omega arith))) ∙ each_erased bytes
+    (λ k lt. each (suc k) (omega (arith, lt)))
 
 -- No bytes are erased.
 pub erased_none : (chip : Chip) (at : ℕ) → IsErased chip at 0
@@ -38,18 +65,18 @@ pub erased_after : (at n all from done : ℕ) (old new : Chip) → IsErased old 
 erased_after at n all from done old new erased same low high =
     erased_kept at n from done old new (erased_narrower old from all at n erased (omega arith) high) same (inr low)
 
--- What was read is erased where it is 0xFF throughout ..
+-- Where what was read is erased, so is what stands there ..
 pub erased_of_reads : (chip : Chip) (at : ℕ) (bytes : List ℕ) → Reads chip at bytes
-    → EachIndex bytes (λ i. slice_index bytes i ≡ 0xff) → IsErased chip at (length bytes)
+    → are_erased bytes ≡ true → IsErased chip at (length bytes)
 erased_of_reads chip at bytes reads all = record {
-  each = λ k low high. grind (arith, reads.each k (k - at), all (k - at));
+  each = λ k low high. grind (arith, reads.each k (k - at), erased_each bytes (k - at) all);
 }
 
 -- .. and nowhere else.
 pub reads_of_erased : (chip : Chip) (at : ℕ) (bytes : List ℕ) → Reads chip at bytes
-    → IsErased chip at (length bytes) → EachIndex bytes (λ i. slice_index bytes i ≡ 0xff)
-reads_of_erased chip at bytes reads erased =
-    λ i lt. sym (reads.each (at + i) i refl lt) ∙ erased.each (at + i) (omega arith) (omega arith)
+    → IsErased chip at (length bytes) → are_erased bytes ≡ true
+reads_of_erased chip at bytes reads erased = each_erased bytes
+    (λ i lt. sym (reads.each (at + i) i refl lt) ∙ erased.each (at + i) (omega arith) (omega arith))
 
 -- A range is erased or it isn't.
 pub erased_or : (chip : Chip) (at n : ℕ) → IsErased chip at n ⊎ (IsErased chip at n → ⊥)

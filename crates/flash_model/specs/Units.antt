@@ -1,6 +1,11 @@
 -- Units: eight bytes that are programmed together, after they were erased.
-use Rattle.std.specs.Prelude.{ℕ}
+use Rattle.std.specs.Prelude.{ℕ, ◌==◌, Bool, List}
+use Rattle.std.specs.List.{list_all}
 use Rattle.flash_model.specs.Chip.{Chip, IsErased}
+
+-- Bytes are erased: each is 0xFF.
+abbrev pub are_erased : List ℕ → Bool
+are_erased bytes = list_all (λ byte. byte == 0xff) bytes
 
 -- The unit at an address is set: not all of its bytes are 0xFF. Of which they are it says nothing,
 -- so a write of the unit that was cut leaves it erased or set.

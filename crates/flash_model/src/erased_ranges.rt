@@ -1,8 +1,9 @@
 //! Whether a range of a flash is erased.
 
-ghost use Rattle.std.specs.Prelude.{◌≡◌, ◌+◌, ◌≤◌, ◌↔◌, length, slice_index, EachIndex, IsTrue};
+ghost use Rattle.std.specs.Prelude.{◌≡◌, ◌+◌, ◌≤◌, length};
 ghost use Rattle.flash_model.specs.Chip.{size_of};
 ghost use Rattle.flash_model.specs.Calls.{TellsErased, TellsPieceErased};
+ghost use Rattle.flash_model.specs.Units.{are_erased};
 
 use crate::error::FlashError;
 use crate::flash::Flash;
@@ -10,9 +11,10 @@ use crate::flash::Flash;
 /// How many bytes are read at once.
 const PIECE: usize = 64;
 
-/// Whether each byte is 0xFF.
-fn is_all_erased(bytes: &[u8]) -> bool
-    ensures { IsTrue result ↔ EachIndex bytes.now (λ i. slice_index bytes.now i ≡ 0xff) }
+/// Whether bytes that were read are erased, that is, 0xFF; of no bytes the answer is yes. Does not
+/// allocate.
+pub fn are_erased(bytes: &[u8]) -> bool
+    ensures { result ≡ are_erased bytes.now }
 {
     bytes.iter().all(|byte| *byte == 0xff)
 }
@@ -24,7 +26,7 @@ fn is_piece_erased<F: Flash>(flash: &mut F, at: u32, piece: &mut [u8]) -> Result
     ensures { TellsPieceErased at (length piece.old) (F.chip flash.old) (F.chip flash.new) result }
 {
     flash.read(at, piece)?;
-    Ok(is_all_erased(piece))
+    Ok(are_erased(piece))
 }
 
 /// Whether `len` bytes from address `at` on are erased, that is, 0xFF. The range lies in the flash;

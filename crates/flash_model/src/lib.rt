@@ -27,7 +27,7 @@ mod tearing;
 mod torn;
 mod unit;
 
-pub use erased_ranges::is_erased;
+pub use erased_ranges::{are_erased, is_erased};
 pub use error::FlashError;
 pub use flash::Flash;
 pub use memory::MemFlash;

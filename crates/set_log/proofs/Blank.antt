@@ -1,32 +1,16 @@
 -- When bytes of the log are erased.
-use Rattle.std.proofs.Common.{◌≡◌, ℕ, zero, suc, ◌+◌, ◌-◌, ◌*◌, ◌<◌, ◌≤◌, Bool, true, false, List, [], ◌∷◌, ◌==◌, length, slice_range, slice_index, get_or, arith, refl, sym, ◌∙◌, ap, subst, ⊎_elim}
+use Rattle.std.proofs.Common.{◌≡◌, ℕ, ◌+◌, ◌-◌, ◌*◌, ◌<◌, ◌≤◌, Bool, true, false, List, length, slice_range, slice_index, arith, refl, sym, ◌∙◌, ap, subst, ⊎_elim}
 use Rattle.std.proofs.lemmas.Bool.{cases_lt}
-use Rattle.std.proofs.lemmas.Bool.Decides.{nat_tests}
-use Rattle.std.specs.List.{list_all}
 use Rattle.flash_model.specs.Chip.{Chip, IsErased}
+use Rattle.flash_model.specs.Units.{are_erased}
+use Rattle.flash_model.proofs.Erased.{each_erased, erased_each}
 use Rattle.flash_model.proofs.Ranges.{length_range, range_at, range_same}
 use Rattle.set_log.specs.Ring.{reads_erased}
-
-all_blank : (xs : List ℕ) → ((i : ℕ) → i < length xs → get_or xs i 0 ≡ 0xff)
-    → list_all (λ byte. byte == 0xff) xs ≡ true
-all_blank [] each = refl
-all_blank (x ∷ xs) each =
-    let here : x ≡ 0xff = each 0 (omega arith) in
-    let rest : list_all (λ byte. byte == 0xff) xs ≡ true = all_blank xs (λ i lt. each (suc i) (omega arith)) in
-    rw (here, rest) refl
-
-blank_at : (xs : List ℕ) (i : ℕ) → list_all (λ byte. byte == 0xff) xs ≡ true → i < length xs
-    → get_or xs i 0 ≡ 0xff
-blank_at [] i all lt = absurd (omega arith)
-blank_at (x ∷ xs) zero all lt = grind (arith, nat_tests, all)
-blank_at (x ∷ xs) (suc i) all lt =
-    let rest : list_all (λ byte. byte == 0xff) xs ≡ true = grind (arith, nat_tests, all) in
-    blank_at xs i rest (omega arith)
 
 -- What is erased reads as erased ..
 pub reads_erased_of : (log : Chip) (at n : ℕ) → IsErased log at n → reads_erased log.bytes at n ≡ true
 unfolding reads_erased
-reads_erased_of log at n erased = all_blank _ (λ i lt.
+reads_erased_of log at n erased = each_erased _ (λ i lt.
     let below : i < n = omega (arith, length_range log.bytes at (at + n)) in
     range_at log.bytes at (at + n) i (omega arith) ∙ erased.each (at + i) (omega arith) (omega arith))
 
@@ -40,7 +24,7 @@ erased_of_reads log at n reads fits = record {
       omega (arith, length_range log.bytes at (at + n)) in
       let place : at + (k - at) ≡ k = omega arith in
       subst (λ j. slice_index log.bytes j ≡ 0xff) place
-      (sym (range_at log.bytes at (at + n) (k - at) (omega arith)) ∙ blank_at _ (k - at) reads long);
+      (sym (range_at log.bytes at (at + n) (k - at) (omega arith)) ∙ erased_each _ (k - at) reads long);
 }
 
 -- Bytes that are the same read the same.
@@ -49,7 +33,7 @@ pub same_reads : (at n : ℕ) (old new : List ℕ) → length new ≡ length old
     → reads_erased new at n ≡ reads_erased old at n
 unfolding reads_erased
 same_reads at n old new long same =
-    ap (list_all (λ byte. byte == 0xff)) (range_same at (at + n) old new long same)
+    ap are_erased (range_same at (at + n) old new long same)
 
 pub not_true : (b : Bool) → (b ≡ true → ⊥) → b ≡ false
 not_true true never = absurd (never refl)

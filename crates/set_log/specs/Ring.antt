@@ -1,14 +1,14 @@
 -- The ring: a log of three sectors, numbered 0 to 2, of which the first follows the third. Of a
 -- sector of e bytes the first e / 64 - 1 times 64 are places, each for a record of 56 bytes and its
 -- gate, and the last 8 are its closing unit.
-use Rattle.std.specs.Prelude.{◌≡◌, ℕ, zero, suc, ◌+◌, ◌-◌, ◌*◌, ◌/◌, ◌%◌, ◌<◌, Bool, true, false, not, ◌&&◌, ◌==◌}
+use Rattle.std.specs.Prelude.{◌≡◌, ℕ, zero, suc, ◌+◌, ◌-◌, ◌*◌, ◌/◌, ◌%◌, ◌<◌, Bool, true, false, not, ◌&&◌}
 use Rattle.std.specs.Prelude.{List, [], ◌∷◌, slice_range, Option, Some, None, if◌then◌else◌, find}
-use Rattle.std.specs.List.{list_all}
 use Rattle.flash_model.specs.Chip.{Chip, IsErased}
+use Rattle.flash_model.specs.Units.{are_erased}
 
--- So many bytes of the log from an offset on are erased: each is 0xFF.
+-- So many bytes of the log from an offset on are erased.
 unfoldable pub reads_erased : List ℕ → ℕ → ℕ → Bool
-reads_erased log at n = list_all (λ byte. byte == 0xff) (slice_range log at (at + n))
+reads_erased log at n = are_erased (slice_range log at (at + n))
 
 -- How many places a sector has.
 abbrev pub places_in : ℕ → ℕ

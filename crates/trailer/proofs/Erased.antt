@@ -1,48 +1,25 @@
 -- Erased bytes, and what they say in a trailer.
-use Rattle.std.proofs.Common.{◌≡◌, ℕ, zero, suc, ◌+◌, ◌-◌, ◌*◌, ◌<◌, ◌≤◌, ◌==◌, ◌&&◌, Bool, true, false, arith, sym, ◌∙◌, ap, refl, List, [], ◌∷◌, length, get_or, slice_index, slice_range, take, drop, Some, None, if◌then◌else◌, nat_lt, nat_le, IsTrue, ◌↔◌, take_all}
-use Rattle.std.proofs.lemmas.Bool.Decides.{nat_tests}
+use Rattle.std.proofs.Common.{◌≡◌, ℕ, ◌+◌, ◌-◌, ◌*◌, ◌<◌, ◌≤◌, ◌&&◌, Bool, true, false, arith, sym, ◌∙◌, ap, refl, List, [], ◌∷◌, length, get_or, slice_index, slice_range, take, drop, Some, None, if◌then◌else◌, nat_lt, nat_le, IsTrue, ◌↔◌, take_all}
 use Rattle.std.proofs.lemmas.List.{get_or-drop}
 use Rattle.std.proofs.lemmas.Slice.Eq.{bytes_eq-Decides}
 use Rattle.std.specs.Str.{bytes_eq}
 use Rattle.byteorder.specs.Endian.{little_number}
 use Rattle.flash_model.specs.Chip.{Chip, IsErased}
+use Rattle.flash_model.proofs.Erased.{each_erased, erased_each}
 use Rattle.flash_model.proofs.Ranges.{length_range, range_at}
 use Rattle.sector_map.specs.declared.layout.SectorMap.{SectorMap}
 use Rattle.sector_map.specs.declared.layout.Side.{Side}
 use Rattle.sector_map.specs.Part.{Part, TrailerOf}
 use Rattle.sector_map.specs.Map.{first_of, start_of, length_of, part_of, slot_sectors, IsLaidOut}
 use Rattle.trailer.specs.declared.kinds.Magic.TheVariants.{Good, Unset, Bad}
-use Rattle.trailer.specs.Fields.{are_erased, good_magic, magic_in, size_in, bytes_in, bytes_at, fields_in, fields_at, trailer_bytes, erased_fields, place_of}
+use Rattle.flash_model.specs.Units.{are_erased}
+use Rattle.trailer.specs.Fields.{good_magic, magic_in, size_in, bytes_in, bytes_at, fields_in, fields_at, trailer_bytes, erased_fields, place_of}
 use Rattle.sector_map.proofs.PartBytes.{length_part, part_at, part_erased_at}
 use Rattle.trailer.proofs.Places.{trailer_size}
-
-both : (a b : Bool) → (a && b) ≡ true → (a ≡ true) × (b ≡ true)
-both true b e = (refl, e)
-both false b e = (e, cc)
-
-eq_is : (a b : ℕ) → (a == b) ≡ true → a ≡ b
-eq_is a b e = grind (arith, nat_tests, e)
-
-eq_true : (a b : ℕ) → a ≡ b → (a == b) ≡ true
-eq_true a b e = grind (arith, nat_tests, e)
 
 pub not_true : (b : Bool) → (b ≡ true → ⊥) → b ≡ false
 not_true true never = absurd (never refl)
 not_true false never = refl
-
--- each byte of erased bytes is 0xFF ..
-pub erased_each : (bytes : List ℕ) (k : ℕ) → are_erased bytes ≡ true → k < length bytes → slice_index bytes k ≡ 0xff
-erased_each [] k all lt = absurd (omega (arith, lt))
-erased_each (b ∷ bytes) zero all lt = eq_is b 0xff (both (b == 0xff) (are_erased bytes) all).0
-erased_each (b ∷ bytes) (suc k) all lt = erased_each bytes k (both (b == 0xff) (are_erased bytes) all).1
-    (omega (arith, lt))
-
--- .. and where each is, they are erased
-pub each_erased : (bytes : List ℕ) → ((k : ℕ) → k < length bytes → slice_index bytes k ≡ 0xff) → are_erased bytes ≡ true
-each_erased [] each = refl
-each_erased (b ∷ bytes) each =
-    ap (λ t. t && are_erased bytes) (eq_true b 0xff (each 0 (omega arith))) ∙ each_erased bytes
-    (λ k lt. each (suc k) (omega (arith, lt)))
 
 -- a range of erased bytes is erased
 pub erased_range : (bytes : List ℕ) (a b : ℕ) → are_erased bytes ≡ true → are_erased (slice_range bytes a b) ≡ true

@@ -6,7 +6,8 @@ use Rattle.sector_map.specs.declared.layout.SectorMap.{SectorMap}
 use Rattle.sector_map.specs.declared.layout.Side.{Side}
 use Rattle.trailer.specs.declared.kinds.Magic.{Magic}
 use Rattle.trailer.specs.declared.kinds.Magic.TheVariants.{Good, Unset, Bad}
-use Rattle.trailer.specs.Fields.{Fields, are_erased, is_set, flag, good_magic, magic_in, bytes_at, fields_in, fields_at}
+use Rattle.flash_model.specs.Units.{are_erased}
+use Rattle.trailer.specs.Fields.{Fields, is_set, flag, good_magic, magic_in, bytes_at, fields_in, fields_at}
 use Rattle.trailer.specs.Standing.{is_good}
 
 -- a unit that isn't set is erased

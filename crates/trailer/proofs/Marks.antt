@@ -13,7 +13,8 @@ use Rattle.sector_map.specs.Part.{TrailerOf, only, trailers_of}
 use Rattle.sector_map.specs.Map.{IsMap, IsLaidOut, Keeps}
 use Rattle.sector_map.proofs.Parts.{keeps_trans, keeps_wider, laid_out_kept}
 use Rattle.sector_map.proofs.Touched.{trailer_of_both}
-use Rattle.trailer.specs.Fields.{are_erased, flag, good_magic, magic_in, bytes_at, bytes_in, trailer_bytes, fields_at, erased_fields, place_of}
+use Rattle.flash_model.specs.Units.{are_erased}
+use Rattle.trailer.specs.Fields.{flag, good_magic, magic_in, bytes_at, bytes_in, trailer_bytes, fields_at, erased_fields, place_of}
 use Rattle.trailer.specs.declared.kinds.Settling.{Settling}
 use Rattle.trailer.specs.Settled.{before_marks, is_confirmed, is_whole_magic, IsSpared, IsFree, IsOkFree, IsWhole, HasMarks, IsSettled}
 use Rattle.trailer.proofs.Places.{units_alone, range_besides, trailer_size}

@@ -6,7 +6,8 @@ use Rattle.sector_map.specs.declared.layout.Side.{Side}
 use Rattle.sector_map.specs.Part.{Part, TrailerOf}
 use Rattle.sector_map.specs.Map.{slot_sectors, IsMap, Keeps}
 use Rattle.trailer.specs.declared.kinds.Magic.{Magic}
-use Rattle.trailer.specs.Fields.{are_erased, is_set, magic_in, size_in, bytes_in, fields_in, fields_at, trailer_bytes, Fields, place_of}
+use Rattle.flash_model.specs.Units.{are_erased}
+use Rattle.trailer.specs.Fields.{is_set, magic_in, size_in, bytes_in, fields_in, fields_at, trailer_bytes, Fields, place_of}
 use Rattle.trailer.proofs.Places.{range_besides, trailer_size}
 
 fields : Magic → Bool → Bool → Bool → Option ℕ → Bool → Fields

@@ -11,7 +11,8 @@ use Rattle.sector_map.specs.Part.{TrailerOf, only}
 use Rattle.sector_map.specs.Map.{slot_sectors, first_of, start_of, IsMap, IsLaidOut, Keeps}
 use Rattle.sector_map.proofs.Parts.{laid_out_kept}
 use Rattle.sector_map.proofs.PartBytes.{keeps_write}
-use Rattle.trailer.specs.Fields.{are_erased, is_set, magic_in, size_in, trailer_bytes, fields_in, fields_at}
+use Rattle.flash_model.specs.Units.{are_erased}
+use Rattle.trailer.specs.Fields.{is_set, magic_in, size_in, trailer_bytes, fields_in, fields_at}
 use Rattle.trailer.specs.Status.{status_unit, set_units, status_count_of}
 use Rattle.trailer.proofs.Places.{trailer_size, range_besides}
 use Rattle.trailer.proofs.Erased.{not_true, range_is_erased}

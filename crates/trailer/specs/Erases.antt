@@ -6,7 +6,8 @@ use Rattle.sector_map.specs.declared.layout.SectorMap.{SectorMap}
 use Rattle.sector_map.specs.declared.layout.Side.{Side}
 use Rattle.sector_map.specs.Map.{Keeps}
 use Rattle.sector_map.specs.Part.{TrailerOf, only}
-use Rattle.trailer.specs.Fields.{are_erased, erased_fields, fields_at, trailer_bytes}
+use Rattle.flash_model.specs.Units.{are_erased}
+use Rattle.trailer.specs.Fields.{erased_fields, fields_at, trailer_bytes}
 
 -- A call erases a trailer.
 pub record ErasesTrailer (map : SectorMap) (image : ℕ) (side : Side) (old new : Chip)

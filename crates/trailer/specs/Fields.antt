@@ -1,22 +1,19 @@
 -- What a trailer says, by the bytes of its sector. The fields, but withdrawn, and the bytes of the
 -- magic are MCUboot's (its design document, "Image Trailer"); where they stand is bootswap's own.
-use Rattle.std.specs.Prelude.{ℕ, ◌+◌, ◌-◌, ◌*◌, ◌==◌, ◌&&◌, Bool, true, false, not, nat_lt, nat_le}
+use Rattle.std.specs.Prelude.{ℕ, ◌+◌, ◌-◌, ◌*◌, ◌&&◌, Bool, true, false, not, nat_lt, nat_le}
 use Rattle.std.specs.Prelude.{List, [], ◌∷◌, ◌++◌, drop, slice_range, Option, Some, None, if◌then◌else◌}
-use Rattle.std.specs.List.{list_all}
 use Rattle.std.specs.Str.{bytes_eq}
 use Rattle.byteorder.specs.Endian.{little_bytes, little_number}
 use Rattle.flash_model.specs.Chip.{Chip}
+use Rattle.flash_model.specs.Units.{are_erased}
 use Rattle.sector_map.specs.declared.layout.SectorMap.{SectorMap}
 use Rattle.sector_map.specs.declared.layout.Side.{Side}
 use Rattle.sector_map.specs.Part.{TrailerOf}
 use Rattle.sector_map.specs.Map.{part_of, slot_sectors, start_of}
+use Rattle.trailer.specs.declared.format.TheConstants.{COPY_DONE, IMAGE_OK, MAGIC_PLACE, SWAP_SIZE, WITHDRAWN}
 use Rattle.trailer.specs.declared.kinds.Magic.{Magic}
 use Rattle.trailer.specs.declared.kinds.Magic.TheVariants.{Good, Unset, Bad}
 use Rattle.trailer.specs.declared.kinds.Trailer.{Trailer}
-
--- Bytes are erased: each is 0xFF.
-abbrev pub are_erased : List ℕ → Bool
-are_erased bytes = list_all (λ byte. byte == 0xff) bytes
 
 -- A unit is set where it isn't erased.
 abbrev pub is_set : List ℕ → Bool
@@ -66,11 +63,11 @@ bytes_in e bytes from_end n = slice_range bytes (e - from_end) (e - from_end + n
 -- The fields in a trailer of e bytes, of an image of n sectors.
 unfoldable pub fields_in : ℕ → ℕ → List ℕ → Fields
 fields_in n e bytes = record {
-  magic = magic_in (bytes_in e bytes 16 16);
-  copy_done = is_set (bytes_in e bytes 32 8);
-  image_ok = is_set (bytes_in e bytes 24 8);
-  withdrawn = is_set (bytes_in e bytes 56 8);
-  size = size_in (n * e) (bytes_in e bytes 48 8);
+  magic = magic_in (bytes_in e bytes MAGIC_PLACE 16);
+  copy_done = is_set (bytes_in e bytes COPY_DONE 8);
+  image_ok = is_set (bytes_in e bytes IMAGE_OK 8);
+  withdrawn = is_set (bytes_in e bytes WITHDRAWN 8);
+  size = size_in (n * e) (bytes_in e bytes SWAP_SIZE 8);
   is_fresh = are_erased (slice_range bytes 0 (24 * n));
 }
 

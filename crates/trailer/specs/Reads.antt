@@ -4,14 +4,15 @@ use Rattle.flash_model.specs.declared.error.FlashError.{FlashError}
 use Rattle.flash_model.specs.Chip.{Chip, Ends}
 use Rattle.sector_map.specs.declared.layout.SectorMap.{SectorMap}
 use Rattle.sector_map.specs.Map.{IsLaidOut, slot_sectors}
+use Rattle.trailer.specs.declared.format.TheConstants.{WITHDRAWN}
 
 -- The map is laid out on the flash, has the image, and its trailers have n bytes that begin so many
--- bytes before their end, among the last 56.
+-- bytes before their end, at the withdrawn unit or behind it.
 pub record HasPlace (map : SectorMap) (image from_end n : ℕ) (chip : Chip) : Type 0 where
   pub laid_out : IsLaidOut map chip
   pub there : image < map.images
   pub room : n ≤ from_end
-  pub within : from_end ≤ 56
+  pub within : from_end ≤ WITHDRAWN
 
 -- The map is laid out on the flash, has the image, and its trailers have that status unit: there are
 -- three for each sector of the slot.

@@ -3,11 +3,13 @@ use Rattle.std.specs.Prelude.{◌≡◌, ◌⊎◌, ℕ, ◌-◌, Bool, true, fa
 use Rattle.flash_model.specs.Chip.{Chip}
 use Rattle.sector_map.specs.declared.layout.SectorMap.{SectorMap}
 use Rattle.sector_map.specs.declared.layout.Side.{Side}
+use Rattle.trailer.specs.declared.format.TheConstants.{COPY_DONE, IMAGE_OK, MAGIC_PLACE}
 use Rattle.trailer.specs.declared.kinds.Magic.{Magic}
 use Rattle.trailer.specs.declared.kinds.Magic.TheVariants.{Good, Unset, Bad}
 use Rattle.trailer.specs.declared.kinds.Settling.{Settling}
 use Rattle.trailer.specs.declared.kinds.Settling.TheVariants.{Test, Permanent, Back}
-use Rattle.trailer.specs.Fields.{Fields, are_erased, flag, good_magic, bytes_at, erased_fields}
+use Rattle.flash_model.specs.Units.{are_erased}
+use Rattle.trailer.specs.Fields.{Fields, flag, good_magic, bytes_at, erased_fields}
 
 -- Whether the image is settled as confirmed: not so where it is tried.
 abbrev pub is_confirmed : Settling → Bool
@@ -41,9 +43,9 @@ is_whole_magic Bad = false
 -- None of copy_done, image_ok and the magic is torn.
 pub record IsWhole (map : SectorMap) (chip : Chip) (image : ℕ) (side : Side) (confirmed : Bool)
     : Type 0 where
-  pub copy_done : IsFree (bytes_at map chip image side 32 8) flag
-  pub image_ok : IsOkFree confirmed (bytes_at map chip image side 24 8)
-  pub magic : IsFree (bytes_at map chip image side 16 16) good_magic
+  pub copy_done : IsFree (bytes_at map chip image side COPY_DONE 8) flag
+  pub image_ok : IsOkFree confirmed (bytes_at map chip image side IMAGE_OK 8)
+  pub magic : IsFree (bytes_at map chip image side MAGIC_PLACE 16) good_magic
 
 -- A primary trailer that needn't be erased for its units to be written: none of them is torn, and
 -- it isn't settled after a swap back, for which it is erased always.
@@ -54,12 +56,12 @@ pub record IsSpared (map : SectorMap) (chip : Chip) (image : ℕ) (side : Side) 
 
 -- The bytes of a trailer before copy_done, image_ok and the magic.
 abbrev pub before_marks : SectorMap → List ℕ → List ℕ
-before_marks map bytes = slice_range bytes 0 (map.sector_size - 32)
+before_marks map bytes = slice_range bytes 0 (map.sector_size - COPY_DONE)
 
 -- copy_done, image_ok and the magic hold their values, byte for byte.
 pub record HasMarks (map : SectorMap) (chip : Chip) (image : ℕ) (side : Side) (confirmed : Bool)
     : Type 0 where
-  pub copy_done : bytes_at map chip image side 32 8 ≡ flag
-  pub image_ok : confirmed ≡ true → bytes_at map chip image side 24 8 ≡ flag
-  pub tried : confirmed ≡ false → are_erased (bytes_at map chip image side 24 8) ≡ true
-  pub magic : bytes_at map chip image side 16 16 ≡ good_magic
+  pub copy_done : bytes_at map chip image side COPY_DONE 8 ≡ flag
+  pub image_ok : confirmed ≡ true → bytes_at map chip image side IMAGE_OK 8 ≡ flag
+  pub tried : confirmed ≡ false → are_erased (bytes_at map chip image side IMAGE_OK 8) ≡ true
+  pub magic : bytes_at map chip image side MAGIC_PLACE 16 ≡ good_magic

@@ -7,18 +7,20 @@ use Rattle.sector_map.specs.declared.layout.Side.{Side}
 use Rattle.sector_map.specs.declared.layout.Side.TheVariants.{Primary, Secondary}
 use Rattle.sector_map.specs.Map.{Keeps}
 use Rattle.sector_map.specs.Part.{TrailerOf, only, trailers_of}
+use Rattle.trailer.specs.declared.format.TheConstants.{COPY_DONE, IMAGE_OK}
 use Rattle.trailer.specs.declared.kinds.Settling.{Settling}
 use Rattle.trailer.specs.declared.kinds.Settling.TheVariants.{Back}
-use Rattle.trailer.specs.Fields.{are_erased, bytes_at, fields_at, flag, place_of, trailer_bytes}
+use Rattle.flash_model.specs.Units.{are_erased}
+use Rattle.trailer.specs.Fields.{bytes_at, fields_at, flag, place_of, trailer_bytes}
 use Rattle.trailer.specs.Settled.{HasMarks, IsSettled, IsSpared, IsWhole, before_marks, is_confirmed}
 
 -- A call sets image_ok of a trailer, where the image is to be confirmed.
 pub record MarksOk (map : SectorMap) (image : ℕ) (side : Side) (confirmed : Bool)
     (old new : Chip) {T : Type 0} (result : Result T FlashError) : Type 0 where
   -- No other unit is written;
-  pub outside : SameOutside (place_of map image side 24) 8 old new
+  pub outside : SameOutside (place_of map image side IMAGE_OK) 8 old new
   -- where the call ends it holds the flag,
-  pub ok : OnOk result (confirmed ≡ true → bytes_at map new image side 24 8 ≡ flag)
+  pub ok : OnOk result (confirmed ≡ true → bytes_at map new image side IMAGE_OK 8 ≡ flag)
   -- and nothing is written where the image isn't to be confirmed.
   pub tried : confirmed ≡ false → new ≡ old
   pub erases : OnOk result (new.erases ≡ old.erases)
@@ -30,7 +32,7 @@ pub record MarksTrailer (map : SectorMap) (image : ℕ) (side : Side) (confirmed
   -- No other part is written,
   pub outside : Keeps map (only (TrailerOf image side)) old new
   -- and of the trailer its last four units;
-  pub units : SameOutside (place_of map image side 32) 32 old new
+  pub units : SameOutside (place_of map image side COPY_DONE) 32 old new
   -- where the call ends these hold their values.
   pub ok : OnOk result (HasMarks map new image side confirmed)
   pub erases : OnOk result (new.erases ≡ old.erases)

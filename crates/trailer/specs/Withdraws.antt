@@ -7,7 +7,8 @@ use Rattle.sector_map.specs.declared.layout.Side.{Side}
 use Rattle.sector_map.specs.declared.layout.Side.TheVariants.{Secondary}
 use Rattle.sector_map.specs.Map.{Keeps, part_of}
 use Rattle.sector_map.specs.Part.{Slot, TrailerOf, incoming_of, only}
-use Rattle.trailer.specs.Fields.{are_erased, erased_fields, fields_at, trailer_bytes}
+use Rattle.flash_model.specs.Units.{are_erased}
+use Rattle.trailer.specs.Fields.{erased_fields, fields_at, trailer_bytes}
 use Rattle.trailer.specs.Standing.{KeepsBehindFirst, first_is_set, first_sector, incoming_slot}
 use Rattle.trailer.specs.Standing.{standing_of}
 

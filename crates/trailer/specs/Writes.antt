@@ -6,11 +6,12 @@ use Rattle.sector_map.specs.declared.layout.SectorMap.{SectorMap}
 use Rattle.sector_map.specs.declared.layout.Side.{Side}
 use Rattle.sector_map.specs.Map.{IsLaidOut, Keeps, slot_sectors, start_of}
 use Rattle.sector_map.specs.Part.{TrailerOf, only}
+use Rattle.trailer.specs.declared.format.TheConstants.{SWAP_SIZE, WITHDRAWN}
 use Rattle.trailer.specs.Fields.{Fields, bytes_at, fields_at, flag, place_of, size_bytes}
 use Rattle.trailer.specs.Status.{status_count_of}
 
 -- The map is laid out on the flash, has the image, and its trailers have whole units of n bytes
--- together that begin so many bytes before their end, among the last 56.
+-- together that begin so many bytes before their end, at the withdrawn unit or behind it.
 pub record HasUnits (map : SectorMap) (image from_end n : ℕ) (chip : Chip) : Type 0 where
   pub laid_out : IsLaidOut map chip
   pub there : image < map.images
@@ -18,7 +19,7 @@ pub record HasUnits (map : SectorMap) (image from_end n : ℕ) (chip : Chip) : T
   pub whole : n % 8 ≡ 0
   pub place : from_end % 8 ≡ 0
   pub room : n ≤ from_end
-  pub within : from_end ≤ 56
+  pub within : from_end ≤ WITHDRAWN
 
 -- A call writes units that begin so many bytes before the end of a trailer.
 pub record WritesUnits (map : SectorMap) (image : ℕ) (side : Side) (from_end : ℕ)
@@ -56,12 +57,12 @@ pub record WritesSize (map : SectorMap) (image : ℕ) (side : Side) (swap_size :
   -- No other part is written,
   pub outside : Keeps map (only (TrailerOf image side)) old new
   -- no other unit,
-  pub unit : SameOutside (place_of map image side 48) 8 old new
+  pub unit : SameOutside (place_of map image side SWAP_SIZE) 8 old new
   -- and no other field;
   pub own : fields_at map new image side
       ≡ record (fields_at map old image side) { size = (fields_at map new image side).size }
   -- where the call ends the unit is there,
-  pub bytes : OnOk result (bytes_at map new image side 48 8 ≡ size_bytes swap_size)
+  pub bytes : OnOk result (bytes_at map new image side SWAP_SIZE 8 ≡ size_bytes swap_size)
   -- and is a size, if the number is from 1 to the slot's length.
   pub ok : OnOk result (0 < swap_size → swap_size ≤ slot_sectors map image * map.sector_size
       → (fields_at map new image side).size ≡ Some swap_size)

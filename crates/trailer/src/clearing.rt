@@ -1,7 +1,8 @@
 //! Erasing trailers.
 
 ghost use Rattle.sector_map.specs.Map.{HasImage};
-ghost use Rattle.trailer.specs.Fields.{are_erased, trailer_bytes};
+ghost use Rattle.flash_model.specs.Units.{are_erased};
+ghost use Rattle.trailer.specs.Fields.{trailer_bytes};
 ghost use Rattle.trailer.specs.Reads.{Tells};
 ghost use Rattle.trailer.specs.Erases.{Clears, ErasesTrailer};
 

@@ -21,7 +21,7 @@ pub(crate) fn set_image_ok<F: Flash>(
 ) -> Result<(), FlashError>
     requires image { HasImage map.now image (F.chip flash.old) }
     requires erased { (fields_at map.now (F.chip flash.old) image side).image_ok ≡ false }
-    ensures { WritesField map.now image side 24 flag (λ fields. fields.image_ok ≡ true)
+    ensures { WritesField map.now image side IMAGE_OK flag (λ fields. fields.image_ok ≡ true)
         (λ was now. record was { image_ok = now.image_ok })
         (F.chip flash.old) (F.chip flash.new) result }
 {
@@ -38,7 +38,7 @@ pub(crate) fn set_withdrawn<F: Flash>(
 ) -> Result<(), FlashError>
     requires image { HasImage map.now image (F.chip flash.old) }
     requires erased { (fields_at map.now (F.chip flash.old) image side).withdrawn ≡ false }
-    ensures { WritesField map.now image side 56 flag (λ fields. fields.withdrawn ≡ true)
+    ensures { WritesField map.now image side WITHDRAWN flag (λ fields. fields.withdrawn ≡ true)
         (λ was now. record was { withdrawn = now.withdrawn })
         (F.chip flash.old) (F.chip flash.new) result }
 {
@@ -55,7 +55,7 @@ pub(crate) fn write_magic<F: Flash>(
 ) -> Result<(), FlashError>
     requires image { HasImage map.now image (F.chip flash.old) }
     requires unset { (fields_at map.now (F.chip flash.old) image side).magic ≡ Unset }
-    ensures { WritesField map.now image side 16 good_magic (λ fields. fields.magic ≡ Good)
+    ensures { WritesField map.now image side MAGIC_PLACE good_magic (λ fields. fields.magic ≡ Good)
         (λ was now. record was { magic = now.magic })
         (F.chip flash.old) (F.chip flash.new) result }
 {

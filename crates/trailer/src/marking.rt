@@ -44,7 +44,7 @@ fn mark_ok<F: Flash>(
     confirmed: bool,
 ) -> Result<(), FlashError>
     requires image { HasImage map.now image (F.chip flash.old) }
-    requires free { IsOkFree confirmed (bytes_at map.now (F.chip flash.old) image side 24 8) }
+    requires free { IsOkFree confirmed (bytes_at map.now (F.chip flash.old) image side IMAGE_OK 8) }
     ensures { MarksOk map.now image side confirmed (F.chip flash.old) (F.chip flash.new) result }
 {
     if !confirmed {

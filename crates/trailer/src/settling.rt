@@ -3,7 +3,9 @@
 ghost use Rattle.std.specs.Prelude.{◌≡◌, ◌||◌};
 ghost use Rattle.std.specs.Str.{bytes_eq};
 ghost use Rattle.sector_map.specs.Map.{HasImage};
-ghost use Rattle.trailer.specs.Fields.{are_erased, bytes_at, flag, good_magic};
+ghost use Rattle.trailer.specs.declared.format.TheConstants.{MAGIC_PLACE};
+ghost use Rattle.flash_model.specs.Units.{are_erased};
+ghost use Rattle.trailer.specs.Fields.{bytes_at, flag, good_magic};
 ghost use Rattle.trailer.specs.Settled.{IsFree, IsOkFree, IsWhole, is_confirmed, is_whole_magic};
 ghost use Rattle.trailer.specs.Reads.{Decides, HasPlace};
 ghost use Rattle.trailer.specs.Settles.{MakesWhole, Settles};
@@ -12,8 +14,8 @@ use crate::clearing::erase_trailer;
 use crate::format::{COPY_DONE, IMAGE_OK};
 use crate::kinds::{Magic, Settling};
 use crate::marking::mark_trailer;
-use crate::units::{are_erased, is_unit_set, read_magic, read_unit};
-use flash_model::{FLAG, Flash, FlashError};
+use crate::units::{is_unit_set, read_magic, read_unit};
+use flash_model::{FLAG, Flash, FlashError, are_erased};
 use sector_map::{SectorMap, Side};
 
 /// Whether an image is settled as confirmed.
@@ -63,7 +65,8 @@ fn is_magic_free<F: Flash>(
     side: Side,
 ) -> Result<bool, FlashError>
     requires { HasImage map.now image (F.chip flash.old) }
-    ensures { Decides (IsFree (bytes_at map.now (F.chip flash.old) image side 16 16) good_magic)
+    ensures { Decides
+        (IsFree (bytes_at map.now (F.chip flash.old) image side MAGIC_PLACE 16) good_magic)
         (F.chip flash.old) (F.chip flash.new) result }
 {
     let magic = read_magic(flash, map, image, side)?;
@@ -79,7 +82,8 @@ fn is_ok_free<F: Flash>(
     confirmed: bool,
 ) -> Result<bool, FlashError>
     requires { HasImage map.now image (F.chip flash.old) }
-    ensures { Decides (IsOkFree confirmed (bytes_at map.now (F.chip flash.old) image side 24 8))
+    ensures { Decides
+        (IsOkFree confirmed (bytes_at map.now (F.chip flash.old) image side IMAGE_OK 8))
         (F.chip flash.old) (F.chip flash.new) result }
 {
     if confirmed {

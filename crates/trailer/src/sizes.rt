@@ -2,7 +2,8 @@
 
 ghost use Rattle.std.specs.Prelude.{◌≡◌, true};
 ghost use Rattle.sector_map.specs.Map.{HasImage};
-ghost use Rattle.trailer.specs.Fields.{are_erased, bytes_at, fields_at, size_bytes, size_in};
+ghost use Rattle.flash_model.specs.Units.{are_erased};
+ghost use Rattle.trailer.specs.Fields.{bytes_at, fields_at, size_bytes, size_in};
 ghost use Rattle.trailer.specs.Reads.{Tells};
 ghost use Rattle.trailer.specs.Writes.{WritesSize};
 
@@ -50,7 +51,8 @@ pub fn write_size<F: Flash>(
     size: u32,
 ) -> Result<(), FlashError>
     requires image { HasImage map.now image (F.chip flash.old) }
-    requires erased { are_erased (bytes_at map.now (F.chip flash.old) image side 48 8) ≡ true }
+    requires erased { are_erased
+        (bytes_at map.now (F.chip flash.old) image side SWAP_SIZE 8) ≡ true }
     ensures { WritesSize map.now image side size (F.chip flash.old) (F.chip flash.new) result }
 {
     write_units(flash, map, image, side, SWAP_SIZE, &size_unit(size))

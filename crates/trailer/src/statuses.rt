@@ -2,7 +2,9 @@
 
 ghost use Rattle.std.specs.Prelude.{◌≡◌, ◌+◌, ◌*◌, ◌<◌, ◌≤◌};
 ghost use Rattle.sector_map.specs.Map.{HasImage, slot_sectors};
-ghost use Rattle.trailer.specs.Fields.{are_erased, trailer_bytes};
+ghost use Rattle.trailer.specs.declared.format.TheConstants.{WITHDRAWN};
+ghost use Rattle.flash_model.specs.Units.{are_erased};
+ghost use Rattle.trailer.specs.Fields.{trailer_bytes};
 ghost use Rattle.trailer.specs.Status.{status_count_of, status_unit};
 ghost use Rattle.trailer.specs.Reads.{HasStatus, Tells};
 ghost use Rattle.trailer.specs.Writes.{PushesStatus};
@@ -15,7 +17,7 @@ use sector_map::{SectorMap, Side};
 fn status_units(map: &SectorMap, image: u8) -> u32
     requires { image < map.now.images }
     ensures count { result ≡ 3 * slot_sectors map.now image }
-    ensures fit { 8 * result + 56 ≤ map.now.sector_size }
+    ensures fit { 8 * result + WITHDRAWN ≤ map.now.sector_size }
 {
     3 * map.slot_sectors(image)
 }

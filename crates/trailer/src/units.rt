@@ -2,13 +2,14 @@
 
 ghost use Rattle.std.specs.Prelude.{◌≡◌, ◌<◌, ◌≤◌, true, length};
 ghost use Rattle.sector_map.specs.Map.{HasImage};
-ghost use Rattle.trailer.specs.Fields.{are_erased, bytes_at, is_set, magic_in, place_of};
+ghost use Rattle.flash_model.specs.Units.{are_erased};
+ghost use Rattle.trailer.specs.Fields.{bytes_at, is_set, magic_in, place_of};
 ghost use Rattle.trailer.specs.Reads.{HasPlace, Tells};
 ghost use Rattle.trailer.specs.Writes.{HasUnits, WritesUnits};
 
 use crate::format::{MAGIC, MAGIC_PLACE};
 use crate::kinds::Magic;
-use flash_model::{Flash, FlashError, is_erased};
+use flash_model::{Flash, FlashError, are_erased, is_erased};
 use sector_map::{SectorMap, Side};
 
 /// The address of what begins so many bytes before the end of a trailer.
@@ -37,13 +38,6 @@ pub(crate) fn read_unit<F: Flash>(
     let mut unit = [0u8; 8];
     flash.read(place_of(map, image, side, from_end), &mut unit)?;
     Ok(unit)
-}
-
-/// Whether bytes are erased.
-pub(crate) fn are_erased(bytes: &[u8]) -> bool
-    ensures { result ≡ are_erased bytes.now }
-{
-    bytes.iter().all(|byte| *byte == 0xff)
 }
 
 /// Whether a unit is set.
@@ -83,7 +77,7 @@ pub(crate) fn read_magic<F: Flash>(
     side: Side,
 ) -> Result<Magic, FlashError>
     requires { HasImage map.now image (F.chip flash.old) }
-    ensures { Tells (magic_in (bytes_at map.now (F.chip flash.old) image side 16 16))
+    ensures { Tells (magic_in (bytes_at map.now (F.chip flash.old) image side MAGIC_PLACE 16))
         (F.chip flash.old) (F.chip flash.new) result }
 {
     let mut magic = [0u8; 16];

@@ -10,9 +10,11 @@ use Rattle.sector_map.specs.Part.{Part, Slot, TrailerOf, Log, incoming_of, only}
 use Rattle.sector_map.specs.Map.{IsLaidOut, Keeps, first_of, length_of, slot_sectors, start_of}
 use Rattle.sector_map.proofs.PartBytes.{length_part, range_of_part}
 use Rattle.sector_map.proofs.Products.{mul_le}
-use Rattle.trailer.specs.Fields.{are_erased, trailer_bytes}
+use Rattle.flash_model.specs.Units.{are_erased}
+use Rattle.trailer.specs.Fields.{trailer_bytes}
 use Rattle.trailer.specs.Standing.{KeepsBehindFirst, first_is_set, first_sector, incoming_slot}
-use Rattle.trailer.proofs.Erased.{each_erased, erased_range, range_erased, range_is_erased, tells_range}
+use Rattle.flash_model.proofs.Erased.{each_erased}
+use Rattle.trailer.proofs.Erased.{erased_range, range_erased, range_is_erased, tells_range}
 use Rattle.manifest.specs.declared.manifest.Component.{Component}
 use Rattle.set_log.specs.declared.state.State.{State}
 use Rattle.set_log.specs.Log.{state_of}

@@ -6,7 +6,8 @@ use Rattle.sector_map.specs.declared.layout.Side.TheVariants.{Primary, Secondary
 use Rattle.sector_map.specs.Part.{Part, Slot, TrailerOf, Scratch, Log, same_side}
 use Rattle.flash_model.specs.Chip.{Chip, IsErased}
 use Rattle.sector_map.specs.Map.{length_of, start_of}
-use Rattle.trailer.specs.Fields.{are_erased, erased_fields, trailer_bytes}
+use Rattle.flash_model.specs.Units.{are_erased}
+use Rattle.trailer.specs.Fields.{erased_fields, trailer_bytes}
 use Rattle.trailer.specs.Standing.{kind_of}
 use Rattle.tlv.specs.declared.desc.Desc.{Desc}
 use Rattle.tlv.specs.Image.{IsIntact}

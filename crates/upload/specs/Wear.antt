@@ -5,7 +5,8 @@ use Rattle.flash_model.specs.Chip.{Chip}
 use Rattle.sector_map.specs.declared.layout.SectorMap.{SectorMap}
 use Rattle.sector_map.specs.declared.layout.Side.TheVariants.{Secondary}
 use Rattle.sector_map.specs.Map.{slot_sectors}
-use Rattle.trailer.specs.Fields.{are_erased, trailer_bytes}
+use Rattle.flash_model.specs.Units.{are_erased}
+use Rattle.trailer.specs.Fields.{trailer_bytes}
 use Rattle.trailer.specs.Standing.{incoming_slot}
 use Rattle.set_log.specs.Log.{is_place_free}
 use Rattle.manifest.specs.declared.manifest.Component.{Component}

@@ -1,6 +1,7 @@
 use Rattle.std.proofs.Common.{rules, ◌≡◌, sym, subst, true}
 use Rattle.std.proofs.lemmas.Result.{on_ok_weaker}
-use Rattle.trailer.specs.Fields.{are_erased, bytes_at, fields_at, trailer_bytes}
+use Rattle.flash_model.specs.Units.{are_erased}
+use Rattle.trailer.specs.Fields.{bytes_at, fields_at, trailer_bytes}
 use Rattle.trailer.proofs.Erased.{erased_range}
 use Rattle.boot_core.proofs.SwapSizes.{made_ready, sized}
 use Rattle.boot_core.proofs.preparing.prepare_image.Goals as goal

@@ -2,7 +2,7 @@ use Rattle.sector_map.specs.declared.layout.Side.TheVariants.{Primary, Secondary
 use Rattle.std.proofs.Common.{rules, ℕ, ◌+◌, List, arith, sym, ◌∙◌, ap}
 use Rattle.flash_model.specs.Chip.{Chip}
 use Rattle.sector_map.specs.Part.{TrailerOf}
-use Rattle.trailer.specs.Fields.{are_erased}
+use Rattle.flash_model.specs.Units.{are_erased}
 use Rattle.trailer.proofs.Marks.{settled, secondary_kept, one_of_trailers, both_trailers}
 use Rattle.trailer.proofs.Marks.{beside, across, still_erased, spared_alike}
 use Rattle.trailer.proofs.settling.settle.Goals as goal

@@ -1,5 +1,6 @@
 use Rattle.std.proofs.Common.{rules, arith, ◌≡◌, true, sym}
-use Rattle.trailer.specs.Fields.{are_erased, trailer_bytes}
+use Rattle.flash_model.specs.Units.{are_erased}
+use Rattle.trailer.specs.Fields.{trailer_bytes}
 use Rattle.trailer.specs.Status.{status_unit}
 use Rattle.trailer.proofs.StatusUnits.{units_are}
 use Rattle.trailer.proofs.statuses.status_count.Goals as goal

@@ -6,7 +6,7 @@ use Rattle.upload.proofs.Views.{view_kept}
 use Rattle.flash_model.specs.Chip.{IsErased}
 use Rattle.sector_map.specs.Part.{Slot, TrailerOf, incoming_of}
 use Rattle.sector_map.specs.Map.{length_of, start_of}
-use Rattle.trailer.specs.Fields.{are_erased}
+use Rattle.flash_model.specs.Units.{are_erased}
 use Rattle.upload.specs.Accepted.{IsBlank}
 use Rattle.upload.proofs.Ends.{at_error}
 use Rattle.upload.proofs.Writing.{front_blank}

@@ -2,7 +2,8 @@ use Rattle.std.proofs.Common.{rules, ◌≡◌, ◌+◌, sym, subst, ◌∙◌}
 use Rattle.std.specs.Prelude.{if◌then◌else◌}
 use Rattle.flash_model.specs.Chip.{Chip}
 use Rattle.sector_map.specs.declared.layout.Side.TheVariants.{Secondary}
-use Rattle.trailer.specs.Fields.{are_erased, trailer_bytes}
+use Rattle.flash_model.specs.Units.{are_erased}
+use Rattle.trailer.specs.Fields.{trailer_bytes}
 use Rattle.trailer.specs.Standing.{first_is_set, incoming_slot}
 use Rattle.upload.proofs.Requested.{stands_in_units, two}
 use Rattle.upload.proofs.withdrawing.withdraw_standing.Goals as goal
