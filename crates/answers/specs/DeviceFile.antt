@@ -5,7 +5,7 @@ use Rattle.serde_json.specs.Data.{Data}
 use Rattle.serde_json.specs.Find.{get}
 use Rattle.manifest.specs.Json.{HasNames, IsJson, array_at, number_at, uuid_at, whole_number}
 use Rattle.sector_map.specs.Making.{HasSizes, IsMapFault}
-use Rattle.answers.specs.declared.device.TheConstants.{MOST_TRIAL_BOOTS}
+use Rattle.common.specs.declared.limits.TheConstants.{MOST_TRIAL_BOOTS}
 use Rattle.answers.specs.declared.device.DeviceFields.{DeviceFields}
 use Rattle.answers.specs.declared.device.DeviceFile.{DeviceFile}
 use Rattle.answers.specs.declared.device.DeviceFault.{DeviceFault}

@@ -6,6 +6,7 @@ ghost use Rattle.serde_json.specs.View.{view};
 ghost use Rattle.answers.specs.DeviceFile.{HasDeviceKeys, IsDeviceFault, IsDeviceFile, IsNumber, IsReadingFault, IsTrialBoots, Spells};
 ghost use Rattle.answers.specs.declared.device.DeviceFields.{DeviceFields};
 
+use common::limits::MOST_TRIAL_BOOTS;
 use manifest::json::{array, has_names, json_of, number, number_of, uuid};
 use manifest::{Identity, ManifestError};
 use sector_map::{MapError, SectorMap};
@@ -13,9 +14,6 @@ use serde_json::Value;
 use std::alloc::Global;
 use thiserror::Error;
 use uuid::Uuid;
-
-/// How many boots a trial has at most.
-pub const MOST_TRIAL_BOOTS: u8 = 7;
 
 /// How many boots a trial has where the file doesn't say it.
 const USUAL_TRIAL_BOOTS: u8 = 1;

@@ -21,7 +21,7 @@ mod streams;
 
 pub use check::{CheckEnd, check_over};
 pub use choose::{ChooseEnd, choose_over};
-pub use device::{DeviceFault, DeviceFile, MOST_TRIAL_BOOTS};
+pub use device::{DeviceFault, DeviceFile};
 pub use error::ReadError;
 pub use flash::flash_of;
 pub use image::{DescribeEnd, describe_over};

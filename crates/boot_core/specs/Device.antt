@@ -1,5 +1,6 @@
 -- What contracts see of a device, and what is true of each.
 use Rattle.std.specs.Prelude.{◌≡◌, ℕ, ◌≤◌, Bool, List, Option}
+use Rattle.common.specs.declared.limits.TheConstants.{MOST_BOOTS_LEFT}
 use Rattle.flash_model.specs.Chip.{Chip}
 use Rattle.sector_map.specs.Map.{IsLaidOut}
 use Rattle.sector_map.specs.declared.layout.SectorMap.{SectorMap}
@@ -34,5 +35,5 @@ pub record IsDevice (map : SectorMap) (identity : Identity) (chip : Chip)
   pub laid_out : IsLaidOut map chip
   pub images : identity.images ≡ map.images
   -- A trial has 7 boots at most, and the one that begins it is the first of them.
-  pub few : left ≤ 6
+  pub few : left ≤ MOST_BOOTS_LEFT
   pub opens : AllOpenAt (view map chip) sessions

@@ -1,6 +1,7 @@
 -- What a boot does from a record Settle: each record is one call.
 use Rattle.std.specs.Prelude.{◌≡◌, ◌≢◌, ◌⊎◌, ◌+◌, ◌*◌, ◌≤◌, ℕ, Bool, true, false, List, Some}
 use Rattle.std.specs.Prelude.{Result, OnOk, IfOk}
+use Rattle.common.specs.declared.limits.TheConstants.{MOST_BOOTS_LEFT}
 use Rattle.flash_model.specs.Chip.{Chip, Ends}
 use Rattle.flash_model.specs.declared.error.FlashError.{FlashError}
 use Rattle.sector_map.specs.Map.{IsLaidOut, Keeps}
@@ -118,7 +119,7 @@ pub record CanSettle (map : SectorMap) (state : State) (left : ℕ) (finding : F
   pub laid_out : IsLaidOut map chip
   pub read : state_of map chip ≡ Some state
   pub kind : state.kind ≡ log.Settle
-  pub few : left ≤ 6
+  pub few : left ≤ MOST_BOOTS_LEFT
   -- and this was found again of the decision, with a row for each image.
   pub found : (s : DeviceState) (table : Table) (permanent : Bool)
       → CanRead (view map chip) s state.mask state.floors → IsDecision s table state.mask permanent

@@ -1,6 +1,7 @@
 //! A boot, from whatever record stands.
 
 ghost use Rattle.std.specs.Prelude.{◌≤◌, ◌≡◌, true, IfOk};
+ghost use Rattle.common.specs.declared.limits.TheConstants.{MOST_BOOTS_LEFT};
 ghost use Rattle.boot_core.specs.Answers.{IsBootReply, reply_of_boot};
 ghost use Rattle.boot_core.specs.Booting.{BootsFrom, BootsFromAny, EndsUploadsAndBoots};
 ghost use Rattle.boot_core.specs.Device.{seen};
@@ -27,7 +28,7 @@ fn boot_from<F: Flash>(
     left: u8,
 ) -> Result<Reply, FlashError>
     requires recorded { HasRecord map.now state.now (F.chip flash.old) }
-    requires few { left ≤ 6 }
+    requires few { left ≤ MOST_BOOTS_LEFT }
     ensures { BootsFrom map.now state.now left (F.chip flash.old) (F.chip flash.new) result }
 {
     match state.kind {
@@ -44,7 +45,7 @@ fn boot_from<F: Flash>(
 /// has so many boots after this one.
 fn boot<F: Flash>(flash: &mut F, map: &SectorMap, left: u8) -> Result<Reply, FlashError>
     requires laid_out { IsLaidOut map.now (F.chip flash.old) }
-    requires few { left ≤ 6 }
+    requires few { left ≤ MOST_BOOTS_LEFT }
     ensures { BootsFromAny map.now left (F.chip flash.old) (F.chip flash.new) result }
 {
     match read_state(flash, map) {
@@ -100,7 +101,7 @@ pub(crate) fn boot_device<F: Flash>(
     left: u8,
 ) -> Result<Reply, Fault>
     requires laid_out { IsLaidOut map.now (F.chip flash.old) }
-    requires few { left ≤ 6 }
+    requires few { left ≤ MOST_BOOTS_LEFT }
     ensures { EndsUploadsAndBoots map.now left
         (seen (F.chip flash.old) uploads.old.sessions is_up.old)
         (seen (F.chip flash.new) uploads.new.sessions is_up.new) result }

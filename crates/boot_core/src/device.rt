@@ -1,6 +1,7 @@
 //! The device that programs and bootloaders hold.
 
 ghost use Rattle.std.specs.Prelude.{◌≡◌, ◌≤◌};
+ghost use Rattle.common.specs.declared.limits.TheConstants.{MOST_TRIAL_BOOTS};
 ghost use Rattle.machine.specs.declared.event.Event.TheVariants as event;
 ghost use Rattle.sector_map.specs.Map.{IsLaidOut};
 ghost use Rattle.sector_map.specs.Part.{Slot, TrailerOf, any_part, incoming_of, only};
@@ -80,7 +81,7 @@ impl<F: Flash> Device<F> {
         requires laid_out { IsLaidOut map (F.chip flash) }
         requires images { identity.images ≡ map.images }
         requires some { 1 ≤ boots }
-        requires few { boots ≤ 7 }
+        requires few { boots ≤ MOST_TRIAL_BOOTS }
         ensures { IsNew map identity boots (F.chip flash) result }
     {
         Device {

@@ -4,6 +4,7 @@
 //! It comes from `swap` or from a cut.
 
 ghost use Rattle.std.specs.Prelude.{◌≤◌, ◌≡◌, ℕ, slice_index};
+ghost use Rattle.common.specs.declared.limits.TheConstants.{MOST_BOOTS_LEFT};
 ghost use Rattle.boot_core.specs.FromSettle.{BootsFromSettle, CanSettle, FinishesSettle, RecordsTaken, RecordsTrial, SettlesAndRecords, SettlesFound, SettlesMember, SettlesSet};
 ghost use Rattle.boot_core.specs.Recorded.{HasRecord, HasRecordOf};
 ghost use Rattle.sector_map.specs.Map.{HasImage, IsLaidOut};
@@ -71,7 +72,7 @@ fn record_trial<F: Flash>(
     left: u8,
 ) -> Result<(), FlashError>
     requires recorded { HasRecordOf map.now Kind.Settle state.now (F.chip flash.old) }
-    requires few { left ≤ 6 }
+    requires few { left ≤ MOST_BOOTS_LEFT }
     ensures { RecordsTrial map.now left (F.chip flash.old) (F.chip flash.new) result }
 {
     let trial = State {
@@ -115,7 +116,7 @@ pub(crate) fn settle_and_record<F: Flash>(
     floors: [u32; MOST_IMAGES],
 ) -> Result<(), FlashError>
     requires recorded { HasRecordOf map.now Kind.Settle state.now (F.chip flash.old) }
-    requires few { left ≤ 6 }
+    requires few { left ≤ MOST_BOOTS_LEFT }
     requires rest { (i : ℕ) → map.now.images ≤ i
         → slice_index floors i ≡ slice_index state.now.floors i }
     ensures { SettlesAndRecords map.now state.now left floors (F.chip flash.old) (F.chip flash.new) result }
@@ -161,7 +162,7 @@ fn finish_settle<F: Flash>(
     left: u8,
 ) -> Result<Finding, FlashError>
     requires recorded { HasRecordOf map.now Kind.Settle state.now (F.chip flash.old) }
-    requires few { left ≤ 6 }
+    requires few { left ≤ MOST_BOOTS_LEFT }
     ensures { FinishesSettle map.now state.now left (F.chip flash.old) (F.chip flash.new) result }
 {
     let finding = find_again(flash, map, state.mask, &state.floors)?;
@@ -176,7 +177,7 @@ pub(crate) fn boot_from_settle<F: Flash>(
     left: u8,
 ) -> Result<Reply, FlashError>
     requires recorded { HasRecordOf map.now Kind.Settle state.now (F.chip flash.old) }
-    requires few { left ≤ 6 }
+    requires few { left ≤ MOST_BOOTS_LEFT }
     ensures { BootsFromSettle map.now state.now left (F.chip flash.old) (F.chip flash.new) result }
 {
     let finding = finish_settle(flash, map, state, left)?;

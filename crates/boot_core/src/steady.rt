@@ -3,6 +3,7 @@
 //! It goes on in `swap`.
 
 ghost use Rattle.std.specs.Prelude.{◌≤◌};
+ghost use Rattle.common.specs.declared.limits.TheConstants.{MOST_BOOTS_LEFT};
 ghost use Rattle.boot_core.specs.FromSteady.{BeginsSwap, BootsFromSteady, Upgrades};
 ghost use Rattle.boot_core.specs.Recorded.{CanTake, HasRecord};
 
@@ -48,7 +49,7 @@ fn upgrade<F: Flash>(
     left: u8,
 ) -> Result<Reply, FlashError>
     requires chosen { CanTake map.now state.now mask (F.chip flash.old) }
-    requires few { left ≤ 6 }
+    requires few { left ≤ MOST_BOOTS_LEFT }
     ensures { Upgrades map.now mask left (F.chip flash.old) (F.chip flash.new) result }
 {
     let permanent = asks_for_good(flash, map, mask)?;
@@ -65,7 +66,7 @@ pub(crate) fn boot_from_steady<F: Flash>(
     left: u8,
 ) -> Result<Reply, FlashError>
     requires recorded { HasRecord map.now state.now (F.chip flash.old) }
-    requires few { left ≤ 6 }
+    requires few { left ≤ MOST_BOOTS_LEFT }
     ensures { BootsFromSteady map.now left (F.chip flash.old) (F.chip flash.new) result }
 {
     match find(flash, map, &state.floors)? {

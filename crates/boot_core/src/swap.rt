@@ -3,6 +3,7 @@
 //! It comes from `steady` or from a cut, and goes on in `settle`.
 
 ghost use Rattle.std.specs.Prelude.{◌≤◌};
+ghost use Rattle.common.specs.declared.limits.TheConstants.{MOST_BOOTS_LEFT};
 ghost use Rattle.boot_core.specs.FromSwap.{BootsFromSwap, CarriesSwap, FinishesSwap, RecordsSettle};
 ghost use Rattle.boot_core.specs.Recorded.{HasRecordOf};
 ghost use Rattle.sector_map.specs.Map.{HasImages};
@@ -51,7 +52,7 @@ pub(crate) fn finish_swap<F: Flash>(
     left: u8,
 ) -> Result<Finding, FlashError>
     requires recorded { HasRecordOf map.now Kind.Swap state.now (F.chip flash.old) }
-    requires few { left ≤ 6 }
+    requires few { left ≤ MOST_BOOTS_LEFT }
     ensures { FinishesSwap map.now state.now left (F.chip flash.old) (F.chip flash.new) result }
 {
     let mask = state.mask;
@@ -80,7 +81,7 @@ pub(crate) fn boot_from_swap<F: Flash>(
     left: u8,
 ) -> Result<Reply, FlashError>
     requires recorded { HasRecordOf map.now Kind.Swap state.now (F.chip flash.old) }
-    requires few { left ≤ 6 }
+    requires few { left ≤ MOST_BOOTS_LEFT }
     ensures { BootsFromSwap map.now state.now left (F.chip flash.old) (F.chip flash.new) result }
 {
     let finding = finish_swap(flash, map, state, left)?;

@@ -4,6 +4,7 @@
 //! It goes on in `steady` or in `back`.
 
 ghost use Rattle.std.specs.Prelude.{◌<◌, ◌≤◌, ◌≡◌, ℕ, slice_index, Some};
+ghost use Rattle.common.specs.declared.limits.TheConstants.{MOST_BOOTS_LEFT};
 ghost use Rattle.boot_core.specs.FromTrial.{AreConfirmedIn, BeginsBack, BootsAgain, BootsBack, BootsConfirmed, BootsFromTrial, DecidesTrial, IsAnyDamagedIn, IsConfirmedIn, IsDamagedIn, IsFloorIn, RaisesFloors, RecordsOver};
 ghost use Rattle.boot_core.specs.Recorded.{HasRecord, HasRecordOf};
 ghost use Rattle.boot_core.specs.Telling.{Tells};
@@ -166,7 +167,7 @@ fn boot_over<F: Flash>(
     left: u8,
 ) -> Result<Reply, FlashError>
     requires recorded { HasRecord map.now state.now (F.chip flash.old) }
-    requires few { left ≤ 6 }
+    requires few { left ≤ MOST_BOOTS_LEFT }
     ensures { BootsConfirmed map.now left (F.chip flash.old) (F.chip flash.new) result }
 {
     let floors = raise_running(flash, map, &state.floors)?;
@@ -221,7 +222,7 @@ pub(crate) fn boot_from_trial<F: Flash>(
     left: u8,
 ) -> Result<Reply, FlashError>
     requires recorded { HasRecordOf map.now Kind.Trial state.now (F.chip flash.old) }
-    requires few { left ≤ 6 }
+    requires few { left ≤ MOST_BOOTS_LEFT }
     ensures { BootsFromTrial map.now left (F.chip flash.old) (F.chip flash.new) result }
 {
     match decide_trial(flash, map, state)? {

@@ -14,3 +14,9 @@ pub const MOST_GROUPS: usize = 4;
 
 /// How many alternatives a group has at most; it has one at least.
 pub const MOST_ALTERNATIVES: usize = 4;
+
+/// How many boots a trial has at most.
+pub const MOST_TRIAL_BOOTS: u8 = 7;
+
+/// How many boots more a trial lasts at most, after the one that begins it.
+pub const MOST_BOOTS_LEFT: u8 = 6;

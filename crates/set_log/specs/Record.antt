@@ -5,6 +5,7 @@ use Rattle.std.specs.Prelude.{Option, Some, None, if◌then◌else◌}
 use Rattle.std.specs.List.{list_all}
 use Rattle.std.specs.Str.{bytes_eq}
 use Rattle.byteorder.specs.Endian.{little_bytes, little_number}
+use Rattle.common.specs.declared.limits.TheConstants.{MOST_BOOTS_LEFT, MOST_IMAGES}
 use Rattle.set_log.specs.declared.state.State.{State}
 use Rattle.set_log.specs.declared.state.Kind.{Kind}
 use Rattle.set_log.specs.declared.state.Kind.TheVariants.{Steady, Swap, Settle, Trial, Back, BackSettle}
@@ -30,7 +31,7 @@ abbrev pub kind_fits : Kind → ℕ → Bool → ℕ → Bool
 kind_fits Steady mask permanent left = (mask == 0) && (not permanent && (left == 0))
 kind_fits Swap mask permanent left = not (mask == 0) && (left == 0)
 kind_fits Settle mask permanent left = not (mask == 0) && (left == 0)
-kind_fits Trial mask permanent left = not (mask == 0) && nat_le left 6
+kind_fits Trial mask permanent left = not (mask == 0) && nat_le left MOST_BOOTS_LEFT
 kind_fits Back mask permanent left = not (mask == 0) && (left == 0)
 kind_fits BackSettle mask permanent left = not (mask == 0) && (left == 0)
 
@@ -65,8 +66,8 @@ pub record Spells (images : ℕ) (bytes : List ℕ) (s : State) : Type 0 where
 -- program.
 pub record IsSized (s : State) : Type 0 where
   pub sequence : s.sequence < 2 ^ 32
-  pub eight : length s.floors ≡ 8
-  pub floors : (i : ℕ) → i < 8 → slice_index s.floors i < 2 ^ 32
+  pub eight : length s.floors ≡ MOST_IMAGES
+  pub floors : (i : ℕ) → i < MOST_IMAGES → slice_index s.floors i < 2 ^ 32
 
 -- So many numbers of four bytes that stand in bytes from an offset on.
 abbrev pub words_at : ℕ → ℕ → List ℕ → List ℕ
@@ -80,7 +81,7 @@ fields kind bytes = record {
   mask = slice_index bytes 1;
   permanent = slice_index bytes 2 == 1;
   sequence = little_number 4 (drop 4 bytes);
-  floors = words_at 8 8 bytes;
+  floors = words_at 8 MOST_IMAGES bytes;
   left = slice_index bytes 3;
 }
 

@@ -38,7 +38,7 @@ fn word_at(bytes: &[u8; RECORD], at: usize) -> u32
 
 /// Shows that each floor is of four bytes.
 fn fit_words(floors: &[u32; MOST_IMAGES])
-    ensures { (i : ℕ) → i < 8 → slice_index floors.now i < 2 ^ 32 }
+    ensures { (i : ℕ) → i < MOST_IMAGES → slice_index floors.now i < 2 ^ 32 }
 {
     let _first = floors[0];
 }

@@ -4,7 +4,7 @@ ghost use Rattle.std.specs.Prelude.{◌≡◌, ◌<◌, ◌≤◌, ◌^◌, ◌=
 ghost use Rattle.std.specs.List.{list_all};
 ghost use Rattle.set_log.specs.Record.{fits, kind_fits, kind_number, kind_of};
 
-use common::limits::MOST_IMAGES;
+use common::limits::{MOST_BOOTS_LEFT, MOST_IMAGES};
 
 /// What a device is in the midst of. The numbers in records are 1 to 6, in this order.
 #[derive(Clone, Copy, Debug, PartialEq, Eq)]
@@ -109,7 +109,7 @@ impl State {
     {
         match self.kind {
             Kind::Steady => self.mask == 0 && !self.permanent && self.left == 0,
-            Kind::Trial => self.mask != 0 && self.left <= 6,
+            Kind::Trial => self.mask != 0 && self.left <= MOST_BOOTS_LEFT,
             Kind::Swap | Kind::Settle | Kind::Back | Kind::BackSettle => {
                 self.mask != 0 && self.left == 0
             }

@@ -50,7 +50,7 @@ impl Uploads {
     pub(crate) fn take(&mut self, image: u8) -> Option<Upload>
         ensures value { result ≡ upload_at self.old.sessions image }
         ensures rest { IsWith image None self.old.sessions self.new.sessions }
-        ensures within { (u : Upload) → result ≡ Some u → image < 8 }
+        ensures within { (u : Upload) → result ≡ Some u → image < MOST_IMAGES }
     {
         let index = usize::from(image);
         if index < MOST_IMAGES {
@@ -62,7 +62,7 @@ impl Uploads {
 
     /// Puts an upload of an image into the table.
     pub(crate) fn put(&mut self, image: u8, upload: Upload)
-        requires { image < 8 }
+        requires { image < MOST_IMAGES }
         ensures { IsWith image (Some upload) self.old.sessions self.new.sessions }
     {
         self.sessions[usize::from(image)] = Some(upload);
