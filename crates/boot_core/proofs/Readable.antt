@@ -13,8 +13,7 @@ use Rattle.upload.specs.Steady.{IsFront, IsRequested}
 use Rattle.upload.proofs.Views.{view_kept}
 use Rattle.machine.specs.States.{wanted_bytes}
 use Rattle.certificate.specs.declared.table.Table.{Table}
-use Rattle.machine.specs.Boots.{IsTableOf}
-use Rattle.machine.specs.Reading.{CanRead, CanReadAt, IsReading}
+use Rattle.machine.specs.Reading.{CanRead, CanReadAt}
 use Rattle.certificate.specs.declared.report.Report.{Report}
 use Rattle.set_log.specs.declared.state.State.{State}
 use Rattle.machine.specs.declared.finding.Finding.{Finding}
@@ -79,17 +78,10 @@ can_read_before map old new s mask floors keeps can = record {
   each = λ i lt. read_before map old new s (is_member mask i) i keeps (can.each i lt);
 }
 
--- a table that was read tells that each image can be ..
+-- a table that was read tells that each image can be
 pub read_here : (map : SectorMap) (w : Chip) (mask : ℕ) (read : Reading) (table : Table)
     → IsReadingAt (view map w) mask read → read ≡ Read table → AreReadable (view map w) mask (view map w).images
 read_here map w mask read table at is = subst (λ r. IsReadingAt (view map w) mask r) is at
-
--- .. and is that of what the flash holds
-pub table_here : (map : SectorMap) (w : Chip) (s : DeviceState) (mask : ℕ) (floors : List ℕ) (read : Reading)
-    (table : Table) → CanRead (view map w) s mask floors
-    → ((s : DeviceState) → CanRead (view map w) s mask floors → IsReading s read) → read ≡ Read table
-    → IsTableOf s table
-table_here map w s mask floors read table can reads is = subst (λ r. IsReading s r) is (reads s can)
 
 -- nothing is told of what was decided
 pub decided_told : (map : SectorMap) (w : Chip) (state : State) (answer : Finding) (table : Table) (report : Report)

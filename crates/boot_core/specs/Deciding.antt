@@ -15,19 +15,24 @@ use Rattle.machine.specs.Wear.{IsSetFound, IsSetOf}
 use Rattle.machine.specs.declared.finding.Finding.{Finding}
 use Rattle.machine.specs.declared.reply.Reply.{Reply}
 use Rattle.boot_core.specs.Answers.{IsBootReply}
-use Rattle.boot_core.specs.Found.{HasTable, IsToldAgain}
+use Rattle.boot_core.specs.Found.{HasTable, IsFindingAt, IsToldAgain}
 use Rattle.boot_core.specs.Wear.{IsSetMoved, TakesNothing}
 
--- A call finds the decision of a device at rest, with these floors.
-pub record FindsDecision (map : SectorMap) (floors : List ℕ) (old new : Chip)
+-- A call finds the decision of a device where the slots of the images of a mask are swapped, with
+-- these floors.
+pub record FindsDecision (map : SectorMap) (mask : ℕ) (floors : List ℕ) (old new : Chip)
     (result : Result Finding FlashError) : Type 0 where
   -- The flash is as it was,
   pub same : new ≡ old
   -- what is found is what the device's state says,
-  pub ok : IfOk result (λ finding. (s : DeviceState) → CanRead (view map old) s 0 floors
+  pub ok : IfOk result (λ finding. (s : DeviceState) → CanRead (view map old) s mask floors
       → IsFinding s finding)
-  -- and only images of the map are taken.
+  -- only images of the map are taken,
   pub whole : IfOk result (HasImages map.images)
+  -- its table has a row for each image,
+  pub rows : IfOk result (HasTable map.images)
+  -- and on any flash there is one exactly where all rows can be read.
+  pub front : IfOk result (IsFindingAt (view map old) mask)
   pub ends : Ends result old new
 
 -- A call finds the decision of a record again, where the slots of its set are swapped.

@@ -61,6 +61,12 @@ abbrev pub IsReadingAt : View → ℕ → Reading → Type 0
 IsReadingAt w mask (Read table) = AreReadable w mask w.images
 IsReadingAt w mask (DamagedAt i) = IsLowestAt w mask i
 
+-- A table is found, valid or not, where one is read.
+abbrev pub IsFindingAt : View → ℕ → Finding → Type 0
+IsFindingAt w mask (Decided table report) = AreReadable w mask w.images
+IsFindingAt w mask (Damaged i) = IsLowestAt w mask i
+IsFindingAt w mask Invalid = AreReadable w mask w.images
+
 -- ---- what is told of a decision that isn't found again
 
 -- The table of what the flash holds isn't valid, or the set isn't its greatest.

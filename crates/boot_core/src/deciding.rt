@@ -34,19 +34,21 @@ pub(crate) fn taken_mask(report: &Report) -> u8
     mask_of(&members)
 }
 
-/// The decision of a device at rest, with these floors.
+/// The decision of a device where the slots of the images of a mask are swapped, those of none at
+/// rest, with these floors.
 ///
 /// # Errors
 /// `Off` where the flash was off. Nothing changes in any case.
 pub(crate) fn find<F: Flash>(
     flash: &mut F,
     map: &SectorMap,
+    mask: u8,
     floors: &[u32; MOST_IMAGES],
 ) -> Result<Finding, FlashError>
     requires laid_out { IsLaidOut map.now (F.chip flash.old) }
-    ensures { FindsDecision map.now floors.now (F.chip flash.old) (F.chip flash.new) result }
+    ensures { FindsDecision map.now mask floors.now (F.chip flash.old) (F.chip flash.new) result }
 {
-    match read_table(flash, map, 0, floors)? {
+    match read_table(flash, map, mask, floors)? {
         Reading::DamagedAt(image) => Ok(Finding::Damaged(image)),
         Reading::Read(table) => {
             if !is_valid(&table) {
@@ -74,18 +76,15 @@ pub(crate) fn find_again<F: Flash>(
     requires laid_out { IsLaidOut map.now (F.chip flash.old) }
     ensures { FindsAgain map.now mask floors.now (F.chip flash.old) (F.chip flash.new) result }
 {
-    match read_table(flash, map, mask, floors)? {
-        Reading::DamagedAt(image) => Ok(Finding::Damaged(image)),
-        Reading::Read(table) => {
-            if !is_valid(&table) {
-                return Ok(Finding::Invalid);
-            }
-            let report = choose(&table);
+    match find(flash, map, mask, floors)? {
+        Finding::Decided { table, report } => {
             if taken_mask(&report) != mask {
                 return Ok(Finding::Invalid);
             }
             Ok(Finding::Decided { table, report })
         }
+        Finding::Damaged(image) => Ok(Finding::Damaged(image)),
+        Finding::Invalid => Ok(Finding::Invalid),
     }
 }
 

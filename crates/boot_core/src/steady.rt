@@ -69,7 +69,7 @@ pub(crate) fn boot_from_steady<F: Flash>(
     requires few { left ≤ MOST_BOOTS_LEFT }
     ensures { BootsFromSteady map.now left (F.chip flash.old) (F.chip flash.new) result }
 {
-    match find(flash, map, &state.floors)? {
+    match find(flash, map, 0, &state.floors)? {
         Finding::Damaged(image) => Ok(Reply::Refused(Fault::RunningDamaged(image))),
         Finding::Invalid => Ok(Reply::Refused(Fault::InvalidSet)),
         Finding::Decided { table, report } => {

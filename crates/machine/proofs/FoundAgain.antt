@@ -1,10 +1,7 @@
 -- A decision that is found again.
-use Rattle.std.proofs.Common.{◌≡◌, ℕ, Bool, List, Some, None, sym, ◌∙◌, subst}
+use Rattle.std.proofs.Common.{◌≡◌, ℕ, Bool, Some, None, sym, ◌∙◌, subst}
 use mathlib.Core.Path.{fun_ext}
-use Rattle.flash_model.specs.Chip.{Chip}
-use Rattle.sector_map.specs.declared.layout.SectorMap.{SectorMap}
 use Rattle.sector_map.specs.Part.{is_member}
-use Rattle.upload.specs.View.{view}
 use Rattle.upload.specs.Device.{DeviceState}
 use Rattle.certificate.specs.declared.table.Table.{Table}
 use Rattle.certificate.specs.declared.report.Report.{Report}
@@ -12,11 +9,8 @@ use Rattle.certificate.specs.Combination.{IsValid, IsGreatest, running_set}
 use Rattle.certificate.specs.Rightness.{IsRight, taken_in}
 use Rattle.certificate.specs.StandardOrder.{IsInStandardOrder}
 use Rattle.machine.specs.Boots.{IsTableOf, IsDecision, IsReported, IsLowestDamaged}
-use Rattle.machine.specs.Reading.{CanRead, IsReading}
-use Rattle.machine.specs.declared.finding.Reading.{Reading}
-use Rattle.machine.specs.declared.finding.Reading.TheVariants.{Read, DamagedAt}
 use Rattle.machine.proofs.Beginning.{running_bytes}
-use Rattle.machine.proofs.Unique.{one_table, one_greatest}
+use Rattle.machine.proofs.Unique.{one_greatest}
 
 none_some : {X : Type 0} (x : X) → None ≡ Some x → ⊥
 none_some x e = cc
@@ -27,23 +21,6 @@ pub none_damaged : (s : DeviceState) (table : Table) (mask : ℕ) (permanent : B
 none_damaged s table mask permanent i decision damaged =
     let bytes = running_bytes s table i decision.rows damaged.there in none_some bytes.0
     (sym damaged.damaged ∙ bytes.1)
-
--- the table that is read is that of the decision
-pub read_is : (map : SectorMap) (w : Chip) (s : DeviceState) (table : Table) (mask : ℕ) (permanent : Bool)
-    (floors : List ℕ) (read : Reading) (found : Table) → CanRead (view map w) s mask floors
-    → IsDecision s table mask permanent
-    → ((s : DeviceState) → CanRead (view map w) s mask floors → IsReading s read) → read ≡ Read found
-    → (IsTableOf s found × (found ≡ table))
-read_is map w s table mask permanent floors read found can decision reads is =
-    let rows : IsTableOf s found = subst (λ r. IsReading s r) is (reads s can) in
-    (rows, one_table s found table rows decision.rows)
-
-pub damaged_never : (map : SectorMap) (w : Chip) (s : DeviceState) (table : Table) (mask : ℕ)
-    (permanent : Bool) (floors : List ℕ) (read : Reading) (i : ℕ) → CanRead (view map w) s mask floors
-    → IsDecision s table mask permanent
-    → ((s : DeviceState) → CanRead (view map w) s mask floors → IsReading s read) → read ≡ DamagedAt i → ⊥
-damaged_never map w s table mask permanent floors read i can decision reads is =
-    none_damaged s table mask permanent i decision (subst (λ r. IsReading s r) is (reads s can))
 
 pub valid_again : (found table : Table) (s : DeviceState) (mask : ℕ) (permanent : Bool) → found ≡ table
     → IsDecision s table mask permanent → IsValid found running_set

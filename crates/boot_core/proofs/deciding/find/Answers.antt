@@ -1,7 +1,10 @@
-use Rattle.std.proofs.Common.{rules, ◌∙◌, subst}
+use Rattle.std.proofs.Common.{rules, ◌≡◌, ◌∙◌, length, subst}
 use Rattle.certificate.specs.Combination.{IsValid, running_set}
+use Rattle.upload.specs.View.{view}
 use Rattle.machine.specs.Reading.{HasRows, IsReading}
 use Rattle.machine.proofs.Steadying.{taken_below}
+use Rattle.boot_core.specs.Found.{IsReadingAt}
+use Rattle.boot_core.proofs.Readable.{read_here}
 use Rattle.boot_core.proofs.deciding.find.Goals as goal
 
 pub returns-then-not-is_valid : goal.returns-then-not-is_valid
@@ -11,6 +14,8 @@ returns-then-not-is_valid g c = record {
       let no : IsValid c.in-Read.table running_set → ⊥ = search rules in
       (c.in-Read.table, subst (λ r. IsReading s r) c.in-Read.is (c.in_ok-image.ensures.ok s can), no);
   whole = search rules;
+  rows = search rules;
+  front = read_here c.args.map.now _ c.args.mask _ _ c.in_ok-image.ensures.front c.in-Read.is;
   ends = search rules;
 }
 
@@ -20,21 +25,28 @@ returns-in-DamagedAt g c = record {
   ok = λ s can.
       subst (λ r. IsReading s r) c.in-DamagedAt.is (c.in_ok-image.ensures.ok s can);
   whole = search rules;
+  rows = search rules;
+  front = subst
+      (λ reading. IsReadingAt (view c.args.map.now (g.F.Flash.chip c.args.flash.now)) c.args.mask reading)
+      c.in-DamagedAt.is c.in_ok-image.ensures.front;
   ends = search rules;
 }
 
 pub returns-else-not-is_valid : goal.returns-else-not-is_valid
-returns-else-not-is_valid g c = record {
-  same = search rules;
-  ok = λ s can. record {
-    rows = subst (λ r. IsReading s r) c.in-Read.is (c.in_ok-image.ensures.ok s can);
-    valid = search rules;
-    right = c.choose-report.ensures.right;
-    greatest = c.choose-report.ensures.greatest;
-    standard = c.choose-report.ensures.standard;
-  };
-  whole = λ i taken.
-      let rows = subst (λ reading. HasRows c.args.map.now.images reading) c.in-Read.is c.in_ok-image.ensures.whole in
-      taken_below c.choose-report.result c.args.map.now.images i (c.choose-report.ensures.right.images ∙ rows) taken;
-  ends = search rules;
-}
+returns-else-not-is_valid g c =
+    let rows : length c.in-Read.table.images.items ≡ c.args.map.now.images =
+    subst (λ reading. HasRows c.args.map.now.images reading) c.in-Read.is c.in_ok-image.ensures.whole in record {
+      same = search rules;
+      ok = λ s can. record {
+        rows = subst (λ r. IsReading s r) c.in-Read.is (c.in_ok-image.ensures.ok s can);
+        valid = search rules;
+        right = c.choose-report.ensures.right;
+        greatest = c.choose-report.ensures.greatest;
+        standard = c.choose-report.ensures.standard;
+      };
+      whole = λ i taken.
+          taken_below c.choose-report.result c.args.map.now.images i (c.choose-report.ensures.right.images ∙ rows) taken;
+      rows = rows;
+      front = read_here c.args.map.now _ c.args.mask _ _ c.in_ok-image.ensures.front c.in-Read.is;
+      ends = search rules;
+    }

@@ -1,75 +1,73 @@
-use Rattle.std.proofs.Common.{rules, ◌∙◌, ◌≡◌, arith, subst, sym}
-use Rattle.certificate.specs.Combination.{IsValid, running_set}
+use Rattle.std.proofs.Common.{rules, ◌≡◌, arith, subst, sym}
 use Rattle.upload.specs.View.{view}
-use Rattle.machine.specs.Reading.{HasRows}
-use Rattle.machine.proofs.Unique.{one_greatest}
-use Rattle.machine.proofs.FoundAgain.{chosen_again, damaged_never, found_again, read_is, valid_again}
-use Rattle.boot_core.specs.Found.{IsReadingAt}
-use Rattle.boot_core.proofs.Readable.{read_here, table_here}
+use Rattle.machine.specs.Boots.{IsReported}
+use Rattle.machine.specs.Reading.{HasImages, IsFinding}
+use Rattle.machine.proofs.Unique.{one_greatest, one_table}
+use Rattle.machine.proofs.FoundAgain.{chosen_again, found_again, none_damaged, valid_again}
+use Rattle.boot_core.specs.Found.{HasTable, IsFindingAt}
 use Rattle.boot_core.proofs.Masks.{set_found}
-use Rattle.machine.proofs.Steadying.{taken_below}
 use Rattle.boot_core.proofs.deciding.find_again.Goals as goal
-
-pub returns-then-not-is_valid : goal.returns-then-not-is_valid
-returns-then-not-is_valid g c = record {
-  same = search rules;
-  ok = λ s table permanent can decision.
-      let read = read_is c.args.map.now _ s table _ permanent _ _ _ can decision c.in_ok-image.ensures.ok
-      c.in-Read.is in
-      let no : IsValid c.in-Read.table running_set → ⊥ = search rules in
-      no (valid_again _ table s c.args.mask permanent read.1 decision);
-  set = search rules;
-  whole = search rules;
-  rows = search rules;
-  told = (
-    read_here c.args.map.now _ c.args.mask _ _ c.in_ok-image.ensures.front c.in-Read.is,
-    λ s can. (
-      c.in-Read.table,
-      table_here c.args.map.now _ s c.args.mask _ _ _ can c.in_ok-image.ensures.ok c.in-Read.is,
-      λ valid greatest. let no : IsValid c.in-Read.table running_set → ⊥ = search rules in no valid,
-    ),
-  );
-  ends = search rules;
-}
 
 pub returns-then-taken_mask-mask : goal.returns-then-taken_mask-mask
 returns-then-taken_mask-mask g c = record {
   same = search rules;
   ok = λ s table permanent can decision.
-      let read = read_is c.args.map.now _ s table _ permanent _ _ _ can decision c.in_ok-image.ensures.ok
-      c.in-Read.is in
+      let found : IsReported s c.in-Decided.table c.in-Decided.report =
+      subst (λ f. IsFinding s f) c.in-Decided.is (c.in_ok-table.ensures.ok s can) in
       let same : c.args.mask ≡ c.taken_mask.result = c.taken_mask.ensures.only c.args.mask (omega arith)
-      (chosen_again _ table s c.args.mask permanent c.choose-report.result read.1 decision
-      c.choose-report.ensures.greatest) in
+      (chosen_again _ table s c.args.mask permanent c.in-Decided.report
+      (one_table s c.in-Decided.table table found.rows decision.rows) decision found.greatest) in
       c.if-taken_mask-mask.true (sym same);
   set = search rules;
   whole = search rules;
   rows = search rules;
   told = (
-    read_here c.args.map.now _ c.args.mask _ _ c.in_ok-image.ensures.front c.in-Read.is,
-    λ s can. (
-      c.in-Read.table,
-      table_here c.args.map.now _ s c.args.mask _ _ _ can c.in_ok-image.ensures.ok c.in-Read.is,
-      λ valid greatest.
-          let same : c.args.mask ≡ c.taken_mask.result = c.taken_mask.ensures.only c.args.mask (omega arith)
-          (one_greatest c.in-Read.table _ _ greatest c.choose-report.ensures.greatest) in
-          c.if-taken_mask-mask.true (sym same),
-    ),
+    subst (λ f. IsFindingAt (view c.args.map.now (g.F.Flash.chip c.args.flash.now)) c.args.mask f)
+        c.in-Decided.is c.in_ok-table.ensures.front,
+    λ s can.
+        let found : IsReported s c.in-Decided.table c.in-Decided.report =
+        subst (λ f. IsFinding s f) c.in-Decided.is (c.in_ok-table.ensures.ok s can) in (
+          c.in-Decided.table,
+          found.rows,
+          λ valid greatest.
+              let same : c.args.mask ≡ c.taken_mask.result = c.taken_mask.ensures.only c.args.mask (omega arith)
+              (one_greatest c.in-Decided.table _ _ greatest found.greatest) in
+              c.if-taken_mask-mask.true (sym same),
+        ),
   );
   ends = search rules;
 }
 
-pub returns-in-DamagedAt : goal.returns-in-DamagedAt
-returns-in-DamagedAt g c = record {
+pub returns-in-Damaged : goal.returns-in-Damaged
+returns-in-Damaged g c = record {
   same = search rules;
-  ok = λ s table permanent can decision. damaged_never c.args.map.now _ s table _
-      permanent _ _ _ can decision c.in_ok-image.ensures.ok c.in-DamagedAt.is;
+  ok = λ s table permanent can decision. none_damaged s table c.args.mask permanent c.in-Damaged.image decision
+      (subst (λ f. IsFinding s f) c.in-Damaged.is (c.in_ok-table.ensures.ok s can));
   set = search rules;
   whole = search rules;
   rows = search rules;
-  told = subst
-      (λ reading. IsReadingAt (view c.args.map.now (g.F.Flash.chip c.args.flash.now)) c.args.mask reading)
-      c.in-DamagedAt.is c.in_ok-image.ensures.front;
+  told = subst (λ f. IsFindingAt (view c.args.map.now (g.F.Flash.chip c.args.flash.now)) c.args.mask f)
+      c.in-Damaged.is c.in_ok-table.ensures.front;
+  ends = search rules;
+}
+
+pub returns-in-Invalid : goal.returns-in-Invalid
+returns-in-Invalid g c = record {
+  same = search rules;
+  ok = λ s table permanent can decision.
+      let found = subst (λ f. IsFinding s f) c.in-Invalid.is (c.in_ok-table.ensures.ok s can) in
+      found.2 (valid_again found.0 table s c.args.mask permanent
+      (one_table s found.0 table found.1 decision.rows) decision);
+  set = search rules;
+  whole = search rules;
+  rows = search rules;
+  told = (
+    subst (λ f. IsFindingAt (view c.args.map.now (g.F.Flash.chip c.args.flash.now)) c.args.mask f)
+        c.in-Invalid.is c.in_ok-table.ensures.front,
+    λ s can.
+        let found = subst (λ f. IsFinding s f) c.in-Invalid.is (c.in_ok-table.ensures.ok s can) in
+        (found.0, found.1, λ valid greatest. found.2 valid),
+  );
   ends = search rules;
 }
 
@@ -77,16 +75,15 @@ pub returns-else-taken_mask-mask : goal.returns-else-taken_mask-mask
 returns-else-taken_mask-mask g c = record {
   same = search rules;
   ok = λ s table permanent can decision.
-      let read = read_is c.args.map.now _ s table _ permanent _ _ _ can decision c.in_ok-image.ensures.ok
-      c.in-Read.is in
-      found_again _ table s c.args.mask permanent _ read.0 read.1 decision c.choose-report.ensures.right
-      c.choose-report.ensures.greatest c.choose-report.ensures.standard;
+      let found : IsReported s c.in-Decided.table c.in-Decided.report =
+      subst (λ f. IsFinding s f) c.in-Decided.is (c.in_ok-table.ensures.ok s can) in
+      found_again _ table s c.args.mask permanent _ found.rows
+      (one_table s c.in-Decided.table table found.rows decision.rows) decision found.right
+      found.greatest found.standard;
   set = set_found c.args.mask c.taken_mask.result _
       c.if-taken_mask-mask.false c.taken_mask.ensures.each;
-  whole = λ i taken.
-      let rows = subst (λ reading. HasRows c.args.map.now.images reading) c.in-Read.is c.in_ok-image.ensures.whole in
-      taken_below c.choose-report.result c.args.map.now.images i (c.choose-report.ensures.right.images ∙ rows) taken;
-  rows = search rules;
+  whole = subst (λ f. HasImages c.args.map.now.images f) c.in-Decided.is c.in_ok-table.ensures.whole;
+  rows = subst (λ f. HasTable c.args.map.now.images f) c.in-Decided.is c.in_ok-table.ensures.rows;
   told = search rules;
   ends = search rules;
 }
