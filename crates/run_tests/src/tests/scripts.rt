@@ -3,7 +3,6 @@ use super::stories::Step::Run;
 use super::stories::{BOOTED, Step, expect_each_step};
 use memory_host::samples::{DEVICE, SAMPLE};
 use memory_host::{FLASH_FILE, SCRIPT, TWO_IMAGES, Target, two_images};
-use std::fmt::Write;
 use std::process::Abort;
 use std::test::Fail;
 
@@ -312,8 +311,9 @@ fn of_a_part_of_a_file_no_other_byte_is_read(rt: HostRuntime) -> Result<(), Fail
     let mut target = two_images(rt.alloc())?;
     let mut script = String::new(rt.alloc());
     for part in ["1020 5", "0 0", "1025 0", "7 1"] {
+        let line = format!(in rt.alloc(); "piece 0 long.img {part}\n")?;
         for _ in 0..50 {
-            write!(script, "piece 0 long.img {part}\n")?;
+            script.push_str(&line)?;
         }
     }
     let outcome = target.run(rt.alloc(), &script);
