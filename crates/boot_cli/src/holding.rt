@@ -52,15 +52,23 @@ fn open_plain<R: Files<File = File>>(
     if !found.is_file() && !is_device {
         return Err(io::Error::from(ErrorKind::InvalidInput));
     }
+    // Where a standard stream was closed as the program began, the file has its number, and what is
+    // written to that stream would go into the file. A clone has another one.
+    let file = open_for(runtime, name, access)?.try_clone()?;
+    Ok((file, is_device))
+}
+
+/// Opens a file to be read, and to be written too if it can be and is asked for.
+fn open_for<R: Files<File = File>>(runtime: &R, name: &str, access: Access) -> io::Result<File> {
     if access == Access::Write
         && let Ok(file) = OpenOptions::new()
             .read(true)
             .write(true)
             .open(runtime, name)
     {
-        return Ok((file, is_device));
+        return Ok(file);
     }
-    Ok((File::open(runtime, name)?, is_device))
+    File::open(runtime, name)
 }
 
 /// Has this program hold a file that it opened by this name. A file that lost its name meanwhile,
