@@ -1,5 +1,5 @@
 -- The program's subcommands, and the names that each of them asks for, in the words of `clap`.
-use Rattle.std.specs.Prelude.{List, [], ◌∷◌, Some, codes, true, false}
+use Rattle.std.specs.Prelude.{Bool, List, [], ◌∷◌, Some, codes, true, false}
 use Rattle.clap.specs.Lexer.{usize_max}
 use Rattle.clap.specs.Simple.{new_shape}
 use Rattle.clap.specs.Words.{App, Rule, Shape, Text, new_rule}
@@ -13,6 +13,14 @@ abbrev pub all_names : Text → Rule
 all_names name = record (new_rule name) {
   required = true;
   range = Some (record { start_inclusive = 1; end_inclusive = usize_max });
+}
+
+-- An option with one value, which has to be given where it is required.
+abbrev pub one_option : Text → Bool → Rule
+one_option name required = record (new_rule name) {
+  long = Some name;
+  value_names = 1;
+  required = required;
 }
 
 -- A subcommand that asks for these names, in this order.
@@ -32,6 +40,12 @@ image_shape = asking (codes "image") (one_name (codes "FILE") ∷ [])
 abbrev pub manifest_shape : Shape
 manifest_shape =
     asking (codes "manifest") (one_name (codes "DEVICE") ∷ one_name (codes "FILE") ∷ [])
+
+abbrev pub make_device_shape : Shape
+make_device_shape = asking (codes "make-device")
+    (one_option (codes "sector") true ∷ one_option (codes "slots") true
+    ∷ one_option (codes "vendor") true ∷ one_option (codes "class") true
+    ∷ one_option (codes "trial-boots") false ∷ [])
 
 abbrev pub provision_shape : Shape
 provision_shape = asking (codes "provision")
@@ -55,6 +69,6 @@ program = record {
 abbrev pub bootswap : App
 bootswap = record {
   top = record program.top { is_leaf = false };
-  subs = choose_shape ∷ check_shape ∷ image_shape ∷ manifest_shape ∷ provision_shape ∷ show_shape
-      ∷ run_shape ∷ [];
+  subs = choose_shape ∷ check_shape ∷ image_shape ∷ manifest_shape ∷ make_device_shape
+      ∷ provision_shape ∷ show_shape ∷ run_shape ∷ [];
 }

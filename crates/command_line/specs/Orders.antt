@@ -1,13 +1,17 @@
 -- What an order says, by the matches that `clap` gives for the words.
-use Rattle.std.specs.Prelude.{◌≡◌, ℕ, Bool, false, List, [], ◌∷◌, Option, Some, None, codes, count_by, if◌then◌else◌, map, nat_lt}
+use Rattle.std.specs.Prelude.{◌≡◌, ℕ, ◌==◌, ◌≤◌, Bool, false, IsSomeAnd, List, [], ◌∷◌, Option, Some, None, codes, count_by, if◌then◌else◌, map, nat_lt, option_and_then}
 use Rattle.std.specs.Borrow.{Bor}
+use Rattle.std.specs.List.{AllZip, slice_split}
 use Rattle.std.specs.Str.{bytes_eq}
 use Rattle.clap.specs.Words.{Row, Text, all_of, first_of, subcommand_of}
 use Rattle.clap.specs.declared.error.kind.ErrorKind.{ErrorKind}
 use Rattle.clap.specs.declared.error.kind.ErrorKind.TheVariants.{ArgumentConflict, InvalidValue}
+use Rattle.common.specs.Ascii.{number_of}
 use Rattle.command_line.specs.Commands.{bootswap}
+use Rattle.command_line.specs.declared.orders.NewDevice.{NewDevice}
 use Rattle.command_line.specs.declared.orders.Order.{Order}
-use Rattle.command_line.specs.declared.orders.Order.TheVariants.{Choose, Check, Image, Manifest, Provision, Show, Run}
+use Rattle.command_line.specs.declared.orders.Order.TheVariants.{Choose, Check, Image, Manifest, MakeDevice, Provision, Show, Run}
+use Rattle.command_line.specs.declared.orders.TheConstants.{MOST_TRIAL_BOOTS}
 
 -- The subcommand of an order.
 abbrev pub command_of : Order → Text
@@ -15,6 +19,7 @@ command_of (Choose table) = codes "choose"
 command_of (Check table report) = codes "check"
 command_of (Image file) = codes "image"
 command_of (Manifest device file) = codes "manifest"
+command_of (MakeDevice device) = codes "make-device"
 command_of (Provision device flash images) = codes "provision"
 command_of (Show device flash) = codes "show"
 command_of (Run device flash script) = codes "run"
@@ -22,6 +27,34 @@ command_of (Run device flash script) = codes "run"
 -- The matches of a subcommand have this name for an argument.
 abbrev pub IsNamed : List Row → Text → Text → Type 0
 IsNamed rows argument name = first_of argument rows ≡ Some name
+
+-- A word spells this number: in digits alone, below 2 ^ 32.
+abbrev pub IsNumber : Text → ℕ → Type 0
+IsNumber word number = number_of word ≡ Some number
+
+-- The number that the matches have for an argument.
+abbrev pub number_at : Text → List Row → Option ℕ
+number_at argument rows = option_and_then number_of (first_of argument rows)
+
+-- The words of a text, parted by commas.
+abbrev pub words_of : Text → List Text
+words_of text = slice_split (λ byte. byte == 44) text
+
+-- How many boots a trial has by the matches, where they say it.
+abbrev pub HasTrialBoots : List Row → Option ℕ → Type 0
+HasTrialBoots rows None = first_of (codes "trial-boots") rows ≡ None
+HasTrialBoots rows (Some boots) =
+    (number_at (codes "trial-boots") rows ≡ Some boots) × (1 ≤ boots)
+    × (boots ≤ MOST_TRIAL_BOOTS)
+
+-- The matches of `make-device` say this of a device.
+pub record SaysDevice (rows : List Row) (device : NewDevice) : Type 0 where
+  pub sector_size : number_at (codes "sector") rows ≡ Some device.sector_size
+  pub sectors : IsSomeAnd (first_of (codes "slots") rows)
+      (λ text. AllZip IsNumber (words_of text) device.sectors.items)
+  pub vendor : IsNamed rows (codes "vendor") device.vendor.now
+  pub class : IsNamed rows (codes "class") device.class.now
+  pub trial_boots : HasTrialBoots rows device.trial_boots
 
 -- The names of an order are those that the matches of its subcommand have.
 abbrev pub HasNames : List Row → Order → Type 0
@@ -31,6 +64,7 @@ HasNames rows (Check table report) =
 HasNames rows (Image file) = IsNamed rows (codes "FILE") file.now
 HasNames rows (Manifest device file) =
     IsNamed rows (codes "DEVICE") device.now × IsNamed rows (codes "FILE") file.now
+HasNames rows (MakeDevice device) = SaysDevice rows device
 HasNames rows (Provision device flash images) =
     IsNamed rows (codes "DEVICE") device.now × IsNamed rows (codes "FLASH") flash.now
     × (all_of (codes "IMAGE") rows ≡ Some (map (λ image. image.now) images.items))
@@ -54,9 +88,9 @@ abbrev pub IsOrder : List Text → Order → Type 0
 IsOrder words = IsOrderOf (subcommand_of bootswap words)
 
 -- What was found is so, and where nothing was found, nothing is so.
-abbrev pub Finds : (Order → Type 0) → Option Order → Type 0
-Finds IsSo None = (order : Order) → IsSo order → ⊥
-Finds IsSo (Some order) = IsSo order
+abbrev pub Finds : {T : Type 0} → (T → Type 0) → Option T → Type 0
+Finds IsSo None = (one : _) → IsSo one → ⊥
+Finds IsSo (Some found) = IsSo found
 
 -- All the names of an order.
 abbrev pub names_of : Order → List (Bor Text)
@@ -64,6 +98,7 @@ names_of (Choose table) = table ∷ []
 names_of (Check table report) = table ∷ report ∷ []
 names_of (Image file) = file ∷ []
 names_of (Manifest device file) = device ∷ file ∷ []
+names_of (MakeDevice device) = []
 names_of (Provision device flash images) = device ∷ flash ∷ images.items
 names_of (Show device flash) = device ∷ flash ∷ []
 names_of (Run device flash script) = device ∷ flash ∷ script ∷ []

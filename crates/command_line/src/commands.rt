@@ -3,11 +3,12 @@
 ghost use Rattle.std.specs.Prelude.{◌≡◌, IfOk, codes, true};
 ghost use Rattle.clap.specs.Words.{app_of, new_app, shape_of, with_rule, with_subcommand};
 ghost use Rattle.command_line.specs.Commands.{all_names, bootswap, check_shape, choose_shape};
-ghost use Rattle.command_line.specs.Commands.{image_shape, manifest_shape, one_name, program};
-ghost use Rattle.command_line.specs.Commands.{provision_shape, run_shape, show_shape};
+ghost use Rattle.command_line.specs.Commands.{image_shape, make_device_shape, manifest_shape};
+ghost use Rattle.command_line.specs.Commands.{one_name, one_option, program, provision_shape};
+ghost use Rattle.command_line.specs.Commands.{run_shape, show_shape};
 
 use crate::help;
-use crate::help::Help;
+use crate::help::{Help, OptionHelp};
 use clap::{Arg, Command};
 use std::alloc::{AllocError, Global};
 
@@ -19,13 +20,15 @@ pub const IMAGE: &str = "image";
 
 pub const MANIFEST: &str = "manifest";
 
+pub const MAKE_DEVICE: &str = "make-device";
+
 pub const PROVISION: &str = "provision";
 
 pub const SHOW: &str = "show";
 
 pub const RUN: &str = "run";
 
-/// What the words name, as help calls it.
+/// What the words name, as help calls it; and the options, which two hyphens stand before.
 pub mod named {
     pub const TABLE: &str = "TABLE";
 
@@ -40,6 +43,16 @@ pub mod named {
     pub const IMAGE: &str = "IMAGE";
 
     pub const SCRIPT: &str = "SCRIPT";
+
+    pub const SECTOR: &str = "sector";
+
+    pub const SLOTS: &str = "slots";
+
+    pub const VENDOR: &str = "vendor";
+
+    pub const CLASS: &str = "class";
+
+    pub const TRIAL_BOOTS: &str = "trial-boots";
 }
 
 /// The program with its subcommands.
@@ -50,6 +63,7 @@ pub fn bootswap<'a>(alloc: Global) -> Result<Command<'a>, AllocError>
     let program = with_command(program, check(alloc)?)?;
     let program = with_command(program, image(alloc)?)?;
     let program = with_command(program, manifest(alloc)?)?;
+    let program = with_command(program, make_device(alloc)?)?;
     let program = with_command(program, provision(alloc)?)?;
     let program = with_command(program, show(alloc)?)?;
     with_command(program, run(alloc)?)
@@ -95,6 +109,17 @@ pub fn manifest<'a>(alloc: Global) -> Result<Command<'a>, AllocError>
     let command = command(alloc, MANIFEST, help::MANIFEST);
     let command = with_name(alloc, command, named::DEVICE, help::DEVICE_FILE)?;
     with_name(alloc, command, named::FILE, help::MANIFEST_FILE)
+}
+
+pub fn make_device<'a>(alloc: Global) -> Result<Command<'a>, AllocError>
+    ensures { IfOk result (λ command. shape_of command ≡ make_device_shape) }
+{
+    let command = command(alloc, MAKE_DEVICE, help::MAKE_DEVICE).override_usage(help::USAGE);
+    let command = with_option(alloc, command, named::SECTOR, help::SECTOR, true)?;
+    let command = with_option(alloc, command, named::SLOTS, help::SLOTS, true)?;
+    let command = with_option(alloc, command, named::VENDOR, help::VENDOR, true)?;
+    let command = with_option(alloc, command, named::CLASS, help::CLASS, true)?;
+    with_option(alloc, command, named::TRIAL_BOOTS, help::TRIAL_BOOTS, false)
 }
 
 pub fn provision<'a>(alloc: Global) -> Result<Command<'a>, AllocError>
@@ -145,6 +170,27 @@ fn with_name<'a>(
         (one_name name.entry.now)) }
 {
     command.arg(Arg::new(alloc, name).required(true).help(help))
+}
+
+/// The command with an option more, which has one value, and which has to be given where it is
+/// required.
+fn with_option<'a>(
+    alloc: Global,
+    command: Command<'a>,
+    name: &'a str,
+    help: OptionHelp,
+    required: bool,
+) -> Result<Command<'a>, AllocError>
+    ensures { IfOk result (λ more. app_of more ≡ with_rule (app_of command.entry)
+        (one_option name.entry.now required)) }
+{
+    command.arg(
+        Arg::new(alloc, name)
+            .long(name)
+            .value_name(help.value)
+            .required(required)
+            .help(help.text),
+    )
 }
 
 /// The command with names of files more, of which one at least has to be given.

@@ -1,6 +1,6 @@
 //! The faults that the program itself finds in words, as `clap` prints its own.
 
-ghost use Rattle.std.specs.Prelude.{◌≡◌, IfOk, codes, nat_lt, option_map};
+ghost use Rattle.std.specs.Prelude.{◌≡◌, ◌⊎◌, IfOk, codes, nat_lt, option_map};
 ghost use Rattle.std.specs.Str.{bytes_eq};
 ghost use Rattle.clap.specs.Words.{kind_of};
 ghost use Rattle.clap.specs.declared.error.kind.ErrorKind.TheVariants.{InvalidValue};
@@ -9,15 +9,20 @@ ghost use Rattle.command_line.specs.Faults.{IsTold, IsUsage};
 ghost use Rattle.command_line.specs.Orders.{misuse_of, names_of, standard_inputs};
 ghost use Rattle.command_line.specs.Orders.{writes_to_standard_input};
 
+use crate::commands::{MAKE_DEVICE, named};
+use crate::device_words::{number_in, trial_boots_in};
 use crate::error::OrderError;
 use crate::escaped::Escaped;
-use crate::order_reading::order;
+use crate::order_reading::{named_in, order};
 use crate::orders::{Order, STANDARD_INPUT};
 use crate::{commands, help};
 use clap::error::ErrorKind;
-use clap::{Command, Error};
+use clap::{ArgMatches, Command, Error};
 use std::alloc::{AllocError, Global};
 use std::convert::AsStr;
+
+/// The subcommand `make-device`, as its usage has it.
+const MAKE_DEVICE_NAME: &str = "bootswap make-device";
 
 /// The fault of these words, as it is printed: it names them with their control characters escaped.
 /// `fault` is what `order` answered.
@@ -43,8 +48,43 @@ pub fn no_text(alloc: Global) -> OrderError
     }
 }
 
-/// The fault of words that ask for no order.
-pub(crate) fn no_order(alloc: Global) -> OrderError
+/// The fault of words that ask for no order, though `clap` takes them: a word of `make-device` is
+/// no number, or they name no subcommand.
+pub(crate) fn no_order(alloc: Global, matches: &ArgMatches<'_>) -> OrderError
+    ensures { IsUsage InvalidValue result ⊎ IsUsage MissingSubcommand result }
+{
+    match named_in(matches) {
+        Some((MAKE_DEVICE, names)) => no_number(alloc, names),
+        _ => no_subcommand(alloc),
+    }
+}
+
+/// The fault of words of `make-device` of which one is no number that may stand there.
+fn no_number(alloc: Global, names: &ArgMatches<'_>) -> OrderError
+    ensures { IsUsage InvalidValue result }
+{
+    let text = if number_in(names, named::SECTOR).is_none() {
+        help::NO_SECTOR
+    } else if trial_boots_in(names).is_none() {
+        help::NO_TRIAL_BOOTS
+    } else {
+        help::NO_SLOTS
+    };
+    match number_error(alloc, text) {
+        Ok(error) => OrderError::from(error),
+        Err(error) => OrderError::from(error),
+    }
+}
+
+fn number_error(alloc: Global, text: &str) -> Result<Error, AllocError>
+    ensures { IfOk result (λ error. kind_of error ≡ InvalidValue) }
+{
+    let mut command = commands::make_device(alloc)?.bin_name(MAKE_DEVICE_NAME)?;
+    command.error(ErrorKind::InvalidValue, text)
+}
+
+/// The fault of words that name no subcommand.
+fn no_subcommand(alloc: Global) -> OrderError
     ensures { IsUsage MissingSubcommand result }
 {
     match program_error(alloc, ErrorKind::MissingSubcommand, help::NO_ORDER) {
@@ -81,6 +121,7 @@ fn command_of<'a>(alloc: Global, order: &Order<'_>) -> Result<Command<'a>, Alloc
         Order::Check { .. } => (commands::check(alloc), "bootswap check"),
         Order::Image { .. } => (commands::image(alloc), "bootswap image"),
         Order::Manifest { .. } => (commands::manifest(alloc), "bootswap manifest"),
+        Order::MakeDevice { .. } => (commands::make_device(alloc), MAKE_DEVICE_NAME),
         Order::Provision { .. } => (commands::provision(alloc), "bootswap provision"),
         Order::Show { .. } => (commands::show(alloc), "bootswap show"),
         Order::Run { .. } => (commands::run(alloc), "bootswap run"),
@@ -97,6 +138,7 @@ fn writes_to_standard_input(order: &Order<'_>) -> bool
         | Order::Check { .. }
         | Order::Image { .. }
         | Order::Manifest { .. }
+        | Order::MakeDevice { .. }
         | Order::Show { .. } => false,
     }
 }
@@ -105,7 +147,7 @@ fn reads_standard_input_twice(order: &Order<'_>) -> bool
     ensures { result ≡ nat_lt 1 (standard_inputs (names_of order.now)) }
 {
     match order {
-        Order::Choose { .. } | Order::Image { .. } => false,
+        Order::Choose { .. } | Order::Image { .. } | Order::MakeDevice { .. } => false,
         Order::Check { table, report } => is_standard_input(table) && is_standard_input(report),
         Order::Manifest { device, file } => is_standard_input(device) && is_standard_input(file),
         Order::Show { device, flash } => is_standard_input(device) && is_standard_input(flash),

@@ -13,6 +13,15 @@ pub struct Help {
     pub long_after: &'static str,
 }
 
+/// What help says of an option.
+#[derive(Clone, Copy, Debug)]
+pub struct OptionHelp {
+    /// What its value is called.
+    pub value: &'static str,
+    /// What it says.
+    pub text: &'static str,
+}
+
 pub const PROGRAM: Help = Help {
     about: "Runs a device's bootloader on a file, and decides which images run together",
     long_about: "A bootloader core in the manner of MCUboot, on files: it provisions, shows and
@@ -46,6 +55,8 @@ named `-` is standard input.",
   4  the flash file could not be made or written: `error: flash file`
 
 Examples:
+  bootswap make-device --sector 512 --slots 2,2 --vendor python.org \\
+      --class sensor > device.json
   bootswap provision device.json flash.bin a.img b.img
   bootswap show device.json flash.bin
   bootswap run device.json flash.bin script.txt
@@ -226,6 +237,62 @@ Examples:
   bootswap manifest device.json - < manifest.json",
 };
 
+pub const MAKE_DEVICE: Help = Help {
+    about: "Makes the device file of a device, and tells where its parts lie",
+    long_about: "Makes a device file from the sizes of a device's flash and the names of its
+vendor and class, and prints it on standard output. Where the parts of the flash
+lie is told on standard error. A device of two images, whose slots have two
+sectors of 512 bytes each:
+  bootswap make-device --sector 512 --slots 2,2 --vendor python.org \\
+      --class sensor > device.json
+
+Its device file. The UUIDs stand for both names, as manifests have to have them:
+  {\"sector\":512,\"sectors\":[2,2],
+   \"vendor-id\":\"886313e1-3b8a-5372-9b90-0c9aee199e5d\",
+   \"class-id\":\"9ed1b5d5-f629-5008-93c6-1958ba5b9953\"}
+
+On standard error, for each part of the flash its first byte and its length, how
+many bytes an image may have at most, and the length of the whole flash:
+  slot 0 primary 0 1024
+  trailer 0 primary 1024 512
+  slot 1 primary 1536 1024
+  trailer 1 primary 2560 512
+  slot 0 secondary 3072 1024
+  trailer 0 secondary 4096 512
+  slot 1 secondary 4608 1024
+  trailer 1 secondary 5632 512
+  scratch 6144 512
+  log 6656 1536
+  largest 0 1024
+  largest 1 1024
+  flash 8192
+
+Where the sizes make no map it prints `refused map CODE NAME`:
+  refused map 1 BadSector    a sector has 512 to 131072 bytes, a multiple of 64
+  refused map 2 BadCount     there are one to eight images, each with a sector
+  refused map 3 TrailerFull  for n sectors a slot a sector has 24 n + 56 bytes
+  refused map 4 TooLarge     there are at most 4294967295 bytes in all",
+    after: "Exit status: 0 done, 1 refused, 2 the words are wrong.
+Example: bootswap make-device --sector 512 --slots 2,2 --vendor python.org \\
+             --class sensor > device.json
+`bootswap make-device --help` tells what is printed.",
+    long_after: "Exit status:
+  0  the device file is printed
+  1  the sizes make no map, and why is printed; or standard error has the line
+     `error: memory`; or what had to be printed could not be written
+  2  the words of the command are wrong, or one of them is no number: a number
+     is written in digits alone, and is below 4294967296
+
+Examples:
+  bootswap make-device --sector 4096 --slots 60 --vendor example.com \\
+      --class 'Weather station' --trial-boots 3 > device.json
+  bootswap provision device.json flash.bin a.img",
+};
+
+/// The usage of `make-device`, which would be too long for a line.
+pub const USAGE: &str = "bootswap make-device --sector <BYTES> --slots <N,N,..>
+           --vendor <DOMAIN> --class <NAME> [--trial-boots <N>]";
+
 pub const PROVISION: Help = Help {
     about: "Makes the flash file of a device, with one image for each slot pair",
     long_about: "Makes the flash of a device in a file and provisions it: FLASH gets the length
@@ -394,6 +461,41 @@ pub const SHOWN_FLASH_FILE: &str = "The flash file; `-` is standard input";
 pub const FLASH_FILE: &str = "The flash file, which is written to";
 
 pub const SCRIPT_FILE: &str = "The file that the script is read from; `-` is standard input";
+
+pub const SECTOR: OptionHelp = OptionHelp {
+    value: "BYTES",
+    text: "The bytes of a sector",
+};
+
+pub const SLOTS: OptionHelp = OptionHelp {
+    value: "N,N,..",
+    text: "The sectors of each image's slots, image after image",
+};
+
+pub const VENDOR: OptionHelp = OptionHelp {
+    value: "DOMAIN",
+    text: "The domain name of who makes the device",
+};
+
+pub const CLASS: OptionHelp = OptionHelp {
+    value: "NAME",
+    text: "The name of its class of devices",
+};
+
+pub const TRIAL_BOOTS: OptionHelp = OptionHelp {
+    value: "N",
+    text: "The boots of a trial, 1 to 7; without it there is one",
+};
+
+/// The fault of words whose sector is no number.
+pub const NO_SECTOR: &str = "`--sector` is a number of bytes, in digits, below 4294967296";
+
+/// The fault of words whose slots are no numbers.
+pub const NO_SLOTS: &str =
+    "`--slots` are numbers of sectors, one for each image, parted by commas: 2,2";
+
+/// The fault of words whose boots of a trial are no number of boots.
+pub const NO_TRIAL_BOOTS: &str = "`--trial-boots` is a number from 1 to 7";
 
 /// The fault of words that are no text.
 pub const NO_TEXT: &str = "invalid UTF-8 was detected in one or more arguments";

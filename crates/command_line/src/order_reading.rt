@@ -7,7 +7,10 @@ ghost use Rattle.command_line.specs.Commands.{bootswap};
 ghost use Rattle.command_line.specs.Faults.{IsRefusal};
 ghost use Rattle.command_line.specs.Orders.{Asks, Finds, IsOrder, IsOrderOf, misuse_of};
 
-use crate::commands::{CHECK, CHOOSE, IMAGE, MANIFEST, PROVISION, RUN, SHOW, bootswap, named};
+use crate::commands::{
+    CHECK, CHOOSE, IMAGE, MAKE_DEVICE, MANIFEST, PROVISION, RUN, SHOW, bootswap, named,
+};
+use crate::device_words::device_in;
 use crate::error::OrderError;
 use crate::faults::{misuse, no_order};
 use crate::orders::Order;
@@ -17,8 +20,9 @@ use std::convert::AsStr;
 
 /// What `words` ask for, of which the first is the program's own name.
 ///
-/// Else they ask for help or the version, or are at fault: by `clap`, or because the order names
-/// standard input for two files, or for a flash file that is written to.
+/// Else they ask for help or the version, or are at fault: by `clap`, because they have no number
+/// where one has to be, or because the order names standard input for two files, or for a flash
+/// file that is written to.
 pub fn order<'a, S: AsStr>(alloc: Global, words: &'a [S]) -> Result<Order<'a>, OrderError>
     ensures order { IfOk result (IsOrder (map S.text words.entry.now)) }
     ensures sound { IfOk result (λ order. misuse_of order ≡ None) }
@@ -26,7 +30,7 @@ pub fn order<'a, S: AsStr>(alloc: Global, words: &'a [S]) -> Result<Order<'a>, O
 {
     let matches = matches_of(alloc, words)?;
     let Some(order) = order_in(alloc, &matches)? else {
-        return Err(no_order(alloc));
+        return Err(no_order(alloc, &matches));
     };
     match misuse(alloc, &order)? {
         Some(fault) => Err(OrderError::from(fault)),
@@ -43,7 +47,8 @@ fn matches_of<'a, S: AsStr>(alloc: Global, words: &'a [S]) -> Result<ArgMatches<
     bootswap(alloc)?.try_get_matches_from(words)
 }
 
-/// The order that a parse found. All its names are there, since `clap` asks for them.
+/// The order that a parse found. All its names are there, since `clap` asks for them; its numbers
+/// may be none.
 fn order_in<'a>(alloc: Global, matches: &ArgMatches<'a>) -> Result<Option<Order<'a>>, AllocError>
     ensures { IfOk result (Finds (IsOrderOf (subcommand_rows_of matches.now))) }
 {
@@ -54,7 +59,7 @@ fn order_in<'a>(alloc: Global, matches: &ArgMatches<'a>) -> Result<Option<Order<
 }
 
 /// The subcommand that was named, with its matches.
-fn named_in<'m, 'a>(matches: &'m ArgMatches<'a>) -> Option<(&'a str, &'m ArgMatches<'a>)>
+pub(crate) fn named_in<'m, 'a>(matches: &'m ArgMatches<'a>) -> Option<(&'a str, &'m ArgMatches<'a>)>
     ensures { option_map (λ named. (named.0.now, rows_of (found_of named.1.now))) result
         ≡ subcommand_rows_of matches.now }
 {
@@ -80,6 +85,9 @@ fn order_of<'a>(
     }
     if command == MANIFEST {
         return Ok(manifest_in(names));
+    }
+    if command == MAKE_DEVICE {
+        return make_device_in(alloc, names);
     }
     if command == PROVISION {
         return provision_in(alloc, names);
@@ -121,6 +129,18 @@ fn manifest_in<'a>(names: &ArgMatches<'a>) -> Option<Order<'a>>
     let device = name_in(names, named::DEVICE)?;
     let file = name_in(names, named::FILE)?;
     Some(Order::Manifest { device, file })
+}
+
+fn make_device_in<'a>(
+    alloc: Global,
+    names: &ArgMatches<'a>,
+) -> Result<Option<Order<'a>>, AllocError>
+    ensures { IfOk result (Finds (Asks (codes "make-device") (rows_of (found_of names.now)))) }
+{
+    match device_in(alloc, names)? {
+        Some(device) => Ok(Some(Order::MakeDevice { device })),
+        None => Ok(None),
+    }
 }
 
 fn provision_in<'a>(alloc: Global, names: &ArgMatches<'a>) -> Result<Option<Order<'a>>, AllocError>
@@ -165,7 +185,7 @@ fn run_in<'a>(names: &ArgMatches<'a>) -> Option<Order<'a>>
 }
 
 /// The name that the words give for this argument.
-fn name_in<'a>(names: &ArgMatches<'a>, argument: &str) -> Option<&'a str>
+pub(crate) fn name_in<'a>(names: &ArgMatches<'a>, argument: &str) -> Option<&'a str>
     ensures { option_map (λ name. name.now) result
         ≡ first_of argument.now (rows_of (found_of names.now)) }
 {

@@ -3,6 +3,24 @@
 /// The word that names standard input.
 pub const STANDARD_INPUT: &str = "-";
 
+/// How many boots a trial has at most.
+pub const MOST_TRIAL_BOOTS: u8 = 7;
+
+/// A device of which a device file is to be made, as the words have it.
+#[derive(Debug, Drop)]
+pub struct NewDevice<'a> {
+    /// The length of a sector in bytes.
+    pub sector_size: u32,
+    /// How many sectors each slot of an image has, an entry for each image.
+    pub sectors: Vec<u32>,
+    /// The domain name of who makes the device.
+    pub vendor: &'a str,
+    /// The name of its class.
+    pub class: &'a str,
+    /// How many boots a trial has, 1 to [`MOST_TRIAL_BOOTS`], where the words say it.
+    pub trial_boots: Option<u8>,
+}
+
 /// What the words ask for: a subcommand, with the names that the words give its files.
 #[derive(Debug, Drop)]
 pub enum Order<'a> {
@@ -29,6 +47,11 @@ pub enum Order<'a> {
         device: &'a str,
         /// The name of the manifest.
         file: &'a str,
+    },
+    /// The making of a device file.
+    MakeDevice {
+        /// The device.
+        device: NewDevice<'a>,
     },
     /// The making of a flash file.
     Provision {

@@ -1,0 +1,102 @@
+//! The words of `make-device`: which device they say.
+
+ghost use Rattle.std.specs.Prelude.{◌≡◌, IfOk, map};
+ghost use Rattle.std.specs.List.{AllZip};
+ghost use Rattle.clap.specs.Words.{found_of, rows_of};
+ghost use Rattle.command_line.specs.Orders.{Finds, HasTrialBoots, IsNumber, SaysDevice};
+ghost use Rattle.command_line.specs.Orders.{number_at, words_of};
+
+use crate::commands::named;
+use crate::order_reading::name_in;
+use crate::orders::{MOST_TRIAL_BOOTS, NewDevice};
+use clap::ArgMatches;
+use common::ascii::number;
+use std::alloc::{AllocError, Global};
+
+/// The device that the words say; none where one of their numbers is none.
+pub fn device_in<'a>(
+    alloc: Global,
+    names: &ArgMatches<'a>,
+) -> Result<Option<NewDevice<'a>>, AllocError>
+    ensures { IfOk result (Finds (SaysDevice (rows_of (found_of names.now)))) }
+{
+    let Some(sector_size) = number_in(names, named::SECTOR) else {
+        return Ok(None);
+    };
+    let Some(slots) = name_in(names, named::SLOTS) else {
+        return Ok(None);
+    };
+    let Some(sectors) = numbers_in(alloc, slots)? else {
+        return Ok(None);
+    };
+    let Some(vendor) = name_in(names, named::VENDOR) else {
+        return Ok(None);
+    };
+    let Some(class) = name_in(names, named::CLASS) else {
+        return Ok(None);
+    };
+    let Some(trial_boots) = trial_boots_in(names) else {
+        return Ok(None);
+    };
+    Ok(Some(NewDevice {
+        sector_size,
+        sectors,
+        vendor,
+        class,
+        trial_boots,
+    }))
+}
+
+/// The number that the words give for this argument.
+pub fn number_in(names: &ArgMatches<'_>, argument: &str) -> Option<u32>
+    ensures { result ≡ number_at argument.now (rows_of (found_of names.now)) }
+{
+    number(name_in(names, argument)?.as_bytes())
+}
+
+/// How many boots a trial has, where the words say it; none where that is no number from 1 to
+/// [`MOST_TRIAL_BOOTS`].
+pub fn trial_boots_in(names: &ArgMatches<'_>) -> Option<Option<u8>>
+    ensures { Finds (HasTrialBoots (rows_of (found_of names.now))) result }
+{
+    if name_in(names, named::TRIAL_BOOTS).is_none() {
+        return Some(None);
+    }
+    let boots = u8::try_from(number_in(names, named::TRIAL_BOOTS)?).ok()?;
+    if 1 <= boots && boots <= MOST_TRIAL_BOOTS {
+        Some(Some(boots))
+    } else {
+        None
+    }
+}
+
+/// The numbers of a text, parted by commas; none where one of them is none.
+fn numbers_in(alloc: Global, text: &str) -> Result<Option<Vec<u32>>, AllocError>
+    ensures { IfOk result (Finds (λ numbers.
+        AllZip IsNumber (words_of text.now) numbers.items)) }
+{
+    let words = words_in(alloc, text)?;
+    numbers_of(alloc, &words)
+}
+
+/// The words of a text, parted by commas.
+fn words_in<'a>(alloc: Global, text: &'a str) -> Result<Vec<&'a str>, AllocError>
+    ensures { IfOk result (λ words. map (λ word. word.now) words.items ≡ words_of text.now) }
+{
+    text.split(',').collect(alloc)
+}
+
+/// The numbers that these words spell, each.
+fn numbers_of(alloc: Global, words: &[&str]) -> Result<Option<Vec<u32>>, AllocError>
+    ensures { IfOk result (Finds (λ numbers.
+        AllZip IsNumber (map (λ word. word.now) words.now) numbers.items)) }
+{
+    let mut numbers = Vec::new(alloc);
+    for word in words {
+        let Some(number) = number(word.as_bytes()) else {
+            return Ok(None);
+        };
+        numbers.push(number)?;
+    }
+    Ok(Some(numbers))
+}
