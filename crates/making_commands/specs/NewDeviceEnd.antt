@@ -1,0 +1,39 @@
+-- What making a device file comes to.
+use Rattle.std.specs.Prelude.{◌≡◌, ℕ, List, Option, unwrap_or}
+use Rattle.std.specs.Io.KnownBytes.{Appends}
+use Rattle.uuid.specs.Uuid.{namespace_dns}
+use Rattle.sector_map.specs.declared.error.MapError.{MapError}
+use Rattle.sector_map.specs.Making.{HasSizes, IsMapFault}
+use Rattle.manifest.specs.Ids.{uuid_of}
+use Rattle.answers.specs.declared.device.DeviceFile.{DeviceFile}
+use Rattle.answers.specs.AnswerText.{map_refusal_text}
+use Rattle.answers.specs.DeviceFile.{IsDeviceFile}
+use Rattle.command_line.specs.declared.orders.NewDevice.{NewDevice}
+use Rattle.reading_commands.specs.declared.answer.Answer.{Answer}
+use Rattle.reading_commands.specs.declared.answer.Answer.TheVariants.{Done, Refused, Cut}
+
+-- The device that is asked for: the map of its sizes, the identifiers of its names, and the boots
+-- of a trial, one where they aren't said.
+pub record IsAsked (asked : NewDevice) (device : DeviceFile) : Type 0 where
+  pub map : HasSizes asked.sector_size asked.sectors.items device.map
+  pub vendor : device.identity.vendor ≡ uuid_of namespace_dns asked.vendor.now
+  pub class : device.identity.class ≡ uuid_of device.identity.vendor asked.class.now
+  pub images : device.identity.images ≡ device.map.images
+  pub trial_boots : device.trial_boots ≡ unwrap_or asked.trial_boots 1
+
+-- `make-device` wrote the device file of the device that is asked for ..
+abbrev pub WritesDevice : NewDevice → Option (List ℕ) → Option (List ℕ) → Type 0
+WritesDevice asked old new =
+    (text : List ℕ) × (device : DeviceFile) × IsAsked asked device × IsDeviceFile text device
+    × Appends old new text
+
+-- .. or why its sizes make no map.
+abbrev pub RefusesSizes : NewDevice → Option (List ℕ) → Option (List ℕ) → Type 0
+RefusesSizes asked old new =
+    (fault : MapError) × IsMapFault asked.sector_size asked.sectors.items fault
+    × Appends old new (map_refusal_text fault)
+
+abbrev pub AnswersNewDevice : Answer → NewDevice → Option (List ℕ) → Option (List ℕ) → Type 0
+AnswersNewDevice Done asked old new = WritesDevice asked old new
+AnswersNewDevice Refused asked old new = RefusesSizes asked old new
+AnswersNewDevice Cut asked old new = ⊥

@@ -1,0 +1,148 @@
+//! `bootswap make-device`: the device file of a device, by the sizes of its flash and its names.
+ghost use Rattle.std.specs.Prelude.{◌≡◌, IfOk, OnOk, unwrap_or};
+ghost use Rattle.std.specs.Io.KnownBytes.{Appends};
+ghost use Rattle.answers.specs.AnswerText.{map_refusal_text};
+ghost use Rattle.answers.specs.DeviceFile.{IsDeviceFile};
+ghost use Rattle.making_commands.specs.NewDeviceEnd.{AnswersNewDevice, IsAsked};
+ghost use Rattle.sector_map.specs.Making.{HasSizes};
+
+use crate::map_text::map_text;
+use answers::{DeviceFault, DeviceFile, map_refusal_text, write_all};
+use command_line::{MOST_TRIAL_BOOTS, NewDevice};
+use manifest::{Identity, class_id, vendor_id};
+use reading_commands::{Answer, Refusal};
+use sector_map::{MapError, SectorMap};
+use std::alloc::{AllocError, Allocator, Global};
+use std::io::Write;
+
+/// How many boots a trial has where the words don't say it, nor the device file.
+const USUAL_TRIAL_BOOTS: u8 = 1;
+
+// The words may ask for each number of boots that a device file may have, and for no other.
+const _: () = prove!(MOST_TRIAL_BOOTS == answers::MOST_TRIAL_BOOTS);
+
+/// Writes to `out` the device file of the device that is asked for, and then to `err` where the
+/// parts of its flash lie; where its sizes make no map, it writes to `out` why.
+///
+/// The texts are made in memory of `heap` before one is written, and the device file is read back,
+/// for which its JSON value stands in memory of `alloc`. What is written is flushed, so that nothing
+/// is told of a file that couldn't be written.
+pub fn perform<'a, A: Allocator, O: Write, E: Write>(
+    alloc: Global,
+    heap: &A,
+    asked: &NewDevice<'_>,
+    out: &mut O,
+    err: &mut E,
+) -> Result<Answer, Refusal<'a>>
+    ensures { IfOk result (λ answer.
+        AnswersNewDevice answer asked.now (O.contents out.old) (O.contents out.new)) }
+{
+    let map = match SectorMap::new(asked.sector_size, asked.sectors.as_slice()) {
+        Ok(map) => map,
+        Err(fault) => {
+            refuse_sizes(heap, fault, out)?;
+            return Ok(Answer::Refused);
+        }
+    };
+    let device = device_of(asked, map);
+    let Ok(text) = device_text(heap, asked, &device.identity) else {
+        return Err(Refusal::NoMemory);
+    };
+    let Ok(parts) = map_text(heap, &map) else {
+        return Err(Refusal::NoMemory);
+    };
+    expect_file(alloc, text.as_bytes(), &device)?;
+    tell(text.as_bytes(), out)?;
+    tell(parts.as_bytes(), err)?;
+    Ok(Answer::Done)
+}
+
+/// Writes to `out` why sizes make no map.
+fn refuse_sizes<'a, A: Allocator, O: Write>(
+    heap: &A,
+    fault: MapError,
+    out: &mut O,
+) -> Result<(), Refusal<'a>>
+    ensures { OnOk result (Appends (O.contents out.old) (O.contents out.new)
+        (map_refusal_text fault)) }
+{
+    let Ok(text) = map_refusal_text(heap, fault) else {
+        return Err(Refusal::NoMemory);
+    };
+    tell(text.as_bytes(), out)
+}
+
+/// The device that is asked for, whose sizes make this map.
+fn device_of(asked: &NewDevice<'_>, map: SectorMap) -> DeviceFile
+    requires { HasSizes asked.now.sector_size asked.now.sectors.items map }
+    ensures { IsAsked asked.now result }
+{
+    let vendor = vendor_id(asked.vendor);
+    DeviceFile {
+        map,
+        identity: Identity {
+            vendor,
+            class: class_id(vendor, asked.class),
+            images: map.images,
+        },
+        trial_boots: asked.trial_boots.unwrap_or(USUAL_TRIAL_BOOTS),
+    }
+}
+
+/// The text of the device file.
+fn device_text<'h, A: Allocator>(
+    heap: &'h A,
+    asked: &NewDevice<'_>,
+    identity: &Identity,
+) -> Result<String<&'h A>, AllocError> {
+    let sector_size = asked.sector_size;
+    let (vendor, class) = (identity.vendor, identity.class);
+    let mut text = format!(in heap; "{{\"sector\":{sector_size},\"sectors\":")?;
+    write_list(&mut text, asked.sectors.as_slice())?;
+    write!(
+        text,
+        ",\n \"vendor-id\":\"{vendor}\",\n \"class-id\":\"{class}\""
+    )?;
+    if let Some(boots) = asked.trial_boots {
+        write!(text, ",\n \"trial-boots\":{boots}")?;
+    }
+    writeln!(text, "}}")?;
+    Ok(text)
+}
+
+/// Adds to a text the JSON list of these numbers.
+fn write_list<A: Allocator>(text: &mut String<&A>, numbers: &[u32]) -> Result<(), AllocError> {
+    let mut before = '[';
+    for number in numbers {
+        write!(text, "{before}{number}")?;
+        before = ',';
+    }
+    write!(text, "]")
+}
+
+/// Refuses a text that isn't the device file of this device.
+///
+/// The text that is made of a device is its device file, so that this refuses for want of memory
+/// alone. Nothing is proved of how it is made, but that what is read back is the device.
+fn expect_file<'a>(alloc: Global, text: &[u8], device: &DeviceFile) -> Result<(), Refusal<'a>>
+    ensures { OnOk result (IsDeviceFile text.now device.now) }
+{
+    match DeviceFile::read(alloc, text) {
+        Ok(read) if read == *device => Ok(()),
+        Err(DeviceFault::NoMemory) => Err(Refusal::NoMemory),
+        _ => Err(Refusal::DeviceFile),
+    }
+}
+
+/// Writes a text, and flushes it.
+fn tell<'a, W: Write>(text: &[u8], to: &mut W) -> Result<(), Refusal<'a>>
+    ensures { OnOk result (Appends (W.contents to.old) (W.contents to.new) text.now) }
+{
+    let Ok(()) = write_all(to, text) else {
+        return Err(Refusal::CannotWrite);
+    };
+    match to.flush() {
+        Ok(()) => Ok(()),
+        Err(_) => Err(Refusal::CannotWrite),
+    }
+}
