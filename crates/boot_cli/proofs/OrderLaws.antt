@@ -14,6 +14,7 @@ use Rattle.boot_cli.specs.Inputs.{names_of}
 use Rattle.boot_cli.specs.OrderEnd.{AnswersOrder}
 use Rattle.boot_cli.specs.ProvisionEnd.{AnswersMade, AnswersProvision}
 use Rattle.boot_cli.specs.RunEnd.{AnswersRun}
+use Rattle.making_commands.proofs.NewDeviceLaws.{AnswersNewDevice-kept}
 use Rattle.reading_commands.proofs.AnswerLaws.{AnswersCheck-kept, AnswersChoice-kept, AnswersDescription-kept, AnswersManifest-kept, AnswersShow-kept}
 
 pub AnswersMade-kept : (made : Made) (old mid new : Option (List ℕ))
@@ -86,6 +87,8 @@ AnswersOrder-kept (order.Manifest device named) input file then old mid new answ
   answered.2,
   AnswersManifest-kept answered.0 answered.1 input file old mid new answered.3 kept,
 )
+AnswersOrder-kept (order.MakeDevice device) input file then old mid new answered kept =
+    AnswersNewDevice-kept device old mid new answered kept
 AnswersOrder-kept (order.Provision device flash images) input file then old mid new answered kept = (
   answered.0,
   answered.1,

@@ -7,6 +7,7 @@ use Rattle.reading_commands.specs.declared.source.Source.{Source}
 use Rattle.reading_commands.specs.declared.source.Source.TheVariants as source
 use Rattle.reading_commands.specs.AnswerEnd.{AnswersCheck, AnswersChoice, AnswersDescription, AnswersManifest, AnswersShow}
 use Rattle.reading_commands.specs.Input.{FileBytes, IsNamed}
+use Rattle.making_commands.specs.NewDeviceEnd.{AnswersNewDevice}
 use Rattle.boot_cli.specs.Inputs.{names_of}
 use Rattle.boot_cli.specs.ProvisionEnd.{AnswersProvision}
 use Rattle.boot_cli.specs.RunEnd.{AnswersRun}
@@ -30,6 +31,8 @@ AnswersOrder answer (order.Image image) input file then old new =
 AnswersOrder answer (order.Manifest device named) input file then old new =
     (one other : Source) × AreNamed device.now named.now one other
     × AnswersManifest answer one other input file old new
+AnswersOrder answer (order.MakeDevice device) input file then old new =
+    AnswersNewDevice answer device old new
 AnswersOrder answer (order.Provision device flash images) input file then old new =
     (source : Source) × IsNamed device.now source
     × AnswersProvision answer source (names_of images.items) input file (then flash.now) old new

@@ -1,6 +1,7 @@
 //! The program `bootswap` but for its `main`: its words, and what they ask for. The commands that
-//! write no flash stand in `reading_commands`; here are those of a device itself, on a file, that
-//! boots, takes uploads and survives power cuts.
+//! write no flash stand in `reading_commands`, and those that make a file out of the words alone in
+//! `making_commands`; here are those of a device itself, on a file, that boots, takes uploads and
+//! survives power cuts.
 //!
 //! Promises: status 0 comes only where what the words ask for was done, for what the files that
 //! they name hold; and what `run` writes are the replies of a device to its script, with the cuts

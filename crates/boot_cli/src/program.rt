@@ -4,6 +4,7 @@ ghost use Rattle.boot_cli.specs.OrderEnd.{AnswersOrder};
 
 use crate::commands::{playing, provision};
 use command_line::{Order, OrderError, STANDARD_INPUT, fault_of, no_text, order};
+use making_commands::make_device;
 use reading_commands::{
     Answer, Host, Refusal, Source, check, choose, finish, image, manifest_file, refuse, show,
     status_after,
@@ -74,17 +75,22 @@ pub fn run_order<A: Allocator, H: Host, O: Write, E: Write>(
 {
     // A script's text, in which a refusal may name a file.
     let mut text = Vec::new(heap);
-    finish(perform(alloc, heap, order, &mut text, host, out), out, err)
+    finish(
+        perform(alloc, heap, order, &mut text, host, out, err),
+        out,
+        err,
+    )
 }
 
-/// Runs the command of an order.
-fn perform<'a, 'h, A: Allocator, H: Host, O: Write>(
+/// Runs the command of an order. What it tells on the way goes to `err`.
+fn perform<'a, 'h, A: Allocator, H: Host, O: Write, E: Write>(
     alloc: Global,
     heap: &'h A,
     order: Order<'a>,
     text: &'a mut Vec<u8, &'h A>,
     host: &mut H,
     out: &mut O,
+    err: &mut E,
 ) -> Result<Answer, Refusal<'a>>
     ensures { IfOk result (λ answer. AnswersOrder answer order.entry
         (H.input host.old) (H.file host.old) (H.file host.new)
@@ -101,6 +107,7 @@ fn perform<'a, 'h, A: Allocator, H: Host, O: Write>(
             let (device, file) = (Source::named(device), Source::named(file));
             manifest_file::perform(alloc, heap, device, file, host, out)
         }
+        Order::MakeDevice { device } => make_device::perform(alloc, heap, &device, out, err),
         Order::Provision {
             device,
             flash,
