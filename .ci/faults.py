@@ -44,6 +44,7 @@ def check_faults(checks):
     runs = [[], ["choose", full[0]], ["check", *full], ["check", "-", report("pair")], ["choose", "absent"]]
     runs += [["image", f"{EXAMPLES}/images/counted.img"], ["manifest", PAIR, f"{EXAMPLES}/manifests/both.json"]]
     runs += [["show", PAIR, "flash"], ["show", PAIR, "gone"]]
+    runs += [["make-device", "--sector", "512", "--slots", "2,2", "--vendor", "python.org", "--class", "sensor"]]
     runs += [["frob"], ["--help"]]
     for words in runs:
         usual = checks.run(words, given=pair)

@@ -3,6 +3,7 @@
 import json
 import os
 import struct
+import uuid
 
 from builders import ABC, COUNTER, DEPENDENCY, VENDOR, component, device, group, image, little, manifest
 from checking import EXAMPLES, ONE, PAIR, flash_of, names_in, read, report, short, shown, table
@@ -254,7 +255,76 @@ def check_manifests(checks):
     checks.expect("a refused map is told first", ["manifest", small, "absent"], 1, b"refused map 1 BadSector\n")
 
 
-COMMANDS = ("choose", "check", "image", "manifest", "provision", "show", "run")
+def parts_of(sector, slots):
+    """What is told of the parts of a flash, by the table of parts in docs/FORMATS.md."""
+    named = [
+        (f"{part} {number} {side}", count)
+        for side in ("primary", "secondary")
+        for number, sectors in enumerate(slots)
+        for part, count in (("slot", sectors), ("trailer", 1))
+    ]
+    at, lines = 0, []
+    for name, count in [*named, ("scratch", 1), ("log", 3)]:
+        lines.append(f"{name} {at} {count * sector}")
+        at += count * sector
+    lines += [f"largest {number} {sectors * sector}" for number, sectors in enumerate(slots)]
+    return "\n".join([*lines, f"flash {at}", ""]).encode()
+
+
+def asked(sector, slots, vendor, name, *boots):
+    """The words that ask for a device file."""
+    words = ["make-device", "--sector", str(sector), "--slots", ",".join(map(str, slots)), "--vendor", vendor, "--class", name]
+    return words + [it for many in boots for it in ("--trial-boots", str(many))]
+
+
+# Devices of one image and of eight, at the limits of their sizes, and their vendors, classes and boots of a trial.
+NEW_DEVICES = [
+    (512, [2, 2], "python.org", "sensor"),
+    (512, [1], "example.com", "", 1),
+    (512, [19], "example.com", "Weather station", 2),
+    (512, 8 * [1], "b\u00fccher.example", "a\nb\"c\\", 7),
+    (4096, [100, 168, 1], "", "x", 3),
+    (131072, [5459, 5459, 5459], "x" * 300, "-", 4),
+    (131072, [5459], "a b", "$", 5),
+]
+
+
+def check_new_devices(checks):
+    """Device files that `make-device` makes are those that are asked for, and the other commands take them."""
+    for sector, slots, vendor, name, *boots in NEW_DEVICES:
+        words = asked(sector, slots, vendor, name, *boots)
+        status, out, err = checks.run(words)
+        vendor_id = uuid.uuid5(uuid.NAMESPACE_DNS, vendor)
+        ids = {"vendor-id": str(vendor_id), "class-id": str(uuid.uuid5(vendor_id, name))}
+        wanted = {"sector": sector, "sectors": slots, **ids, **({"trial-boots": boots[0]} if boots else {})}
+        is_right = status == 0 and err == parts_of(sector, slots) and out.endswith(b"}\n")
+        is_right = is_right and json.loads(out) == wanted
+        title = f"make-device: {sector} bytes, slots of {slots}"
+        checks.tell(title, [] if is_right else [f"{status} {short(out)} {short(err)}"])
+        made = checks.file("made", out)
+        sent = checks.file("sent", manifest(vendor_id=ids["vendor-id"], class_id=ids["class-id"]))
+        told = f"sequence 1\ncomponent 0 3 test {ABC}\n".encode()
+        checks.expect(f"{title}: manifests for it are taken", ["manifest", made, sent], 0, told)
+        if sector * sum(slots) < 2**24:
+            one = checks.file("one", image([]))
+            checks.expect(f"{title}: its flash is made", ["provision", made, "new", *len(slots) * [one]], 0, b"done\n")
+            length = int(err.split()[-1])
+            is_so = os.path.getsize(f"{checks.folder}/new") == length
+            checks.tell(f"{title}: its flash has the bytes that are told", [] if is_so else [f"not {length}"])
+            os.remove(f"{checks.folder}/new")
+    for sector, slots, told in [
+        (500, [2], "1 BadSector"),
+        (131136, [2], "1 BadSector"),
+        (512, [2, 0], "2 BadCount"),
+        (512, 9 * [1], "2 BadCount"),
+        (512, [20], "3 TrailerFull"),
+        (131072, [5459, 5459, 5459, 1], "4 TooLarge"),
+    ]:
+        out = f"refused map {told}\n".encode()
+        checks.expect(f"make-device: {told}: {sector} {slots}", asked(sector, slots, "v", "c"), 1, out)
+
+
+COMMANDS = ("choose", "check", "image", "manifest", "make-device", "provision", "show", "run")
 
 
 def check_words(checks):
@@ -269,7 +339,9 @@ def check_words(checks):
     wrong += [["provision"], ["provision", "a"], ["provision", "a", "b"], ["provision", "a", "-", "b"]]
     wrong += [["provision", "-", "a", "-"], ["provision", "a", "b", "-", "-"], ["show", "a"], ["show", "a", "b", "c"]]
     wrong += [["show", "-", "-"], ["run", "a", "b"], ["run", "a", "b", "c", "d"], ["run", "a", "-", "b"]]
-    wrong += [["run", "-", "a", "-"]]
+    wrong += [["run", "-", "a", "-"], ["make-device"], asked("x", [2], "v", "c"), asked(2**32, [2], "v", "c")]
+    wrong += [asked(512, [2, ""], "v", "c"), asked(512, ["2 2"], "v", "c"), asked(512, [2], "v", "c", 0)]
+    wrong += [asked(512, [2], "v", "c", 8), asked(512, [2], "v", "c", 1, 1), asked(512, [2], "v", "c")[:-2]]
     for words in [*wrong, ["choose", b"\xff"], ["a\nb\x1bc"]]:
         status, out, err = checks.run(words)
         is_plain = b"a\nb" not in err and b"\x1b" not in err
@@ -335,13 +407,25 @@ def check_writes(checks):
     boot = checks.file("boot", b"boot\n")
     prints = [["choose", pair], ["check", pair, report("pair")], ["image", one], ["manifest", PAIR, abc]]
     prints += [["provision", PAIR, "flash", one, one], ["show", PAIR, "flash"], ["run", PAIR, "flash", boot]]
-    prints += [["--help"], ["--version"]]
+    prints += [asked(512, [2, 2], "v", "c"), ["--help"], ["--version"]]
     with open("/dev/full", "wb") as full:
         for words in prints:
             checks.expect(f"standard output is full: {words[0]}", words, 1, stdout=full)
             checks.expect(f"standard output is closed: {words[0]}", words, 1, closed=1)
         for words in [["choose", "absent"], ["frob"]]:
             checks.expect(f"standard error is full: {words[0]}", words, 1, stderr=full)
+        status, out, _ = checks.run(asked(512, [2, 2], "v", "c"), stderr=full)
+        is_right = status == 1 and json.loads(out)["sectors"] == [2, 2]
+        checks.tell("standard error is full: make-device", [] if is_right else [f"{status} {short(out)}"])
 
 
-CHECKS = (check_examples, check_tables, check_images, check_manifests, check_words, check_reads, check_writes)
+CHECKS = (
+    check_examples,
+    check_tables,
+    check_images,
+    check_manifests,
+    check_new_devices,
+    check_words,
+    check_reads,
+    check_writes,
+)
