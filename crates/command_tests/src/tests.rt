@@ -8,6 +8,7 @@ mod faults;
 mod image_bytes;
 mod images;
 mod made_images;
+mod make_device;
 mod manifests;
 mod orders;
 mod sizes;

@@ -9,7 +9,7 @@ use std::test::Fail;
 type Words = &'static [&'static str];
 
 /// Words of each command, and the order that they give.
-const ORDERS: [(Words, &str); 9] = [
+const ORDERS: [(Words, &str); 11] = [
     (
         &["bootswap", "choose", "t.txt"],
         r#"Choose { table: "t.txt" }"#,
@@ -25,6 +25,33 @@ const ORDERS: [(Words, &str); 9] = [
     (
         &["bootswap", "manifest", "d.json", "m.json"],
         r#"Manifest { device: "d.json", file: "m.json" }"#,
+    ),
+    (
+        &[
+            "bootswap",
+            "make-device",
+            "--sector",
+            "512",
+            "--slots",
+            "2,19",
+            "--vendor",
+            "python.org",
+            "--class",
+            "sensor",
+        ],
+        r#"MakeDevice { device: NewDevice { sector_size: 512, sectors: [2, 19], vendor: "python.org", class: "sensor", trial_boots: None } }"#,
+    ),
+    (
+        &[
+            "bootswap",
+            "make-device",
+            "--trial-boots=7",
+            "--class=-",
+            "--vendor=",
+            "--slots=0",
+            "--sector=4294967295",
+        ],
+        r#"MakeDevice { device: NewDevice { sector_size: 4294967295, sectors: [0], vendor: "", class: "-", trial_boots: Some(7) } }"#,
     ),
     (
         &["bootswap", "provision", "d.json", "f.bin", "a.img"],
@@ -70,7 +97,7 @@ fn each_command_is_read_with_its_names(rt: HostRuntime) -> Result<(), Fail> {
 const WRONG_WORDS: [(Words, &str, &str); 13] = [
     (
         &["bootswap"],
-        "'bootswap' requires a subcommand but one was not provided\n  [subcommands: choose, check, image, manifest, provision, show, run, help]",
+        "'bootswap' requires a subcommand but one was not provided\n  [subcommands: choose, check, image, manifest, make-device, provision, show, run, help]",
         "[COMMAND]",
     ),
     (
@@ -241,18 +268,19 @@ struct Help {
 
 /// Every help. The short ones name the exit statuses and an example, the long ones what is read and
 /// printed.
-const HELPS: [Help; 18] = [
+const HELPS: [Help; 20] = [
     Help {
         words: &["bootswap", "-h"],
         parts: &[
             "Usage: bootswap [COMMAND]\n",
-            "  choose     Reads a table",
-            "  check      Says whether",
-            "  image      Checks an image",
-            "  manifest   Checks a manifest",
-            "  provision  Makes the flash file",
-            "  show       Prints what stands",
-            "  run        Runs a device",
+            "  choose       Reads a table",
+            "  check        Says whether",
+            "  image        Checks an image",
+            "  manifest     Checks a manifest",
+            "  make-device  Makes the device file",
+            "  provision    Makes the flash file",
+            "  show         Prints what stands",
+            "  run          Runs a device",
             "Exit status: 0 done, 1 refused, 2",
         ],
     },
@@ -346,6 +374,28 @@ const HELPS: [Help; 18] = [
             "refused map 1 BadSector",
             "  2  the words",
             "  bootswap manifest device.json manifest.json\n",
+        ],
+    },
+    Help {
+        words: &["bootswap", "make-device", "-h"],
+        parts: &[
+            "Usage: bootswap make-device --sector <BYTES> --slots <N,N,..>\n           --vendor <DOMAIN> --class <NAME> [--trial-boots <N>]\n",
+            "  --slots <N,N,..> ",
+            "Exit status: 0 ",
+            "Example: bootswap make-device ",
+        ],
+    },
+    Help {
+        words: &["bootswap", "help", "make-device"],
+        parts: &[
+            "  bootswap make-device --sector 512 --slots 2,2 --vendor python.org \\\n      --class sensor > device.json\n",
+            "  {\"sector\":512,\"sectors\":[2,2],\n",
+            "   \"class-id\":\"9ed1b5d5-f629-5008-93c6-1958ba5b9953\"}\n",
+            "  slot 0 primary 0 1024\n  trailer 0 primary 1024 512\n",
+            "  largest 1 1024\n  flash 8192\n",
+            "  --trial-boots <N> ",
+            "  refused map 4 TooLarge ",
+            "  2  the words",
         ],
     },
     Help {
