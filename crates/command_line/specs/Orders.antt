@@ -7,11 +7,11 @@ use Rattle.clap.specs.Words.{Row, Text, all_of, first_of, subcommand_of}
 use Rattle.clap.specs.declared.error.kind.ErrorKind.{ErrorKind}
 use Rattle.clap.specs.declared.error.kind.ErrorKind.TheVariants.{ArgumentConflict, InvalidValue}
 use Rattle.common.specs.Ascii.{number_of}
+use Rattle.common.specs.declared.limits.TheConstants.{MOST_TRIAL_BOOTS}
 use Rattle.command_line.specs.Commands.{bootswap}
 use Rattle.command_line.specs.declared.orders.NewDevice.{NewDevice}
 use Rattle.command_line.specs.declared.orders.Order.{Order}
 use Rattle.command_line.specs.declared.orders.Order.TheVariants.{Choose, Check, Image, Manifest, MakeDevice, Provision, Show, Run}
-use Rattle.command_line.specs.declared.orders.TheConstants.{MOST_TRIAL_BOOTS}
 
 -- The subcommand of an order.
 abbrev pub command_of : Order → Text

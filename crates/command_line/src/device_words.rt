@@ -8,9 +8,10 @@ ghost use Rattle.command_line.specs.Orders.{number_at, words_of};
 
 use crate::commands::named;
 use crate::order_reading::name_in;
-use crate::orders::{MOST_TRIAL_BOOTS, NewDevice};
+use crate::orders::NewDevice;
 use clap::ArgMatches;
 use common::ascii::number;
+use common::limits::MOST_TRIAL_BOOTS;
 use std::alloc::{AllocError, Global};
 
 /// The device that the words say; none where one of their numbers is none.

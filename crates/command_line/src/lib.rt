@@ -21,4 +21,4 @@ pub use error::OrderError;
 pub use escaped::Escaped;
 pub use faults::{fault_of, no_text};
 pub use order_reading::order;
-pub use orders::{MOST_TRIAL_BOOTS, NewDevice, Order, STANDARD_INPUT};
+pub use orders::{NewDevice, Order, STANDARD_INPUT};

@@ -3,9 +3,6 @@
 /// The word that names standard input.
 pub const STANDARD_INPUT: &str = "-";
 
-/// How many boots a trial has at most.
-pub const MOST_TRIAL_BOOTS: u8 = 7;
-
 /// A device of which a device file is to be made, as the words have it.
 #[derive(Debug, Drop)]
 pub struct NewDevice<'a> {
@@ -17,7 +14,8 @@ pub struct NewDevice<'a> {
     pub vendor: &'a str,
     /// The name of its class.
     pub class: &'a str,
-    /// How many boots a trial has, 1 to [`MOST_TRIAL_BOOTS`], where the words say it.
+    /// How many boots a trial has, where the words say it: 1 to
+    /// [`common::limits::MOST_TRIAL_BOOTS`].
     pub trial_boots: Option<u8>,
 }
 

@@ -8,7 +8,7 @@ ghost use Rattle.sector_map.specs.Making.{HasSizes};
 
 use crate::map_text::map_text;
 use answers::{DeviceFault, DeviceFile, map_refusal_text, write_all};
-use command_line::{MOST_TRIAL_BOOTS, NewDevice};
+use command_line::NewDevice;
 use manifest::{Identity, class_id, vendor_id};
 use reading_commands::{Answer, Refusal};
 use sector_map::{MapError, SectorMap};
@@ -17,9 +17,6 @@ use std::io::Write;
 
 /// How many boots a trial has where the words don't say it, nor the device file.
 const USUAL_TRIAL_BOOTS: u8 = 1;
-
-// The words may ask for each number of boots that a device file may have, and for no other.
-const _: () = prove!(MOST_TRIAL_BOOTS == answers::MOST_TRIAL_BOOTS);
 
 /// Writes to `out` the device file of the device that is asked for, and then to `err` where the
 /// parts of its flash lie; where its sizes make no map, it writes to `out` why.
