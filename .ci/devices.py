@@ -226,6 +226,12 @@ def check_inputs(checks):
 IN_USE = b"error: flash in use\n"
 
 
+def is_written_by_one(path):
+    """Whether a program holds a file for itself, by what the system says of locks, without taking one."""
+    of_file = f":{os.stat(path).st_ino} "
+    return any("FLOCK" in it and "WRITE" in it and of_file in it for it in read("/proc/locks").decode().splitlines())
+
+
 def check_holding(checks):
     """A flash file that another program works on is refused, and what takes its name isn't written."""
     whole = flash_of(checks)
@@ -255,8 +261,8 @@ def check_holding(checks):
     waits = subprocess.Popen(
         [checks.program, *run], cwd=checks.folder, stdin=subprocess.PIPE, stdout=subprocess.PIPE
     )
-    tries = iter(range(100))
-    while checks.run(show)[2] != IN_USE and next(tries, None) is not None:
+    tries = iter(range(200))
+    while not is_written_by_one(path("flash")) and next(tries, None) is not None:
         time.sleep(0.05)
     for words in others:
         checks.expect(f"a flash file of a run that waits: {shown(words)}", words, 1, err=IN_USE)
