@@ -294,7 +294,7 @@ pub const USAGE: &str = "bootswap make-device --sector <BYTES> --slots <N,N,..>
            --vendor <DOMAIN> --class <NAME> [--trial-boots <N>]";
 
 pub const PROVISION: Help = Help {
-    about: "Makes the flash file of a device, with one image for each slot pair",
+    about: "Makes the flash file of a device, an image for each slot pair",
     long_about: "Makes the flash of a device in a file and provisions it: FLASH gets the length
 of the device's flash, all 0xFF, with each IMAGE at the start of its primary
 slot, the first for image 0, and then what a device starts from: empty trailers,

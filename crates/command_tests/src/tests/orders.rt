@@ -393,7 +393,7 @@ const HELPS: [Help; 20] = [
             "   \"class-id\":\"9ed1b5d5-f629-5008-93c6-1958ba5b9953\"}\n",
             "  slot 0 primary 0 1024\n  trailer 0 primary 1024 512\n",
             "  largest 1 1024\n  flash 8192\n",
-            "  --trial-boots <N> ",
+            "  --trial-boots <N>\n",
             "  refused map 4 TooLarge ",
             "  2  the words",
         ],
