@@ -33,6 +33,34 @@ MEMORY, MEMORY_OF_JOB = 2_300_000_000, 800_000_000
 # The most processes that are of use to one check.
 MOST_JOBS = 4
 
+# What the proof of a crate took, in seconds of a processor, with four checks side by side. It says which crates others wait for
+# longest, and nothing else. Lines are a poor guess of it: much of `command_line` and `manifest` is what `clap` and JSON bring.
+SECONDS = {
+    "answers": 200,
+    "boot_cli": 270,
+    "boot_core": 300,
+    "bootswap": 60,
+    "certificate": 345,
+    "chooser": 97,
+    "command_line": 385,
+    "common": 19,
+    "file_flash": 44,
+    "flash_model": 100,
+    "image_header": 41,
+    "machine": 80,
+    "making_commands": 60,
+    "manifest": 129,
+    "reading_commands": 90,
+    "script": 79,
+    "sector_map": 56,
+    "set_log": 90,
+    "swap_scratch": 70,
+    "tlv": 232,
+    "trailer": 181,
+    "upload": 170,
+    "version_order": 42,
+}
+
 TARGET = "x86_64-unknown-linux-gnu"
 
 
@@ -54,7 +82,8 @@ class Crate:
         self.made = f"{BUILD}/{name}.o" if self.is_program else f"{BUILD}/{name}.rlib"
         self.stamp = f"{BUILD}/{name}.stamp"
         self.files = sorted(files_of(self.folder))
-        self.lines = sum(contents.count(b"\n") for path, contents in self.files if path.endswith(".rt"))
+        lines = sum(contents.count(b"\n") for path, contents in self.files if path.endswith(".rt"))
+        self.seconds = SECONDS.get(name, lines / 6)
 
     @functools.lru_cache(maxsize=None)
     def below(self):
@@ -142,11 +171,11 @@ class Build:
         self.left = [it for it in crates if not it.is_built(toolchain)]
         self.running, self.processes, self.is_stopped = {}, set(), False
         self.processors, self.memory = len(os.sched_getaffinity(0)), 0.9 * free_memory()
-        # How many lines have to be proved, one crate after the other, from a crate on.
-        self.behind = {it: it.lines for it in crates}
+        # How long the proofs take that wait for each other, from a crate on.
+        self.behind = {it: it.seconds for it in crates}
         for crate in reversed(crates):
             for it in crate.own:
-                self.behind[it] = max(self.behind[it], it.lines + self.behind[crate])
+                self.behind[it] = max(self.behind[it], it.seconds + self.behind[crate])
 
     def seconds(self):
         return f"{time.monotonic() - self.start:.0f} s"
