@@ -7,6 +7,7 @@ use Rattle.flash_model.specs.Chip.{Chip, Ends, IsErased, Reads, SameOutside}
 use Rattle.sector_map.specs.declared.layout.SectorMap.{SectorMap}
 use Rattle.sector_map.specs.Map.{IsLaidOut, Keeps}
 use Rattle.sector_map.specs.Part.{Log, only}
+use Rattle.set_log.specs.declared.format.TheConstants.{GATE, PLACE, RECORD}
 use Rattle.set_log.specs.Log.{log_bytes, log_of}
 use Rattle.set_log.specs.Ring.{is_closed, places_in, reads_erased}
 use Rattle.set_log.specs.Written.{HasClosingFlag}
@@ -36,7 +37,7 @@ pub record TellsErased (map : SectorMap) (sector place : ℕ) (old new : Chip)
   pub same : new ≡ old
   -- and the answer is exact.
   pub ok : IfOk result (λ yes. yes
-      ≡ reads_erased (log_bytes map old) (sector * map.sector_size + 64 * place) 64)
+      ≡ reads_erased (log_bytes map old) (sector * map.sector_size + PLACE * place) PLACE)
   pub ends : Ends result old new
 
 -- A call tells whether the gate of a place is set.
@@ -45,8 +46,8 @@ pub record TellsGated (map : SectorMap) (sector place : ℕ) (old new : Chip)
   -- Nothing changes,
   pub same : new ≡ old
   -- and the answer is yes exactly where the gate isn't erased.
-  pub ok : IfOk result (λ yes.
-      reads_erased (log_bytes map old) (sector * map.sector_size + 64 * place + 56) 8 ≡ not yes)
+  pub ok : IfOk result (λ yes. reads_erased (log_bytes map old)
+      (sector * map.sector_size + PLACE * place + GATE) 8 ≡ not yes)
   pub ends : Ends result old new
 
 -- A call reads the record of a place.
@@ -56,7 +57,8 @@ pub record ReadsPlace (map : SectorMap) (sector place : ℕ) (old new : Chip)
   pub same : new ≡ old
   -- and the answer is the bytes before the gate.
   pub ok : IfOk result (λ body. body ≡ slice_range (log_bytes map old)
-      (sector * map.sector_size + 64 * place) (sector * map.sector_size + 64 * place + 56))
+      (sector * map.sector_size + PLACE * place)
+      (sector * map.sector_size + PLACE * place + RECORD))
   pub ends : Ends result old new
 
 -- There is such a place, and all but its gate is erased.
@@ -64,7 +66,7 @@ pub record CanWriteBody (map : SectorMap) (number index : ℕ) (chip : Chip) : T
   pub laid_out : IsLaidOut map chip
   pub sector : number < 3
   pub place : index < places_in map.sector_size
-  pub erased : IsErased (log_of map chip) (number * map.sector_size + 64 * index) 56
+  pub erased : IsErased (log_of map chip) (number * map.sector_size + PLACE * index) RECORD
 
 -- A call writes a record at a place, without the gate.
 pub record WritesBody (map : SectorMap) (sector place : ℕ) (body : List ℕ) (old new : Chip)
@@ -72,11 +74,11 @@ pub record WritesBody (map : SectorMap) (sector place : ℕ) (body : List ℕ) (
   -- No part but the log is written,
   pub outside : Keeps map (only Log) old new
   -- of the log nothing but the bytes before the gate,
-  pub within : SameOutside (sector * map.sector_size + 64 * place) 56 (log_of map old)
+  pub within : SameOutside (sector * map.sector_size + PLACE * place) RECORD (log_of map old)
       (log_of map new)
   -- and they are the record where the call ends.
   pub ok : OnOk result
-      (Reads (log_of map new) (sector * map.sector_size + 64 * place) body)
+      (Reads (log_of map new) (sector * map.sector_size + PLACE * place) body)
   -- No sector is erased.
   pub erases : new.erases ≡ old.erases
   pub ends : Ends result old new
@@ -86,7 +88,7 @@ pub record CanSetGate (map : SectorMap) (number index : ℕ) (chip : Chip) : Typ
   pub laid_out : IsLaidOut map chip
   pub sector : number < 3
   pub place : index < places_in map.sector_size
-  pub erased : IsErased (log_of map chip) (number * map.sector_size + 64 * index + 56) 8
+  pub erased : IsErased (log_of map chip) (number * map.sector_size + PLACE * index + GATE) 8
 
 -- A call sets the gate of a place.
 pub record SetsGate (map : SectorMap) (sector place : ℕ) (old new : Chip) {T : Type 0}
@@ -94,14 +96,14 @@ pub record SetsGate (map : SectorMap) (sector place : ℕ) (old new : Chip) {T :
   -- No part but the log is written,
   pub outside : Keeps map (only Log) old new
   -- and of the log nothing but the gate.
-  pub within : SameOutside (sector * map.sector_size + 64 * place + 56) 8 (log_of map old)
+  pub within : SameOutside (sector * map.sector_size + PLACE * place + GATE) 8 (log_of map old)
       (log_of map new)
   -- The gate is set where the call ends,
   pub ok : OnOk result
-      (reads_erased (log_bytes map new) (sector * map.sector_size + 64 * place + 56) 8 ≡ false)
+      (reads_erased (log_bytes map new) (sector * map.sector_size + PLACE * place + GATE) 8 ≡ false)
   -- and holds a flag.
   pub flag : OnOk result
-      (Reads (log_of map new) (sector * map.sector_size + 64 * place + 56) FLAG)
+      (Reads (log_of map new) (sector * map.sector_size + PLACE * place + GATE) FLAG)
   -- No sector is erased.
   pub erases : new.erases ≡ old.erases
   pub ends : Ends result old new

@@ -53,7 +53,7 @@ head_bytes s =
     (kind_number s.kind ∷ s.mask ∷ (if s.permanent then 1 else 0) ∷ s.left ∷ [])
     ++ little_bytes 4 s.sequence
 
--- The 56 bytes of a record: eight floors and sixteen zeros follow.
+-- The bytes of a record: eight floors and sixteen zeros follow the first eight.
 unfoldable pub record_bytes : State → List ℕ
 record_bytes s = head_bytes s ++ (words s.floors ++ replicate 16 0)
 

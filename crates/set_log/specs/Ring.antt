@@ -1,10 +1,11 @@
 -- The ring: a log of three sectors, numbered 0 to 2, of which the first follows the third. Of a
--- sector of e bytes the first e / 64 - 1 times 64 are places, each for a record of 56 bytes and its
--- gate, and the last 8 are its closing unit.
+-- sector of e bytes the first e / PLACE - 1 times PLACE are places, each for a record and its gate,
+-- and the last 8 are its closing unit.
 use Rattle.std.specs.Prelude.{◌≡◌, ℕ, zero, suc, ◌+◌, ◌-◌, ◌*◌, ◌/◌, ◌%◌, ◌<◌, Bool, true, false, not, ◌&&◌}
 use Rattle.std.specs.Prelude.{List, [], ◌∷◌, slice_range, Option, Some, None, if◌then◌else◌, find}
 use Rattle.flash_model.specs.Chip.{Chip, IsErased}
 use Rattle.flash_model.specs.Units.{are_erased}
+use Rattle.set_log.specs.declared.format.TheConstants.{GATE, PLACE, RECORD}
 
 -- So many bytes of the log from an offset on are erased.
 unfoldable pub reads_erased : List ℕ → ℕ → ℕ → Bool
@@ -12,14 +13,14 @@ reads_erased log at n = are_erased (slice_range log at (at + n))
 
 -- How many places a sector has.
 abbrev pub places_in : ℕ → ℕ
-places_in e = e / 64 - 1
+places_in e = e / PLACE - 1
 
 -- The last record whose gate is set, of the first n places from an offset on.
 abbrev pub last_gated : List ℕ → ℕ → ℕ → Option (List ℕ)
 last_gated log at zero = None
 last_gated log at (suc n) =
-    if reads_erased log (at + 64 * n + 56) 8 then last_gated log at n
-    else Some (slice_range log (at + 64 * n) (at + 64 * n + 56))
+    if reads_erased log (at + PLACE * n + GATE) 8 then last_gated log at n
+    else Some (slice_range log (at + PLACE * n) (at + PLACE * n + RECORD))
 
 -- The last gated record of a sector.
 unfoldable pub last_of : ℕ → List ℕ → ℕ → Option (List ℕ)
@@ -55,7 +56,7 @@ register e log = last_in e log (active_of e log)
 
 -- The last place of a sector is erased, so a record fits behind those that it has.
 abbrev pub has_room : ℕ → List ℕ → ℕ → Bool
-has_room e log sector = reads_erased log (sector * e + 64 * (places_in e - 1)) 64
+has_room e log sector = reads_erased log (sector * e + PLACE * (places_in e - 1)) PLACE
 
 abbrev pub has_room_in : ℕ → List ℕ → Option ℕ → Bool
 has_room_in e log None = false
@@ -74,4 +75,4 @@ pub record IsActive (e : ℕ) (log : List ℕ) (sector : ℕ) : Type 0 where
 -- From a place on, all places of a sector are erased.
 pub record IsFree (e : ℕ) (log : Chip) (sector place : ℕ) : Type 0 where
   pub within : place < places_in e
-  pub erased : IsErased log (sector * e + 64 * place) (64 * (places_in e - place))
+  pub erased : IsErased log (sector * e + PLACE * place) (PLACE * (places_in e - place))

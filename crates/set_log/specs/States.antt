@@ -7,6 +7,7 @@ use Rattle.flash_model.specs.Chip.{Chip, Ends, SameOutside}
 use Rattle.sector_map.specs.declared.layout.SectorMap.{SectorMap}
 use Rattle.sector_map.specs.Map.{IsWithin, Keeps}
 use Rattle.sector_map.specs.Part.{Log, only}
+use Rattle.set_log.specs.declared.format.TheConstants.{PLACE}
 use Rattle.set_log.specs.declared.error.LogError.{LogError}
 use Rattle.set_log.specs.declared.state.State.{State}
 use Rattle.set_log.specs.Log.{Answers, is_place_free, log_bytes, log_of, state_of}
@@ -40,7 +41,8 @@ pub record Appends (map : SectorMap) (state : State) (old new : Chip) {T : Type 
   -- Where a place of the active sector is free, nothing but the first such place is written.
   pub within : (sector place : ℕ) → IsActive map.sector_size (log_bytes map old) sector
       → IsFirstFree map.sector_size (log_of map old) sector place
-      → SameOutside (sector * map.sector_size + 64 * place) 64 (log_of map old) (log_of map new)
+      → SameOutside (sector * map.sector_size + PLACE * place) PLACE (log_of map old)
+      (log_of map new)
   -- The record stands there where the call ends, and a flag as its gate.
   pub written : OnOk result ((sector place : ℕ)
       → IsActive map.sector_size (log_bytes map old) sector

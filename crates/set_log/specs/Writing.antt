@@ -6,6 +6,7 @@ use Rattle.flash_model.specs.Chip.{Chip, Ends, IsErased, SameOutside}
 use Rattle.sector_map.specs.declared.layout.SectorMap.{SectorMap}
 use Rattle.sector_map.specs.Map.{IsLaidOut, Keeps}
 use Rattle.sector_map.specs.Part.{Log, only}
+use Rattle.set_log.specs.declared.format.TheConstants.{PLACE}
 use Rattle.set_log.specs.Log.{is_place_free, log_bytes, log_of, record_of}
 use Rattle.set_log.specs.Ring.{IsActive, IsFree, is_closed, last_of}
 use Rattle.set_log.specs.Written.{HasClosingFlag, IsBesideNext, IsFirstFree, IsMovedOn, IsWritten}
@@ -23,7 +24,7 @@ pub record WritesRecord (map : SectorMap) (sector place : ℕ) (body : List ℕ)
   -- No part but the log is written,
   pub outside : Keeps map (only Log) old new
   -- and of the log nothing but the place.
-  pub within : SameOutside (sector * map.sector_size + 64 * place) 64 (log_of map old)
+  pub within : SameOutside (sector * map.sector_size + PLACE * place) PLACE (log_of map old)
       (log_of map new)
   -- Whatever happened, the last record of the sector is the old one or the new one,
   pub either : (last_of map.sector_size (log_bytes map new) sector
@@ -67,7 +68,8 @@ pub record AppendsRecord (map : SectorMap) (body : List ℕ) (old new : Chip) {T
   -- Where a place of the active sector is free, nothing but the first such place is written,
   pub within : (sector place : ℕ) → IsActive map.sector_size (log_bytes map old) sector
       → IsFirstFree map.sector_size (log_of map old) sector place
-      → SameOutside (sector * map.sector_size + 64 * place) 64 (log_of map old) (log_of map new)
+      → SameOutside (sector * map.sector_size + PLACE * place) PLACE (log_of map old)
+      (log_of map new)
   -- and the record stands there where the call ends.
   pub written : OnOk result ((sector place : ℕ)
       → IsActive map.sector_size (log_bytes map old) sector

@@ -2,12 +2,13 @@
 use Rattle.std.specs.Prelude.{◌≡◌, ℕ, ◌+◌, ◌-◌, ◌*◌, ◌<◌, ◌≤◌, List, slice_index}
 use Rattle.flash_model.specs.Chip.{Chip, Reads}
 use Rattle.flash_model.specs.declared.unit.TheConstants.{FLAG}
+use Rattle.set_log.specs.declared.format.TheConstants.{GATE, PLACE}
 use Rattle.set_log.specs.Ring.{IsFree, next_of, previous_of}
 
 -- A record stands at a place of a sector: its bytes, and a flag as its gate.
 pub record IsWritten (e : ℕ) (log : Chip) (sector place : ℕ) (bytes : List ℕ) : Type 0 where
-  pub body : Reads log (sector * e + 64 * place) bytes
-  pub gate : Reads log (sector * e + 64 * place + 56) FLAG
+  pub body : Reads log (sector * e + PLACE * place) bytes
+  pub gate : Reads log (sector * e + PLACE * place + GATE) FLAG
 
 -- The closing unit of a sector holds a flag.
 abbrev pub HasClosingFlag : ℕ → Chip → ℕ → Type 0

@@ -5,8 +5,8 @@ ghost use Rattle.sector_map.specs.Map.{IsLaidOut};
 ghost use Rattle.set_log.specs.Reading.{FindsActive, FindsFree, ReadsLast, ReadsRecord, TellsActive};
 ghost use Rattle.set_log.specs.Ring.{next_of, previous_of};
 
+use crate::format::RECORD;
 use crate::places::{is_closed, is_gated, is_place_erased, read_place};
-use crate::record::RECORD;
 use flash_model::{Flash, FlashError};
 use sector_map::SectorMap;
 

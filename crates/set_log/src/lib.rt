@@ -9,6 +9,7 @@
 
 mod active_sector;
 mod error;
+mod format;
 mod laws;
 mod log;
 mod places;

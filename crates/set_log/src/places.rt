@@ -4,15 +4,9 @@ ghost use Rattle.std.specs.Prelude.{◌<◌};
 ghost use Rattle.sector_map.specs.Map.{IsLaidOut};
 ghost use Rattle.set_log.specs.Places.{CanClose, CanSetGate, CanWriteBody, Closes, ErasesSector, HasPlace, ReadsPlace, SetsGate, TellsClosed, TellsErased, TellsGated, WritesBody};
 
-use crate::record::RECORD;
+use crate::format::{GATE, PLACE, RECORD};
 use flash_model::{Flash, FlashError, is_erased, is_unit_erased, set_unit};
 use sector_map::SectorMap;
-
-/// How many bytes a place has: those of a record and its gate.
-const PLACE: u32 = 64;
-
-/// Where the gate of a place stands in it.
-const GATE: u32 = 56;
 
 /// Whether a sector of the log is closed.
 pub(crate) fn is_closed<F: Flash>(

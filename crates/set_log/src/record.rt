@@ -4,12 +4,10 @@ ghost use Rattle.std.specs.Prelude.{◌≡◌, ◌↔◌, ◌+◌, ◌-◌, ◌^
 ghost use Rattle.byteorder.specs.Endian.{little_bytes, little_number};
 ghost use Rattle.set_log.specs.Record.{IsSized, Spells, fields, fits, record_bytes, state_from};
 
+use crate::format::RECORD;
 use crate::state::{Kind, State};
 use byteorder::{ByteOrder, LittleEndian};
 use common::limits::MOST_IMAGES;
-
-/// How many bytes a record has, without its gate.
-pub(crate) const RECORD: usize = 56;
 
 /// A state is that of bytes exactly where they spell it and it keeps the table of records, so that
 /// what is written is read back, and what is read was written so. The state is one that a program

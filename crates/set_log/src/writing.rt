@@ -7,8 +7,8 @@ ghost use Rattle.set_log.specs.Ring.{IsActive};
 ghost use Rattle.set_log.specs.Writing.{AppendsRecord, CanWrite, ErasesLog, MovesOn, StartsRecord, WritesRecord};
 
 use crate::active_sector::{find_active, free_place, next_of};
+use crate::format::RECORD;
 use crate::places::{close, erase_sector, set_gate, write_body};
-use crate::record::RECORD;
 use flash_model::{Flash, FlashError};
 use sector_map::SectorMap;
 
