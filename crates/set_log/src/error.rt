@@ -2,6 +2,7 @@
 
 ghost use Rattle.std.specs.Prelude.{◌≡◌};
 ghost use Rattle.set_log.specs.Codes.{code_of, name_of};
+ghost use Rattle.set_log.specs.declared.error.LogError.{LogError};
 
 use flash_model::FlashError;
 use thiserror::Error;
@@ -37,5 +38,13 @@ impl LogError {
             LogError::NoLog => "NoLog",
             LogError::Flash(_) => "Flash",
         }
+    }
+}
+
+impl From<FlashError> for LogError {
+    ghost from_gives = { λ error gives. gives ≡ LogError.Flash error };
+
+    fn from(error: FlashError) -> LogError {
+        LogError::Flash(error)
     }
 }

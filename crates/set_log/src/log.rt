@@ -26,11 +26,7 @@ pub fn read_state<F: Flash>(flash: &mut F, map: &SectorMap) -> Result<State, Log
     requires { IsLaidOut map.now (F.chip flash.old) }
     ensures { ReadsState map.now (F.chip flash.old) (F.chip flash.new) result }
 {
-    let found = match read_record(flash, map) {
-        Ok(found) => found,
-        Err(error) => return Err(LogError::Flash(error)),
-    };
-    let Some(body) = found else {
+    let Some(body) = read_record(flash, map)? else {
         return Err(LogError::NoLog);
     };
     match State::from_bytes(&body, map.images) {
