@@ -1,5 +1,5 @@
 -- How a call of uploads ends.
-use Rattle.std.specs.Prelude.{◌≡◌, Bool, true, false, List, Option, Result, Ok, Err, IsErrOf}
+use Rattle.std.specs.Prelude.{◌≡◌, Bool, true, false, List, Option, Result, Err, IsErrOf}
 use Rattle.flash_model.specs.Chip.{Chip, IsCut, IsUncut}
 use Rattle.flash_model.specs.declared.error.FlashError.TheVariants.{Cut, Off}
 use Rattle.upload.specs.declared.error.UploadError.{UploadError}

@@ -64,15 +64,10 @@ fn take_manifest<F: Flash>(
     ensures { TakesManifest map.now manifest.now uploads.old.sessions uploads.new.sessions
         (F.chip flash.old) (F.chip flash.new) result }
 {
-    let state = match judge_manifest(flash, map, manifest) {
-        Ok(state) => state,
-        Err(error) => return Err(error),
-    };
+    let state = judge_manifest(flash, map, manifest)?;
     let components = manifest.components.as_slice();
-    match write_manifest(flash, map, uploads, &state, manifest.sequence, components) {
-        Ok(()) => Ok(()),
-        Err(error) => Err(UploadError::Flash(error)),
-    }
+    write_manifest(flash, map, uploads, &state, manifest.sequence, components)?;
+    Ok(())
 }
 
 impl Uploads {

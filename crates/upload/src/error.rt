@@ -2,6 +2,7 @@
 
 ghost use Rattle.std.specs.Prelude.{◌≡◌};
 ghost use Rattle.upload.specs.Codes.{code_of, name_of};
+ghost use Rattle.upload.specs.declared.error.UploadError.{UploadError};
 
 use flash_model::FlashError;
 use thiserror::Error;
@@ -82,5 +83,13 @@ impl UploadError {
             UploadError::Flash(_) => "Flash",
             UploadError::NoMemory => "NoMemory",
         }
+    }
+}
+
+impl From<FlashError> for UploadError {
+    ghost from_gives = { λ error gives. gives ≡ UploadError.Flash error };
+
+    fn from(error: FlashError) -> UploadError {
+        UploadError::Flash(error)
     }
 }

@@ -65,13 +65,9 @@ fn judge<F: Flash>(
     ensures { JudgesSlot map.now image size digest.now
         (F.chip flash.old) (F.chip flash.new) result }
 {
-    match digest_file(flash, map, image, Side::Secondary, size) {
-        Ok(found) => {
-            if found != *digest {
-                return Err(UploadError::DigestWrong);
-            }
-        }
-        Err(error) => return Err(UploadError::Flash(error)),
+    let found = digest_file(flash, map, image, Side::Secondary, size)?;
+    if found != *digest {
+        return Err(UploadError::DigestWrong);
     }
     match describe_file(flash, map, image, Side::Secondary, size) {
         Ok(_) => Ok(()),
@@ -96,18 +92,10 @@ fn finish_upload<F: Flash>(
         return Err(UploadError::SizeWrong);
     }
     let start = upload.received - upload.held.len() as u32;
-    match write_last(flash, map, image, start, upload.held) {
-        Ok(()) => {}
-        Err(error) => return Err(UploadError::Flash(error)),
-    }
-    match judge(flash, map, image, upload.size, &upload.digest) {
-        Ok(()) => {}
-        Err(error) => return Err(error),
-    }
-    match request(flash, map, image, upload.kind) {
-        Ok(()) => Ok(()),
-        Err(error) => Err(UploadError::Flash(error)),
-    }
+    write_last(flash, map, image, start, upload.held)?;
+    judge(flash, map, image, upload.size, &upload.digest)?;
+    request(flash, map, image, upload.kind)?;
+    Ok(())
 }
 
 impl Uploads {

@@ -94,19 +94,15 @@ pub(crate) fn judge_manifest<F: Flash>(
     requires { CanJudge map.now manifest.now.components.items (F.chip flash.old) }
     ensures { JudgesManifest map.now manifest.now (F.chip flash.old) (F.chip flash.new) result }
 {
-    let state = match last_state(flash, map) {
-        Ok(state) => state,
-        Err(error) => return Err(UploadError::Flash(error)),
-    };
+    let state = last_state(flash, map)?;
     if manifest.sequence < state.sequence {
         return Err(UploadError::OldSequence);
     }
     if !all_fit(map, manifest.components.as_slice()) {
         return Err(UploadError::TooBig);
     }
-    match all_follow(flash, map, manifest.components.as_slice()) {
-        Ok(true) => Ok(state),
-        Ok(false) => Err(UploadError::WrongPrecursor),
-        Err(error) => Err(UploadError::Flash(error)),
+    if !all_follow(flash, map, manifest.components.as_slice())? {
+        return Err(UploadError::WrongPrecursor);
     }
+    Ok(state)
 }

@@ -15,14 +15,11 @@ fn withdraw_standing<F: Flash>(flash: &mut F, map: &SectorMap, image: u8) -> Res
     requires { HasImage map.now image (F.chip flash.old) }
     ensures { WithdrawsStanding map.now image (F.chip flash.old) (F.chip flash.new) result }
 {
-    match standing(flash, map, image) {
-        Ok(None) => Err(UploadError::NothingRequested),
-        Ok(Some(_)) => match withdraw(flash, map, image) {
-            Ok(()) => Ok(()),
-            Err(error) => Err(UploadError::Flash(error)),
-        },
-        Err(error) => Err(UploadError::Flash(error)),
+    if standing(flash, map, image)?.is_none() {
+        return Err(UploadError::NothingRequested);
     }
+    withdraw(flash, map, image)?;
+    Ok(())
 }
 
 impl Uploads {

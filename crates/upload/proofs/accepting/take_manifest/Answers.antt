@@ -1,13 +1,14 @@
-use Rattle.std.proofs.Common.{rules, ◌∙◌, ap, subst}
+use Rattle.std.proofs.Common.{rules, ◌≡◌, Err, ◌∙◌, ap, subst}
 use Rattle.upload.specs.View.{view}
+use Rattle.upload.specs.declared.error.UploadError.TheVariants as no
 use Rattle.upload.specs.Taking.{CutsAccept, IsTaken, LeavesAccept}
 use Rattle.upload.proofs.Ends.{same_off}
 use Rattle.upload.proofs.TakenRow.{equal_blank, equal_log, stopped}
 use Rattle.upload.proofs.Worn.{worn_of_state}
 use Rattle.upload.proofs.accepting.take_manifest.Goals as goal
 
-pub returns-in-Ok-write_manifest : goal.returns-in-Ok-write_manifest
-returns-in-Ok-write_manifest g c =
+pub returns : goal.returns
+returns g c =
     let map = c.args.map.now in
     let old = g.F.Flash.chip c.args.flash.now in
     let judged = g.F.Flash.chip c.judge_manifest.new.flash in
@@ -20,28 +21,28 @@ returns-in-Ok-write_manifest g c =
     record {
       outside = search rules;
       accepts = (
-        (c.in-Ok.state, c.in-Ok.ensures.ok),
+        (c.in_ok-state.state, c.in_ok-state.ensures.ok),
         subst (λ cs. IsTaken (view map old) new told tnew sequence cs) c.as_slice-components.ensures.value
             (subst (λ w. IsTaken w new told tnew sequence c.as_slice-components.result.now) same
-            c.in-Ok-write_manifest.ensures.ok),
+            c.in_ok-write_manifest.ensures.ok),
       );
       nothing = search rules;
       equal = λ state read equal.
-          equal_log map old judged _ state c.in-Ok.state sequence c.judge_manifest.ensures.same read
-          c.in-Ok.ensures.ok.newer.read equal c.write_manifest.ensures.equal;
+          equal_log map old judged _ state c.in_ok-state.state sequence c.judge_manifest.ensures.same read
+          c.in_ok-state.ensures.ok.newer.read equal c.write_manifest.ensures.equal;
       erases = λ state read.
-          worn_of_state map old judged (g.F.Flash.chip c.write_manifest.new.flash) state c.in-Ok.state sequence
+          worn_of_state map old judged (g.F.Flash.chip c.write_manifest.new.flash) state c.in_ok-state.state sequence
           c.as_slice-components.result.now cs c.judge_manifest.ensures.same c.as_slice-components.ensures.value read
-          c.in-Ok.ensures.ok.newer.read c.in-Ok-write_manifest.ensures.erases;
+          c.in_ok-state.ensures.ok.newer.read c.in_ok-write_manifest.ensures.erases;
       idle = λ state read equal blank.
-          equal_blank map old judged _ state c.in-Ok.state sequence c.as_slice-components.result.now cs
-          c.judge_manifest.ensures.same c.as_slice-components.ensures.value read c.in-Ok.ensures.ok.newer.read equal
+          equal_blank map old judged _ state c.in_ok-state.state sequence c.as_slice-components.result.now cs
+          c.judge_manifest.ensures.same c.as_slice-components.ensures.value read c.in_ok-state.ensures.ok.newer.read equal
           blank c.write_manifest.ensures.idle;
       ends = search rules;
     }
 
-pub returns-in-Err-write_manifest : goal.returns-in-Err-write_manifest
-returns-in-Err-write_manifest g c =
+pub returns-in_err-write_manifest : goal.returns-in_err-write_manifest
+returns-in_err-write_manifest g c =
     let map = c.args.map.now in
     let old = g.F.Flash.chip c.args.flash.now in
     let judged = g.F.Flash.chip c.judge_manifest.new.flash in
@@ -49,24 +50,26 @@ returns-in-Err-write_manifest g c =
     let new = view map (g.F.Flash.chip c.write_manifest.new.flash) in
     let sequence = c.args.manifest.now.sequence in
     let cs = c.args.manifest.now.components.items in
-    record {
+    let passed : c.from_residual-in_err-write_manifest.result ≡ Err (no.Flash c.in_err-write_manifest.field-0.0) =
+    search rules in
+    rw passed (record {
       outside = search rules;
       accepts = stopped map (view map old) new c.args.uploads.now.sessions
-          c.write_manifest.new.uploads.sessions sequence cs c.in-Err-write_manifest.error
-          c.in-Ok.state c.in-Ok.ensures.ok
+          c.write_manifest.new.uploads.sessions sequence cs c.in_err-write_manifest.field-0.0
+          c.in_ok-state.state c.in_ok-state.ensures.ok
           (subst (λ w. LeavesAccept w new sequence) same c.write_manifest.ensures.leaves)
           (subst (λ cs. CutsAccept (view map old) new sequence cs) c.as_slice-components.ensures.value
           (subst (λ w. CutsAccept w new sequence c.as_slice-components.result.now) same c.write_manifest.ensures.cut))
-          (λ is. ap (λ chip. view map chip) (same_off c.in-Err-write_manifest.error _ _
-          c.in-Err-write_manifest.ensures.ends is) ∙ same);
+          (λ is. ap (λ chip. view map chip) (same_off c.in_err-write_manifest.field-0.0 _ _
+          c.in_err-write_manifest.ensures.ends is) ∙ same);
       nothing = search rules;
       equal = λ state read equal.
-          equal_log map old judged _ state c.in-Ok.state sequence c.judge_manifest.ensures.same read
-          c.in-Ok.ensures.ok.newer.read equal c.write_manifest.ensures.equal;
+          equal_log map old judged _ state c.in_ok-state.state sequence c.judge_manifest.ensures.same read
+          c.in_ok-state.ensures.ok.newer.read equal c.write_manifest.ensures.equal;
       erases = search rules;
       idle = λ state read equal blank.
-          equal_blank map old judged _ state c.in-Ok.state sequence c.as_slice-components.result.now cs
-          c.judge_manifest.ensures.same c.as_slice-components.ensures.value read c.in-Ok.ensures.ok.newer.read equal
+          equal_blank map old judged _ state c.in_ok-state.state sequence c.as_slice-components.result.now cs
+          c.judge_manifest.ensures.same c.as_slice-components.ensures.value read c.in_ok-state.ensures.ok.newer.read equal
           blank c.write_manifest.ensures.idle;
       ends = search rules;
-    }
+    })

@@ -1,4 +1,4 @@
-use Rattle.std.proofs.Common.{rules, ◌-◌, arith, ◌∙◌, ap, subst}
+use Rattle.std.proofs.Common.{rules, ◌≡◌, ◌-◌, arith, ◌∙◌, ap, subst}
 use Rattle.std.proofs.Common.{Err, length-append, refl, sym}
 use Rattle.sector_map.specs.declared.layout.Side.TheVariants.{Secondary}
 use Rattle.sector_map.specs.Part.{Slot, incoming_of}
@@ -44,40 +44,43 @@ request-requires-clause-erased g c =
     ap (λ chip. fields_at map chip c.args.image Secondary) c.judge.ensures.same
     ∙ (view_kept map _ _ _ c.write_last.ensures.outside).trailers c.args.image Secondary refl ∙ was.trailer
 
-pub returns-in-Err : goal.returns-in-Err
-returns-in-Err g c = record {
-  outside = keeps_wider c.args.map.now _ (incoming_of c.args.image) _ _ (slot_of_incoming c.args.image)
-      c.write_last.ensures.outside;
-  finish = λ written was.
-      refused (view c.args.map.now (g.F.Flash.chip c.write_last.new.flash)) c.args.image
-      (session_of c.args.upload written) (no.Flash c.in-Err.error)
-      (length-append written c.args.upload.held.items ∙ sym was.count ∙ omega (arith, c.if-upload.false))
-      ((view_kept c.args.map.now _ _ _ c.write_last.ensures.outside).trailers c.args.image Secondary refl
-      ∙ was.trailer) tt;
-  erases = search rules;
-  ends = search rules;
-}
+pub returns-in_err-write_last : goal.returns-in_err-write_last
+returns-in_err-write_last g c =
+    let passed : c.from_residual.result ≡ Err (no.Flash c.in_err-write_last.field-0.0) = search rules in
+    rw passed (record {
+      outside = keeps_wider c.args.map.now _ (incoming_of c.args.image) _ _ (slot_of_incoming c.args.image)
+          c.write_last.ensures.outside;
+      finish = λ written was.
+          refused (view c.args.map.now (g.F.Flash.chip c.write_last.new.flash)) c.args.image
+          (session_of c.args.upload written) (no.Flash c.in_err-write_last.field-0.0)
+          (length-append written c.args.upload.held.items ∙ sym was.count ∙ omega (arith, c.if-upload.false))
+          ((view_kept c.args.map.now _ _ _ c.write_last.ensures.outside).trailers c.args.image Secondary refl
+          ∙ was.trailer) tt;
+      erases = search rules;
+      ends = search rules;
+    })
 
-pub returns-in-Err-judge : goal.returns-in-Err-judge
-returns-in-Err-judge g c =
+pub returns-in_err-judge : goal.returns-in_err-judge
+returns-in_err-judge g c =
     let map = c.args.map.now in
     let was = c.requires.open.1 in
     let n = c.len.ensures.value in
-    record {
+    let passed : c.from_residual-in_err-judge.result ≡ Err c.in_err-judge.field-0.0 = search rules in
+    rw passed (record {
       outside = subst (λ chip. Keeps map (incoming_of c.args.image) (g.F.Flash.chip c.args.flash.now) chip)
           (sym c.judge.ensures.same)
           (keeps_wider map _ (incoming_of c.args.image) _ _ (slot_of_incoming c.args.image)
           c.write_last.ensures.outside);
       finish = finish_refused c.args.image (c.args.upload.received - c.len.result) _ _ _ c.args.upload
           (view_kept map _ _ _ c.write_last.ensures.outside) (ap (λ chip. view map chip) c.judge.ensures.same)
-          c.in-Ok.ensures.ok (omega (arith, n, was.count)) (omega (arith, c.if-upload.false)) c.in-Err-judge.error
-          c.in-Err-judge.ensures.judges;
+          c.in_ok-write_last.ensures.ok (omega (arith, n, was.count)) (omega (arith, c.if-upload.false)) c.in_err-judge.field-0.0
+          c.in_err-judge.ensures.judges;
       erases = search rules;
       ends = search rules;
-    }
+    })
 
-pub returns-in-Ok-request : goal.returns-in-Ok-request
-returns-in-Ok-request g c =
+pub returns : goal.returns
+returns g c =
     let map = c.args.map.now in
     let was = c.requires.open.1 in
     let n = c.len.ensures.value in
@@ -86,30 +89,31 @@ returns-in-Ok-request g c =
           c.request.ensures.outside;
       finish = finish_done c.args.image (c.args.upload.received - c.len.result) _ _ _ c.args.upload
           (view_kept map _ _ _ c.write_last.ensures.outside) (ap (λ chip. view map chip) c.judge.ensures.same)
-          c.in-Ok.ensures.ok (omega (arith, n, was.count)) (omega (arith, c.if-upload.false)) _
-          (view_kept map _ _ _ c.request.ensures.outside) c.in-Ok-judge.ensures.judges c.in-Ok-request.ensures.ok;
+          c.in_ok-write_last.ensures.ok (omega (arith, n, was.count)) (omega (arith, c.if-upload.false)) _
+          (view_kept map _ _ _ c.request.ensures.outside) c.in_ok-judge.ensures.judges c.in_ok-request.ensures.ok;
       erases = search rules;
       ends = search rules;
     }
 
-pub returns-in-Err-request : goal.returns-in-Err-request
-returns-in-Err-request g c =
+pub returns-in_err-request : goal.returns-in_err-request
+returns-in_err-request g c =
     let map = c.args.map.now in
     let was = c.requires.open.1 in
     let n = c.len.ensures.value in
-    let first = c.in-Ok.ensures.ends in
-    record {
+    let first = c.in_ok-write_last.ensures.ends in
+    let passed : c.from_residual-in_err-request.result ≡ Err (no.Flash c.in_err-request.field-0.0) = search rules in
+    rw passed (record {
       outside = slot_then_trailer map c.args.image _ _ _ _ c.write_last.ensures.outside c.judge.ensures.same
           c.request.ensures.outside;
       finish = finish_cut c.args.image (c.args.upload.received - c.len.result) _ _ _ c.args.upload
           (view_kept map _ _ _ c.write_last.ensures.outside) (ap (λ chip. view map chip) c.judge.ensures.same)
-          c.in-Ok.ensures.ok (omega (arith, n, was.count)) (omega (arith, c.if-upload.false)) _
-          (view_kept map _ _ _ c.request.ensures.outside) c.in-Ok-judge.ensures.judges c.in-Err-request.error
+          c.in_ok-write_last.ensures.ok (omega (arith, n, was.count)) (omega (arith, c.if-upload.false)) _
+          (view_kept map _ _ _ c.request.ensures.outside) c.in_ok-judge.ensures.judges c.in_err-request.field-0.0
           c.request.ensures.either
-          (λ is. ap (λ chip. view map chip) (same_off c.in-Err-request.error _ _ c.in-Err-request.ensures.ends is));
+          (λ is. ap (λ chip. view map chip) (same_off c.in_err-request.field-0.0 _ _ c.in_err-request.ensures.ends is));
       erases = search rules;
       ends = ends_later _ _ (g.F.Flash.chip c.write_last.new.flash) _ first.uncut first.asleep
-          (subst (λ chip. EndsUpload {T = Unit} (Err (no.Flash c.in-Err-request.error)) chip
+          (subst (λ chip. EndsUpload {T = Unit} (Err (no.Flash c.in_err-request.field-0.0)) chip
           (g.F.Flash.chip c.request.new.flash)) c.judge.ensures.same
-          (ends_flash c.in-Err-request.error _ _ c.in-Err-request.ensures.ends));
-    }
+          (ends_flash c.in_err-request.field-0.0 _ _ c.in_err-request.ensures.ends));
+    })

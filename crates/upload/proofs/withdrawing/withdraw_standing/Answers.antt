@@ -1,5 +1,6 @@
 use Rattle.std.proofs.Common.{rules, ◌≡◌, ◌+◌, sym, subst, ◌∙◌}
 use Rattle.std.specs.Prelude.{if◌then◌else◌}
+use Rattle.common.proofs.Options.{some_value}
 use Rattle.flash_model.specs.Chip.{Chip}
 use Rattle.sector_map.specs.declared.layout.Side.TheVariants.{Secondary}
 use Rattle.flash_model.specs.Units.{are_erased}
@@ -8,14 +9,15 @@ use Rattle.trailer.specs.Standing.{first_is_set, incoming_slot}
 use Rattle.upload.proofs.Requested.{stands_in_units, two}
 use Rattle.upload.proofs.withdrawing.withdraw_standing.Goals as goal
 
-pub returns-in-Ok : goal.returns-in-Ok
-returns-in-Ok g c =
+pub returns : goal.returns
+returns g c =
     let map = c.args.map.now in
     let image = c.args.image in
     let old = g.F.Flash.chip c.args.flash.now in
     let new = g.F.Flash.chip c.withdraw.new.flash in
-    let stands = sym c.in-Ok-Some.ensures.ok ∙ c.in-Ok-Some.field-0-is in
-    let units = stands_in_units map old image c.in-Ok-Some.field-0-0 c.requires.laid_out c.requires.there stands in
+    let found = some_value c.in_ok-standing.field-0 (search rules) in
+    let stands = sym c.in_ok-standing.ensures.ok ∙ found.1 in
+    let units = stands_in_units map old image found.0 c.requires.laid_out c.requires.there stands in
     record {
       outside = search rules;
       withdraws = search rules;
@@ -25,6 +27,6 @@ returns-in-Ok g c =
           (subst (λ (before : Chip). new.erases ≡ before.erases
           + (if first_is_set (incoming_slot map before image) then 1 else 0)
           + (if are_erased (trailer_bytes map before image Secondary) then 0 else 1))
-          c.standing.ensures.same c.in-Ok.ensures.erases);
+          c.standing.ensures.same c.in_ok-withdraw.ensures.erases);
       ends = search rules;
     }
