@@ -2,6 +2,7 @@
 
 ghost use Rattle.std.specs.Prelude.{◌≡◌};
 ghost use Rattle.machine.specs.Codes.{code_of, name_of};
+ghost use Rattle.machine.specs.declared.error.Fault.{Fault};
 
 use flash_model::FlashError;
 use manifest::ManifestError;
@@ -81,5 +82,13 @@ impl Fault {
             Fault::Manifest(_) => "Manifest",
             Fault::Upload(_) => "Upload",
         }
+    }
+}
+
+impl From<FlashError> for Fault {
+    ghost from_gives = { λ error gives. gives ≡ Fault.Flash error };
+
+    fn from(error: FlashError) -> Fault {
+        Fault::Flash(error)
     }
 }
