@@ -108,8 +108,6 @@ pub(crate) fn boot_device<F: Flash>(
 {
     *uploads = Uploads::new();
     *is_up = false;
-    match boot(flash, map, left) {
-        Ok(reply) => conclude(reply, is_up),
-        Err(error) => Err(Fault::Flash(error)),
-    }
+    let reply = boot(flash, map, left)?;
+    conclude(reply, is_up)
 }

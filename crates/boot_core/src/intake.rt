@@ -153,10 +153,7 @@ pub(crate) fn accept<F: Flash>(
         Ok(()) => {}
         Err(fault) => return Err(stop(uploads, is_up, fault)),
     }
-    let manifest = match read_manifest(alloc, text, identity) {
-        Ok(manifest) => manifest,
-        Err(fault) => return Err(fault),
-    };
+    let manifest = read_manifest(alloc, text, identity)?;
     open_uploads(flash, map, identity, uploads, is_up, &manifest)
 }
 

@@ -79,10 +79,9 @@ fn judge<F: Flash>(flash: &mut F, map: &SectorMap) -> Result<[u32; MOST_IMAGES],
     requires laid_out { IsLaidOut map.now (F.chip flash.old) }
     ensures { Judges map.now (F.chip flash.old) (F.chip flash.new) result }
 {
-    match read_running(flash, map) {
-        Err(error) => Err(Fault::Flash(error)),
-        Ok(Reading::DamagedAt(image)) => Err(Fault::RunningDamaged(image)),
-        Ok(Reading::Read(table)) => {
+    match read_running(flash, map)? {
+        Reading::DamagedAt(image) => Err(Fault::RunningDamaged(image)),
+        Reading::Read(table) => {
             if !is_valid(&table) {
                 return Err(Fault::InvalidSet);
             }
@@ -143,10 +142,8 @@ fn make_device<F: Flash>(flash: &mut F, map: &SectorMap) -> Result<(), Fault>
     ensures { MakesDevice map.now (F.chip flash.old) (F.chip flash.new) result }
 {
     let floors = judge(flash, map)?;
-    match begin_afresh(flash, map, &floors) {
-        Ok(()) => Ok(()),
-        Err(error) => Err(Fault::Flash(error)),
-    }
+    begin_afresh(flash, map, &floors)?;
+    Ok(())
 }
 
 /// Makes a flash a device's: the images that the primary slots begin with run, nothing is

@@ -1,6 +1,7 @@
-use Rattle.std.proofs.Common.{rules, ◌+◌, ap, inl, inr, sym, subst, ◌∙◌}
+use Rattle.std.proofs.Common.{rules, ◌≡◌, ◌+◌, Err, ap, inl, inr, sym, subst, ◌∙◌}
 use Rattle.machine.specs.Boots.{is_answer}
 use Rattle.machine.specs.Passing.{StepsTo}
+use Rattle.machine.specs.declared.error.Fault.TheVariants as no
 use Rattle.machine.specs.declared.event.Event.TheVariants as event
 use Rattle.machine.proofs.Stepping.{steps_boot}
 use Rattle.boot_core.specs.Answers.{IsBootReply}
@@ -10,8 +11,8 @@ use Rattle.boot_core.specs.Wear.{IsWorn}
 use Rattle.boot_core.proofs.Stops.{flash_stopped, flash_stopped_it, flash_unanswered}
 use Rattle.boot_core.proofs.boots.boot_device.Goals as goal
 
-pub returns-in-Ok : goal.returns-in-Ok
-returns-in-Ok g c = record {
+pub returns : goal.returns
+returns g c = record {
   laid = search rules;
   on_map = search rules;
   opens = search rules;
@@ -22,43 +23,45 @@ returns-in-Ok g c = record {
       (seen (g.F.Flash.chip c.boot.new.flash) c.new.result.sessions c.conclude.new.is_up) event.Boot reply)
       (sym c.conclude.ensures.is)
       (steps_boot (made c.args.map.now identity (c.args.left + 1)) _ _ _ _ _ _ _ c.conclude.ensures.up c.new.ensures
-      c.in-Ok.ensures.ok);
+      c.in_ok-reply.ensures.ok);
   ok = search rules;
   up = c.conclude.ensures.up ∙ sym (ap is_answer c.conclude.ensures.is);
   told = inl (subst (λ reply. IsBootReply reply) (sym c.conclude.ensures.is)
-      c.in-Ok.ensures.told);
+      c.in_ok-reply.ensures.told);
   answers = λ on uncut s stands sound.
-      ap is_answer c.conclude.ensures.is ∙ c.in-Ok.ensures.answers s stands sound;
+      ap is_answer c.conclude.ensures.is ∙ c.in_ok-reply.ensures.answers s stands sound;
   empty = search rules;
   refused = search rules;
   erases = λ on uncut state s stood stands. subst
       (λ reply. IsWorn c.args.map.now state.kind state.mask (g.F.Flash.chip c.args.flash.now)
       (g.F.Flash.chip c.boot.new.flash) reply)
-      (sym c.conclude.ensures.is) (c.in-Ok.ensures.erases state s stood stands);
+      (sym c.conclude.ensures.is) (c.in_ok-reply.ensures.erases state s stood stands);
   stops = λ state finding permanent stood is.
-      c.in-Ok.ensures.stops state finding permanent stood (sym c.conclude.ensures.is ∙ is);
+      c.in_ok-reply.ensures.stops state finding permanent stood (sym c.conclude.ensures.is ∙ is);
   idle = search rules;
   ends = search rules;
 }
 
-pub returns-in-Err : goal.returns-in-Err
-returns-in-Err g c = record {
-  laid = search rules;
-  on_map = search rules;
-  opens = search rules;
-  closed = search rules;
-  steps = λ identity on.
-      boot_stopped (made c.args.map.now identity (c.args.left + 1)) _ _ _ _ _ c.new.ensures c.boot.ensures.stands
-      c.in-Err.error c.in-Err.ensures.ends on;
-  ok = search rules;
-  up = sym (flash_unanswered c.in-Err.error);
-  told = inr (flash_stopped_it c.in-Err.error);
-  answers = search rules;
-  empty = search rules;
-  refused = search rules;
-  erases = search rules;
-  stops = λ state finding permanent stood is.
-      flash_stopped c.args.map.now state _ _ c.in-Err.error finding permanent is;
-  idle = search rules;
-  ends = search rules;
-}
+pub returns-in_err-reply : goal.returns-in_err-reply
+returns-in_err-reply g c =
+    let passed : c.from_residual.result ≡ Err (no.Flash c.in_err-reply.field-0.0) = search rules in
+    rw passed (record {
+      laid = search rules;
+      on_map = search rules;
+      opens = search rules;
+      closed = search rules;
+      steps = λ identity on.
+          boot_stopped (made c.args.map.now identity (c.args.left + 1)) _ _ _ _ _ c.new.ensures c.boot.ensures.stands
+          c.in_err-reply.field-0.0 c.in_err-reply.ensures.ends on;
+      ok = search rules;
+      up = sym (flash_unanswered c.in_err-reply.field-0.0);
+      told = inr (flash_stopped_it c.in_err-reply.field-0.0);
+      answers = search rules;
+      empty = search rules;
+      refused = search rules;
+      erases = search rules;
+      stops = λ state finding permanent stood is.
+          flash_stopped c.args.map.now state _ _ c.in_err-reply.field-0.0 finding permanent is;
+      idle = search rules;
+      ends = search rules;
+    })

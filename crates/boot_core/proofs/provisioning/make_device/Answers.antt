@@ -5,8 +5,8 @@ use Rattle.boot_core.specs.Provisioned.{provided}
 use Rattle.boot_core.proofs.Afresh.{made_device, valid_there}
 use Rattle.boot_core.proofs.provisioning.make_device.Goals as goal
 
-pub returns-in-Ok : goal.returns-in-Ok
-returns-in-Ok g c = record {
+pub returns : goal.returns
+returns g c = record {
   outside = search rules;
   answers =
       let map = c.args.map.now in
@@ -17,8 +17,8 @@ returns-in-Ok g c = record {
         valid_there map old floors judged,
         made_device map old new floors judged
             (subst (λ chip. Keeps map provided chip new) c.judge.ensures.same c.begin_afresh.ensures.outside)
-            c.in-Ok.ensures.ok,
-        subst (λ chip. IsUncut chip new) c.judge.ensures.same c.in-Ok.ensures.ends.uncut,
+            c.in_ok-begin_afresh.ensures.ok,
+        subst (λ chip. IsUncut chip new) c.judge.ensures.same c.in_ok-begin_afresh.ensures.ends.uncut,
       );
   asleep = search rules;
 }
