@@ -87,7 +87,7 @@ module _ (boots : ℕ) (found read next : DeviceState) (table : Table) (report :
   module _ (mask : ℕ) (set : is_member mask ≡ taken_in report) where
     takes_some : (permanent : Bool) → IsDecision read table mask permanent → TakesNone report → ⊥
     takes_some permanent decision none =
-        decision.some (no_members mask (λ i. ap (λ t. t i) set ∙ none i))
+        decision.chosen.some (no_members mask (λ i. ap (λ t. t i) set ∙ none i))
 
     stays_of : (permanent : Bool) → IsDecision read table mask permanent → permanent ≡ true
         → StaysForGood read report
@@ -95,7 +95,7 @@ module _ (boots : ℕ) (found read next : DeviceState) (table : Table) (report :
       some = takes_some permanent decision;
       each = λ i wanted taken asked.
           let member : is_member mask i ≡ true = ap (λ t. t i) set ∙ taken in
-          (decision.good e).each i wanted (decision.within i member) member asked;
+          (decision.good e).each i wanted (decision.chosen.within i member) member asked;
     }
 
     only_of : (permanent : Bool) → IsDecision read table mask permanent → StaysForGood read report
@@ -142,7 +142,7 @@ module _ (boots : ℕ) (found read next : DeviceState) (table : Table) (report :
       confirmed = begun.confirmed;
       old = λ i taken.
           let member : is_member mask i ≡ true = ap (λ t. t i) set ∙ taken in
-          begun.old i (decision.within i member) member;
+          begun.old i (decision.chosen.within i member) member;
       left = begun.left;
     }
 

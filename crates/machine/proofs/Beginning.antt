@@ -91,7 +91,7 @@ pub member_bytes : (s : DeviceState) (table : Table) (mask : ℕ) (permanent : B
     → IsDecision s table mask permanent → is_member mask i ≡ true
     → (w : Wanted) × (bytes : List ℕ) × (s.request i ≡ Some w) × (w.bytes ≡ Some bytes)
 member_bytes s table mask permanent i decision member = valid_bytes s table
-    (is_member mask) i decision.rows decision.greatest.valid member
+    (is_member mask) i decision.chosen.rows decision.chosen.greatest.valid member
 
 -- what the front of a slot begins with, where it is as long as the image
 pub front_take : (n : ℕ) (whole : List ℕ) (held : Option (List ℕ)) (bytes : List ℕ) → held ≡ Some bytes
@@ -124,7 +124,7 @@ pub swap_begins : (map : SectorMap) (old new : Chip) (laid : IsLaidOut map old) 
     (λ i. take (used_bytes map new Primary i) ((view map new).slot i Secondary))
 swap_begins map old new laid s table mask permanent written was decision prepared keeps recorded is =
     let within : (i : ℕ) → is_member mask i ≡ true
-    → i < (view map old).images = λ i member. subst (λ n. i < n) (sym was.images) (decision.within i member) in
+    → i < (view map old).images = λ i member. subst (λ n. i < n) (sym was.images) (decision.chosen.within i member) in
     let trailer : (i : ℕ) → (view map new).trailer i Primary ≡ (view map old).trailer i Primary = λ i.
     (view_kept map _ _ _ keeps).trailers i Primary refl in
     let enough : (i : ℕ) → (member : is_member mask i ≡ true)
@@ -132,7 +132,7 @@ swap_begins map old new laid s table mask permanent written was decision prepare
     λ i member. moves_enough map new Primary i _ laid.is_map
     (ap (λ (t : Fields). t.size) (trailer i) ∙ (prepared i (within i member) member).room.1.size) in
     let at : (i : ℕ) → is_member mask i ≡ true
-    → IsImageAt (view map old) s i = λ i member. was.each i (decision.within i member) in
+    → IsImageAt (view map old) s i = λ i member. was.each i (decision.chosen.within i member) in
     record {
       trial = was.trial;
       images = (view_kept map _ _ _ keeps).images ∙ was.images;
@@ -141,7 +141,7 @@ swap_begins map old new laid s table mask permanent written was decision prepare
       place = begins map new Primary mask (laid_out_kept map _ _ _ laid keeps) within
           (λ i member. ap (λ (t : Fields). t.is_fresh) (trailer i) ∙ (prepared i (within i member) member).fresh);
       ran = λ i member.
-          let bytes = running_bytes s table i decision.rows (decision.within i member) in
+          let bytes = running_bytes s table i decision.chosen.rows (decision.chosen.within i member) in
           let slot = (view_kept map _ _ _ keeps).slots i Primary refl in
           front_take (used_bytes map new Primary i) ((view map new).slot i Primary)
           (s.running i) bytes.0 bytes.1 (subst (λ l. IsFront l (s.running i)) (sym slot) (at i member).running)

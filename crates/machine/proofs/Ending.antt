@@ -56,7 +56,7 @@ pub trial_begins : (map : SectorMap) (old new : Chip) (s : DeviceState) (table :
 trial_begins map old new s table mask left keeps recorded was settled =
     let within : (i : ℕ) → is_member mask i ≡ true
     → i < (view map old).images = λ i member. subst (λ n. i < n) (sym was.images)
-    (was.decision.within i member) in
+    (was.decision.chosen.within i member) in
     let after = taken_on_trial s mask (new_trial s mask left) in
     record {
       opened = record {
@@ -64,10 +64,10 @@ trial_begins map old new s table mask left keeps recorded was settled =
         images = (view_kept map _ _ _ keeps).images ∙ was.images;
         permanent = false;
         log = recorded;
-        within = was.decision.within;
+        within = was.decision.chosen.within;
         tried = λ i member.
             let done = (settled.each i (within i member) member).both in
-            let bytes = running_bytes s table i was.decision.rows (was.decision.within i member) in
+            let bytes = running_bytes s table i was.decision.chosen.rows (was.decision.chosen.within i member) in
             record {
               running = subst (λ held. IsFront ((view map new).slot i Primary) held)
                   (sym (if_true (is_member mask i) (wanted_bytes (s.request i)) (s.running i) member))
@@ -106,7 +106,7 @@ pub taken_stands : (map : SectorMap) (old new : Chip) (s : DeviceState) (table :
 taken_stands map old new s table mask floors keeps recorded was settled =
     let within : (i : ℕ) → is_member mask i ≡ true
     → i < (view map old).images = λ i member. subst (λ n. i < n) (sym was.images)
-    (was.decision.within i member) in
+    (was.decision.chosen.within i member) in
     let after = taken_for_good s mask floors in
     record {
       trial = refl;

@@ -19,12 +19,12 @@ none_some x e = cc
 pub none_damaged : (s : DeviceState) (table : Table) (mask : ℕ) (permanent : Bool) (i : ℕ)
     → IsDecision s table mask permanent → IsLowestDamaged s i → ⊥
 none_damaged s table mask permanent i decision damaged =
-    let bytes = running_bytes s table i decision.rows damaged.there in none_some bytes.0
+    let bytes = running_bytes s table i decision.chosen.rows damaged.there in none_some bytes.0
     (sym damaged.damaged ∙ bytes.1)
 
 pub valid_again : (found table : Table) (s : DeviceState) (mask : ℕ) (permanent : Bool) → found ≡ table
     → IsDecision s table mask permanent → IsValid found running_set
-valid_again found table s mask permanent same decision = subst (λ t. IsValid t running_set) (sym same) decision.valid
+valid_again found table s mask permanent same decision = subst (λ t. IsValid t running_set) (sym same) decision.chosen.valid
 
 -- the set that is chosen is that of the decision
 pub chosen_again : (found table : Table) (s : DeviceState) (mask : ℕ) (permanent : Bool) (report : Report)
@@ -32,7 +32,7 @@ pub chosen_again : (found table : Table) (s : DeviceState) (mask : ℕ) (permane
     → (i : ℕ) → is_member mask i ≡ taken_in report i
 chosen_again found table s mask permanent report same decision greatest =
     one_greatest found (is_member mask) (taken_in report)
-    (subst (λ t. IsGreatest t (is_member mask)) (sym same) decision.greatest) greatest
+    (subst (λ t. IsGreatest t (is_member mask)) (sym same) decision.chosen.greatest) greatest
 
 pub found_again : (found table : Table) (s : DeviceState) (mask : ℕ) (permanent : Bool) (report : Report)
     → IsTableOf s found → found ≡ table → IsDecision s table mask permanent

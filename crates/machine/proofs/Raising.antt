@@ -54,7 +54,7 @@ whole_after s table mask permanent i true member decision lt e =
     let found = member_bytes s table mask permanent i decision member in none_some found.1
     (sym e ∙ ap wanted_bytes found.2 ∙ found.3)
 whole_after s table mask permanent i false member decision lt e =
-    let bytes = running_bytes s table i decision.rows lt in none_some bytes.0 (sym e ∙ bytes.1)
+    let bytes = running_bytes s table i decision.chosen.rows lt in none_some bytes.0 (sym e ∙ bytes.1)
 
 pub raised_is : (s : DeviceState) (table found : Table) (mask : ℕ) (permanent : Bool) (n : ℕ)
     (floors new : List ℕ) → IsDecision s table mask permanent → IsTableOf s found → s.floors ≡ floors

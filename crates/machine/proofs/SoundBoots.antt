@@ -99,24 +99,24 @@ module _ (read : DeviceState) (table : Table) (mask : ℕ) (permanent : Bool)
       let there = some_of (slice_get table.images.items i)
       (λ image. IsSomeAnd (intact_entry image.request)
       (λ entry. IsAtLeast entry.version image.running.version × (image.floor ≤ entry.counter)))
-      (decision.greatest.valid.members i member) in
+      (decision.chosen.greatest.valid.members i member) in
       let asked = some_of (intact_entry there.0.request)
       (λ entry. IsAtLeast entry.version there.0.running.version × (there.0.floor ≤ entry.counter)) there.2 in
       let same : there.0 ≡ row = the_one there.0 row (sym there.1 ∙ at) in
-      asked_entry (read.request i) row.request row.running asked.0 (decision.rows.rows i row at).request
+      asked_entry (read.request i) row.request row.running asked.0 (decision.chosen.rows.rows i row at).request
       (ap (λ (image : Image). intact_entry image.request) (sym same) ∙ asked.1)
-  entry_after i row at false member = (decision.rows.rows i row at).running
+  entry_after i row at false member = (decision.chosen.rows.rows i row at).running
 
   asks_after : (i : ℕ) (row : Image) → slice_get table.images.items i ≡ Some row → (b : Bool)
       → (asked : Request) × IsRequestOf (if b then None else read.request i) asked
   asks_after i row at true = (request.None, refl)
-  asks_after i row at false = (row.request, (decision.rows.rows i row at).request)
+  asks_after i row at false = (row.request, (decision.chosen.rows.rows i row at).request)
 
   taken_sound : (next : DeviceState) → next.images ≡ read.images
       → ((i : ℕ) → next.running i ≡ running_after read mask i)
       → ((i : ℕ) → next.request i ≡ left_after read mask i) → IsSound next
-  taken_sound next images runs asks = sound_to read next table (is_member mask) images decision.rows
-      decision.greatest.valid.met
+  taken_sound next images runs asks = sound_to read next table (is_member mask) images decision.chosen.rows
+      decision.chosen.greatest.valid.met
       (λ i row at. subst (λ held. IsEntryOf held (entry_in row (is_member mask i))) (sym (runs i))
       (entry_after i row at (is_member mask i) refl))
       (λ i row at.

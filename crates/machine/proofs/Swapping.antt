@@ -88,7 +88,7 @@ swap_done map old new mask keeps swapped s table permanent (x, y, was) = record 
   log = (view_kept map _ _ _ keeps).log refl ∙ was.log;
   decision = was.decision;
   ran = λ i member.
-      let bytes = running_bytes s table i was.decision.rows (was.decision.within i member) in
+      let bytes = running_bytes s table i was.decision.chosen.rows (was.decision.chosen.within i member) in
       front_moved ((view map new).slot i Secondary) (x i) (s.running i) bytes.0 bytes.1
       (swapped x y was.place i member).1 (was.ran i member);
   asked = λ i member.

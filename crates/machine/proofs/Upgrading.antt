@@ -36,11 +36,7 @@ pub decision_of : (s : DeviceState) (table : Table) (mask : ℕ) (permanent : Bo
     → (permanent ≡ true → AsksForGood s mask) × (AsksForGood s mask → permanent ≡ true)
     → IsDecision s table mask permanent
 decision_of s table mask permanent chosen asks = record {
-  rows = chosen.rows;
-  valid = chosen.valid;
-  greatest = chosen.greatest;
-  within = chosen.within;
-  some = chosen.some;
+  chosen = chosen;
   good = asks.0;
   trial = asks.1;
 }
@@ -62,7 +58,7 @@ taken_boots : (map : SectorMap) (w : Chip) (s : DeviceState) (table given : Tabl
     → IsTakenAt (view map w) s mask permanent left floors
     → EndsBoot map (left + 1) w s (Booted given report permanent)
 taken_boots map w s table given report mask left true floors trial decision reported raised at =
-    let same = one_table s table given decision.rows reported.0.rows in (
+    let same = one_table s table given decision.chosen.rows reported.0.rows in (
       taken_for_good s mask floors,
       (
         s,
@@ -78,7 +74,7 @@ taken_boots map w s table given report mask left true floors trial decision repo
       λ e. inl at,
     )
 taken_boots map w s table given report mask left false floors trial decision reported raised at =
-    let same = one_table s table given decision.rows reported.0.rows in (
+    let same = one_table s table given decision.chosen.rows reported.0.rows in (
       taken_on_trial s mask (new_trial s mask left),
       (
         s,
@@ -96,7 +92,7 @@ taken_boots map w s table given report mask left false floors trial decision rep
                 set = refl;
                 confirmed = λ i. refl;
                 old = λ i lt member.
-                    let bytes = running_bytes s table i decision.rows lt in
+                    let bytes = running_bytes s table i decision.chosen.rows lt in
                     sym (old_kept (s.running i) bytes.0 bytes.1);
                 left = refl;
               },

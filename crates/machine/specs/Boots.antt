@@ -67,11 +67,7 @@ pub record IsChosen (s : DeviceState) (table : Table) (mask : ℕ) : Type 0 wher
 -- The decision of a state: the set that is chosen, and whether it stays without a trial.
 pub record IsDecision (s : DeviceState) (table : Table) (mask : ℕ) (permanent : Bool)
     : Type 0 where
-  pub rows : IsTableOf s table
-  pub valid : IsValid table running_set
-  pub greatest : IsGreatest table (is_member mask)
-  pub within : (i : ℕ) → is_member mask i ≡ true → i < s.images
-  pub some : mask ≡ 0 → ⊥
+  pub chosen : IsChosen s table mask
   pub good : permanent ≡ true → AsksForGood s mask
   pub trial : AsksForGood s mask → permanent ≡ true
 

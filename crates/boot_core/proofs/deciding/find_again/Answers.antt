@@ -16,7 +16,7 @@ returns-then-taken_mask-mask g c = record {
       subst (λ f. IsFinding s f) c.in-Decided.is (c.in_ok-table.ensures.ok s can) in
       let same : c.args.mask ≡ c.taken_mask.result = c.taken_mask.ensures.only c.args.mask (omega arith)
       (chosen_again _ table s c.args.mask permanent c.in-Decided.report
-      (one_table s c.in-Decided.table table found.rows decision.rows) decision found.greatest) in
+      (one_table s c.in-Decided.table table found.rows decision.chosen.rows) decision found.greatest) in
       c.if-taken_mask-mask.true (sym same);
   set = search rules;
   whole = search rules;
@@ -57,7 +57,7 @@ returns-in-Invalid g c = record {
   ok = λ s table permanent can decision.
       let found = subst (λ f. IsFinding s f) c.in-Invalid.is (c.in_ok-table.ensures.ok s can) in
       found.2 (valid_again found.0 table s c.args.mask permanent
-      (one_table s found.0 table found.1 decision.rows) decision);
+      (one_table s found.0 table found.1 decision.chosen.rows) decision);
   set = search rules;
   whole = search rules;
   rows = search rules;
@@ -78,7 +78,7 @@ returns-else-taken_mask-mask g c = record {
       let found : IsReported s c.in-Decided.table c.in-Decided.report =
       subst (λ f. IsFinding s f) c.in-Decided.is (c.in_ok-table.ensures.ok s can) in
       found_again _ table s c.args.mask permanent _ found.rows
-      (one_table s c.in-Decided.table table found.rows decision.rows) decision found.right
+      (one_table s c.in-Decided.table table found.rows decision.chosen.rows) decision found.right
       found.greatest found.standard;
   set = set_found c.args.mask c.taken_mask.result _
       c.if-taken_mask-mask.false c.taken_mask.ensures.each;
