@@ -3,7 +3,7 @@
 use certificate::{Report, Table};
 
 /// What is read of the images of a device.
-#[derive(Clone, Debug, Drop, PartialEq, Eq)]
+#[derive(Drop)]
 pub enum Reading {
     /// The table of what runs and what is requested.
     Read(Table),
@@ -12,7 +12,7 @@ pub enum Reading {
 }
 
 /// What a boot finds of a decision.
-#[derive(Clone, Debug, Drop, PartialEq, Eq)]
+#[derive(Drop)]
 pub enum Finding {
     /// What runs is valid, and this becomes of each request.
     Decided {
@@ -28,7 +28,7 @@ pub enum Finding {
 }
 
 /// How a boot goes on from a trial.
-#[derive(Clone, Copy, Debug, PartialEq, Eq)]
+#[derive(Clone, Copy)]
 pub enum Passage {
     /// Each image of the set is confirmed: the trial is over.
     Over,
