@@ -351,6 +351,30 @@ fn pieces_of_two_images_come_in_turn(rt: HostRuntime) -> Result<(), Fail> {
     pieces_in_turn::<Brand>(&rt, rt.alloc(), Blank::new(2))
 }
 
+/// Refuses manifests while an upload is open of which five bytes came.
+fn refuse_meanwhile<F: Flash>(
+    rt: &impl Abort,
+    uploads: &mut Uploads,
+    flash: &mut F,
+    map: &SectorMap,
+) -> Result<(), Fail>
+    requires { AllOpenAt (view map.now (F.chip flash.old)) uploads.old.sessions }
+    ensures { AllOpenAt (view map.now (F.chip flash.new)) uploads.new.sessions }
+{
+    let long = one_component(5, component(0, 1025, FIRST_DIGEST))?;
+    let old = one_component(3, component(0, 1025, FIRST_DIGEST))?;
+    let second = component(1, 1025, SECOND_DIGEST);
+    let both = two_components(5, component(0, 96, FIRST_DIGEST), second)?;
+    let steps = [
+        (Step::Accept(&long), Err(UploadError::TooBig)),
+        (Step::Accept(&old), Err(UploadError::OldSequence)),
+        (Step::Accept(&both), Err(UploadError::TooBig)),
+    ];
+    play(rt, uploads, flash, map, &steps)?;
+    same(rt, "what came of image 0", &received(uploads, 0), &Some(5));
+    Ok(())
+}
+
 fn refused_manifests<L: Ledger>(rt: &impl Abort, alloc: Global, blank: Blank) -> Result<(), Fail>
     requires name { blank.name ≡ L.name }
     requires parts { blank.parts ≡ L.parts }
@@ -360,27 +384,15 @@ fn refused_manifests<L: Ledger>(rt: &impl Abort, alloc: Global, blank: Blank) ->
     let mut flash = begun::<L>(rt, alloc, blank, &map)?;
     let mut uploads = Uploads::new();
     let whole = one_component(4, component(0, 1024, FIRST_DIGEST))?;
-    let long = one_component(5, component(0, 1025, FIRST_DIGEST))?;
-    let old = one_component(3, component(0, 1025, FIRST_DIGEST))?;
-    let second = component(1, 1025, SECOND_DIGEST);
-    let both = two_components(5, component(0, 96, FIRST_DIGEST), second)?;
     let steps = [
         (Step::Accept(&whole), DONE),
         (Step::Piece(0, &FIRST[..5]), DONE),
-        (Step::Accept(&long), Err(UploadError::TooBig)),
-        (Step::Accept(&old), Err(UploadError::OldSequence)),
-        (Step::Accept(&both), Err(UploadError::TooBig)),
     ];
     play(rt, &mut uploads, &mut flash, &map, &steps)?;
-    same(rt, "what came of image 0", &received(&uploads, 0), &Some(5));
+    refuse_meanwhile(rt, &mut uploads, &mut flash, &map)?;
     let other = one_component(4, component(1, 96, SECOND_DIGEST))?;
-    play(
-        rt,
-        &mut uploads,
-        &mut flash,
-        &map,
-        &[(Step::Accept(&other), DONE)],
-    )?;
+    let steps = [(Step::Accept(&other), DONE)];
+    play(rt, &mut uploads, &mut flash, &map, &steps)?;
     same(rt, "what came of image 0", &received(&uploads, 0), &Some(5));
     same(rt, "what came of image 1", &received(&uploads, 1), &Some(0));
     let steps = [
