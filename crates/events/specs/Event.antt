@@ -1,0 +1,13 @@
+-- Events over other bytes.
+use Rattle.events.specs.declared.event.Event.{Event}
+use Rattle.events.specs.declared.event.Event.TheVariants as event
+
+-- The same event, with what a function gives in the place of its bytes.
+abbrev pub event_map : {A B : Type 0} → (A → B) → Event A → Event B
+event_map f (event.Accept bytes) = event.Accept (f bytes)
+event_map f (event.Piece image bytes) = event.Piece image (f bytes)
+event_map f (event.Finish image) = event.Finish image
+event_map f (event.Withdraw image) = event.Withdraw image
+event_map f (event.Confirm image) = event.Confirm image
+event_map f event.Boot = event.Boot
+event_map f event.Reset = event.Reset
