@@ -3,6 +3,7 @@ use Rattle.std.proofs.Common.{◌≡◌, ℕ, List, [], ◌∷◌, Option, Resul
 use Rattle.std.specs.Borrow.{Bor}
 use Rattle.reading_commands.specs.declared.answer.Answer.{Answer}
 use Rattle.reading_commands.specs.declared.answer.Answer.TheVariants.{Done, Refused, Cut}
+use Rattle.events.specs.declared.event.Event.{Event}
 use Rattle.flash_model.specs.declared.torn.Armed.{Armed}
 use Rattle.reading_commands.specs.declared.error.Refusal.{Refusal}
 use Rattle.reading_commands.specs.declared.error.Refusal.TheVariants as no
@@ -17,7 +18,7 @@ use Rattle.reading_commands.specs.DeviceInput.{GivesDevice}
 use Rattle.reading_commands.specs.Input.{FileBytes, Gives, KeepsFiles, KeepsOthers}
 use Rattle.boot_cli.specs.ProvisionEnd.{AnswersMade, AnswersProvision, EndsBefore, EndsMade, MakesDevice, ReadsImages}
 use Rattle.boot_cli.specs.RunEnd.{AnswersRun, Plays, RunsDevice}
-use Rattle.boot_cli.specs.Script.{Came, IsScript, Known, StaysKnown, known_after}
+use Rattle.boot_cli.specs.Script.{IsScript, Known, StaysKnown, known_after}
 use Rattle.reading_commands.specs.Status.{status_of_answer}
 use Rattle.boot_cli.proofs.InputLaws.{GiveEach-one, GiveEach-read}
 use Rattle.boot_cli.proofs.ScriptLaws.{StaysKnown-itself, StaysKnown-read}
@@ -102,7 +103,7 @@ AnswersRun-runs Cut device flash script input file old new runs = runs
 pub AnswersRun-read : (answer : Answer) (device : Source) (flash : Bor (List ℕ)) (script : Source)
     (input second_input third_input fourth_input : Option (List ℕ))
     (file second_file third_file fourth_file : FileBytes)
-    (old mid new : Option (List ℕ)) (bytes text : List ℕ) (cuts : List Armed) (came : List Came)
+    (old mid new : Option (List ℕ)) (bytes text : List ℕ) (cuts : List Armed) (came : List (Event (List ℕ)))
     (of_device : DeviceFile)
     → GivesDevice device input file of_device → KeepsOthers device input file second_input second_file
     → Gives (source.File flash) second_input second_file bytes

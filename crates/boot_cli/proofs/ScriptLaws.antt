@@ -3,25 +3,26 @@ use Rattle.std.proofs.Common.{◌≡◌, ◌≢◌, ℕ, ◌+◌, ◌-◌, ◌�
 use Rattle.std.proofs.Math.ListN.{replicate}
 use Rattle.std.proofs.Math.Seq.{drop-append_seam, take-length}
 use Rattle.std.proofs.lemmas.List.{append-nil, length-replicate, map-append}
+use Rattle.std.specs.Prelude.{Vec}
 use Rattle.std.specs.Borrow.{Bor}
 use Rattle.std.specs.List.{slice_range}
 use Rattle.std.specs.Io.KnownBytes.{Keeps}
 use Rattle.std.specs.List.{AllZip}
 use Rattle.common.specs.Lines.{lines_of}
+use Rattle.events.specs.declared.event.Event.{Event}
 use Rattle.flash_model.specs.declared.torn.Armed.{Armed}
 use Rattle.script.specs.declared.line_order.Reading.{Reading}
 use Rattle.script.specs.InOrder.{AreEvents, AreInOrder, CanFollow}
 use Rattle.script.specs.LineText.{IsLineText}
 use Rattle.script.specs.Part.{IsPart}
-use Rattle.script.specs.Said.{PartWords, Said, SaidEvent, SaidTorn}
+use Rattle.script.specs.Said.{PartWords, Said, SaidEvent, SaidTorn, file_of}
 use Rattle.script.specs.Said as said
 use Rattle.reading_commands.specs.declared.source.Source.{Source}
 use Rattle.reading_commands.specs.declared.source.Source.TheVariants.{StandardInput, File}
 use Rattle.reading_commands.specs.Input.{FileBytes, Gives, IsKnownAs, IsKnownPart, IsNamed, KeepsFiles, KeepsOthers}
 use Rattle.boot_cli.specs.declared.loading.Cut.{Cut}
-use Rattle.boot_cli.specs.declared.loading.Step.{Step}
-use Rattle.boot_cli.specs.Loading.{Adds, Passes, ReadsPiece, armed_in, armed_of, came_in, came_of}
-use Rattle.boot_cli.specs.Script.{AllCome, AllCut, Came, Comes, IsCutBy, IsPieceOf, IsRead, IsScript, Known, StaysKnown, known_after}
+use Rattle.boot_cli.specs.Loading.{Adds, Passes, armed_in, armed_of, came_in, came_of}
+use Rattle.boot_cli.specs.Script.{AllCome, AllCut, Comes, IsCutBy, IsPieceOf, IsRead, IsScript, Known, ReadsFile, StaysKnown, known_after}
 use Rattle.reading_commands.proofs.AnswerLaws.{Gives-kept}
 use Rattle.boot_cli.proofs.InputLaws.{kept_itself, kept_twice}
 
@@ -100,12 +101,12 @@ IsPart-known (Some held) words from count part first many is =
     (held, refl, (from, count, first, many, is.there, is.same))
 
 -- a part of a file was read
-pub ReadsPiece-part : (name : Bor (List ℕ)) (words : PartWords) (from count : ℕ) (part : List ℕ)
+pub ReadsFile-part : (name : Bor (List ℕ)) (words : PartWords) (from count : ℕ) (part : List ℕ)
     (input new_input : Option (List ℕ)) (files new_files : FileBytes) → name.now ≢ codes "-"
     → words.from ≡ decimal from → words.count ≡ decimal count
     → IsKnownPart (files name.now) from count part → Keeps input new_input → KeepsFiles files new_files
-    → Passes (ReadsPiece name.now (Some words) part) input files new_input new_files
-ReadsPiece-part name words from count part input new_input files new_files named first many is input_kept files_kept =
+    → Passes (ReadsFile (file_of name.now (Some words)) part) input files new_input new_files
+ReadsFile-part name words from count part input new_input files new_files named first many is input_kept files_kept =
     λ known stays.
     let still = IsKnownPart-kept (known.files name.now) (files name.now) from count part (stays.files_kept name.now) is in
     let found = IsPart-known (known.files name.now) words from count part first many still in (
@@ -115,32 +116,34 @@ ReadsPiece-part name words from count part input new_input files new_files named
     )
 
 -- a file was read, and this is a part of it
-pub ReadsPiece-read : (name : List ℕ) (part : Option PartWords) (bytes piece : List ℕ)
+pub ReadsFile-read : (name : List ℕ) (part : Option PartWords) (bytes piece : List ℕ)
     (input new_input : Option (List ℕ)) (files new_files : FileBytes)
     → Passes (λ known after. IsRead name known bytes after) input files new_input new_files
-    → IsPieceOf part bytes piece → Passes (ReadsPiece name part piece) input files new_input new_files
-ReadsPiece-read name part bytes piece input new_input files new_files read is = λ known stays.
+    → IsPieceOf part bytes piece → Passes (ReadsFile (file_of name part) piece) input files new_input new_files
+ReadsFile-read name part bytes piece input new_input files new_files read is = λ known stays.
     let found = read known stays in (found.0, (bytes, found.1, is), found.2)
 
--- a step more is the last that comes, and what is known passes as by its line
-pub Adds-step : {A : Type 0} (event : SaidEvent) (cuts : List Cut) (old new : List (Step A)) (step : Step A)
-    (input new_input : Option (List ℕ)) (files new_files : FileBytes) → new ≡ old ++ step ∷ []
-    → Passes (λ known after. Comes event known (came_of step) after) input files new_input new_files
-    → Passes (Adds (said.Event event) (armed_in cuts) (armed_in cuts) (came_in old) (came_in new)) input files
+-- an event more is the last that comes, and what is known passes as by its line
+pub Adds-event : {A : Type 0} (happened : SaidEvent) (cuts : List Cut) (old new : List (Event (Vec ℕ A)))
+    (read : Event (Vec ℕ A)) (input new_input : Option (List ℕ)) (files new_files : FileBytes)
+    → new ≡ old ++ read ∷ []
+    → Passes (λ known after. Comes happened known (came_of read) after) input files new_input new_files
+    → Passes (Adds (said.Event happened) (armed_in cuts) (armed_in cuts) (came_in old) (came_in new)) input files
     new_input new_files
-Adds-step event cuts old new step input new_input files new_files added comes = λ known stays.
+Adds-event happened cuts old new read input new_input files new_files added comes = λ known stays.
     let came = comes known stays in (
       came.0,
-      (came_of step, came.1, ap (λ steps. came_in steps) added ∙ map-append came_of old (step ∷ []), refl),
+      (came_of read, came.1, ap (λ events. came_in events) added ∙ map-append came_of old (read ∷ []), refl),
       came.2,
     )
 
 -- a cut more is of the last write that is to be cut, and all that is known stays known
-pub Adds-cut : {A : Type 0} (write : ℕ) (torn : SaidTorn) (old new : List Cut) (cut : Cut) (steps : List (Step A))
-    (input : Option (List ℕ)) (files : FileBytes) → new ≡ old ++ cut ∷ [] → IsCutBy write torn (armed_of cut)
-    → Passes (Adds (said.Cut write torn) (armed_in old) (armed_in new) (came_in steps) (came_in steps)) input files
+pub Adds-cut : {A : Type 0} (write : ℕ) (torn : SaidTorn) (old new : List Cut) (cut : Cut)
+    (events : List (Event (Vec ℕ A))) (input : Option (List ℕ)) (files : FileBytes) → new ≡ old ++ cut ∷ []
+    → IsCutBy write torn (armed_of cut)
+    → Passes (Adds (said.Cut write torn) (armed_in old) (armed_in new) (came_in events) (came_in events)) input files
     input files
-Adds-cut write torn old new cut steps input files added is = λ known stays. (
+Adds-cut write torn old new cut events input files added is = λ known stays. (
   known,
   (armed_of cut, is, ap (λ cuts. armed_in cuts) added ∙ map-append armed_of old (cut ∷ []), refl, refl),
   stays,
@@ -150,10 +153,10 @@ Adds-cut write torn old new cut steps input files added is = λ known stays. (
 -- follows, these writes and those of the rest are to be cut by the whole text, and this and what comes by the rest
 -- come by it.
 abbrev pub AreLoaded : List ℕ → List ℕ → Reading → Option (List ℕ) → FileBytes
-    → Option (List ℕ) → FileBytes → List Armed → List Came → Type 0
+    → Option (List ℕ) → FileBytes → List Armed → List (Event (List ℕ)) → Type 0
 AreLoaded text rest reading old_input old_files input files cuts came =
-    Passes (λ known now. (lines : List Said) (others : List Armed) (more : List Came) → CanFollow reading lines
-    → AllZip IsLineText (lines_of rest) lines → AllCut lines others → AllCome lines now more
+    Passes (λ known now. (lines : List Said) (others : List Armed) (more : List (Event (List ℕ)))
+    → CanFollow reading lines → AllZip IsLineText (lines_of rest) lines → AllCut lines others → AllCome lines now more
     → IsScript text known (cuts ++ others) (came ++ more))
     old_input old_files input files
 
@@ -169,10 +172,10 @@ AreLoaded-none text reading input files new = λ known stays. (
 )
 
 -- what a line adds is of it and all behind it
-come_more : (one : Said) (old_cuts new_cuts others : List Armed) (old new more : List Came) (lines : List Said)
-    (text : List ℕ) (known now after : Known) → Adds one old_cuts new_cuts old new now after
+come_more : (one : Said) (old_cuts new_cuts others : List Armed) (old new more : List (Event (List ℕ)))
+    (lines : List Said) (text : List ℕ) (known now after : Known) → Adds one old_cuts new_cuts old new now after
     → AllCut lines others → AllCome lines after more
-    → ((armed : List Armed) (some : List Came) → AllCut (one ∷ lines) armed → AllCome (one ∷ lines) now some
+    → ((armed : List Armed) (some : List (Event (List ℕ))) → AllCut (one ∷ lines) armed → AllCome (one ∷ lines) now some
     → IsScript text known (old_cuts ++ armed) (old ++ some))
     → IsScript text known (new_cuts ++ others) (new ++ more)
 come_more (said.Cut write torn) old_cuts new_cuts others old new more lines text known now after adds cut come then =
@@ -181,7 +184,7 @@ come_more (said.Cut write torn) old_cuts new_cuts others old new more lines text
     (subst (λ all. IsScript text known all (old ++ more)) (sym (append_assoc old_cuts (adds.0 ∷ []) others))
     (then (adds.0 ∷ others) more (adds.0, others, adds.1, cut, refl)
     (subst (λ k. AllCome lines k more) adds.4 come))))
-come_more (said.Event event) old_cuts new_cuts others old new more lines text known now after adds cut come then =
+come_more (said.Event happened) old_cuts new_cuts others old new more lines text known now after adds cut come then =
     subst (λ cuts. IsScript text known (cuts ++ others) (new ++ more)) (sym adds.3)
     (subst (λ came. IsScript text known (old_cuts ++ others) (came ++ more)) (sym adds.2)
     (subst (λ all. IsScript text known (old_cuts ++ others) all) (sym (append_assoc old (adds.0 ∷ []) more))
@@ -190,7 +193,7 @@ come_more (said.Event event) old_cuts new_cuts others old new more lines text kn
 -- one line more was read
 pub AreLoaded-more : (text rest after_rest line : List ℕ) (reading new_reading : Reading) (one : Said)
     (old_input input new_input : Option (List ℕ)) (old_files files new_files : FileBytes)
-    (cuts new_cuts : List Armed) (came new_came : List Came)
+    (cuts new_cuts : List Armed) (came new_came : List (Event (List ℕ)))
     → lines_of rest ≡ line ∷ lines_of after_rest → IsLineText line one
     → ((lines : List Said) → CanFollow new_reading lines ↔ CanFollow reading (one ∷ lines))
     → Passes (Adds one cuts new_cuts came new_came) input files new_input new_files
@@ -215,7 +218,7 @@ nothing_follows false last = tt
 
 -- all was read
 pub AreLoaded-all : (text rest : List ℕ) (reading : Reading) (old_input input : Option (List ℕ))
-    (old_files files : FileBytes) (cuts : List Armed) (came : List Came) → length rest ≡ 0
+    (old_files files : FileBytes) (cuts : List Armed) (came : List (Event (List ℕ))) → length rest ≡ 0
     → AreLoaded text rest reading old_input old_files input files cuts came
     → (known : Known) → StaysKnown known old_input old_files → IsScript text known cuts came
 AreLoaded-all text [] reading old_input input old_files files cuts came none loaded known stays =

@@ -1,15 +1,17 @@
 -- Replies that are told one by one: what all of them come to, and what stands where one could not be told.
 use Rattle.std.proofs.Common.{◌≡◌, ℕ, ◌+◌, ◌-◌, ◌<◌, ◌≤◌, false, List, [], ◌∷◌, ◌++◌, Option, Some, ap, append-nil, arith, get_or, length, length-append, map, refl, subst, sym, take, ◌∙◌}
+use Rattle.std.specs.Prelude.{Vec}
 use Rattle.std.specs.Io.KnownBytes.{Appends}
 use Rattle.std.proofs.KnownBytes.{Appends-nil, Appends-trans}
 use Rattle.std.proofs.Math.Seq.{get_or-append_seam}
 use Rattle.std.proofs.lemmas.List.{length-map, length-take-le, map-append, take-map, take_all, take_more}
 use Rattle.std.proofs.lemmas.Option.{slice_get-get_or}
+use Rattle.events.specs.declared.event.Event.{Event}
 use Rattle.flash_model.specs.declared.torn.Armed.{Armed}
 use Rattle.machine.specs.Holding.{DeviceView}
 use Rattle.machine.specs.Intake.{Setup}
 use Rattle.machine.specs.Passing.{RunsTo, StepsTo}
-use Rattle.machine.specs.declared.event.Event.{Event}
+use Rattle.machine.specs.Steps.{DeviceEvent}
 use Rattle.machine.specs.declared.reply.Reply.{Reply}
 use Rattle.machine.proofs.Runs.{runs_more, runs_none}
 use Rattle.boot_core.specs.Device.{seen}
@@ -21,10 +23,9 @@ use Rattle.reading_commands.specs.Status.{status_of_refusal}
 use Rattle.answers.specs.declared.device.DeviceFile.{DeviceFile}
 use Rattle.answers.specs.ReplyText.{replies_text, reply_text}
 use Rattle.answers.proofs.ReplyLaws.{replies_text-push}
-use Rattle.boot_cli.specs.declared.loading.Step.{Step}
 use Rattle.boot_cli.specs.Loading.{came_in, came_of}
 use Rattle.boot_cli.specs.RunEnd.{IsMadeOf, Plays, TellsFirst, answer_after, answer_of, armed_chip, setup_of}
-use Rattle.boot_cli.specs.Script.{Came, came_by}
+use Rattle.boot_cli.specs.Script.{came_by}
 use Rattle.boot_cli.specs.Telling.{BreaksOff, TellsAll, TellsSome}
 
 -- the last reply says what a run comes to
@@ -36,22 +37,22 @@ answer_of-push replies reply =
     ap answer_after (slice_get-get_or all (length all - 1) reply (omega (arith, count))
     ∙ ap Some (ap (λ k. get_or all k reply) last ∙ get_or-append_seam replies reply [] reply))
 
--- what comes by one step more
-pub came_in-more : {A : Type 0} (steps : List (Step A)) (i : ℕ) (step : Step A) (event : Event) → i < length steps
-    → step ≡ get_or steps i step → came_by event ≡ came_of step
-    → take (i + 1) (came_in steps) ≡ take i (came_in steps) ++ came_by event ∷ []
-came_in-more steps i step event below is comes =
-    let there : i < length (came_in steps) = omega (arith, below, length-map steps came_of) in
-    let next : take (i + 1) steps ≡ take i steps ++ step ∷ [] =
-    take_more steps i step below ∙ ap (λ s. take i steps ++ s ∷ []) (sym is) in
-    take-map came_of (i + 1) steps
+-- what comes by one event more
+pub came_in-more : {A : Type 0} (all : List (Event (Vec ℕ A))) (i : ℕ) (read : Event (Vec ℕ A)) (event : DeviceEvent)
+    → i < length all → read ≡ get_or all i read → came_by event ≡ came_of read
+    → take (i + 1) (came_in all) ≡ take i (came_in all) ++ came_by event ∷ []
+came_in-more all i read event below is comes =
+    let there : i < length (came_in all) = omega (arith, below, length-map all came_of) in
+    let next : take (i + 1) all ≡ take i all ++ read ∷ [] =
+    take_more all i read below ∙ ap (λ e. take i all ++ e ∷ []) (sym is) in
+    take-map came_of (i + 1) all
     ∙ ap (λ l. map came_of l) next
-    ∙ map-append came_of (take i steps) (step ∷ [])
-    ∙ ap (λ l. l ++ came_of step ∷ []) (sym (take-map came_of i steps))
-    ∙ ap (λ c. take i (came_in steps) ++ c ∷ []) (sym comes)
+    ∙ map-append came_of (take i all) (read ∷ [])
+    ∙ ap (λ l. l ++ came_of read ∷ []) (sym (take-map came_of i all))
+    ∙ ap (λ c. take i (came_in all) ++ c ∷ []) (sym comes)
 
 -- there are as many replies as came
-replied : (events : List Event) (replies : List Reply) (all : List Came) (i : ℕ) → i ≤ length all
+replied : (events : List DeviceEvent) (replies : List Reply) (all : List (Event (List ℕ))) (i : ℕ) → i ≤ length all
     → map came_by events ≡ take i all → length replies ≡ length events → length replies ≡ i
 replied events replies all i below come each =
     each ∙ sym (length-map events came_by) ∙ ap length come ∙ length-take-le i all below
@@ -70,8 +71,8 @@ TellsAll-none setup here written = record {
 }
 
 -- an event more, whose reply was told
-pub TellsAll-more : (setup here : Setup) (old mid new : DeviceView) (all : List Came) (i : ℕ) (event : Event)
-    (reply : Reply) (answer next : Answer) (before between after : Option (List ℕ))
+pub TellsAll-more : (setup here : Setup) (old mid new : DeviceView) (all : List (Event (List ℕ))) (i : ℕ)
+    (event : DeviceEvent) (reply : Reply) (answer next : Answer) (before between after : Option (List ℕ))
     → TellsAll answer setup old mid (take i all) before between → i ≤ length all
     → take (i + 1) all ≡ take i all ++ came_by event ∷ [] → here ≡ setup → StepsTo here mid new event reply
     → Appends between after (reply_text (i + 1) reply) → next ≡ answer_after (Some reply)
@@ -96,8 +97,9 @@ TellsAll-more setup here old mid new all i event reply answer next before betwee
     }
 
 -- an event more, whose reply was not told
-pub TellsSome-more : (refusal : Refusal) (setup here : Setup) (old mid new : DeviceView) (all : List Came) (i : ℕ)
-    (event : Event) (reply : Reply) (answer : Answer) (before between after : Option (List ℕ))
+pub TellsSome-more : (refusal : Refusal) (setup here : Setup) (old mid new : DeviceView)
+    (all : List (Event (List ℕ))) (i : ℕ) (event : DeviceEvent) (reply : Reply) (answer : Answer)
+    (before between after : Option (List ℕ))
     → TellsAll answer setup old mid (take i all) before between → i ≤ length all
     → take (i + 1) all ≡ take i all ++ came_by event ∷ [] → here ≡ setup → StepsTo here mid new event reply
     → BreaksOff refusal (reply_text (i + 1) reply) between after
@@ -126,14 +128,14 @@ TellsSome-more refusal setup here old mid new all i event reply answer before be
       output = broken.output;
     }
 
--- all that comes by steps
-pub came_in-all : {A : Type 0} (steps : List (Step A)) (i : ℕ) → length steps ≤ i
-    → take i (came_in steps) ≡ came_in steps
-came_in-all steps i past = take_all i (came_in steps) (omega (arith, past, length-map steps came_of))
+-- all that comes by events
+pub came_in-all : {A : Type 0} (all : List (Event (Vec ℕ A))) (i : ℕ) → length all ≤ i
+    → take i (came_in all) ≡ came_in all
+came_in-all all i past = take_all i (came_in all) (omega (arith, past, length-map all came_of))
 
 -- a device that was just made over a flash, and all was told
-pub Plays-told : (device : DeviceFile) (bytes : List ℕ) (cuts : List Armed) (came : List Came) (old new : DeviceView)
-    (answer : Answer) (before after : Option (List ℕ)) → IsMadeOf device.map bytes cuts old
+pub Plays-told : (device : DeviceFile) (bytes : List ℕ) (cuts : List Armed) (came : List (Event (List ℕ)))
+    (old new : DeviceView) (answer : Answer) (before after : Option (List ℕ)) → IsMadeOf device.map bytes cuts old
     → TellsAll answer (setup_of device) old new came before after → Plays answer device bytes cuts came before after
 Plays-told device bytes cuts came old new answer before after made told = record {
   events = told.events;
@@ -145,8 +147,8 @@ Plays-told device bytes cuts came old new answer before after made told = record
 }
 
 -- .. or all was told, and the flash file failed
-pub TellsFirst-all : (device : DeviceFile) (bytes : List ℕ) (cuts : List Armed) (came : List Came) (old new : DeviceView)
-    (answer : Answer) (before after : Option (List ℕ)) → IsMadeOf device.map bytes cuts old
+pub TellsFirst-all : (device : DeviceFile) (bytes : List ℕ) (cuts : List Armed) (came : List (Event (List ℕ)))
+    (old new : DeviceView) (answer : Answer) (before after : Option (List ℕ)) → IsMadeOf device.map bytes cuts old
     → TellsAll answer (setup_of device) old new came before after
     → TellsFirst FlashFile device bytes cuts came before after
 TellsFirst-all device bytes cuts came old new answer before after made told =
@@ -171,8 +173,9 @@ TellsFirst-all device bytes cuts came old new answer before after made told =
     }
 
 -- .. or only the first was told
-pub TellsFirst-some : (refusal : Refusal) (device : DeviceFile) (bytes : List ℕ) (cuts : List Armed) (came : List Came)
-    (old new : DeviceView) (before after : Option (List ℕ)) → IsMadeOf device.map bytes cuts old
+pub TellsFirst-some : (refusal : Refusal) (device : DeviceFile) (bytes : List ℕ) (cuts : List Armed)
+    (came : List (Event (List ℕ))) (old new : DeviceView) (before after : Option (List ℕ))
+    → IsMadeOf device.map bytes cuts old
     → TellsSome refusal (setup_of device) old new came before after
     → TellsFirst refusal device bytes cuts came before after
 TellsFirst-some refusal device bytes cuts came old new before after made some =
@@ -191,7 +194,7 @@ TellsFirst-some refusal device bytes cuts came old new before after made some =
     }
 
 -- .. or there was no memory for the flash
-pub TellsFirst-none : (device : DeviceFile) (bytes : List ℕ) (cuts : List Armed) (came : List Came)
+pub TellsFirst-none : (device : DeviceFile) (bytes : List ℕ) (cuts : List Armed) (came : List (Event (List ℕ)))
     (written : Option (List ℕ)) → TellsFirst NoMemory device bytes cuts came written written
 TellsFirst-none device bytes cuts came written =
     let here : DeviceView = seen (armed_chip device.map bytes cuts) [] false in

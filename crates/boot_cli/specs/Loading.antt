@@ -1,27 +1,21 @@
 -- What reading a script leaves, line by line: for the private contracts of its readers.
-use Rattle.std.specs.Prelude.{◌≡◌, ℕ, List, [], ◌∷◌, ◌++◌, Option, map}
+use Rattle.std.specs.Prelude.{◌≡◌, ℕ, List, [], ◌∷◌, ◌++◌, Option, Vec, map}
+use Rattle.events.specs.declared.event.Event.{Event}
+use Rattle.events.specs.Event.{event_map}
 use Rattle.flash_model.specs.declared.torn.Armed.{Armed}
-use Rattle.script.specs.Said.{PartWords, Said}
+use Rattle.script.specs.Said.{Said}
 use Rattle.script.specs.Said as said
 use Rattle.boot_cli.specs.declared.loading.Cut.{Cut}
-use Rattle.boot_cli.specs.declared.loading.Step.{Step}
-use Rattle.boot_cli.specs.declared.loading.Step.TheVariants as step
 use Rattle.reading_commands.specs.Input.{FileBytes}
-use Rattle.boot_cli.specs.Script.{Accept, Boot, Came, Comes, Confirm, Finish, IsCutBy, IsPieceOf, IsRead, Known, Piece, Reset, StaysKnown, Withdraw}
+use Rattle.boot_cli.specs.Script.{Comes, IsCutBy, Known, StaysKnown}
 
--- What comes to the device by a step.
-abbrev pub came_of : {A : Type 0} → Step A → Came
-came_of (step.Accept bytes) = Accept bytes.items
-came_of (step.Piece image bytes) = Piece image bytes.items
-came_of (step.Finish image) = Finish image
-came_of (step.Withdraw image) = Withdraw image
-came_of (step.Confirm image) = Confirm image
-came_of step.Boot = Boot
-came_of step.Reset = Reset
+-- What comes to the device by an event that holds its bytes.
+abbrev pub came_of : {A : Type 0} → Event (Vec ℕ A) → Event (List ℕ)
+came_of read = event_map (λ bytes. bytes.items) read
 
--- What comes by steps, in order.
-abbrev pub came_in : {A : Type 0} → List (Step A) → List Came
-came_in steps = map came_of steps
+-- What comes by such events, in order.
+abbrev pub came_in : {A : Type 0} → List (Event (Vec ℕ A)) → List (Event (List ℕ))
+came_in events = map came_of events
 
 -- The write that a cut of a script has cut.
 abbrev pub armed_of : Cut → Armed
@@ -38,16 +32,12 @@ Passes Says old_input old_files new_input new_files =
     (known : Known) → StaysKnown known old_input old_files
     → (after : Known) × Says known after × StaysKnown after new_input new_files
 
--- A file was read, of which this is the part that two words name, or all of it.
-abbrev pub ReadsPiece : List ℕ → Option PartWords → List ℕ → Known → Known → Type 0
-ReadsPiece name part piece known after =
-    (bytes : List ℕ) × IsRead name known bytes after × IsPieceOf part bytes piece
-
 -- What a line adds to the writes that are to be cut, and to what comes.
-abbrev pub Adds : Said → List Armed → List Armed → List Came → List Came → Known → Known → Type 0
+abbrev pub Adds : Said → List Armed → List Armed → List (Event (List ℕ))
+    → List (Event (List ℕ)) → Known → Known → Type 0
 Adds (said.Cut write torn) old_cuts new_cuts old new known after =
     (cut : Armed) × IsCutBy write torn cut × (new_cuts ≡ old_cuts ++ cut ∷ [])
     × (new ≡ old) × (after ≡ known)
-Adds (said.Event event) old_cuts new_cuts old new known after =
-    (came : Came) × Comes event known came after × (new ≡ old ++ came ∷ [])
+Adds (said.Event happened) old_cuts new_cuts old new known after =
+    (came : Event (List ℕ)) × Comes happened known came after × (new ≡ old ++ came ∷ [])
     × (new_cuts ≡ old_cuts)

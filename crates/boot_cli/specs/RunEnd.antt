@@ -1,6 +1,7 @@
 -- What a run of a device comes to.
 use Rattle.std.specs.Prelude.{◌≡◌, ◌⊎◌, ℕ, ◌+◌, ◌-◌, ◌≤◌, false, List, [], ◌∷◌, ◌++◌, length, take, Option, None, Some, map, slice_get}
 use Rattle.std.specs.Io.KnownBytes.{Appends}
+use Rattle.events.specs.declared.event.Event.{Event}
 use Rattle.flash_model.specs.declared.torn.Armed.{Armed}
 use Rattle.flash_model.specs.Chip.{Chip}
 use Rattle.flash_model.specs.Memory.{Memory, with_armed}
@@ -9,7 +10,7 @@ use Rattle.upload.specs.Sessions.{AllClosed}
 use Rattle.machine.specs.Holding.{DeviceView}
 use Rattle.machine.specs.Intake.{Setup}
 use Rattle.machine.specs.Passing.{RunsTo}
-use Rattle.machine.specs.declared.event.Event.{Event}
+use Rattle.machine.specs.Steps.{DeviceEvent}
 use Rattle.machine.specs.declared.reply.Reply.{Reply}
 use Rattle.machine.specs.declared.reply.Reply.TheVariants as reply
 use Rattle.boot_core.specs.Device.{made}
@@ -25,7 +26,7 @@ use Rattle.reading_commands.specs.DeviceInput.{RefusesMap}
 use Rattle.reading_commands.specs.Input.{FileBytes}
 use Rattle.boot_cli.specs.Inputs.{GiveEach}
 use Rattle.answers.specs.ReplyText.{replies_text}
-use Rattle.boot_cli.specs.Script.{Came, IsScript, Known, came_by, known_after}
+use Rattle.boot_cli.specs.Script.{IsScript, Known, came_by, known_after}
 
 -- What a device is made with, by its file.
 abbrev pub setup_of : DeviceFile → Setup
@@ -51,7 +52,7 @@ pub record IsMadeOf (map : SectorMap) (bytes : List ℕ) (cuts : List Armed) (he
 -- flash, of whose writes these are to be cut: from every state that it holds they are a run of the
 -- machine of whole images, to a state that it holds then.
 pub record IsPlayed (device : DeviceFile) (bytes : List ℕ) (cuts : List Armed)
-    (events : List Event) (replies : List Reply) : Type 0 where
+    (events : List DeviceEvent) (replies : List Reply) : Type 0 where
   pub old : DeviceView
   pub new : DeviceView
   pub made : IsMadeOf device.map bytes cuts old
@@ -74,8 +75,8 @@ answer_of replies = answer_after (slice_get replies (length replies - 1))
 -- What is answered of a device of this file with these bytes on its flash, of whose writes these
 -- are to be cut, and to which this comes; and what a writer took: the replies.
 pub record Plays (answer : Answer) (device : DeviceFile) (bytes : List ℕ) (cuts : List Armed)
-    (came : List Came) (old new : Option (List ℕ)) : Type 0 where
-  pub events : List Event
+    (came : List (Event (List ℕ))) (old new : Option (List ℕ)) : Type 0 where
+  pub events : List DeviceEvent
   pub replies : List Reply
   pub come : map came_by events ≡ came
   pub played : IsPlayed device bytes cuts events replies
@@ -85,9 +86,9 @@ pub record Plays (answer : Answer) (device : DeviceFile) (bytes : List ℕ) (cut
 -- What a writer took of a run that ended without an answer, of a device of this file with these
 -- bytes on its flash, of whose writes these are to be cut, and to which this was to come.
 pub record TellsFirst (refusal : Refusal) (device : DeviceFile) (bytes : List ℕ)
-    (cuts : List Armed) (came : List Came) (old new : Option (List ℕ)) : Type 0 where
+    (cuts : List Armed) (came : List (Event (List ℕ))) (old new : Option (List ℕ)) : Type 0 where
   -- The first of it came, in these events, and nothing after them.
-  pub events : List Event
+  pub events : List DeviceEvent
   pub come : map came_by events ≡ take (length events) came
   -- The replies to them were told, but for one at most, which is the last.
   pub told : List Reply
@@ -116,7 +117,7 @@ pub record RunsDevice (answer : Answer) (sources : List Source) (input : Option 
   pub bytes : List ℕ
   pub text : List ℕ
   pub cuts : List Armed
-  pub came : List Came
+  pub came : List (Event (List ℕ))
   pub given : GiveEach sources input files (device_bytes ∷ bytes ∷ text ∷ [])
   pub is_device : IsDeviceFile device_bytes of_device
   pub whole : IsFlashOf of_device.map bytes

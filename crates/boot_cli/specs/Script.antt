@@ -3,37 +3,24 @@ use Rattle.std.specs.Prelude.{◌≡◌, ℕ, List, [], ◌∷◌, Option, None,
 use Rattle.std.specs.Io.KnownBytes.{Keeps}
 use Rattle.std.specs.List.{AllZip}
 use Rattle.common.specs.Lines.{lines_of}
+use Rattle.events.specs.declared.event.Event.{Event}
+use Rattle.events.specs.declared.event.Event.TheVariants as event
+use Rattle.events.specs.Event.{event_map}
 use Rattle.flash_model.specs.declared.torn.Armed.{Armed}
-use Rattle.machine.specs.declared.event.Event.{Event}
-use Rattle.machine.specs.declared.event.Event.TheVariants as event
+use Rattle.machine.specs.Steps.{DeviceEvent}
 use Rattle.script.specs.Cuts.{Leaves}
 use Rattle.script.specs.InOrder.{AreInOrder}
 use Rattle.script.specs.LineText.{IsLineText}
 use Rattle.script.specs.Part.{IsPart}
-use Rattle.script.specs.Said.{PartWords, Said, SaidEvent, SaidTorn}
+use Rattle.script.specs.Said.{PartWords, Said, SaidEvent, SaidFile, SaidTorn}
 use Rattle.script.specs.Said as said
 use Rattle.reading_commands.specs.declared.source.Source.{Source}
 use Rattle.reading_commands.specs.declared.source.Source.TheVariants.{StandardInput, File}
 use Rattle.reading_commands.specs.Input.{FileBytes, Gives, IsNamed, KeepsFiles}
 
--- What comes to a device, with its bytes.
-pub data Came : Type 0 where
-  Accept : List ℕ → Came
-  Piece : ℕ → List ℕ → Came
-  Finish : ℕ → Came
-  Withdraw : ℕ → Came
-  Confirm : ℕ → Came
-  Boot : Came
-  Reset : Came
-
-abbrev pub came_by : Event → Came
-came_by (event.Accept bytes) = Accept bytes.now
-came_by (event.Piece image bytes) = Piece image bytes.now
-came_by (event.Finish image) = Finish image
-came_by (event.Withdraw image) = Withdraw image
-came_by (event.Confirm image) = Confirm image
-came_by event.Boot = Boot
-came_by event.Reset = Reset
+-- What comes to a device by an event whose bytes are lent to it.
+abbrev pub came_by : DeviceEvent → Event (List ℕ)
+came_by lent = event_map (λ bytes. bytes.now) lent
 
 -- What is known of a host: what is left of its standard input, and what its files hold.
 pub record Known : Type 0 where
@@ -63,26 +50,30 @@ abbrev pub IsPieceOf : Option PartWords → List ℕ → List ℕ → Type 0
 IsPieceOf None bytes piece = piece ≡ bytes
 IsPieceOf (Some words) bytes piece = IsPart words bytes piece
 
+-- What a line names of a file was read: all of it, or a part.
+abbrev pub ReadsFile : SaidFile → List ℕ → Known → Known → Type 0
+ReadsFile file piece known after =
+    (bytes : List ℕ) × IsRead file.name known bytes after × IsPieceOf file.part bytes piece
+
 -- What comes to the device by a line, and what is known of the host then.
-abbrev pub Comes : SaidEvent → Known → Came → Known → Type 0
-Comes (said.Accept file) known came after =
-    (bytes : List ℕ) × IsRead file known bytes after × (came ≡ Accept bytes)
-Comes (said.Piece image file part) known came after =
-    (bytes : List ℕ) × (piece : List ℕ) × IsRead file known bytes after
-    × IsPieceOf part bytes piece × (came ≡ Piece image piece)
-Comes (said.Finish image) known came after = (came ≡ Finish image) × (after ≡ known)
-Comes (said.Withdraw image) known came after = (came ≡ Withdraw image) × (after ≡ known)
-Comes (said.Confirm image) known came after = (came ≡ Confirm image) × (after ≡ known)
-Comes said.Boot known came after = (came ≡ Boot) × (after ≡ known)
-Comes said.Reset known came after = (came ≡ Reset) × (after ≡ known)
+abbrev pub Comes : SaidEvent → Known → Event (List ℕ) → Known → Type 0
+Comes (event.Accept file) known came after =
+    (text : List ℕ) × ReadsFile file text known after × (came ≡ event.Accept text)
+Comes (event.Piece image file) known came after =
+    (piece : List ℕ) × ReadsFile file piece known after × (came ≡ event.Piece image piece)
+Comes (event.Finish image) known came after = (came ≡ event.Finish image) × (after ≡ known)
+Comes (event.Withdraw image) known came after = (came ≡ event.Withdraw image) × (after ≡ known)
+Comes (event.Confirm image) known came after = (came ≡ event.Confirm image) × (after ≡ known)
+Comes event.Boot known came after = (came ≡ event.Boot) × (after ≡ known)
+Comes event.Reset known came after = (came ≡ event.Reset) × (after ≡ known)
 
 -- What comes by lines, one after the other.
-abbrev pub AllCome : List Said → Known → List Came → Type 0
+abbrev pub AllCome : List Said → Known → List (Event (List ℕ)) → Type 0
 AllCome [] known came = came ≡ []
 AllCome (said.Cut write torn ∷ lines) known came = AllCome lines known came
-AllCome (said.Event event ∷ lines) known came =
-    (first : Came) × (after : Known) × (more : List Came) × Comes event known first after
-    × AllCome lines after more × (came ≡ first ∷ more)
+AllCome (said.Event happened ∷ lines) known came =
+    (first : Event (List ℕ)) × (after : Known) × (more : List (Event (List ℕ)))
+    × Comes happened known first after × AllCome lines after more × (came ≡ first ∷ more)
 
 -- A write is to be cut as a line says: the write of that number, with what it leaves.
 pub record IsCutBy (write : ℕ) (torn : SaidTorn) (cut : Armed) : Type 0 where
@@ -95,12 +86,12 @@ AllCut [] cuts = cuts ≡ []
 AllCut (said.Cut write torn ∷ lines) cuts =
     (first : Armed) × (more : List Armed) × IsCutBy write torn first × AllCut lines more
     × (cuts ≡ first ∷ more)
-AllCut (said.Event event ∷ lines) cuts = AllCut lines cuts
+AllCut (said.Event happened ∷ lines) cuts = AllCut lines cuts
 
 -- A text is a script by which these writes are to be cut and this comes to the device: each of its
 -- lines says something, cuts stand before events and their numbers rise.
-pub record IsScript (text : List ℕ) (known : Known) (cuts : List Armed) (came : List Came)
-    : Type 0 where
+pub record IsScript (text : List ℕ) (known : Known) (cuts : List Armed)
+    (came : List (Event (List ℕ))) : Type 0 where
   pub lines : List Said
   pub say : AllZip IsLineText (lines_of text) lines
   pub order : AreInOrder 0 lines

@@ -2,16 +2,17 @@
 ghost use Rattle.std.specs.Prelude.{◌≡◌, ◌≢◌, ◌∷◌, ◌++◌, [], IfOk, IfSome, Some, codes};
 ghost use Rattle.std.specs.Io.KnownBytes.{Keeps};
 ghost use Rattle.std.specs.Option.{option_map};
+ghost use Rattle.events.specs.Event.{event_map};
 ghost use Rattle.reading_commands.specs.Input.{IsKnownPart, KeepsFiles};
-ghost use Rattle.script.specs.Said.{part_words, said, said_event, said_torn};
-ghost use Rattle.boot_cli.specs.Loading.{Adds, Passes, ReadsPiece, armed_in, armed_of, came_in, came_of};
-ghost use Rattle.boot_cli.specs.Script.{Comes, IsCutBy, IsPieceOf, IsRead, IsScript, Known, StaysKnown, came_by};
+ghost use Rattle.script.specs.Said.{file_of, part_words, said, said_file, said_torn};
+ghost use Rattle.boot_cli.specs.Loading.{Adds, Passes, armed_in, armed_of, came_in, came_of};
+ghost use Rattle.boot_cli.specs.Script.{Comes, IsCutBy, IsPieceOf, IsRead, IsScript, Known, ReadsFile, StaysKnown};
 
 use common::lines::first_line;
+use events::Event;
 use flash_model::Torn;
-use machine::Event;
 use reading_commands::{Host, Refusal, Source};
-use script::{Instruction, Line, PartText, Reading, TornText, line_of};
+use script::{FileText, Line, PartText, Reading, TornText, line_of};
 use std::alloc::{Allocator, Global};
 use std::io::ErrorKind;
 
@@ -24,49 +25,13 @@ pub struct Cut {
     pub torn: Torn,
 }
 
-/// An event of a script, with the bytes that come in it.
-#[derive(Drop)]
-pub enum Step<A: Allocator> {
-    /// A manifest comes.
-    Accept(Vec<u8, A>),
-    /// A piece of the upload of an image comes.
-    Piece(u8, Vec<u8, A>),
-    /// The upload of an image is to be finished.
-    Finish(u8),
-    /// The request for an image is to be taken back.
-    Withdraw(u8),
-    /// An image is confirmed.
-    Confirm(u8),
-    /// The device boots.
-    Boot,
-    /// The device is reset.
-    Reset,
-}
-
-impl<A: Allocator> Step<A> {
-    /// The event.
-    pub fn event(&self) -> Event<'_>
-        ensures { came_by result ≡ came_of self.now }
-    {
-        match self {
-            Step::Accept(bytes) => Event::Accept(bytes),
-            Step::Piece(image, bytes) => Event::Piece(*image, bytes),
-            Step::Finish(image) => Event::Finish(*image),
-            Step::Withdraw(image) => Event::Withdraw(*image),
-            Step::Confirm(image) => Event::Confirm(*image),
-            Step::Boot => Event::Boot,
-            Step::Reset => Event::Reset,
-        }
-    }
-}
-
 /// What a script says.
 #[derive(Drop)]
 pub struct Script<A: Allocator> {
     /// The writes that are cut, by rising numbers.
     pub cuts: Vec<Cut>,
-    /// The events, in order.
-    pub steps: Vec<Step<A>, A>,
+    /// The events, in order, with the bytes that come in them.
+    pub events: Vec<Event<Vec<u8, A>>, A>,
 }
 
 /// What the files of a script are read from.
@@ -99,11 +64,11 @@ pub fn load<'a, 'h, A: Allocator, H: Host>(
 ) -> Result<Script<&'h A>, Refusal<'a>>
     ensures { IfOk result (λ script. (known : Known)
         → StaysKnown known (H.input host.old) (H.file host.old)
-        → IsScript text.now known (armed_in script.cuts.items) (came_in script.steps.items)) }
+        → IsScript text.now known (armed_in script.cuts.items) (came_in script.events.items)) }
 {
     let mut script = Script {
         cuts: Vec::new(alloc),
-        steps: Vec::new(heap),
+        events: Vec::new(heap),
     };
     let mut reader = Reader {
         heap,
@@ -138,7 +103,7 @@ fn take_line<'a, 'h, A: Allocator, H: Host>(
 ) -> Result<(), Refusal<'a>>
     ensures { IfOk result (λ _. Passes
         (Adds (said line.entry) (armed_in script.old.cuts.items) (armed_in script.new.cuts.items)
-        (came_in script.old.steps.items) (came_in script.new.steps.items))
+        (came_in script.old.events.items) (came_in script.new.events.items))
         (H.input reader.old.host.now) (H.file reader.old.host.now)
         (H.input reader.new.host.now) (H.file reader.new.host.now)) }
 {
@@ -147,9 +112,9 @@ fn take_line<'a, 'h, A: Allocator, H: Host>(
             let cut = cut_of(alloc, write, torn)?;
             take_cut(&mut script.cuts, cut)
         }
-        Line::Event(instruction) => {
-            let step = step_of(reader, number, instruction)?;
-            take_step(&mut script.steps, step)
+        Line::Event(event) => {
+            let event = event_of(reader, number, event)?;
+            take_event(&mut script.events, event)
         }
     }
 }
@@ -174,49 +139,49 @@ fn take_cut<'a>(cuts: &mut Vec<Cut>, cut: Cut) -> Result<(), Refusal<'a>>
     }
 }
 
-/// Adds a step to those before.
-fn take_step<'a, A: Allocator>(
-    steps: &mut Vec<Step<A>, A>,
-    step: Step<A>,
+/// Adds an event to those before.
+fn take_event<'a, A: Allocator>(
+    events: &mut Vec<Event<Vec<u8, A>>, A>,
+    event: Event<Vec<u8, A>>,
 ) -> Result<(), Refusal<'a>>
-    ensures { IfOk result (λ _. steps.new.items ≡ steps.old.items ++ step ∷ []) }
+    ensures { IfOk result (λ _. events.new.items ≡ events.old.items ++ event ∷ []) }
 {
-    match steps.push(step) {
+    match events.push(event) {
         Ok(()) => Ok(()),
         Err(_) => Err(Refusal::NoMemory),
     }
 }
 
 /// The event that the line of this number says, with the bytes of its file.
-fn step_of<'a, 'h, A: Allocator, H: Host>(
+fn event_of<'a, 'h, A: Allocator, H: Host>(
     reader: &mut Reader<'h, '_, A, H>,
     number: usize,
-    instruction: Instruction<'a>,
-) -> Result<Step<&'h A>, Refusal<'a>>
-    ensures { IfOk result (λ step. Passes
-        (λ known after. Comes (said_event instruction.entry) known (came_of step) after)
+    event: Event<FileText<'a>>,
+) -> Result<Event<Vec<u8, &'h A>>, Refusal<'a>>
+    ensures { IfOk result (λ read. Passes
+        (λ known after. Comes (event_map said_file event.entry) known (came_of read) after)
         (H.input reader.old.host.now) (H.file reader.old.host.now)
         (H.input reader.new.host.now) (H.file reader.new.host.now)) }
 {
-    match instruction {
-        Instruction::Accept(file) => {
-            let bytes = bytes_of(reader, number, file)?;
-            Ok(Step::Accept(bytes))
+    match event {
+        Event::Accept(file) => {
+            let text = bytes_of(reader, number, file)?;
+            Ok(Event::Accept(text))
         }
-        Instruction::Piece { image, file, part } => {
-            let piece = piece_of(reader, number, file, part)?;
-            Ok(Step::Piece(image, piece))
+        Event::Piece(image, file) => {
+            let piece = bytes_of(reader, number, file)?;
+            Ok(Event::Piece(image, piece))
         }
-        Instruction::Finish(image) => Ok(Step::Finish(image)),
-        Instruction::Withdraw(image) => Ok(Step::Withdraw(image)),
-        Instruction::Confirm(image) => Ok(Step::Confirm(image)),
-        Instruction::Boot => Ok(Step::Boot),
-        Instruction::Reset => Ok(Step::Reset),
+        Event::Finish(image) => Ok(Event::Finish(image)),
+        Event::Withdraw(image) => Ok(Event::Withdraw(image)),
+        Event::Confirm(image) => Ok(Event::Confirm(image)),
+        Event::Boot => Ok(Event::Boot),
+        Event::Reset => Ok(Event::Reset),
     }
 }
 
-/// The bytes of the file that the line of this number names.
-fn bytes_of<'a, 'h, A: Allocator, H: Host>(
+/// All bytes of the file that the line of this number names.
+fn whole_file<'a, 'h, A: Allocator, H: Host>(
     reader: &mut Reader<'h, '_, A, H>,
     number: usize,
     name: &'a str,
@@ -234,23 +199,22 @@ fn bytes_of<'a, 'h, A: Allocator, H: Host>(
     source.read(reader.heap, reader.host)
 }
 
-/// The part of a file that the line of this number names, or all of it. Of a file no other part is
+/// What the line of this number names of a file: a part of it, or all. Of a file no other part is
 /// read.
-fn piece_of<'a, 'h, A: Allocator, H: Host>(
+fn bytes_of<'a, 'h, A: Allocator, H: Host>(
     reader: &mut Reader<'h, '_, A, H>,
     number: usize,
-    name: &'a str,
-    part: Option<PartText<'_>>,
+    file: FileText<'a>,
 ) -> Result<Vec<u8, &'h A>, Refusal<'a>>
-    ensures { IfOk result (λ piece. Passes
-        (ReadsPiece name.now (option_map part_words part.entry) piece.items)
+    ensures { IfOk result (λ bytes. Passes
+        (ReadsFile (said_file file.entry) bytes.items)
         (H.input reader.old.host.now) (H.file reader.old.host.now)
         (H.input reader.new.host.now) (H.file reader.new.host.now)) }
 {
-    match (Source::named(name), part) {
+    match (Source::named(file.name), file.part) {
         (Source::File(name), Some(part)) => file_part(reader, number, name, part),
-        _ => {
-            let bytes = bytes_of(reader, number, name)?;
+        (_, part) => {
+            let bytes = whole_file(reader, number, file.name)?;
             part_of(reader.heap, number, bytes, part)
         }
     }
@@ -266,7 +230,7 @@ fn file_part<'a, 'h, A: Allocator, H: Host>(
 ) -> Result<Vec<u8, &'h A>, Refusal<'a>>
     requires { name.now ≢ codes "-" }
     ensures { IfOk result (λ piece. Passes
-        (ReadsPiece name.now (Some (part_words part.entry)) piece.items)
+        (ReadsFile (file_of name.now (Some (part_words part.entry))) piece.items)
         (H.input reader.old.host.now) (H.file reader.old.host.now)
         (H.input reader.new.host.now) (H.file reader.new.host.now)) }
 {

@@ -1,13 +1,12 @@
 -- Steps as a run takes them: after a cut the device is reset.
 use Rattle.std.proofs.Common.{◌≡◌, refl, sym, subst, ⊎_elim}
+use Rattle.events.specs.declared.event.Event.TheVariants as event
 use Rattle.upload.specs.Device.{Machine}
 use Rattle.machine.specs.States.{asleep, with_confirmed}
 use Rattle.machine.specs.Intake.{Setup}
-use Rattle.machine.specs.Steps.{IsCutTo}
+use Rattle.machine.specs.Steps.{DeviceEvent, IsCutTo}
 use Rattle.machine.specs.Holding.{DeviceView, Holds}
 use Rattle.machine.specs.Passing.{StepsTo}
-use Rattle.machine.specs.declared.event.Event.{Event}
-use Rattle.machine.specs.declared.event.Event.TheVariants as event
 use Rattle.machine.specs.declared.reply.Reply.{Reply}
 use Rattle.machine.specs.declared.reply.Reply.TheVariants.{Done, Cut}
 
@@ -15,7 +14,7 @@ of_kept : (next : Machine) (m : Machine) → next ≡ asleep m.kept → asleep n
 of_kept next m is = subst (λ (k : Machine). asleep k.kept ≡ k) (sym is) refl
 
 -- after a cut no session is open, and the device isn't up
-cut_asleep : (setup : Setup) (m next : Machine) (happened : Event) → IsCutTo setup m happened next
+cut_asleep : (setup : Setup) (m next : Machine) (happened : DeviceEvent) → IsCutTo setup m happened next
     → asleep next.kept ≡ next
 cut_asleep setup m next (event.Accept text) cut = of_kept next cut.1.0 cut.1.2
 cut_asleep setup m next (event.Piece i more) cut = of_kept next cut.1.0 cut.1.2
@@ -30,7 +29,7 @@ cut_asleep setup m next event.Boot cut = sym cut.1
 cut_asleep setup m next event.Reset cut = absurd cut
 
 -- .. so that a reset leaves it as it is
-pub cut_step : (setup other : Setup) (old mid new : DeviceView) (happened : Event) → other ≡ setup
+pub cut_step : (setup other : Setup) (old mid new : DeviceView) (happened : DeviceEvent) → other ≡ setup
     → StepsTo setup old mid happened Cut
     → ((m : Machine) → Holds other.map mid m → Holds other.map new (asleep m.kept))
     → StepsTo setup old new happened Cut
@@ -43,14 +42,14 @@ cut_step setup other old mid new happened same steps resets m holds =
           after.0 after.2),
     )
 
-pub reset_step : (setup : Setup) (old new : DeviceView) (happened : Event)
+pub reset_step : (setup : Setup) (old new : DeviceView) (happened : DeviceEvent)
     → ((m : Machine) → Holds setup.map old m → Holds setup.map new (asleep m.kept)) → happened ≡ event.Reset
     → StepsTo setup old new happened Done
 reset_step setup old new happened resets is = subst (λ e. StepsTo setup old new e Done) (sym is)
     (λ m holds. (asleep m.kept, refl, resets m holds))
 
 -- a step by another name of the event and of the reply
-pub step_as : (setup : Setup) (old new : DeviceView) (given happened : Event) (told reply : Reply)
+pub step_as : (setup : Setup) (old new : DeviceView) (given happened : DeviceEvent) (told reply : Reply)
     → given ≡ happened → told ≡ reply → StepsTo setup old new happened reply → StepsTo setup old new given told
 step_as setup old new given happened told reply is same steps =
     subst (λ e. StepsTo setup old new e told) (sym is)

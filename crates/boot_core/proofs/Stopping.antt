@@ -1,6 +1,7 @@
 -- A device that the flash stopped: it isn't up and has no uploads, and its flash is off as the cut left it.
 use Rattle.std.proofs.Common.{◌≡◌, ℕ, ◌+◌, Bool, true, false, List, Option, Some, Result, Ok, Err, IsErrOf, arith, refl, sym, ◌∙◌, ap, subst, ⊎_elim, inl, inr}
 use Rattle.std.specs.Borrow.{Bor}
+use Rattle.events.specs.declared.event.Event.TheVariants as event
 use Rattle.flash_model.specs.Chip.{Chip, Ends, IsCut, IsUncut}
 use Rattle.flash_model.specs.declared.error.FlashError.{FlashError}
 use Rattle.flash_model.specs.declared.error.FlashError.TheVariants as flash
@@ -27,12 +28,10 @@ use Rattle.machine.specs.States.{asleep, with_confirmed}
 use Rattle.machine.specs.Intake.{IsUploadsCut, Row, Setup, TakesManifest}
 use Rattle.machine.specs.Holding.{Holds, IsAtRest, Rests, Stands}
 use Rattle.machine.specs.Passing.{CutsBoot, CutsConfirm, StepsTo, needs_rest, needs_up}
-use Rattle.machine.specs.Steps.{cut_of}
+use Rattle.machine.specs.Steps.{DeviceEvent, cut_of}
 use Rattle.machine.specs.declared.error.Fault.{Fault}
 use Rattle.machine.specs.declared.error.Fault.TheVariants as no
-use Rattle.machine.specs.declared.event.Event.{Event}
 use Rattle.machine.specs.declared.reply.Reply.{Reply}
-use Rattle.machine.specs.declared.event.Event.TheVariants as event
 use Rattle.machine.specs.declared.reply.Reply.TheVariants.{Done, Refused, Cut}
 use Rattle.machine.proofs.Confirming.{rest_stands}
 use Rattle.machine.proofs.Stepping.{steps_no_state, steps_not_up}
@@ -184,7 +183,7 @@ pub record IsStopped (fault : Fault) (told tnew : List (Option Upload)) (up upn 
 
 -- a refused upload, as a step
 pub failed : (setup : Setup) (old new : Chip) (told tmid tnew : List (Option Upload)) (up upn : Bool)
-    (happened : Event) (error : UploadError) → old.is_on ≡ true → EndsUpload {T = Unit} (Err error) old new
+    (happened : DeviceEvent) (error : UploadError) → old.is_on ≡ true → EndsUpload {T = Unit} (Err error) old new
     → IsStopped (no.Upload error) tmid tnew up upn
     → (AllClosed tnew → error ≡ upload.Flash flash.Cut
     → StepsTo setup (seen old told up) (seen new tnew false) happened Cut)
@@ -279,7 +278,7 @@ opens_stopped w fault told tnew up upn stopped opens = either (is_stop fault) re
 
 -- ---- a device that takes no uploads now
 
-still : (setup : Setup) (old mid : Chip) (told tnew : List (Option Upload)) (up upn : Bool) (happened : Event)
+still : (setup : Setup) (old mid : Chip) (told tnew : List (Option Upload)) (up upn : Bool) (happened : DeviceEvent)
     (reply : Reply) → mid ≡ old → tnew ≡ told → upn ≡ up
     → StepsTo setup (seen old told up) (seen old told up) happened reply
     → StepsTo setup (seen old told up) (seen mid tnew upn) happened reply
@@ -288,7 +287,7 @@ still setup old mid told tnew up upn happened reply same kept on steps =
     (subst (λ l. StepsTo setup (seen old told up) (seen old l upn) happened reply) (sym kept)
     (subst (λ b. StepsTo setup (seen old told up) (seen old told b) happened reply) (sym on) steps))
 
-module _ (setup : Setup) (old mid : Chip) (told tnew : List (Option Upload)) (up upn : Bool) (happened : Event)
+module _ (setup : Setup) (old mid : Chip) (told tnew : List (Option Upload)) (up upn : Bool) (happened : DeviceEvent)
     (needs : needs_up happened ≡ true) (rests : needs_rest happened ≡ true) (same : mid ≡ old) where
   refused : (fault : Fault) → IsReadiness (Err fault) up (state_of setup.map old) old.is_on → old.is_on ≡ true
       → IsStopped fault told tnew up upn

@@ -1,6 +1,7 @@
 -- What a boot does from whatever record stands, and what a device's boot does: each record is one
 -- call.
 use Rattle.std.specs.Prelude.{◌≡◌, ◌⊎◌, ◌+◌, ℕ, Bool, true, Some, Result, IfOk, None, Err}
+use Rattle.events.specs.declared.event.Event.TheVariants as event
 use Rattle.flash_model.specs.Chip.{Chip, Ends}
 use Rattle.flash_model.specs.declared.error.FlashError.{FlashError}
 use Rattle.sector_map.specs.Map.{IsLaidOut, Keeps}
@@ -19,7 +20,6 @@ use Rattle.machine.specs.Passing.{CutsBoot, EndsBoot, StepsTo, reply_of}
 use Rattle.machine.specs.Steps.{cut_of}
 use Rattle.machine.specs.declared.error.Fault.{Fault}
 use Rattle.machine.specs.declared.error.Fault.TheVariants.{NotProvisioned}
-use Rattle.machine.specs.declared.event.Event.TheVariants as event
 use Rattle.machine.specs.declared.finding.Finding.{Finding}
 use Rattle.machine.specs.declared.reply.Reply.{Reply}
 use Rattle.machine.specs.declared.reply.Reply.TheVariants.{Refused}

@@ -2,6 +2,7 @@
 use Rattle.std.specs.Prelude.{◌≡◌, ◌⊎◌, ℕ, ◌+◌, Bool, true, false, List, length, None, Some, Vec}
 use Rattle.std.specs.Prelude.{Result, Err, IfErr, IfOk}
 use Rattle.std.specs.Borrow.{Bor}
+use Rattle.events.specs.declared.event.Event.TheVariants as event
 use Rattle.flash_model.specs.Chip.{Chip}
 use Rattle.sector_map.specs.declared.layout.SectorMap.{SectorMap}
 use Rattle.sector_map.specs.Map.{Keeps}
@@ -20,12 +21,10 @@ use Rattle.machine.specs.Boots.{IsReadSound, is_answer}
 use Rattle.machine.specs.Holding.{Holds, Stands}
 use Rattle.machine.specs.Passing.{RunsTo, StepsTo, reply_of}
 use Rattle.machine.specs.States.{asleep}
-use Rattle.machine.specs.Steps.{cut_of, cuts_in}
+use Rattle.machine.specs.Steps.{DeviceEvent, cut_of, cuts_in}
 use Rattle.machine.specs.declared.error.Fault.{Fault}
 use Rattle.machine.specs.declared.error.Fault.TheVariants as no
 use Rattle.machine.specs.declared.error.Fault.TheVariants.{NotProvisioned}
-use Rattle.machine.specs.declared.event.Event.{Event}
-use Rattle.machine.specs.declared.event.Event.TheVariants as event
 use Rattle.machine.specs.declared.finding.Finding.{Finding}
 use Rattle.machine.specs.declared.reply.Reply.{Reply}
 use Rattle.boot_core.specs.Answers.{EndsCall, IsBootReply, IsNotBooted, is_stop, is_stopped}
@@ -96,7 +95,7 @@ pub record BootsDevice (old new : Whole) (result : Result Reply Fault) : Type 0 
   pub ends : EndsCall (reply_of_boot result) old.here new.here
 
 -- A device takes an event.
-pub record Takes (event : Event) (touched : Part → Bool) (old new : Whole)
+pub record Takes (event : DeviceEvent) (touched : Part → Bool) (old new : Whole)
     (result : Result Unit Fault) : Type 0 where
   -- What it was made with stays.
   pub setup : new.setup ≡ old.setup
@@ -175,7 +174,7 @@ pub record Resets (old new : Whole) : Type 0 where
 -- ---- runs
 
 -- A device whose flash has power replies to an event.
-pub record Replies (event : Event) (old new : Whole) (reply : Reply) : Type 0 where
+pub record Replies (event : DeviceEvent) (old new : Whole) (reply : Reply) : Type 0 where
   -- What it was made with stays.
   pub setup : new.setup ≡ old.setup
   -- This is a step of the machine, to a state that the device holds then.
@@ -186,7 +185,7 @@ pub record Replies (event : Event) (old new : Whole) (reply : Reply) : Type 0 wh
   pub power : cut_of reply ≡ 0 → new.here.flash.is_on ≡ true
 
 -- A device takes a step: it replies to an event, and is reset after a cut.
-pub record Steps (event : Event) (old new : Whole) (reply : Reply) : Type 0 where
+pub record Steps (event : DeviceEvent) (old new : Whole) (reply : Reply) : Type 0 where
   -- What it was made with stays.
   pub setup : new.setup ≡ old.setup
   -- This is a step of the machine, to a state that the device holds then.
@@ -197,7 +196,7 @@ pub record Steps (event : Event) (old new : Whole) (reply : Reply) : Type 0 wher
   pub on : new.here.flash.is_on ≡ true
 
 -- A device replies to these events, in order.
-pub record Runs (events : List Event) (old new : Whole) {A E : Type 0}
+pub record Runs (events : List DeviceEvent) (old new : Whole) {A E : Type 0}
     (result : Result (Vec Reply A) E) : Type 0 where
   -- Events and replies are a run of the machine, to a state that the device holds then.
   pub run : IfOk result (λ replies. RunsTo old.setup old.here new.here events replies.items)

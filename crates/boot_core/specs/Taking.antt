@@ -2,6 +2,7 @@
 -- whether it is up.
 use Rattle.std.specs.Prelude.{◌≡◌, ℕ, Bool, true, false, List, Option, Result, Err, IfErr}
 use Rattle.std.specs.Borrow.{Bor}
+use Rattle.events.specs.declared.event.Event.TheVariants as event
 use Rattle.flash_model.specs.Chip.{Chip}
 use Rattle.sector_map.specs.declared.layout.SectorMap.{SectorMap}
 use Rattle.sector_map.specs.Map.{IsLaidOut, Keeps}
@@ -17,10 +18,9 @@ use Rattle.upload.specs.View.{view}
 use Rattle.upload.specs.declared.sessions.Upload.{Upload}
 use Rattle.machine.specs.Holding.{DeviceView}
 use Rattle.machine.specs.Passing.{StepsTo}
+use Rattle.machine.specs.Steps.{DeviceEvent}
 use Rattle.machine.specs.declared.error.Fault.{Fault}
 use Rattle.machine.specs.declared.error.Fault.TheVariants as no
-use Rattle.machine.specs.declared.event.Event.{Event}
-use Rattle.machine.specs.declared.event.Event.TheVariants as event
 use Rattle.boot_core.specs.Answers.{EndsCall, IsNotBooted, is_stop, reply_of_result}
 use Rattle.boot_core.specs.Device.{StaysHeld, made}
 use Rattle.boot_core.specs.Ready.{IsReadiness, LogsNoTrial, RefusesManifest}
@@ -48,7 +48,7 @@ pub record Stops (fault : Fault) (old : List (Option Upload)) (was_up : Bool)
   pub kept : is_stop fault ≡ false → new ≡ old
 
 -- A call takes an event of a device that has this map.
-pub record TakesHere (map : SectorMap) (event : Event) (touched : Part → Bool)
+pub record TakesHere (map : SectorMap) (event : DeviceEvent) (touched : Part → Bool)
     (old new : DeviceView) (result : Result Unit Fault) : Type 0 where
   -- The map is still laid out on the flash,
   pub laid : IsLaidOut map new.flash

@@ -1,10 +1,10 @@
 //! Confirming an image on trial.
 
 ghost use Rattle.std.specs.Prelude.{◌≡◌, true, false, Some};
+ghost use Rattle.events.specs.declared.event.Event.TheVariants as event;
 ghost use Rattle.boot_core.specs.Confirming.{Confirms, ConfirmsImage};
 ghost use Rattle.boot_core.specs.Device.{seen};
 ghost use Rattle.boot_core.specs.Taking.{TakesHere};
-ghost use Rattle.machine.specs.declared.event.Event.TheVariants as event;
 ghost use Rattle.sector_map.specs.Map.{IsLaidOut};
 ghost use Rattle.sector_map.specs.Part.{TrailerOf, only};
 ghost use Rattle.sector_map.specs.declared.layout.Side.TheVariants.{Primary};

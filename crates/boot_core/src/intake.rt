@@ -2,7 +2,7 @@
 //! one.
 
 ghost use Rattle.std.specs.Prelude.{◌≡◌, ◌↔◌, IfErr, IfOk, IsTrue, true};
-ghost use Rattle.machine.specs.declared.event.Event.TheVariants as event;
+ghost use Rattle.events.specs.declared.event.Event.TheVariants as event;
 ghost use Rattle.manifest.specs.Fault.{IsManifest};
 ghost use Rattle.manifest.specs.Manifest.{NamesImages};
 ghost use Rattle.sector_map.specs.Map.{IsLaidOut};

@@ -32,7 +32,7 @@ fn answer(given: Result<(), Fault>) -> Reply
 }
 
 /// What a device answers to an event.
-fn call<F: Flash>(alloc: Global, device: &mut Device<F>, event: &Event<'_>) -> Reply
+fn call<F: Flash>(alloc: Global, device: &mut Device<F>, event: &Event<&[u8]>) -> Reply
     requires { device.old.here.flash.is_on ≡ true }
     ensures { Replies event.now device.old device.new result }
 {
@@ -61,7 +61,7 @@ fn call<F: Flash>(alloc: Global, device: &mut Device<F>, event: &Event<'_>) -> R
 /// holds then, and the reply is `Cut` exactly where a write was cut. The flash has power as the step
 /// begins, and when it ends; so steps in a row are a run, and a caller who tells each reply before
 /// the next step needs no memory for the replies.
-pub fn step<F: Flash>(alloc: Global, device: &mut Device<F>, event: &Event<'_>) -> Reply
+pub fn step<F: Flash>(alloc: Global, device: &mut Device<F>, event: &Event<&[u8]>) -> Reply
     requires { device.old.here.flash.is_on ≡ true }
     ensures { Steps event.now device.old device.new result }
 {
@@ -90,7 +90,7 @@ pub fn step<F: Flash>(alloc: Global, device: &mut Device<F>, event: &Event<'_>) 
 pub fn run<F: Flash>(
     alloc: Global,
     device: &mut Device<F>,
-    events: &[Event],
+    events: &[Event<&[u8]>],
 ) -> Result<Vec<Reply>, AllocError>
     requires { device.old.here.flash.is_on ≡ true }
     ensures { Runs events.now device.old device.new result }

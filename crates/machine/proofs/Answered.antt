@@ -4,6 +4,7 @@ use Rattle.std.proofs.Common.{refl, sym, ◌∙◌, ap, subst, arith, slice_get,
 use Rattle.std.proofs.lemmas.Bool.Decides.{nat_tests}
 use Rattle.std.proofs.Math.Nat.{div-one, div-div-eq-div-mul, pow-succ'}
 use Rattle.std.proofs.Math.Numerals.{add-one}
+use Rattle.events.specs.declared.event.Event.TheVariants as event
 use Rattle.sector_map.specs.Part.{is_member}
 use Rattle.certificate.specs.declared.table.Table.{Table}
 use Rattle.certificate.specs.declared.report.Report.{Report}
@@ -13,12 +14,10 @@ use Rattle.machine.specs.States.{IsConfirmed, IsRaised, IsBegun, left_after, run
 use Rattle.machine.specs.States.{taken_on_trial, wanted_bytes}
 use Rattle.machine.specs.Boots.{Boots, IsDecision, IsOver, IsPlain, IsReadAs, IsReported, IsTaken}
 use Rattle.machine.specs.Intake.{Setup}
-use Rattle.machine.specs.Steps.{IsRun, IsStep}
+use Rattle.machine.specs.Steps.{DeviceEvent, IsRun, IsStep}
 use Rattle.machine.specs.Headline.{AreCut, DoesSomething, HasFinished, IsBootedAt, IsTriedBy, StartsGreatest}
 use Rattle.machine.specs.Headline.{StaysForGood, TakesNone, request_by, running_by}
 use Rattle.machine.specs.declared.error.Fault.TheVariants as no
-use Rattle.machine.specs.declared.event.Event.{Event}
-use Rattle.machine.specs.declared.event.Event.TheVariants as event
 use Rattle.machine.specs.declared.reply.Reply.{Reply}
 use Rattle.machine.specs.declared.reply.Reply.TheVariants.{Done, Booted, Reverted, TrialAgain, Refused, Cut}
 
@@ -190,7 +189,7 @@ boot_starts boots s table report permanent next (read, reads, steady, (told, eit
 -- ---- in a run
 
 -- a step that answers a report is a boot
-booted_step : (setup : Setup) (m next : Machine) (happened : Event) (table : Table) (report : Report)
+booted_step : (setup : Setup) (m next : Machine) (happened : DeviceEvent) (table : Table) (report : Report)
     (permanent : Bool) → IsStep setup m happened (Booted table report permanent) next
     → (happened ≡ event.Boot) × StartsGreatest setup.boots m.kept table report permanent next.kept
     × (next.is_up ≡ true) × ((i : ℕ) → next.session i ≡ None)
@@ -207,7 +206,7 @@ booted_step setup m next event.Boot table report permanent (booted, is) = (
   λ i. ap (λ (k : Machine). k.session i) is,
 )
 
-pub booted_at : (setup : Setup) (m : Machine) (events : List Event) (replies : List Reply) (last : Machine)
+pub booted_at : (setup : Setup) (m : Machine) (events : List DeviceEvent) (replies : List Reply) (last : Machine)
     (place : ℕ) (table : Table) (report : Report) (permanent : Bool) → IsRun setup m events replies last
     → slice_get replies place ≡ Some (Booted table report permanent)
     → IsBootedAt setup m events replies last place table report permanent

@@ -1,19 +1,18 @@
 -- Runs go on, are joined, and are cut into parts.
 use Rattle.std.proofs.Common.{◌≡◌, ℕ, ◌+◌, List, [], ◌∷◌, ◌++◌, length, take, drop, refl, sym, ◌∙◌, ap, subst, arith}
 use Rattle.std.proofs.Common.{zero, suc, zero-add}
+use Rattle.events.specs.declared.event.Event.TheVariants as event
 use Rattle.upload.specs.Device.{Machine}
 use Rattle.machine.specs.Intake.{Setup}
-use Rattle.machine.specs.Steps.{IsStep, IsRun, IsUncutRun, Completes, cut_of, cuts_in}
+use Rattle.machine.specs.Steps.{Completes, DeviceEvent, IsRun, IsStep, IsUncutRun, cut_of, cuts_in}
 use Rattle.machine.specs.Holding.{DeviceView}
 use Rattle.machine.specs.Passing.{StepsTo, RunsTo}
-use Rattle.machine.specs.declared.event.Event.{Event}
-use Rattle.machine.specs.declared.event.Event.TheVariants as event
 use Rattle.machine.specs.declared.reply.Reply.{Reply}
 use Rattle.machine.specs.declared.reply.Reply.TheVariants.{Done, Booted, Reverted, TrialAgain, Refused, Cut}
 
 -- ---- a run goes on by a run, and is two runs wherever its events are cut
 
-pub run_joins : (setup : Setup) (m mid last : Machine) (events more : List Event) (replies answered : List Reply)
+pub run_joins : (setup : Setup) (m mid last : Machine) (events more : List DeviceEvent) (replies answered : List Reply)
     → IsRun setup m events replies mid → IsRun setup mid more answered last
     → IsRun setup m (events ++ more) (replies ++ answered) last
 run_joins setup m mid last [] more [] answered run rest =
@@ -23,7 +22,7 @@ run_joins setup m mid last (e ∷ events) more [] answered run rest = absurd run
 run_joins setup m mid last (e ∷ events) more (r ∷ replies) answered (next, step, run) rest =
     (next, step, run_joins setup next mid last events more replies answered run rest)
 
-pub run_splits : (setup : Setup) (m last : Machine) (events more : List Event) (all : List Reply)
+pub run_splits : (setup : Setup) (m last : Machine) (events more : List DeviceEvent) (all : List Reply)
     → IsRun setup m (events ++ more) all last
     → (replies answered : List Reply) × (mid : Machine) × (all ≡ replies ++ answered)
     × IsRun setup m events replies mid × IsRun setup mid more answered last
@@ -40,7 +39,7 @@ run_splits setup m last (e ∷ events) more (r ∷ all) (next, step, run) =
     )
 
 -- the state at each place of a run
-pub run_prefix : (setup : Setup) (m last : Machine) (events : List Event) (replies : List Reply) (k : ℕ)
+pub run_prefix : (setup : Setup) (m last : Machine) (events : List DeviceEvent) (replies : List Reply) (k : ℕ)
     → IsRun setup m events replies last
     → (mid : Machine) × IsRun setup m (take k events) (take k replies) mid
     × IsRun setup mid (drop k events) (drop k replies) last
@@ -53,7 +52,7 @@ run_prefix setup m last (e ∷ events) (r ∷ replies) (suc k) (next, step, run)
     (parts.0, (next, step, parts.1), parts.2)
 
 -- a run has a reply for each event
-pub run_answers : (setup : Setup) (m last : Machine) (events : List Event) (replies : List Reply)
+pub run_answers : (setup : Setup) (m last : Machine) (events : List DeviceEvent) (replies : List Reply)
     → IsRun setup m events replies last → length replies ≡ length events
 run_answers setup m last [] [] run = refl
 run_answers setup m last [] (r ∷ replies) run = absurd run
@@ -61,8 +60,8 @@ run_answers setup m last (e ∷ events) [] run = absurd run
 run_answers setup m last (e ∷ events) (r ∷ replies) (next, step, run) =
     ap suc (run_answers setup next last events replies run)
 
-pub run_more : (setup : Setup) (m mid last : Machine) (events : List Event) (replies : List Reply)
-    (event : Event) (reply : Reply) → IsRun setup m events replies mid → IsStep setup mid event reply last
+pub run_more : (setup : Setup) (m mid last : Machine) (events : List DeviceEvent) (replies : List Reply)
+    (event : DeviceEvent) (reply : Reply) → IsRun setup m events replies mid → IsStep setup mid event reply last
     → IsRun setup m (events ++ event ∷ []) (replies ++ reply ∷ []) last
 run_more setup m mid last events replies event reply run step =
     run_joins setup m mid last events (event ∷ []) replies (reply ∷ []) run (last, step, refl)
@@ -72,8 +71,8 @@ run_more setup m mid last events replies event reply run step =
 pub runs_none : (setup : Setup) (w : DeviceView) → RunsTo setup w w [] []
 runs_none setup w = λ m holds. (m, refl, holds)
 
-pub runs_more : (setup : Setup) (old mid new : DeviceView) (events : List Event) (replies : List Reply)
-    (event : Event) (reply : Reply) → RunsTo setup old mid events replies → StepsTo setup mid new event reply
+pub runs_more : (setup : Setup) (old mid new : DeviceView) (events : List DeviceEvent) (replies : List Reply)
+    (event : DeviceEvent) (reply : Reply) → RunsTo setup old mid events replies → StepsTo setup mid new event reply
     → RunsTo setup old new (events ++ event ∷ []) (replies ++ reply ∷ [])
 runs_more setup old mid new events replies event reply runs steps = λ m holds.
     let before = runs m holds in
@@ -81,8 +80,8 @@ runs_more setup old mid new events replies event reply runs steps = λ m holds.
     (after.0, run_more setup m before.0 after.0 events replies event reply before.1 after.1, after.2)
 
 -- as a loop over events has it: of what the device was made with, of the events so far, and of the replies
-pub runs_on : (setup here : Setup) (old mid new : DeviceView) (events more : List Event)
-    (replies answered : List Reply) (event : Event) (reply : Reply) → here ≡ setup
+pub runs_on : (setup here : Setup) (old mid new : DeviceView) (events more : List DeviceEvent)
+    (replies answered : List Reply) (event : DeviceEvent) (reply : Reply) → here ≡ setup
     → more ≡ events ++ event ∷ [] → answered ≡ replies ++ reply ∷ []
     → RunsTo setup old mid events replies → StepsTo here mid new event reply → RunsTo setup old new more answered
 runs_on setup here old mid new events more replies answered event reply same is also runs steps =
@@ -105,7 +104,7 @@ cuts_on replies answered reply first mid last is before after =
     omega arith
 
 -- a step whose reply isn't Cut is complete
-uncut_step : (setup : Setup) (m next : Machine) (event : Event) (reply : Reply) → cut_of reply ≡ 0
+uncut_step : (setup : Setup) (m next : Machine) (event : DeviceEvent) (reply : Reply) → cut_of reply ≡ 0
     → IsStep setup m event reply next → Completes setup m event reply next
 uncut_step setup m next event Done none step = step
 uncut_step setup m next event (Booted table report permanent) none step = step
@@ -115,7 +114,7 @@ uncut_step setup m next event (Refused fault) none step = step
 uncut_step setup m next event Cut none step = absurd (omega (arith, none))
 
 -- .. and a complete step is one whose reply isn't Cut
-pub complete_step : (setup : Setup) (m next : Machine) (event : Event) (reply : Reply)
+pub complete_step : (setup : Setup) (m next : Machine) (event : DeviceEvent) (reply : Reply)
     → Completes setup m event reply next → IsStep setup m event reply next × (cut_of reply ≡ 0)
 complete_step setup m next event Done step = (step, refl)
 complete_step setup m next event (Booted table report permanent) step = (step, refl)
@@ -130,7 +129,7 @@ complete_step setup m next (event.Confirm i) Cut step = absurd step
 complete_step setup m next event.Boot Cut step = absurd step.0
 complete_step setup m next event.Reset Cut step = absurd step
 
-pub uncut_run : (setup : Setup) (m last : Machine) (events : List Event) (replies : List Reply)
+pub uncut_run : (setup : Setup) (m last : Machine) (events : List DeviceEvent) (replies : List Reply)
     → IsRun setup m events replies last → cuts_in replies ≡ 0 → IsUncutRun setup m events replies last
 uncut_run setup m last [] [] run none = run
 uncut_run setup m last [] (r ∷ replies) run none = absurd run
@@ -141,7 +140,7 @@ uncut_run setup m last (e ∷ events) (r ∷ replies) (next, step, run) none = (
   uncut_run setup next last events replies run (omega arith),
 )
 
-pub complete_run : (setup : Setup) (m last : Machine) (events : List Event) (replies : List Reply)
+pub complete_run : (setup : Setup) (m last : Machine) (events : List DeviceEvent) (replies : List Reply)
     → IsUncutRun setup m events replies last → IsRun setup m events replies last × (cuts_in replies ≡ 0)
 complete_run setup m last [] [] run = (run, refl)
 complete_run setup m last [] (r ∷ replies) run = absurd run

@@ -1,6 +1,7 @@
 -- What runs stays intact and valid, through uploads, and so through whole runs.
 use Rattle.std.proofs.Common.{◌≡◌, ◌⊎◌, ℕ, ◌==◌, Bool, true, false, List, [], ◌∷◌, Option, Some, None, Result, Ok, Err}
 use Rattle.std.proofs.Common.{refl, sym, ◌∙◌, ap, subst, ⊎_elim, inl, inr, if◌then◌else◌}
+use Rattle.events.specs.declared.event.Event.TheVariants as event
 use Rattle.flash_model.specs.declared.error.FlashError.TheVariants as flash
 use Rattle.sector_map.specs.declared.layout.SectorMap.{SectorMap}
 use Rattle.manifest.specs.declared.manifest.Component.{Component}
@@ -16,10 +17,8 @@ use Rattle.upload.specs.Withdrawal.{Withdraws, with_request}
 use Rattle.machine.specs.States.{asleep, entry_of, with_confirmed}
 use Rattle.machine.specs.Boots.{Confirms, IsAllSound, IsRequestOf}
 use Rattle.machine.specs.Intake.{IsUploadsCut, Row, Setup, TakesManifest, TakesText, Uploads}
-use Rattle.machine.specs.Steps.{Completes, IsCutTo, IsRun, IsStep, Resets}
+use Rattle.machine.specs.Steps.{Completes, DeviceEvent, IsCutTo, IsRun, IsStep, Resets}
 use Rattle.machine.specs.declared.error.Fault.TheVariants as no
-use Rattle.machine.specs.declared.event.Event.{Event}
-use Rattle.machine.specs.declared.event.Event.TheVariants as event
 use Rattle.machine.specs.declared.reply.Reply.{Reply}
 use Rattle.machine.specs.declared.reply.Reply.TheVariants.{Done, Booted, Reverted, TrialAgain, Refused, Cut}
 use Rattle.machine.proofs.SoundBoots.{IsAskedAlike, all_sound, boot_cut_sound, booted_sound}
@@ -270,7 +269,7 @@ resets_sound m next (TrialAgain set left) never all = absurd never
 resets_sound m next (Refused fault) never all = absurd never
 resets_sound m next Cut never all = absurd never
 
-completes_sound : (setup : Setup) (m next : Machine) (happened : Event) (reply : Reply)
+completes_sound : (setup : Setup) (m next : Machine) (happened : DeviceEvent) (reply : Reply)
     → Completes setup m happened reply next → IsAllSound m.kept → IsAllSound next.kept
 completes_sound setup m next (event.Accept bytes) reply at all = text_sound setup m next bytes.now reply at all
 completes_sound setup m next (event.Piece i bytes) reply at all = uploads_sound (Pieces m i bytes.now) m next reply
@@ -293,7 +292,7 @@ uploads_cut_sound row m next alike (is_ready, (mid, at, is)) all =
     subst (λ (k : Machine). IsAllSound k.kept) (sym is)
     (alike_sound m.kept mid.kept (alike mid (Err (upload.Flash flash.Cut)) at) is_ready.rest all)
 
-cut_sound : (setup : Setup) (m next : Machine) (happened : Event) → IsCutTo setup m happened next
+cut_sound : (setup : Setup) (m next : Machine) (happened : DeviceEvent) → IsCutTo setup m happened next
     → IsAllSound m.kept → IsAllSound next.kept
 cut_sound setup m next (event.Accept bytes) cut all = uploads_cut_sound (TakesManifest setup m bytes.now) m next
     (λ mid result row. manifest_alike setup m mid bytes.now result row) cut all
@@ -313,7 +312,7 @@ cut_sound setup m next event.Reset never all = absurd never
 
 -- ---- runs
 
-step_sound : (setup : Setup) (m next : Machine) (happened : Event) (reply : Reply)
+step_sound : (setup : Setup) (m next : Machine) (happened : DeviceEvent) (reply : Reply)
     → IsStep setup m happened reply next → IsAllSound m.kept → IsAllSound next.kept
 step_sound setup m next happened Done step all = completes_sound setup m next happened Done step all
 step_sound setup m next happened (Booted table report permanent) step all =
@@ -326,7 +325,7 @@ step_sound setup m next happened (Refused fault) step all =
     completes_sound setup m next happened (Refused fault) step all
 step_sound setup m next happened Cut step all = cut_sound setup m next happened step all
 
-pub run_sound : (setup : Setup) (m last : Machine) (events : List Event) (replies : List Reply)
+pub run_sound : (setup : Setup) (m last : Machine) (events : List DeviceEvent) (replies : List Reply)
     → IsRun setup m events replies last → IsAllSound m.kept → IsAllSound last.kept
 run_sound setup m last [] [] run all = same_sound m last run all
 run_sound setup m last [] (r ∷ replies) run all = absurd run

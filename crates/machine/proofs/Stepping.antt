@@ -2,6 +2,7 @@
 use Rattle.std.proofs.Common.{◌≡◌, ℕ, ◌<◌, ◌≤◌, ◌==◌, Bool, true, false, List, length, Option, Some, None, Result, Ok}
 use Rattle.std.proofs.Common.{Err, IfOk, refl, sym, ◌∙◌, ap, subst, ⊎_elim, inl, inr}
 use Rattle.std.proofs.Math.Bool.{and-false}
+use Rattle.events.specs.declared.event.Event.TheVariants as event
 use Rattle.flash_model.specs.Chip.{Chip}
 use Rattle.sector_map.specs.declared.layout.SectorMap.{SectorMap}
 use Rattle.sector_map.specs.declared.layout.Side.TheVariants.{Primary, Secondary}
@@ -20,13 +21,11 @@ use Rattle.upload.proofs.Views.{view_kept}
 use Rattle.machine.specs.States.{asleep, with_confirmed}
 use Rattle.machine.specs.Boots.{Boots, IsReadSound, is_answer}
 use Rattle.machine.specs.Intake.{Setup}
-use Rattle.machine.specs.Steps.{IsStep}
+use Rattle.machine.specs.Steps.{DeviceEvent, IsStep}
 use Rattle.machine.specs.Holding.{DeviceView, Holds, IsAtRest, Stands, Rests, Tries, Swaps, Settles, Opens, SwapsBack}
 use Rattle.machine.specs.Holding.{SettlesBack}
 use Rattle.machine.specs.Passing.{CutsBoot, CutsConfirm, EndsBoot, EndsConfirm, StepsTo, needs_up}
 use Rattle.machine.specs.declared.error.Fault.TheVariants as no
-use Rattle.machine.specs.declared.event.Event.{Event}
-use Rattle.machine.specs.declared.event.Event.TheVariants as event
 use Rattle.machine.specs.declared.reply.Reply.{Reply}
 use Rattle.machine.specs.declared.reply.Reply.TheVariants.{Done, Booted, Reverted, TrialAgain, Refused, Cut}
 use Rattle.machine.proofs.Frames.{steady_logged}
@@ -151,14 +150,14 @@ stands_some map chip s (Opens trial goes was) none = no_state _ (sym none ∙ wa
 stands_some map chip s (SwapsBack trial x y was) none = no_state _ (sym none ∙ was.log)
 stands_some map chip s (SettlesBack trial was) none = no_state _ (sym none ∙ was.log)
 
-pub steps_no_state : (setup : Setup) (old new : DeviceView) (happened : Event) (reply : Reply)
+pub steps_no_state : (setup : Setup) (old new : DeviceView) (happened : DeviceEvent) (reply : Reply)
     → (view setup.map old.flash).log ≡ None → StepsTo setup old new happened reply
 steps_no_state setup old new happened reply none m holds =
     absurd (stands_some setup.map old.flash m.kept holds.stands none)
 
 -- ---- a device that isn't up
 
-pub steps_not_up : (setup : Setup) (w : DeviceView) (happened : Event) → w.up ≡ false → needs_up happened ≡ true
+pub steps_not_up : (setup : Setup) (w : DeviceView) (happened : DeviceEvent) → w.up ≡ false → needs_up happened ≡ true
     → StepsTo setup w w happened (Refused no.NotBooted)
 steps_not_up setup w (event.Accept bytes) down needs m holds = (m, (holds.is_up ∙ down, refl), holds)
 steps_not_up setup w (event.Piece i bytes) down needs m holds = (m, (holds.is_up ∙ down, refl), holds)
@@ -283,8 +282,8 @@ holds_repowered map old new told m laid keeps holds =
     }
 
 -- power comes back after a step ..
-pub steps_on : (setup : Setup) (old : DeviceView) (mid new : Chip) (told : List (Option Upload)) (happened : Event)
-    (reply : Reply) → IsLaidOut setup.map mid → new ≡ record mid { is_on = true }
+pub steps_on : (setup : Setup) (old : DeviceView) (mid new : Chip) (told : List (Option Upload))
+    (happened : DeviceEvent) (reply : Reply) → IsLaidOut setup.map mid → new ≡ record mid { is_on = true }
     → StepsTo setup old (record { flash = mid; sessions = told; up = false }) happened reply
     → StepsTo setup old (record { flash = new; sessions = told; up = false }) happened reply
 steps_on setup old mid new told happened reply laid is steps m holds =
@@ -296,7 +295,7 @@ steps_on setup old mid new told happened reply laid is steps m holds =
     )
 
 -- .. or isn't back yet
-pub steps_off : (setup : Setup) (old : DeviceView) (mid : Chip) (told : List (Option Upload)) (happened : Event)
+pub steps_off : (setup : Setup) (old : DeviceView) (mid : Chip) (told : List (Option Upload)) (happened : DeviceEvent)
     (reply : Reply) → IsLaidOut setup.map mid
     → StepsTo setup old (record { flash = record mid { is_on = true }; sessions = told; up = false }) happened reply
     → StepsTo setup old (record { flash = mid; sessions = told; up = false }) happened reply
@@ -318,7 +317,7 @@ steps_off setup old mid told happened reply laid steps m holds =
 
 -- ---- how a run uses steps
 
-pub steps_as : (setup : Setup) (old new : DeviceView) (given other : Event) (reply : Reply) → given ≡ other
+pub steps_as : (setup : Setup) (old new : DeviceView) (given other : DeviceEvent) (reply : Reply) → given ≡ other
     → StepsTo setup old new other reply → StepsTo setup old new given reply
 steps_as setup old new given other reply is steps = subst (λ e. StepsTo setup old new e reply) (sym is) steps
 

@@ -2,6 +2,7 @@
 use Rattle.std.proofs.Common.{◌≡◌, ℕ, ◌+◌, Bool, true, false, List, [], ◌∷◌, Option, Some, Result, Ok, Err, refl, sym}
 use Rattle.std.proofs.Common.{◌∙◌, ap, subst, arith, ⊎_elim, inl}
 use Rattle.std.specs.Borrow.{Bor}
+use Rattle.events.specs.declared.event.Event.TheVariants as event
 use Rattle.flash_model.specs.Chip.{Chip}
 use Rattle.flash_model.specs.declared.error.FlashError.TheVariants as flash
 use Rattle.sector_map.specs.declared.layout.SectorMap.{SectorMap}
@@ -28,12 +29,10 @@ use Rattle.upload.specs.declared.error.UploadError.TheVariants as upload
 use Rattle.upload.proofs.OpenOnes.{open_of_sessions, sessions_of_open}
 use Rattle.machine.specs.States.{asleep}
 use Rattle.machine.specs.Intake.{IsReady, IsTrying, IsUploadsCut, Row, Setup, TakesManifest, TakesText, Uploads}
-use Rattle.machine.specs.Steps.{IsStep, cut_of, cuts_in}
+use Rattle.machine.specs.Steps.{DeviceEvent, IsStep, cut_of, cuts_in}
 use Rattle.machine.specs.Holding.{DeviceView, Holds, IsAtRest, IsTrialAt, Rests}
 use Rattle.machine.specs.Passing.{StepsTo, needs_rest, upload_reply}
 use Rattle.machine.specs.declared.error.Fault.TheVariants as no
-use Rattle.machine.specs.declared.event.Event.{Event}
-use Rattle.machine.specs.declared.event.Event.TheVariants as event
 use Rattle.machine.specs.declared.reply.Reply.{Reply}
 use Rattle.machine.specs.declared.reply.Reply.TheVariants.{Refused, Cut}
 use Rattle.machine.proofs.Confirming.{steady_kind, trial_kind}
@@ -64,7 +63,7 @@ rest_tries map w s state read kind rest = ⊎_elim
 
 -- ---- refusals of the device
 
-pub steps_on_trial : (setup : Setup) (w : DeviceView) (state : State) (happened : Event) → w.up ≡ true
+pub steps_on_trial : (setup : Setup) (w : DeviceView) (state : State) (happened : DeviceEvent) → w.up ≡ true
     → (view setup.map w.flash).log ≡ Some state → state.kind ≡ log.Trial → needs_rest happened ≡ true
     → StepsTo setup w w happened (Refused no.OnTrial)
 steps_on_trial setup w state happened is_up read kind needs m holds =
@@ -72,7 +71,7 @@ steps_on_trial setup w state happened is_up read kind needs m holds =
     let trying = rest_tries setup.map w.flash m.kept state read kind (holds.rest up) in
     (m, step happened needs (record { up = up; trial = trying }), holds)
   where
-    step : (e : Event) → needs_rest e ≡ true → IsTrying m → IsStep setup m e (Refused no.OnTrial) m
+    step : (e : DeviceEvent) → needs_rest e ≡ true → IsTrying m → IsStep setup m e (Refused no.OnTrial) m
     step (event.Accept bytes) yet trying = (trying, refl)
     step (event.Piece i bytes) yet trying = (trying, refl)
     step (event.Finish i) yet trying = (trying, refl)
@@ -347,7 +346,7 @@ upload_cuts old new result reply is none ends =
 
 -- a step from a flash that was only read
 pub steps_read : (setup : Setup) (old mid : Chip) (told : List (Option Upload)) (up : Bool) (new : DeviceView)
-    (happened : Event) (reply : Reply) → mid ≡ old
+    (happened : DeviceEvent) (reply : Reply) → mid ≡ old
     → StepsTo setup (record { flash = mid; sessions = told; up = up }) new happened reply
     → StepsTo setup (record { flash = old; sessions = told; up = up }) new happened reply
 steps_read setup old mid told up new happened reply same steps = subst

@@ -1,6 +1,7 @@
 -- What every boot that answers a report in a run of a device did, in the words of combinations.
 use Rattle.std.specs.Prelude.{◌≡◌, ℕ, ◌+◌, Bool, true, false, List, replicate, take, drop, Option, Some, None}
 use Rattle.std.specs.Prelude.{slice_get, if◌then◌else◌}
+use Rattle.events.specs.declared.event.Event.TheVariants as event
 use Rattle.sector_map.specs.Part.{is_member}
 use Rattle.certificate.specs.declared.table.Table.{Table}
 use Rattle.certificate.specs.declared.report.Report.{Report}
@@ -12,9 +13,7 @@ use Rattle.upload.specs.Device.{DeviceState, Machine, Trial, Wanted}
 use Rattle.machine.specs.States.{asleep, wanted_bytes, IsRaised}
 use Rattle.machine.specs.Boots.{Boots, IsReadAs, IsTableOf}
 use Rattle.machine.specs.Intake.{Setup}
-use Rattle.machine.specs.Steps.{IsRun}
-use Rattle.machine.specs.declared.event.Event.{Event}
-use Rattle.machine.specs.declared.event.Event.TheVariants as event
+use Rattle.machine.specs.Steps.{DeviceEvent, IsRun}
 use Rattle.machine.specs.declared.reply.Reply.{Reply}
 use Rattle.machine.specs.declared.reply.Reply.TheVariants.{Done, Booted, Reverted, TrialAgain, Refused, Cut}
 
@@ -79,9 +78,9 @@ pub record StartsGreatest (boots : ℕ) (found : DeviceState) (table : Table) (r
 
 -- At a place of a run, counted from 0, a boot answers this report: the run stood before it, the
 -- boot starts the greatest set, the device is up, and the run goes on from there.
-pub record IsBootedAt (setup : Setup) (m : Machine) (events : List Event) (replies : List Reply)
-    (last : Machine) (place : ℕ) (table : Table) (report : Report) (permanent : Bool)
-    : Type 0 where
+pub record IsBootedAt (setup : Setup) (m : Machine) (events : List DeviceEvent)
+    (replies : List Reply) (last : Machine) (place : ℕ) (table : Table) (report : Report)
+    (permanent : Bool) : Type 0 where
   pub before : Machine
   pub after : Machine
   pub so_far : IsRun setup m (take place events) (take place replies) before

@@ -1,6 +1,7 @@
 -- What a device's calls have to leave: what stands after each passage of a boot, after a
 -- confirmation, and after whole steps and runs.
 use Rattle.std.specs.Prelude.{◌≡◌, ◌⊎◌, ℕ, Bool, true, false, List, Result, Ok, Err}
+use Rattle.events.specs.declared.event.Event.TheVariants as event
 use Rattle.flash_model.specs.Chip.{Chip}
 use Rattle.sector_map.specs.declared.layout.SectorMap.{SectorMap}
 use Rattle.sector_map.specs.Part.{is_member}
@@ -16,12 +17,10 @@ use Rattle.upload.specs.declared.error.UploadError.TheVariants as upload
 use Rattle.machine.specs.States.{IsRaised, new_trial, running_after, taken_for_good, taken_on_trial, with_confirmed}
 use Rattle.machine.specs.Boots.{Boots, GoesBack, IsBootCut, IsOnTrial, IsReported, is_answer}
 use Rattle.machine.specs.Intake.{Setup}
-use Rattle.machine.specs.Steps.{IsStep, IsRun}
+use Rattle.machine.specs.Steps.{DeviceEvent, IsRun, IsStep}
 use Rattle.machine.specs.Holding.{DeviceView, Holds, IsAtRest, IsSwapped, IsSwappedBack, IsSwapping, IsSwappingBack}
 use Rattle.machine.specs.Holding.{IsTrialAt, IsTrialOpen, Stands}
 use Rattle.machine.specs.declared.error.Fault.TheVariants.{RunningDamaged, InvalidSet, Upload}
-use Rattle.machine.specs.declared.event.Event.{Event}
-use Rattle.machine.specs.declared.event.Event.TheVariants as event
 use Rattle.machine.specs.declared.finding.Finding.{Finding}
 use Rattle.machine.specs.declared.finding.Finding.TheVariants.{Decided, Damaged, Invalid}
 use Rattle.machine.specs.declared.reply.Reply.{Reply}
@@ -103,7 +102,7 @@ upload_reply (Err upload.NoMemory) = Refused (Upload upload.NoMemory)
 upload_reply (Err (upload.Flash error)) = Cut
 
 -- Whether an event is refused by a device that isn't up ..
-abbrev pub needs_up : Event → Bool
+abbrev pub needs_up : DeviceEvent → Bool
 needs_up (event.Accept bytes) = true
 needs_up (event.Piece i bytes) = true
 needs_up (event.Finish i) = true
@@ -113,7 +112,7 @@ needs_up event.Boot = false
 needs_up event.Reset = false
 
 -- .. and whether by one on which a set is on trial.
-abbrev pub needs_rest : Event → Bool
+abbrev pub needs_rest : DeviceEvent → Bool
 needs_rest (event.Accept bytes) = true
 needs_rest (event.Piece i bytes) = true
 needs_rest (event.Finish i) = true
@@ -132,11 +131,11 @@ CutsConfirm w s i = (trial : Trial) × IsOnTrial s i trial
     × (IsAtRest w s ⊎ IsAtRest w (with_confirmed s trial i))
 
 -- From a device that holds a state, a step of the machine to a state that the device holds then ..
-abbrev pub StepsTo : Setup → DeviceView → DeviceView → Event → Reply → Type 0
+abbrev pub StepsTo : Setup → DeviceView → DeviceView → DeviceEvent → Reply → Type 0
 StepsTo setup old new event reply = (m : Machine) → Holds setup.map old m
     → (next : Machine) × IsStep setup m event reply next × Holds setup.map new next
 
 -- .. and a run.
-abbrev pub RunsTo : Setup → DeviceView → DeviceView → List Event → List Reply → Type 0
+abbrev pub RunsTo : Setup → DeviceView → DeviceView → List DeviceEvent → List Reply → Type 0
 RunsTo setup old new events replies = (m : Machine) → Holds setup.map old m
     → (last : Machine) × IsRun setup m events replies last × Holds setup.map new last

@@ -1,5 +1,8 @@
 -- The steps of the machine: complete ones, cut ones, and whole runs.
 use Rattle.std.specs.Prelude.{◌≡◌, ◌⊎◌, ℕ, ◌+◌, true, List, [], ◌∷◌}
+use Rattle.std.specs.Borrow.{Bor}
+use Rattle.events.specs.declared.event.Event.{Event}
+use Rattle.events.specs.declared.event.Event.TheVariants as event
 use Rattle.upload.specs.Device.{Machine, Trial, no_session}
 use Rattle.upload.specs.Piece.{Pieces}
 use Rattle.upload.specs.Finish.{FinishRow}
@@ -7,10 +10,12 @@ use Rattle.upload.specs.Withdrawal.{Withdraws}
 use Rattle.machine.specs.States.{asleep, with_confirmed}
 use Rattle.machine.specs.Boots.{Boots, IsBootCut, is_answer, Confirms, IsOnTrial}
 use Rattle.machine.specs.Intake.{Setup, Uploads, IsUploadsCut, TakesManifest, TakesText}
-use Rattle.machine.specs.declared.event.Event.{Event}
-use Rattle.machine.specs.declared.event.Event.TheVariants as event
 use Rattle.machine.specs.declared.reply.Reply.{Reply}
 use Rattle.machine.specs.declared.reply.Reply.TheVariants.{Done, Booted, Reverted, TrialAgain, Refused, Cut}
+
+-- What comes to a device: an event whose bytes are lent to it.
+abbrev pub DeviceEvent : Type 0
+DeviceEvent = Event (Bor (List ℕ))
 
 -- A reset: the sessions end, and the device isn't up.
 abbrev pub Resets : Machine → Reply → Machine → Type 0
@@ -18,7 +23,7 @@ Resets m Done next = next ≡ asleep m.kept
 Resets m other next = ⊥
 
 -- A complete step.
-abbrev pub Completes : Setup → Machine → Event → Reply → Machine → Type 0
+abbrev pub Completes : Setup → Machine → DeviceEvent → Reply → Machine → Type 0
 Completes setup m (event.Accept bytes) reply next = TakesText setup m bytes.now reply next
 Completes setup m (event.Piece i bytes) reply next = Uploads (Pieces m i bytes.now) m reply next
 Completes setup m (event.Finish i) reply next = Uploads (FinishRow m i) m reply next
@@ -29,7 +34,7 @@ Completes setup m event.Boot reply next = Boots setup.boots m.kept reply next.ke
 Completes setup m event.Reset reply next = Resets m reply next
 
 -- A cut step: the sessions end, and the device isn't up.
-abbrev pub IsCutTo : Setup → Machine → Event → Machine → Type 0
+abbrev pub IsCutTo : Setup → Machine → DeviceEvent → Machine → Type 0
 IsCutTo setup m (event.Accept bytes) next = IsUploadsCut (TakesManifest setup m bytes.now) m next
 IsCutTo setup m (event.Piece i bytes) next = IsUploadsCut (Pieces m i bytes.now) m next
 IsCutTo setup m (event.Finish i) next = IsUploadsCut (FinishRow m i) m next
@@ -42,7 +47,7 @@ IsCutTo setup m event.Boot next =
 IsCutTo setup m event.Reset next = ⊥
 
 -- A step: a complete one, or a cut one with the reply Cut.
-abbrev pub IsStep : Setup → Machine → Event → Reply → Machine → Type 0
+abbrev pub IsStep : Setup → Machine → DeviceEvent → Reply → Machine → Type 0
 IsStep setup m event Done next = Completes setup m event Done next
 IsStep setup m event (Booted table report permanent) next =
     Completes setup m event (Booted table report permanent) next
@@ -53,7 +58,7 @@ IsStep setup m event (Refused fault) next = Completes setup m event (Refused fau
 IsStep setup m event Cut next = IsCutTo setup m event next
 
 -- A run: a reply and a step for each event.
-abbrev pub IsRun : Setup → Machine → List Event → List Reply → Machine → Type 0
+abbrev pub IsRun : Setup → Machine → List DeviceEvent → List Reply → Machine → Type 0
 IsRun setup m [] [] last = last ≡ m
 IsRun setup m [] (reply ∷ replies) last = ⊥
 IsRun setup m (event ∷ events) [] last = ⊥
@@ -61,7 +66,7 @@ IsRun setup m (event ∷ events) (reply ∷ replies) last = (next : Machine)
     × IsStep setup m event reply next × IsRun setup next events replies last
 
 -- A run without a cut: each step is complete.
-abbrev pub IsUncutRun : Setup → Machine → List Event → List Reply → Machine → Type 0
+abbrev pub IsUncutRun : Setup → Machine → List DeviceEvent → List Reply → Machine → Type 0
 IsUncutRun setup m [] [] last = last ≡ m
 IsUncutRun setup m [] (reply ∷ replies) last = ⊥
 IsUncutRun setup m (event ∷ events) [] last = ⊥

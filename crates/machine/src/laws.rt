@@ -1,6 +1,7 @@
 //! Laws of the machine: what is true of every run of it, and of every state.
 
 ghost use Rattle.std.specs.Prelude.{◌≡◌, ◌⊎◌, ◌+◌, ◌++◌, ◌<◌, ℕ, Bool, true, false, List, Some, length, take, drop, slice_get};
+ghost use Rattle.events.specs.declared.event.Event.TheVariants as event;
 ghost use Rattle.certificate.specs.declared.table.Table.{Table};
 ghost use Rattle.certificate.specs.declared.report.Report.{Report};
 ghost use Rattle.certificate.specs.Rightness.{taken_in};
@@ -14,9 +15,7 @@ ghost use Rattle.machine.specs.SwapTypes.{swap_type_at, type_of};
 ghost use Rattle.machine.specs.Boots.{Boots, IsAllSound, IsReported, IsTableOf, is_answer};
 ghost use Rattle.machine.specs.Headline.{AreCut, HasFinished, IsBootedAt, StartsGreatest};
 ghost use Rattle.machine.specs.Intake.{Setup};
-ghost use Rattle.machine.specs.Steps.{IsRun, IsStep, IsUncutRun, cuts_in};
-ghost use Rattle.machine.specs.declared.event.Event.{Event};
-ghost use Rattle.machine.specs.declared.event.Event.TheVariants as event;
+ghost use Rattle.machine.specs.Steps.{DeviceEvent, IsRun, IsStep, IsUncutRun, cuts_in};
 ghost use Rattle.machine.specs.declared.reply.Reply.{Reply};
 ghost use Rattle.machine.specs.declared.reply.Reply.TheVariants.{Booted};
 
@@ -27,7 +26,7 @@ ghost use Rattle.machine.specs.declared.reply.Reply.TheVariants.{Booted};
 /// It does nothing: its contract is the theorem.
 #[tactic(auto, using(crate::proofs::Answered::booted_at))]
 pub fn each_boot_that_answers_starts_the_greatest_set()
-    ensures { (setup : Setup) (m : Machine) (events : List Event) (replies : List Reply)
+    ensures { (setup : Setup) (m : Machine) (events : List DeviceEvent) (replies : List Reply)
         (last : Machine) (place : ℕ) (table : Table) (report : Report) (permanent : Bool)
         → IsRun setup m events replies last
         → slice_get replies place ≡ Some (Booted table report permanent)
@@ -55,7 +54,7 @@ pub fn boots_that_were_cut_start_the_same_set()
 /// It does nothing: its contract is the theorem.
 #[tactic(auto, using(crate::proofs::SoundRuns::run_sound))]
 pub fn runs_keep_what_runs_intact_and_valid()
-    ensures { (setup : Setup) (m last : Machine) (events : List Event) (replies : List Reply)
+    ensures { (setup : Setup) (m last : Machine) (events : List DeviceEvent) (replies : List Reply)
         → IsRun setup m events replies last → IsAllSound m.kept → IsAllSound last.kept }
 {}
 
@@ -91,7 +90,7 @@ pub fn reports_of_a_state_take_the_same_set()
 /// It does nothing: its contract is the law.
 #[tactic(auto, using(crate::proofs::Runs::run_joins))]
 pub fn runs_are_joined()
-    ensures { (setup : Setup) (m mid last : Machine) (events more : List Event)
+    ensures { (setup : Setup) (m mid last : Machine) (events more : List DeviceEvent)
         (replies answered : List Reply)
         → IsRun setup m events replies mid → IsRun setup mid more answered last
         → IsRun setup m (events ++ more) (replies ++ answered) last }
@@ -103,7 +102,7 @@ pub fn runs_are_joined()
 /// It does nothing: its contract is the law.
 #[tactic(auto, using(crate::proofs::Runs::run_splits))]
 pub fn runs_are_parted()
-    ensures { (setup : Setup) (m last : Machine) (events more : List Event) (all : List Reply)
+    ensures { (setup : Setup) (m last : Machine) (events more : List DeviceEvent) (all : List Reply)
         → IsRun setup m (events ++ more) all last
         → (replies answered : List Reply) × (mid : Machine) × (all ≡ replies ++ answered)
         × IsRun setup m events replies mid × IsRun setup mid more answered last }
@@ -115,7 +114,7 @@ pub fn runs_are_parted()
 /// It does nothing: its contract is the law.
 #[tactic(auto, using(crate::proofs::Runs::run_prefix))]
 pub fn runs_have_a_state_at_each_place()
-    ensures { (setup : Setup) (m last : Machine) (events : List Event) (replies : List Reply)
+    ensures { (setup : Setup) (m last : Machine) (events : List DeviceEvent) (replies : List Reply)
         (place : ℕ) → IsRun setup m events replies last
         → (mid : Machine) × IsRun setup m (take place events) (take place replies) mid
         × IsRun setup mid (drop place events) (drop place replies) last }
@@ -126,7 +125,7 @@ pub fn runs_have_a_state_at_each_place()
 /// It does nothing: its contract is the law.
 #[tactic(auto, using(crate::proofs::Runs::run_answers))]
 pub fn each_event_has_a_reply()
-    ensures { (setup : Setup) (m last : Machine) (events : List Event) (replies : List Reply)
+    ensures { (setup : Setup) (m last : Machine) (events : List DeviceEvent) (replies : List Reply)
         → IsRun setup m events replies last → length replies ≡ length events }
 {}
 
@@ -136,11 +135,11 @@ pub fn each_event_has_a_reply()
 /// It does nothing: its contract is the law.
 #[tactic(auto, using(crate::proofs::Runs::uncut_run, crate::proofs::Runs::complete_run))]
 pub fn runs_without_a_cut_are_complete()
-    ensures complete { (setup : Setup) (m last : Machine) (events : List Event)
+    ensures complete { (setup : Setup) (m last : Machine) (events : List DeviceEvent)
         (replies : List Reply)
         → IsRun setup m events replies last → cuts_in replies ≡ 0
         → IsUncutRun setup m events replies last }
-    ensures uncut { (setup : Setup) (m last : Machine) (events : List Event)
+    ensures uncut { (setup : Setup) (m last : Machine) (events : List DeviceEvent)
         (replies : List Reply)
         → IsUncutRun setup m events replies last
         → IsRun setup m events replies last × (cuts_in replies ≡ 0) }

@@ -10,13 +10,12 @@
 #![tactic(auto)]
 
 mod error;
-mod event;
 mod finding;
 mod laws;
 mod reply;
 
 pub use error::Fault;
-pub use event::Event;
+pub use events::Event;
 pub use finding::{Finding, Passage, Reading};
 pub use laws::{
     boots_from_an_intact_and_valid_state_answer, boots_that_were_cut_start_the_same_set,

@@ -1,5 +1,5 @@
 -- Reading a line finds what its text says, and nothing else.
-use Rattle.std.proofs.Common.{◌≡◌, ◌≢◌, ℕ, ◌%◌, ◌^◌, ◌<◌, ◌≤◌, List, [], ◌∷◌, ◌++◌, length, cond, eqb, Option, Some, None, refl, sym, ap, ◌∙◌, subst, inl, inr, arith}
+use Rattle.std.proofs.Common.{◌≡◌, ℕ, ◌%◌, ◌^◌, ◌<◌, ◌≤◌, List, [], ◌∷◌, ◌++◌, length, eqb, Option, Some, None, refl, sym, ap, ◌∙◌, subst, inl, inr, arith}
 use Rattle.std.specs.Prelude.{IfNone, IfSome, bytes_eq, codes, decimal, option_and_then, option_map}
 use Rattle.std.specs.Char.{is_ascii_hexdigit}
 use Rattle.std.specs.List.{list_all}
@@ -11,11 +11,12 @@ use Rattle.common.specs.Ascii.{cut, number_below, number_of}
 use Rattle.common.specs.Lines.{◌␣◌}
 use Rattle.common.proofs.AsciiLaws.{LacksByte-decimal, cut-found, cut-missing, cut-parts, cut-whole, number_below-decimal, number_below-spelled, number_of-decimal, number_of-spelled}
 use Rattle.common.proofs.Options.{cases_option, option_map-Some}
+use Rattle.events.specs.declared.event.Event.TheVariants as event
 use Rattle.script.specs.declared.line.Line.{Line}
 use Rattle.script.specs.LineReading.{accept_of, cut_line_of, event_at, hex_of, image_event, line_at, name_of, part_of, piece_of, piece_with, said_of, torn_of, word_of}
-use Rattle.script.specs.LineText.{AreDigits, FitsEvent, FitsPart, FitsTorn, IsLineText, IsWord, event_text, line_text, piece_text, torn_text}
-use Rattle.script.specs.Said.{PartWords, Said, SaidEvent, SaidTorn, said}
-use Rattle.script.specs.Said.{Accept, Boot, Confirm, Cut, Done, Event, Finish, Hex, Keep, Piece, Reset, Withdraw}
+use Rattle.script.specs.LineText.{AreDigits, FitsEvent, FitsPart, FitsTorn, IsLineText, IsName, event_text, line_text, piece_text, torn_text}
+use Rattle.script.specs.Said.{PartWords, Said, SaidEvent, SaidTorn, file_of, said}
+use Rattle.script.specs.Said.{Cut, Done, Event, Hex, Keep}
 use Rattle.script.proofs.WordLaws.{name_of-spelled, name_of-text, word_of-spelled, word_of-text}
 
 -- ---- what is spelled is read
@@ -64,12 +65,12 @@ cut_line_of-text write torn some fits torn_fits =
       ne_eqb write 0 (λ e. omega arith),
     ) refl
 
-accept_of-text : (file : List ℕ) → FitsEvent (Accept file) → accept_of file ≡ Some (Accept file)
+accept_of-text : (name : List ℕ) → IsName name → accept_of name ≡ Some (event.Accept (file_of name None))
 unfolding accept_of
-accept_of-text file fits = rw (name_of-text file fits) refl
+accept_of-text name named = rw (name_of-text name named) refl
 
-piece_of-whole : (image : ℕ) (file : List ℕ) → FitsEvent (Piece image file None)
-    → piece_of (decimal image ␣ file) ≡ Some (Piece image file None)
+piece_of-whole : (image : ℕ) (file : List ℕ) → FitsEvent (event.Piece image (file_of file None))
+    → piece_of (decimal image ␣ file) ≡ Some (event.Piece image (file_of file None))
 unfolding piece_of
 piece_of-whole image file (small, named, whole) =
     rw (
@@ -79,8 +80,9 @@ piece_of-whole image file (small, named, whole) =
       name_of-text file named,
     ) refl
 
-piece_of-part : (image : ℕ) (file : List ℕ) (part : PartWords) → FitsEvent (Piece image file (Some part))
-    → piece_of (decimal image ␣ file ␣ part.from ␣ part.count) ≡ Some (Piece image file (Some part))
+piece_of-part : (image : ℕ) (file : List ℕ) (part : PartWords)
+    → FitsEvent (event.Piece image (file_of file (Some part)))
+    → piece_of (decimal image ␣ file ␣ part.from ␣ part.count) ≡ Some (event.Piece image (file_of file (Some part)))
 unfolding piece_of
 piece_of-part image file part (small, named, fits) =
     rw (
@@ -97,60 +99,67 @@ unfolding said_of cut
 said_of-cut fields = refl
 
 said_of-accept : (fields : List ℕ)
-    → said_of (codes "accept" ␣ fields) ≡ option_map (λ event. Event event) (accept_of fields)
+    → said_of (codes "accept" ␣ fields) ≡ option_map (λ happened. Event happened) (accept_of fields)
 unfolding said_of event_at cut
 said_of-accept fields = refl
 
 said_of-piece : (fields : List ℕ)
-    → said_of (codes "piece" ␣ fields) ≡ option_map (λ event. Event event) (piece_of fields)
+    → said_of (codes "piece" ␣ fields) ≡ option_map (λ happened. Event happened) (piece_of fields)
 unfolding said_of event_at cut
 said_of-piece fields = refl
 
 said_of-finish : (fields : List ℕ)
     → said_of (codes "finish" ␣ fields)
-    ≡ option_map (λ event. Event event) (option_and_then (λ i. Some (Finish i)) (number_below (2 ^ 8) fields))
+    ≡ option_map (λ happened. Event happened) (option_and_then (λ i. Some (event.Finish i)) (number_below (2 ^ 8) fields))
 unfolding said_of event_at cut
 said_of-finish fields = refl
 
 said_of-withdraw : (fields : List ℕ)
     → said_of (codes "withdraw" ␣ fields)
-    ≡ option_map (λ event. Event event) (option_and_then (λ i. Some (Withdraw i)) (number_below (2 ^ 8) fields))
+    ≡ option_map (λ happened. Event happened) (option_and_then (λ i. Some (event.Withdraw i)) (number_below (2 ^ 8) fields))
 unfolding said_of event_at cut
 said_of-withdraw fields = refl
 
 said_of-confirm : (fields : List ℕ)
     → said_of (codes "confirm" ␣ fields)
-    ≡ option_map (λ event. Event event) (option_and_then (λ i. Some (Confirm i)) (number_below (2 ^ 8) fields))
+    ≡ option_map (λ happened. Event happened) (option_and_then (λ i. Some (event.Confirm i)) (number_below (2 ^ 8) fields))
 unfolding said_of event_at cut
 said_of-confirm fields = refl
 
-said_of-boot : said_of (codes "boot") ≡ Some (Event Boot)
+said_of-boot : said_of (codes "boot") ≡ Some (Event event.Boot)
 unfolding said_of
 said_of-boot = refl
 
-said_of-reset : said_of (codes "reset") ≡ Some (Event Reset)
+said_of-reset : said_of (codes "reset") ≡ Some (Event event.Reset)
 unfolding said_of
 said_of-reset = refl
+
+-- A piece that fits is read in its spelling.
+said_of-piece-line : (image : ℕ) (name : List ℕ) (part : Option PartWords)
+    → FitsEvent (event.Piece image (file_of name part))
+    → said_of (piece_text image name part) ≡ Some (Event (event.Piece image (file_of name part)))
+said_of-piece-line image name None fits =
+    said_of-piece (decimal image ␣ name) ∙ ap (option_map (λ happened. Event happened)) (piece_of-whole image name fits)
+said_of-piece-line image name (Some part) fits =
+    said_of-piece (decimal image ␣ name ␣ part.from ␣ part.count)
+    ∙ ap (option_map (λ happened. Event happened)) (piece_of-part image name part fits)
 
 -- A line that fits is read in its spelling.
 said_of-line : (found : Said) → IsLineText (line_text found) found → said_of (line_text found) ≡ Some found
 said_of-line (Cut write torn) ((some, fits, torn_fits), is) =
     said_of-cut (decimal write ␣ torn_text torn) ∙ cut_line_of-text write torn some fits torn_fits
-said_of-line (Event (Accept file)) (fits, is) =
-    said_of-accept file ∙ ap (option_map (λ event. Event event)) (accept_of-text file fits)
-said_of-line (Event (Piece image file None)) (fits, is) =
-    said_of-piece (decimal image ␣ file) ∙ ap (option_map (λ event. Event event)) (piece_of-whole image file fits)
-said_of-line (Event (Piece image file (Some part))) (fits, is) =
-    said_of-piece (decimal image ␣ file ␣ part.from ␣ part.count)
-    ∙ ap (option_map (λ event. Event event)) (piece_of-part image file part fits)
-said_of-line (Event (Finish image)) (small, is) =
+said_of-line (Event (event.Accept file)) ((named, whole), is) =
+    said_of-accept file.name ∙ ap (option_map (λ happened. Event happened)) (accept_of-text file.name named)
+    ∙ ap (λ part. Some (Event (event.Accept (file_of file.name part)))) (sym whole)
+said_of-line (Event (event.Piece image file)) (fits, is) = said_of-piece-line image file.name file.part fits
+said_of-line (Event (event.Finish image)) (small, is) =
     said_of-finish (decimal image) ∙ rw (number_below-decimal (2 ^ 8) image small (omega arith)) refl
-said_of-line (Event (Withdraw image)) (small, is) =
+said_of-line (Event (event.Withdraw image)) (small, is) =
     said_of-withdraw (decimal image) ∙ rw (number_below-decimal (2 ^ 8) image small (omega arith)) refl
-said_of-line (Event (Confirm image)) (small, is) =
+said_of-line (Event (event.Confirm image)) (small, is) =
     said_of-confirm (decimal image) ∙ rw (number_below-decimal (2 ^ 8) image small (omega arith)) refl
-said_of-line (Event Boot) is = said_of-boot
-said_of-line (Event Reset) is = said_of-reset
+said_of-line (Event event.Boot) is = said_of-boot
+said_of-line (Event event.Reset) is = said_of-reset
 
 pub said_of-text : (text : List ℕ) (found : Said) → IsLineText text found → said_of text ≡ Some found
 said_of-text text found (fits, is) = ap said_of is ∙ said_of-line found (fits, refl)
@@ -241,93 +250,93 @@ cut_line_of-spelled fields found read =
 
 -- An event that was read in a text.
 abbrev SaysEvent : List ℕ → SaidEvent → Type 0
-SaysEvent text event = FitsEvent event × (text ≡ event_text event)
+SaysEvent text happened = FitsEvent happened × (text ≡ event_text happened)
 
-accept_of-spelled : (fields : List ℕ) (event : SaidEvent) → accept_of fields ≡ Some event
-    → SaysEvent (codes "accept" ␣ fields) event
+accept_of-spelled : (fields : List ℕ) (happened : SaidEvent) → accept_of fields ≡ Some happened
+    → SaysEvent (codes "accept" ␣ fields) happened
 unfolding accept_of
-accept_of-spelled fields event read =
-    let (file, is_file, made) = option_map-Some _ (name_of fields) event read in
-    let found = name_of-spelled fields file is_file in
+accept_of-spelled fields happened read =
+    let (name, is_name, made) = option_map-Some _ (name_of fields) happened read in
+    let found = name_of-spelled fields name is_name in
     subst (λ (e : SaidEvent). SaysEvent (codes "accept" ␣ fields) e) made
-    (found.0, ap (λ t. codes "accept" ␣ t) found.1)
+    ((found.0, refl), ap (λ t. codes "accept" ␣ t) found.1)
 
-piece_with-spelled : (image : ℕ) (file rest : List ℕ) (event : SaidEvent) → image < 2 ^ 8
-    → name_of (cut 32 rest).0 ≡ Some file → piece_with image file (cut 32 rest).1 ≡ Some event
-    → SaysEvent (codes "piece" ␣ decimal image ␣ rest) event
-piece_with-spelled image file rest event small is_file read =
+piece_with-spelled : (image : ℕ) (file rest : List ℕ) (happened : SaidEvent) → image < 2 ^ 8
+    → name_of (cut 32 rest).0 ≡ Some file → piece_with image file (cut 32 rest).1 ≡ Some happened
+    → SaysEvent (codes "piece" ␣ decimal image ␣ rest) happened
+piece_with-spelled image file rest happened small is_file read =
     let file_found = name_of-spelled (cut 32 rest).0 file is_file in
     elim (cases_option (cut 32 rest).1) [
       | inl none ↦
           let whole : rest ≡ file = cut-whole 32 rest none ∙ file_found.1 in
           subst (λ (e : SaidEvent). SaysEvent (codes "piece" ␣ decimal image ␣ rest) e)
-          (same_Some (Piece image file None) event (rw none at read))
+          (same_Some (event.Piece image (file_of file None)) happened (rw none at read))
           ((small, file_found.0, tt), ap (λ t. codes "piece" ␣ decimal image ␣ t) whole)
       | inr (words, some) ↦
-          option_and_then_some _ (part_of words) event (rw some at read) (λ part is_part made.
+          option_and_then_some _ (part_of words) happened (rw some at read) (λ part is_part made.
           let part_found = part_of-spelled words part is_part in
           let whole : rest ≡ file ␣ part.from ␣ part.count =
           cut-spelled rest file words file_found.1 some ∙ ap (λ t. file ␣ t) part_found.1 in
           subst (λ (e : SaidEvent). SaysEvent (codes "piece" ␣ decimal image ␣ rest) e)
-          (same_Some (Piece image file (Some part)) event made)
+          (same_Some (event.Piece image (file_of file (Some part))) happened made)
           ((small, file_found.0, part_found.0), ap (λ t. codes "piece" ␣ decimal image ␣ t) whole))
     ]
 
-piece_of-spelled : (fields : List ℕ) (event : SaidEvent) → piece_of fields ≡ Some event
-    → SaysEvent (codes "piece" ␣ fields) event
+piece_of-spelled : (fields : List ℕ) (happened : SaidEvent) → piece_of fields ≡ Some happened
+    → SaysEvent (codes "piece" ␣ fields) happened
 unfolding piece_of
-piece_of-spelled fields event read =
-    option_and_then_some _ (number_below (2 ^ 8) (cut 32 fields).0) event read (λ image is_image after_image.
-    option_and_then_some _ (cut 32 fields).1 event after_image (λ rest is_rest from_file.
-    option_and_then_some _ (name_of (cut 32 rest).0) event from_file (λ file is_file from_part.
+piece_of-spelled fields happened read =
+    option_and_then_some _ (number_below (2 ^ 8) (cut 32 fields).0) happened read (λ image is_image after_image.
+    option_and_then_some _ (cut 32 fields).1 happened after_image (λ rest is_rest from_file.
+    option_and_then_some _ (name_of (cut 32 rest).0) happened from_file (λ file is_file from_part.
     let image_found = number_below-spelled (2 ^ 8) (cut 32 fields).0 image is_image in
     let whole = cut-spelled fields (decimal image) rest image_found.0 is_rest in
-    rw whole (piece_with-spelled image file rest event image_found.1 is_file from_part))))
+    rw whole (piece_with-spelled image file rest happened image_found.1 is_file from_part))))
 
-image_event-spelled : (word fields : List ℕ) (image : ℕ) (event : SaidEvent) → image < 2 ^ 8
-    → fields ≡ decimal image → image_event word image ≡ Some event → SaysEvent (word ␣ fields) event
-image_event-spelled word fields image event small is_image read =
+image_event-spelled : (word fields : List ℕ) (image : ℕ) (happened : SaidEvent) → image < 2 ^ 8
+    → fields ≡ decimal image → image_event word image ≡ Some happened → SaysEvent (word ␣ fields) happened
+image_event-spelled word fields image happened small is_image read =
     rw is_image (elim (cases_Bool (bytes_eq word (codes "finish"))) [
       | inl finish ↦
           rw ((bytes_eq-Decides word (codes "finish")).0 finish)
           (subst (λ (e : SaidEvent). SaysEvent (codes "finish" ␣ decimal image) e)
-          (same_Some (Finish image) event (rw finish at read)) (small, refl))
+          (same_Some (event.Finish image) happened (rw finish at read)) (small, refl))
       | inr not_finish ↦
           let read = rw not_finish at read in
           elim (cases_Bool (bytes_eq word (codes "withdraw"))) [
             | inl withdraw ↦
                 rw ((bytes_eq-Decides word (codes "withdraw")).0 withdraw)
                 (subst (λ (e : SaidEvent). SaysEvent (codes "withdraw" ␣ decimal image) e)
-                (same_Some (Withdraw image) event (rw withdraw at read)) (small, refl))
+                (same_Some (event.Withdraw image) happened (rw withdraw at read)) (small, refl))
             | inr not_withdraw ↦
                 let read = rw not_withdraw at read in
                 elim (cases_Bool (bytes_eq word (codes "confirm"))) [
                   | inl confirm ↦
                       rw ((bytes_eq-Decides word (codes "confirm")).0 confirm)
                       (subst (λ (e : SaidEvent). SaysEvent (codes "confirm" ␣ decimal image) e)
-                      (same_Some (Confirm image) event (rw confirm at read)) (small, refl))
-                  | inr other ↦ absurd (none-some event (rw other at read))
+                      (same_Some (event.Confirm image) happened (rw confirm at read)) (small, refl))
+                  | inr other ↦ absurd (none-some happened (rw other at read))
                 ]
           ]
     ])
 
-event_at-spelled : (word fields : List ℕ) (event : SaidEvent) → event_at word fields ≡ Some event
-    → SaysEvent (word ␣ fields) event
+event_at-spelled : (word fields : List ℕ) (happened : SaidEvent) → event_at word fields ≡ Some happened
+    → SaysEvent (word ␣ fields) happened
 unfolding event_at
-event_at-spelled word fields event read =
+event_at-spelled word fields happened read =
     elim (cases_Bool (bytes_eq word (codes "accept"))) [
       | inl accept ↦ rw ((bytes_eq-Decides word (codes "accept")).0 accept)
-          (accept_of-spelled fields event (rw accept at read))
+          (accept_of-spelled fields happened (rw accept at read))
       | inr not_accept ↦
           let read = rw not_accept at read in
           elim (cases_Bool (bytes_eq word (codes "piece"))) [
             | inl piece ↦ rw ((bytes_eq-Decides word (codes "piece")).0 piece)
-                (piece_of-spelled fields event (rw piece at read))
+                (piece_of-spelled fields happened (rw piece at read))
             | inr not_piece ↦
-                option_and_then_some _ (number_below (2 ^ 8) fields) event (rw not_piece at read)
+                option_and_then_some _ (number_below (2 ^ 8) fields) happened (rw not_piece at read)
                 (λ image is_image made.
                 let found = number_below-spelled (2 ^ 8) fields image is_image in
-                image_event-spelled word fields image event found.1 found.0 made)
+                image_event-spelled word fields image happened found.1 found.0 made)
           ]
     ]
 
@@ -338,8 +347,8 @@ line_at-spelled word fields found read =
       | inl cuts ↦ rw ((bytes_eq-Decides word (codes "cut")).0 cuts)
           (cut_line_of-spelled fields found (rw cuts at read))
       | inr other ↦
-          let (event, is_event, made) = option_map-Some _ (event_at word fields) found (rw other at read) in
-          subst (λ (s : Said). IsLineText (word ␣ fields) s) made (event_at-spelled word fields event is_event)
+          let (happened, is_event, made) = option_map-Some _ (event_at word fields) found (rw other at read) in
+          subst (λ (s : Said). IsLineText (word ␣ fields) s) made (event_at-spelled word fields happened is_event)
     ]
 
 -- A text that is read as a line says that line.
@@ -347,13 +356,13 @@ pub said_of-spelled : (text : List ℕ) (found : Said) → said_of text ≡ Some
 unfolding said_of
 said_of-spelled text found read =
     elim (cases_Bool (bytes_eq text (codes "boot"))) [
-      | inl boot ↦ subst (λ (s : Said). IsLineText text s) (same_Some (Event Boot) found (rw boot at read))
+      | inl boot ↦ subst (λ (s : Said). IsLineText text s) (same_Some (Event event.Boot) found (rw boot at read))
           (tt, (bytes_eq-Decides text (codes "boot")).0 boot)
       | inr not_boot ↦
           let read = rw not_boot at read in
           elim (cases_Bool (bytes_eq text (codes "reset"))) [
             | inl reset ↦ subst (λ (s : Said). IsLineText text s)
-                (same_Some (Event Reset) found (rw reset at read)) (tt, (bytes_eq-Decides text (codes "reset")).0 reset)
+                (same_Some (Event event.Reset) found (rw reset at read)) (tt, (bytes_eq-Decides text (codes "reset")).0 reset)
             | inr not_reset ↦
                 option_and_then_some _ (cut 32 text).1 found (rw not_reset at read) (λ fields is_fields read_on.
                 rw (cut-parts 32 text fields is_fields) (line_at-spelled (cut 32 text).0 fields found read_on))

@@ -6,8 +6,9 @@ use Rattle.std.specs.Char.{is_ascii_hexdigit}
 use Rattle.std.specs.List.{list_all}
 use Rattle.std.specs.Str.{bytes_eq, is_utf8}
 use Rattle.common.specs.Ascii.{number_of, number_below, cut}
-use Rattle.script.specs.Said.{PartWords, Said, SaidEvent, SaidTorn}
-use Rattle.script.specs.Said.{Accept, Boot, Confirm, Cut, Done, Event, Finish, Hex, Keep, Piece, Reset, Withdraw}
+use Rattle.events.specs.declared.event.Event.TheVariants as event
+use Rattle.script.specs.Said.{PartWords, Said, SaidEvent, SaidTorn, file_of}
+use Rattle.script.specs.Said.{Cut, Done, Event, Hex, Keep}
 
 infixl 10 ◌>>=◌
 abbrev pub ◌>>=◌ : {A B : Type 0} → Option A → (A → Option B) → Option B
@@ -59,15 +60,15 @@ cut_line_of fields = do
   torn ← torn_of rest
   if write == 0 then None else Some (Cut write torn)
 
--- What follows `accept`: the name of a file.
+-- What follows `accept`: the name of a file, of which all comes.
 unfoldable pub accept_of : List ℕ → Option SaidEvent
-accept_of fields = option_map (λ file. Accept file) (name_of fields)
+accept_of fields = option_map (λ name. event.Accept (file_of name None)) (name_of fields)
 
--- A piece of this file, whole where nothing follows its name.
+-- A piece from the file of this name, which comes whole where nothing follows the name.
 abbrev pub piece_with : ℕ → List ℕ → Option (List ℕ) → Option SaidEvent
-piece_with image file None = Some (Piece image file None)
-piece_with image file (Some rest) =
-    option_and_then (λ part. Some (Piece image file (Some part))) (part_of rest)
+piece_with image name None = Some (event.Piece image (file_of name None))
+piece_with image name (Some rest) =
+    option_and_then (λ part. Some (event.Piece image (file_of name (Some part)))) (part_of rest)
 
 -- What follows `piece`: the number of an image, the name of a file, and which part of it.
 unfoldable pub piece_of : List ℕ → Option SaidEvent
@@ -76,15 +77,15 @@ piece_of fields = do
   image ← number_below (2 ^ 8) words.0
   rest ← words.1
   let words = cut 32 rest
-  file ← name_of words.0
-  piece_with image file words.1
+  name ← name_of words.0
+  piece_with image name words.1
 
 -- The event of an image that a word names.
 abbrev pub image_event : List ℕ → ℕ → Option SaidEvent
 image_event word image =
-    if bytes_eq word (codes "finish") then Some (Finish image)
-    else (if bytes_eq word (codes "withdraw") then Some (Withdraw image)
-    else (if bytes_eq word (codes "confirm") then Some (Confirm image) else None))
+    if bytes_eq word (codes "finish") then Some (event.Finish image)
+    else (if bytes_eq word (codes "withdraw") then Some (event.Withdraw image)
+    else (if bytes_eq word (codes "confirm") then Some (event.Confirm image) else None))
 
 -- The event that begins with this word, with these fields after it.
 unfoldable pub event_at : List ℕ → List ℕ → Option SaidEvent
@@ -97,13 +98,13 @@ event_at word fields =
 abbrev pub line_at : List ℕ → List ℕ → Option Said
 line_at word fields =
     if bytes_eq word (codes "cut") then cut_line_of fields
-    else option_map (λ event. Event event) (event_at word fields)
+    else option_map (λ happened. Event happened) (event_at word fields)
 
 -- The line that a text says.
 unfoldable pub said_of : List ℕ → Option Said
 said_of text =
-    if bytes_eq text (codes "boot") then Some (Event Boot)
-    else (if bytes_eq text (codes "reset") then Some (Event Reset) else (do
+    if bytes_eq text (codes "boot") then Some (Event event.Boot)
+    else (if bytes_eq text (codes "reset") then Some (Event event.Reset) else (do
       let words = cut 32 text
       fields ← words.1
       line_at words.0 fields))

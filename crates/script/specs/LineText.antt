@@ -4,8 +4,9 @@ use Rattle.std.specs.Char.{is_ascii_hexdigit}
 use Rattle.std.specs.List.{AllPass}
 use Rattle.common.specs.Ascii.{LacksByte}
 use Rattle.common.specs.Lines.{◌␣◌}
+use Rattle.events.specs.declared.event.Event.TheVariants as event
 use Rattle.script.specs.Said.{PartWords, Said, SaidEvent, SaidTorn}
-use Rattle.script.specs.Said.{Accept, Boot, Confirm, Cut, Done, Event, Finish, Hex, Keep, Piece, Reset, Withdraw}
+use Rattle.script.specs.Said.{Cut, Done, Event, Hex, Keep}
 
 -- A word: some bytes, and no space among them.
 abbrev pub IsWord : List ℕ → Type 0
@@ -24,27 +25,28 @@ torn_text Keep = codes "keep"
 torn_text Done = codes "done"
 torn_text (Hex digits) = codes "hex:" ++ digits
 
--- A piece of a file, whole or in part.
+-- A piece from the file of a name, whole or in part.
 abbrev pub piece_text : ℕ → List ℕ → Option PartWords → List ℕ
-piece_text image file None = codes "piece" ␣ decimal image ␣ file
-piece_text image file (Some part) =
-    codes "piece" ␣ decimal image ␣ file ␣ part.from ␣ part.count
+piece_text image name None = codes "piece" ␣ decimal image ␣ name
+piece_text image name (Some part) =
+    codes "piece" ␣ decimal image ␣ name ␣ part.from ␣ part.count
 
 abbrev pub event_text : SaidEvent → List ℕ
-event_text (Accept file) = codes "accept" ␣ file
-event_text (Piece image file part) = piece_text image file part
-event_text (Finish image) = codes "finish" ␣ decimal image
-event_text (Withdraw image) = codes "withdraw" ␣ decimal image
-event_text (Confirm image) = codes "confirm" ␣ decimal image
-event_text Boot = codes "boot"
-event_text Reset = codes "reset"
+event_text (event.Accept file) = codes "accept" ␣ file.name
+event_text (event.Piece image file) = piece_text image file.name file.part
+event_text (event.Finish image) = codes "finish" ␣ decimal image
+event_text (event.Withdraw image) = codes "withdraw" ␣ decimal image
+event_text (event.Confirm image) = codes "confirm" ␣ decimal image
+event_text event.Boot = codes "boot"
+event_text event.Reset = codes "reset"
 
 -- A line, without its line feed.
 abbrev pub line_text : Said → List ℕ
 line_text (Cut write torn) = codes "cut" ␣ decimal write ␣ torn_text torn
-line_text (Event event) = event_text event
+line_text (Event happened) = event_text happened
 
--- What is said fits: writes are counted from 1 and in 32 bits, images in 8, and words are words.
+-- What is said fits: writes are counted from 1 and in 32 bits, images in 8, words are words, and of
+-- the file of a manifest all comes.
 abbrev pub FitsTorn : SaidTorn → Type 0
 FitsTorn Keep = Unit {0}
 FitsTorn Done = Unit {0}
@@ -55,17 +57,17 @@ FitsPart None = Unit {0}
 FitsPart (Some part) = IsWord part.from × IsWord part.count
 
 abbrev pub FitsEvent : SaidEvent → Type 0
-FitsEvent (Accept file) = IsName file
-FitsEvent (Piece image file part) = (image < 2 ^ 8) × IsName file × FitsPart part
-FitsEvent (Finish image) = image < 2 ^ 8
-FitsEvent (Withdraw image) = image < 2 ^ 8
-FitsEvent (Confirm image) = image < 2 ^ 8
-FitsEvent Boot = Unit {0}
-FitsEvent Reset = Unit {0}
+FitsEvent (event.Accept file) = IsName file.name × (file.part ≡ None)
+FitsEvent (event.Piece image file) = (image < 2 ^ 8) × IsName file.name × FitsPart file.part
+FitsEvent (event.Finish image) = image < 2 ^ 8
+FitsEvent (event.Withdraw image) = image < 2 ^ 8
+FitsEvent (event.Confirm image) = image < 2 ^ 8
+FitsEvent event.Boot = Unit {0}
+FitsEvent event.Reset = Unit {0}
 
 abbrev pub FitsLine : Said → Type 0
 FitsLine (Cut write torn) = (1 ≤ write) × (write < 2 ^ 32) × FitsTorn torn
-FitsLine (Event event) = FitsEvent event
+FitsLine (Event happened) = FitsEvent happened
 
 -- A text says a line.
 abbrev pub IsLineText : List ℕ → Said → Type 0

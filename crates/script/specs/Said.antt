@@ -1,7 +1,8 @@
 -- What a line of a script says, with the bytes of its words in the place of references to them.
 use Rattle.std.specs.Prelude.{ℕ, List, Option, option_map}
-use Rattle.script.specs.declared.line.Instruction.{Instruction}
-use Rattle.script.specs.declared.line.Instruction.TheVariants as instruction
+use Rattle.events.specs.declared.event.Event as events
+use Rattle.events.specs.Event.{event_map}
+use Rattle.script.specs.declared.line.FileText.{FileText}
 use Rattle.script.specs.declared.line.Line.{Line}
 use Rattle.script.specs.declared.line.Line.TheVariants as line
 use Rattle.script.specs.declared.line.TornText.{TornText}
@@ -19,15 +20,18 @@ pub record PartWords : Type 0 where
   pub from : List ℕ
   pub count : List ℕ
 
+-- What a line names of a file: its name, and which part of it, if not all.
+pub record SaidFile : Type 0 where
+  pub name : List ℕ
+  pub part : Option PartWords
+
+-- A file of this name, of which this part comes, or all.
+abbrev pub file_of : List ℕ → Option PartWords → SaidFile
+file_of name part = record { name = name; part = part }
+
 -- What comes to the device.
-pub data SaidEvent : Type 0 where
-  Accept : List ℕ → SaidEvent
-  Piece : ℕ → List ℕ → Option PartWords → SaidEvent
-  Finish : ℕ → SaidEvent
-  Withdraw : ℕ → SaidEvent
-  Confirm : ℕ → SaidEvent
-  Boot : SaidEvent
-  Reset : SaidEvent
+abbrev pub SaidEvent : Type 0
+SaidEvent = events.Event SaidFile
 
 -- What a line says.
 pub data Said : Type 0 where
@@ -42,16 +46,10 @@ said_torn (torn.Hex digits) = Hex digits.now
 abbrev pub part_words : PartText → PartWords
 part_words part = record { from = part.from.now; count = part.count.now }
 
-abbrev pub said_event : Instruction → SaidEvent
-said_event (instruction.Accept file) = Accept file.now
-said_event (instruction.Piece image file part) = Piece image file.now (option_map part_words part)
-said_event (instruction.Finish image) = Finish image
-said_event (instruction.Withdraw image) = Withdraw image
-said_event (instruction.Confirm image) = Confirm image
-said_event instruction.Boot = Boot
-said_event instruction.Reset = Reset
+abbrev pub said_file : FileText → SaidFile
+said_file file = file_of file.name.now (option_map part_words file.part)
 
 -- What a line that was read says.
 abbrev pub said : Line → Said
 said (line.Cut write torn) = Cut write (said_torn torn)
-said (line.Event event) = Event (said_event event)
+said (line.Event event) = Event (event_map said_file event)

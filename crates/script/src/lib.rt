@@ -20,8 +20,9 @@ mod line_reading;
 mod part;
 mod words;
 
+pub use events::Event;
 pub use laws::a_text_says_one_line;
-pub use line::{Instruction, Line, TornText};
+pub use line::{FileText, Line, TornText};
 pub use line_order::Reading;
 pub use line_reading::line_of;
 pub use part::PartText;

@@ -1,9 +1,10 @@
 //! What a line of a script says.
 
 use crate::part::PartText;
+use events::Event;
 
 /// What a line of a script says. It borrows the line.
-#[derive(Clone, Copy, Debug, PartialEq, Eq)]
+#[derive(Clone, Debug, Drop, PartialEq, Eq)]
 pub enum Line<'a> {
     /// `cut K TORN`: power fails in a write of the flash.
     Cut {
@@ -12,8 +13,10 @@ pub enum Line<'a> {
         /// What the write leaves.
         torn: TornText<'a>,
     },
-    /// Something comes to the device.
-    Event(Instruction<'a>),
+    /// Something comes to the device: `accept FILE`, `piece I FILE` or `piece I FILE FROM COUNT`,
+    /// `finish I`, `withdraw I`, `confirm I`, `boot` or `reset`. Images have the numbers 0 to 255,
+    /// whether or not the device has them.
+    Event(Event<FileText<'a>>),
 }
 
 /// What a write that is cut leaves in its range, as the line has it.
@@ -28,28 +31,11 @@ pub enum TornText<'a> {
     Hex(&'a [u8]),
 }
 
-/// What comes to the device. Images have the numbers 0 to 255, whether or not the device has them.
+/// What a line names of a file: the bytes of a manifest, or the next ones for an image.
 #[derive(Clone, Copy, Debug, PartialEq, Eq)]
-pub enum Instruction<'a> {
-    /// `accept FILE`: the manifest in a file.
-    Accept(&'a str),
-    /// `piece I FILE`, or `piece I FILE FROM COUNT`: the next bytes for an image.
-    Piece {
-        /// The number of the image.
-        image: u8,
-        /// The name of the file that has the bytes.
-        file: &'a str,
-        /// Which of them come, if not all.
-        part: Option<PartText<'a>>,
-    },
-    /// `finish I`: all bytes for an image were there.
-    Finish(u8),
-    /// `withdraw I`: the request of an image is taken back.
-    Withdraw(u8),
-    /// `confirm I`: an image on trial works.
-    Confirm(u8),
-    /// `boot`: the device starts.
-    Boot,
-    /// `reset`: the device is reset, and stays down.
-    Reset,
+pub struct FileText<'a> {
+    /// The name of the file that has the bytes.
+    pub name: &'a str,
+    /// Which of them come, if not all. Of a manifest all come.
+    pub part: Option<PartText<'a>>,
 }

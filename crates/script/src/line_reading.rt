@@ -4,14 +4,16 @@ ghost use Rattle.std.specs.Prelude.{◌≡◌, IfNone, IfSome};
 ghost use Rattle.std.specs.Char.{is_ascii_hexdigit};
 ghost use Rattle.std.specs.List.{list_all};
 ghost use Rattle.std.specs.Option.{option_map};
+ghost use Rattle.events.specs.Event.{event_map};
 ghost use Rattle.script.specs.LineReading.{accept_of, cut_line_of, event_at, hex_of, image_event, line_at, piece_of, said_of, torn_of};
 ghost use Rattle.script.specs.LineText.{IsLineText};
-ghost use Rattle.script.specs.Said.{Said, said, said_event, said_torn};
+ghost use Rattle.script.specs.Said.{Said, said, said_file, said_torn};
 
-use crate::line::{Instruction, Line, TornText};
+use crate::line::{FileText, Line, TornText};
 use crate::part::PartText;
 use crate::words::name;
 use common::ascii::{cut, number, number_u8};
+use events::Event;
 
 // The words that lines begin with, and those that say what a cut leaves.
 const CUT: &[u8] = b"cut";
@@ -53,10 +55,10 @@ fn read_line(line: &[u8]) -> Option<Line<'_>>
     ensures { option_map said result ≡ said_of line.now }
 {
     if line == BOOT {
-        return Some(Line::Event(Instruction::Boot));
+        return Some(Line::Event(Event::Boot));
     }
     if line == RESET {
-        return Some(Line::Event(Instruction::Reset));
+        return Some(Line::Event(Event::Reset));
     }
     let (word, fields) = cut(line, b' ');
     let fields = fields?;
@@ -117,8 +119,8 @@ fn are_digits(text: &[u8]) -> bool
 
 // The event that begins with a word, with fields after it.
 #[tactic(auto, unfolding(crate::specs::LineReading::event_at))]
-fn event<'a>(word: &[u8], fields: &'a [u8]) -> Option<Instruction<'a>>
-    ensures { option_map said_event result ≡ event_at word.now fields.now }
+fn event<'a>(word: &[u8], fields: &'a [u8]) -> Option<Event<FileText<'a>>>
+    ensures { option_map (event_map said_file) result ≡ event_at word.now fields.now }
 {
     if word == ACCEPT {
         accept(fields)
@@ -131,42 +133,39 @@ fn event<'a>(word: &[u8], fields: &'a [u8]) -> Option<Instruction<'a>>
 
 // What follows `accept`.
 #[tactic(auto, unfolding(crate::specs::LineReading::accept_of))]
-fn accept(fields: &[u8]) -> Option<Instruction<'_>>
-    ensures { option_map said_event result ≡ accept_of fields.now }
+fn accept(fields: &[u8]) -> Option<Event<FileText<'_>>>
+    ensures { option_map (event_map said_file) result ≡ accept_of fields.now }
 {
-    Some(Instruction::Accept(name(fields)?))
+    let name = name(fields)?;
+    Some(Event::Accept(FileText { name, part: None }))
 }
 
 // What follows `piece`.
 #[tactic(auto, unfolding(crate::specs::LineReading::piece_of))]
-fn piece(fields: &[u8]) -> Option<Instruction<'_>>
-    ensures { option_map said_event result ≡ piece_of fields.now }
+fn piece(fields: &[u8]) -> Option<Event<FileText<'_>>>
+    ensures { option_map (event_map said_file) result ≡ piece_of fields.now }
 {
     let (image, rest) = cut(fields, b' ');
     let image = number_u8(image)?;
     let (file, rest) = cut(rest?, b' ');
-    let file = name(file)?;
+    let name = name(file)?;
     let Some(rest) = rest else {
-        return Some(Instruction::Piece {
-            image,
-            file,
-            part: None,
-        });
+        return Some(Event::Piece(image, FileText { name, part: None }));
     };
     let part = Some(PartText::read(rest)?);
-    Some(Instruction::Piece { image, file, part })
+    Some(Event::Piece(image, FileText { name, part }))
 }
 
 // The event of an image that a word names.
-fn event_of_image<'a>(word: &[u8], image: u8) -> Option<Instruction<'a>>
-    ensures { option_map said_event result ≡ image_event word.now image }
+fn event_of_image<'a>(word: &[u8], image: u8) -> Option<Event<FileText<'a>>>
+    ensures { option_map (event_map said_file) result ≡ image_event word.now image }
 {
     if word == FINISH {
-        Some(Instruction::Finish(image))
+        Some(Event::Finish(image))
     } else if word == WITHDRAW {
-        Some(Instruction::Withdraw(image))
+        Some(Event::Withdraw(image))
     } else if word == CONFIRM {
-        Some(Instruction::Confirm(image))
+        Some(Event::Confirm(image))
     } else {
         None
     }

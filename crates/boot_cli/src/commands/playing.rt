@@ -15,9 +15,10 @@ ghost use Rattle.boot_cli.specs.Telling.{BreaksOff, TellsAll, TellsSome};
 ghost use Rattle.reading_commands.specs.declared.source.Source.TheVariants as source;
 
 use crate::host::HostFile;
-use crate::loading::{Cut, Script, Step, load};
+use crate::loading::{Cut, Script, load};
 use answers::{DeviceFile, flash_of, reply_text, write_all};
 use boot_core::{Device, step};
+use events::Event;
 use file_flash::{FileFlash, FlashFile};
 use flash_model::{Flash, MemFlash};
 use machine::Reply;
@@ -77,12 +78,12 @@ fn play_script<'a, 'h, A: Allocator, F: FlashFile + Drop, O: Write>(
     requires held { ForSome (F.contents file) (λ all. all ≡ bytes.items) }
     ensures plays { IfOk result (λ answer.
         Plays answer device.now bytes.items (armed_in script.entry.cuts.items)
-        (came_in script.entry.steps.items) (O.contents out.old) (O.contents out.new)) }
+        (came_in script.entry.events.items) (O.contents out.old) (O.contents out.new)) }
     ensures tells { IfErr result (λ refusal.
         TellsFirst refusal device.now bytes.items (armed_in script.entry.cuts.items)
-        (came_in script.entry.steps.items) (O.contents out.old) (O.contents out.new)) }
+        (came_in script.entry.events.items) (O.contents out.old) (O.contents out.new)) }
 {
-    let Script { cuts, steps } = script;
+    let Script { cuts, events } = script;
     play::<Brand, Brand, _, _, _, _>(
         alloc,
         heap,
@@ -91,15 +92,15 @@ fn play_script<'a, 'h, A: Allocator, F: FlashFile + Drop, O: Write>(
         device,
         bytes,
         cuts,
-        &steps,
+        &events,
         file,
         out,
     )
 }
 
-/// Runs the events of these steps on a device that has these bytes on its flash, with these writes
-/// of the flash cut, writes each reply to `out` as its event is done, and what changes to the file
-/// of the flash, which holds the bytes.
+/// Runs these events on a device that has these bytes on its flash, with these writes of the flash
+/// cut, writes each reply to `out` as its event is done, and what changes to the file of the flash,
+/// which holds the bytes.
 fn play<'a, L: Ledger, M: Ledger, A: Allocator, B: Allocator, F: FlashFile + Drop, O: Write>(
     alloc: Global,
     heap: &A,
@@ -108,7 +109,7 @@ fn play<'a, L: Ledger, M: Ledger, A: Allocator, B: Allocator, F: FlashFile + Dro
     device: &DeviceFile,
     bytes: Vec<u8>,
     cuts: Vec<Cut>,
-    steps: &[Step<B>],
+    events: &[Event<Vec<u8, B>>],
     file: F,
     out: &mut O,
 ) -> Result<Answer, Refusal<'a>>
@@ -122,10 +123,10 @@ fn play<'a, L: Ledger, M: Ledger, A: Allocator, B: Allocator, F: FlashFile + Dro
     requires whole { IsFlashOf device.now.map bytes.items }
     requires held { ForSome (F.contents file) (λ all. all ≡ bytes.items) }
     ensures plays { IfOk result (λ answer.
-        Plays answer device.now bytes.items (armed_in cuts.items) (came_in steps.now)
+        Plays answer device.now bytes.items (armed_in cuts.items) (came_in events.now)
         (O.contents out.old) (O.contents out.new)) }
     ensures tells { IfErr result (λ refusal.
-        TellsFirst refusal device.now bytes.items (armed_in cuts.items) (came_in steps.now)
+        TellsFirst refusal device.now bytes.items (armed_in cuts.items) (came_in events.now)
         (O.contents out.old) (O.contents out.new)) }
 {
     let map = &device.map;
@@ -134,7 +135,7 @@ fn play<'a, L: Ledger, M: Ledger, A: Allocator, B: Allocator, F: FlashFile + Dro
         return Err(Refusal::NoMemory);
     };
     let mut device = device_over(flash, device);
-    let answer = tell_each(alloc, heap, &mut device, steps, out)?;
+    let answer = tell_each(alloc, heap, &mut device, events, out)?;
     if device.flash().has_failed() {
         return Err(Refusal::FlashFile);
     }
@@ -199,26 +200,26 @@ fn device_over<F: Flash>(flash: F, device: &DeviceFile) -> Device<F>
     }
 }
 
-/// Runs the events of these steps on a device, in order, and writes each reply to `out` as its event
-/// is done, before the next one. Where a reply can't be written, no event is run after it.
+/// Runs these events on a device, in order, and writes each reply to `out` as its event is done,
+/// before the next one. Where a reply can't be written, no event is run after it.
 fn tell_each<'a, A: Allocator, B: Allocator, F: Flash, O: Write>(
     alloc: Global,
     heap: &A,
     device: &mut Device<F>,
-    steps: &[Step<B>],
+    events: &[Event<Vec<u8, B>>],
     out: &mut O,
 ) -> Result<Answer, Refusal<'a>>
     requires { device.old.here.flash.is_on ≡ true }
     ensures all { IfOk result (λ answer.
-        TellsAll answer device.old.setup device.old.here device.new.here (came_in steps.now)
+        TellsAll answer device.old.setup device.old.here device.new.here (came_in events.now)
         (O.contents out.old) (O.contents out.new)) }
     ensures some { IfErr result (λ refusal.
-        TellsSome refusal device.old.setup device.old.here device.new.here (came_in steps.now)
+        TellsSome refusal device.old.setup device.old.here device.new.here (came_in events.now)
         (O.contents out.old) (O.contents out.new)) }
 {
     let mut answer = Answer::Done;
-    for (index, next) in steps.iter().enumerate() {
-        let event = next.event();
+    for (index, event) in events.iter().enumerate() {
+        let event = event.as_deref();
         let reply = step(alloc, device, &event);
         tell_reply(heap, index + 1, &reply, out)?;
         answer = answer_after(&reply);

@@ -32,17 +32,14 @@ fn played(
             (1, permanent, SECOND_DIGEST, 96),
         ],
     )?;
-    let mut events = Vec::from_slice(
-        rt.alloc(),
-        &[
-            Event::Boot,
-            Event::Accept(text.as_bytes()),
-            Event::Piece(0, &FIRST),
-            Event::Piece(1, &SECOND),
-            Event::Finish(1),
-            Event::Finish(0),
-        ],
-    )?;
+    let mut events = vec![in rt.alloc();
+        Event::Boot,
+        Event::Accept(text.as_bytes()),
+        Event::Piece(0, &FIRST),
+        Event::Piece(1, &SECOND),
+        Event::Finish(1),
+        Event::Finish(0),
+    ]?;
     for later in after {
         events.push(match later {
             Later::Boot => Event::Boot,

@@ -33,7 +33,7 @@ fn played(
     rt: &(impl Abort + AllocGlobal),
     images: usize,
     cuts: &[Cut],
-    events: &[Event],
+    events: &[Event<&[u8]>],
 ) -> Result<Outcome, Fail> {
     assert!(rt; 1 <= images && images <= 8);
     let bytes = provisioned(rt, 512 * (6 * images + 4), &IMAGES[..images])?;
@@ -69,7 +69,7 @@ fn expect_answers(
     rt: &(impl Abort + AllocGlobal),
     images: usize,
     bytes: Vec<u8>,
-    events: &[Event],
+    events: &[Event<&[u8]>],
 ) -> Result<(), Fail> {
     assert!(rt; images <= 8);
     let length = bytes.len();
@@ -85,7 +85,7 @@ fn expect_answers(
 }
 
 /// What is asked of a damaged device.
-fn asked<'a>(text: &'a str) -> [Event<'a>; 14] {
+fn asked<'a>(text: &'a str) -> [Event<&'a [u8]>; 14] {
     [
         Event::Confirm(0),
         Event::Boot,
@@ -126,7 +126,7 @@ fn expect_after_cuts(
     rt: &(impl Abort + AllocGlobal),
     random: &mut Random,
     images: usize,
-    events: &[Event],
+    events: &[Event<&[u8]>],
     writes: (u64, u64),
     text: &str,
 ) -> Result<u32, Fail> {

@@ -122,7 +122,7 @@ fn play<L: Ledger>(
     boots: u8,
     bytes: Vec<u8>,
     cuts: &[Cut],
-    events: &[Event],
+    events: &[Event<&[u8]>],
 ) -> Result<Outcome, Fail>
     requires name { blank.name ≡ L.name }
     requires parts { blank.parts ≡ L.parts }
@@ -167,7 +167,7 @@ pub(super) fn outcome_of(
     boots: u8,
     bytes: Vec<u8>,
     cuts: &[Cut],
-    events: &[Event],
+    events: &[Event<&[u8]>],
 ) -> Result<Outcome, Fail> {
     play::<Brand>(rt, Blank::new(2), sectors, boots, bytes, cuts, events)
 }
@@ -176,7 +176,7 @@ pub(super) fn outcome_of(
 pub(super) fn two_play(
     rt: &(impl Abort + AllocGlobal),
     cuts: &[Cut],
-    events: &[Event],
+    events: &[Event<&[u8]>],
 ) -> Result<Outcome, Fail> {
     outcome_of(rt, &[2, 2], 1, two_images(rt)?, cuts, events)
 }
@@ -184,7 +184,7 @@ pub(super) fn two_play(
 /// Asserts what a new device of two images answers.
 pub(super) fn expect(
     rt: &(impl Abort + AllocGlobal),
-    events: &[Event],
+    events: &[Event<&[u8]>],
     told: &str,
 ) -> Result<(), Fail> {
     let outcome = two_play(rt, &[], events)?;

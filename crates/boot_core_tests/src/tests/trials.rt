@@ -33,22 +33,19 @@ run 1 1.0.0+0
 fn expect_in_trial(
     rt: &(impl Abort + AllocGlobal),
     boots: u8,
-    events: &[Event],
+    events: &[Event<&[u8]>],
     told: &str,
 ) -> Result<(), Fail> {
     let text = pair(rt.alloc())?;
-    let mut all = Vec::from_slice(
-        rt.alloc(),
-        &[
-            Event::Boot,
-            Event::Accept(text.as_bytes()),
-            Event::Piece(0, &FIRST),
-            Event::Piece(1, &SECOND),
-            Event::Finish(1),
-            Event::Finish(0),
-            Event::Boot,
-        ],
-    )?;
+    let mut all = vec![in rt.alloc();
+        Event::Boot,
+        Event::Accept(text.as_bytes()),
+        Event::Piece(0, &FIRST),
+        Event::Piece(1, &SECOND),
+        Event::Finish(1),
+        Event::Finish(0),
+        Event::Boot,
+    ]?;
     all.extend_from_slice(events)?;
     let outcome = outcome_of(rt, &[2, 2], boots, two_images(rt)?, &[], all.as_slice())?;
     let wanted = format!(in rt.alloc();
@@ -269,21 +266,18 @@ fn tried(
     rt: &(impl Abort + AllocGlobal),
     boots: u8,
     cuts: &[Cut],
-    after: &[Event],
+    after: &[Event<&[u8]>],
 ) -> Result<Outcome, Fail> {
     let text = pair(rt.alloc())?;
-    let mut events = Vec::from_slice(
-        rt.alloc(),
-        &[
-            Event::Boot,
-            Event::Accept(text.as_bytes()),
-            Event::Piece(0, &FIRST),
-            Event::Piece(1, &SECOND),
-            Event::Finish(1),
-            Event::Finish(0),
-            Event::Boot,
-        ],
-    )?;
+    let mut events = vec![in rt.alloc();
+        Event::Boot,
+        Event::Accept(text.as_bytes()),
+        Event::Piece(0, &FIRST),
+        Event::Piece(1, &SECOND),
+        Event::Finish(1),
+        Event::Finish(0),
+        Event::Boot,
+    ]?;
     events.extend_from_slice(after)?;
     outcome_of(rt, &[2, 2], boots, two_images(rt)?, cuts, events.as_slice())
 }

@@ -2,11 +2,11 @@
 
 use super::same::same;
 use flash_model::Torn;
-use script::{Instruction, Line, PartText, Reading, TornText, line_of};
+use script::{Event, FileText, Line, PartText, Reading, TornText, line_of};
 use std::test::Fail;
 
 /// What comes to the device by a line.
-fn event(line: &[u8]) -> Option<Instruction<'_>> {
+fn event(line: &[u8]) -> Option<Event<FileText<'_>>> {
     match line_of(line)? {
         Line::Event(event) => Some(event),
         Line::Cut { .. } => None,
@@ -16,7 +16,7 @@ fn event(line: &[u8]) -> Option<Instruction<'_>> {
 /// The part of some bytes that a line names, and nothing where it names none or they don't have it.
 fn part<'a>(line: &[u8], bytes: &'a [u8]) -> Option<&'a [u8]> {
     match event(line)? {
-        Instruction::Piece { part, .. } => part?.of(bytes),
+        Event::Piece(_, file) => file.part?.of(bytes),
         _ => None,
     }
 }
@@ -41,17 +41,26 @@ fn cuts_are_read(rt: HostRuntime) {
 }
 
 /// Lines of events, and what each says. The second name is in UTF-8.
-const EVENTS: [(&[u8], Instruction<'static>); 7] = [
-    (b"accept m.json", Instruction::Accept("m.json")),
+const EVENTS: [(&[u8], Event<FileText<'static>>); 7] = [
+    (
+        b"accept m.json",
+        Event::Accept(FileText {
+            name: "m.json",
+            part: None,
+        }),
+    ),
     (
         b"accept gr\xc3\xb6\xc3\x9fe",
-        Instruction::Accept("gr\u{f6}\u{df}e"),
+        Event::Accept(FileText {
+            name: "gr\u{f6}\u{df}e",
+            part: None,
+        }),
     ),
-    (b"finish 0", Instruction::Finish(0)),
-    (b"withdraw 10", Instruction::Withdraw(10)),
-    (b"confirm 255", Instruction::Confirm(255)),
-    (b"boot", Instruction::Boot),
-    (b"reset", Instruction::Reset),
+    (b"finish 0", Event::Finish(0)),
+    (b"withdraw 10", Event::Withdraw(10)),
+    (b"confirm 255", Event::Confirm(255)),
+    (b"boot", Event::Boot),
+    (b"reset", Event::Reset),
 ];
 
 #[test]
@@ -62,25 +71,29 @@ fn events_are_read(rt: HostRuntime) {
 }
 
 /// Lines of pieces, and what each says. The words of a part are judged when the file is there.
-const PIECES: [(&[u8], Instruction<'static>); 2] = [
+const PIECES: [(&[u8], Event<FileText<'static>>); 2] = [
     (
         b"piece 0 b0",
-        Instruction::Piece {
-            image: 0,
-            file: "b0",
-            part: None,
-        },
+        Event::Piece(
+            0,
+            FileText {
+                name: "b0",
+                part: None,
+            },
+        ),
     ),
     (
         b"piece 255 - one 02",
-        Instruction::Piece {
-            image: 255,
-            file: "-",
-            part: Some(PartText {
-                from: b"one",
-                count: b"02",
-            }),
-        },
+        Event::Piece(
+            255,
+            FileText {
+                name: "-",
+                part: Some(PartText {
+                    from: b"one",
+                    count: b"02",
+                }),
+            },
+        ),
     ),
 ];
 
@@ -194,7 +207,7 @@ fn cuts_rise_and_stand_before_events(rt: HostRuntime) {
     let mut reading = Reading::new();
     for (write, is_taken) in IN_ORDER {
         let line = match write {
-            0 => Line::Event(Instruction::Boot),
+            0 => Line::Event(Event::Boot),
             write => Line::Cut {
                 write,
                 torn: TornText::Keep,

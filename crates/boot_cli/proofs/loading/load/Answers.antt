@@ -11,7 +11,7 @@ loop-reader-preserved g c = (
   AreLoaded-more c.args.text.now c.loop-reader.rest.now c.first_line.result.1.now c.first_line.result.0.now
       c.loop-reader.reading c.takes.new.self (said c.in-Some.line) _ _ _ _ _ _
       (armed_in c.loop-reader.script.cuts.items) (armed_in c.take_line.new.script.cuts.items)
-      (came_in c.loop-reader.script.steps.items) (came_in c.take_line.new.script.steps.items)
+      (came_in c.loop-reader.script.events.items) (came_in c.take_line.new.script.events.items)
       c.first_line.ensures.lines c.in-Some.ensures.says c.if-not-takes.ensures c.in_ok-take_line.ensures
       c.loop-reader.invariant.1,
 )
@@ -19,5 +19,5 @@ loop-reader-preserved g c = (
 -- All was read.
 pub returns : goal.returns
 returns g c = AreLoaded-all c.args.text.now c.loop-reader.rest.now c.loop-reader.reading _ _ _ _
-    (armed_in c.loop-reader.script.cuts.items) (came_in c.loop-reader.script.steps.items) (eqb-true _ _ (sym c.loop-reader-test.ensures))
+    (armed_in c.loop-reader.script.cuts.items) (came_in c.loop-reader.script.events.items) (eqb-true _ _ (sym c.loop-reader-test.ensures))
     c.loop-reader.invariant.1

@@ -10,7 +10,7 @@ invariant-loop-reader g l =
     (l.number + length l.rest ≤ length l.text)
     × AreLoaded l.text l.rest l.reading (g.H.Host.input l.fn.host) (g.H.Host.file l.fn.host)
     (g.H.Host.input l.reader.host.now) (g.H.Host.file l.reader.host.now) (armed_in l.script.cuts.items)
-    (came_in l.script.steps.items)
+    (came_in l.script.events.items)
 
 abbrev pub decreases-loop-reader : goal.decreases-loop-reader
 decreases-loop-reader g l = length l.rest

@@ -1,8 +1,8 @@
 use Rattle.std.proofs.Common.{rules, ◌≡◌, ◌+◌, Err, ap, inl, inr, sym, subst, ◌∙◌}
+use Rattle.events.specs.declared.event.Event.TheVariants as event
 use Rattle.machine.specs.Boots.{is_answer}
 use Rattle.machine.specs.Passing.{StepsTo}
 use Rattle.machine.specs.declared.error.Fault.TheVariants as no
-use Rattle.machine.specs.declared.event.Event.TheVariants as event
 use Rattle.machine.proofs.Stepping.{steps_boot}
 use Rattle.boot_core.specs.Answers.{IsBootReply}
 use Rattle.boot_core.specs.Device.{made, seen}

@@ -1,6 +1,6 @@
 use Rattle.std.proofs.Common.{rules, refl, subst, sym}
+use Rattle.events.specs.declared.event.Event.TheVariants as event
 use Rattle.machine.specs.Passing.{StepsTo}
-use Rattle.machine.specs.declared.event.Event.TheVariants as event
 use Rattle.machine.proofs.Stepping.{steps_confirmed, steps_not_on_trial}
 use Rattle.machine.proofs.Uploading.{open_confirmed}
 use Rattle.boot_core.specs.Answers.{fault_reply}

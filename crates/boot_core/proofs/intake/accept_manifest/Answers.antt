@@ -1,6 +1,6 @@
 use Rattle.std.proofs.Common.{rules, refl, sym, subst}
+use Rattle.events.specs.declared.event.Event.TheVariants as event
 use Rattle.manifest.specs.Manifest.{NamesImages}
-use Rattle.machine.specs.declared.event.Event.TheVariants as event
 use Rattle.boot_core.specs.Device.{made, seen}
 use Rattle.boot_core.specs.Ready.{RefusesManifest}
 use Rattle.boot_core.proofs.Given.{not_ready_told, opened_after, ready_not}

@@ -1,10 +1,10 @@
 use Rattle.std.proofs.Common.{rules, ap, refl}
 use Rattle.std.proofs.Common.{Ok, Err}
+use Rattle.events.specs.declared.event.Event.TheVariants as event
 use Rattle.upload.specs.Accepted.{Accepts}
 use Rattle.upload.specs.Device.{Machine}
 use Rattle.upload.specs.View.{view}
 use Rattle.machine.specs.Intake.{Row}
-use Rattle.machine.specs.declared.event.Event.TheVariants as event
 use Rattle.machine.specs.declared.error.Fault.TheVariants as no
 use Rattle.machine.specs.declared.reply.Reply.TheVariants.{Done, Refused}
 use Rattle.machine.proofs.Uploading.{steps_accept, upload_refused}

@@ -1,10 +1,10 @@
 use Rattle.std.proofs.Common.{rules, ap, sym, subst, refl}
 use Rattle.std.proofs.Common.{Ok, Err}
+use Rattle.events.specs.declared.event.Event.TheVariants as event
 use Rattle.upload.specs.Piece.{Pieces}
 use Rattle.upload.specs.Ending.{EndsUpload}
 use Rattle.upload.specs.Sessions.{AllOpenAt}
 use Rattle.upload.specs.View.{view}
-use Rattle.machine.specs.declared.event.Event.TheVariants as event
 use Rattle.machine.specs.declared.error.Fault.TheVariants as no
 use Rattle.machine.specs.declared.reply.Reply.TheVariants.{Done, Refused}
 use Rattle.machine.proofs.Uploading.{TakesRow, steps_piece, upload_refused}

@@ -17,7 +17,7 @@ pub returns : goal.returns
 returns g c =
     let read = rw c.in-Some.is at c.in_ok-device.ensures.read in
     let cuts = armed_in c.in_ok-script.script.cuts.items in
-    let came = came_in c.in_ok-script.script.steps.items in
+    let came = came_in c.in_ok-script.script.events.items in
     IfOk-weaker c.play_script.result _ _
     (λ answer plays. AnswersRun-read answer c.args.device c.args.flash c.args.script _ _ _ _ _ _ _ _ _ _ _
     c.in_ok-bytes.bytes.items c.in_ok-text.field-0.items cuts came c.in-Some.device

@@ -7,7 +7,7 @@ use Rattle.boot_cli.proofs.commands.playing.play.Goals as goal
 -- There was no memory for the flash.
 pub returns-in_default-clause-tells : goal.returns-in_default-clause-tells
 returns-in_default-clause-tells g c =
-    TellsFirst-none c.args.device.now c.args.bytes.items (armed_in c.args.cuts.items) (came_in c.args.steps.now) _
+    TellsFirst-none c.args.device.now c.args.bytes.items (armed_in c.args.cuts.items) (came_in c.args.events.now) _
 
 -- The device was made over the flash of the bytes and the cuts, and not all replies were told.
 pub returns-in_err-answer-clause-tells : goal.returns-in_err-answer-clause-tells
@@ -15,7 +15,7 @@ returns-in_err-answer-clause-tells g c =
     let armed = c.in-Ok.ensures.armed in
     let device = c.device_over-device.ensures in
     IfErr-passed _ _ _ c.from_residual.ensures.1
-    (TellsFirst-some _ c.args.device.now c.args.bytes.items (armed_in c.args.cuts.items) (came_in c.args.steps.now) _ _ _ _
+    (TellsFirst-some _ c.args.device.now c.args.bytes.items (armed_in c.args.cuts.items) (came_in c.args.events.now) _ _ _ _
     (record {
       flash = device.flash ∙ ap (λ o. o.chip) armed;
       down = device.down;
@@ -28,7 +28,7 @@ pub returns-then-has_failed-clause-tells : goal.returns-then-has_failed-clause-t
 returns-then-has_failed-clause-tells g c =
     let armed = c.in-Ok.ensures.armed in
     let device = c.device_over-device.ensures in
-    TellsFirst-all c.args.device.now c.args.bytes.items (armed_in c.args.cuts.items) (came_in c.args.steps.now) _ _ _ _ _
+    TellsFirst-all c.args.device.now c.args.bytes.items (armed_in c.args.cuts.items) (came_in c.args.events.now) _ _ _ _ _
     (record {
       flash = device.flash ∙ ap (λ o. o.chip) armed;
       down = device.down;
@@ -41,7 +41,7 @@ pub returns-clause-plays : goal.returns-clause-plays
 returns-clause-plays g c =
     let armed = c.in-Ok.ensures.armed in
     let device = c.device_over-device.ensures in
-    Plays-told c.args.device.now c.args.bytes.items (armed_in c.args.cuts.items) (came_in c.args.steps.now) _ _ _ _ _
+    Plays-told c.args.device.now c.args.bytes.items (armed_in c.args.cuts.items) (came_in c.args.events.now) _ _ _ _ _
     (record {
       flash = device.flash ∙ ap (λ o. o.chip) armed;
       down = device.down;

@@ -13,15 +13,15 @@ loop-index-init g c = record { setup = refl; on = search rules; told = TellsAll-
 pub loop-index-preserved : goal.loop-index-preserved
 loop-index-preserved g c =
     let before = c.loop-index.invariant in
-    let steps = c.args.steps.now in
+    let events = c.args.events.now in
     record {
       setup = search rules;
       on = search rules;
-      told = TellsAll-more c.args.device.now.setup c.loop-index.device.setup _ _ _ (came_in steps) c.loop-index.index
-          c.event-event.result c.step-reply.result _ _ _ _ _ before.told
-          (omega (arith, c.loop-index-test.true, length-map steps came_of))
-          (came_in-more steps c.loop-index.index c.index-steps-index.result c.event-event.result
-          c.loop-index-test.true c.index-steps-index.is c.event-event.ensures)
+      told = TellsAll-more c.args.device.now.setup c.loop-index.device.setup _ _ _ (came_in events) c.loop-index.index
+          c.as_deref-event.result c.step-reply.result _ _ _ _ _ before.told
+          (omega (arith, c.loop-index-test.true, length-map events came_of))
+          (came_in-more events c.loop-index.index c.index-events-index.result c.as_deref-event.result
+          c.loop-index-test.true c.index-events-index.is c.as_deref-event.ensures)
           before.setup c.step-reply.ensures.steps c.in_ok-tell_reply.ensures.told c.answer_after-answer.ensures;
     }
 
@@ -29,11 +29,11 @@ loop-index-preserved g c =
 pub returns-in_err-tell_reply-clause-some : goal.returns-in_err-tell_reply-clause-some
 returns-in_err-tell_reply-clause-some g c =
     let before = c.loop-index.invariant in
-    let steps = c.args.steps.now in
+    let events = c.args.events.now in
     IfErr-passed _ _ _ c.from_residual.ensures.1
-    (TellsSome-more _ c.args.device.now.setup c.loop-index.device.setup _ _ _ (came_in steps) c.loop-index.index
-    c.event-event.result c.step-reply.result _ _ _ _ before.told
-    (omega (arith, c.loop-index-test.true, length-map steps came_of))
-    (came_in-more steps c.loop-index.index c.index-steps-index.result c.event-event.result
-    c.loop-index-test.true c.index-steps-index.is c.event-event.ensures)
+    (TellsSome-more _ c.args.device.now.setup c.loop-index.device.setup _ _ _ (came_in events) c.loop-index.index
+    c.as_deref-event.result c.step-reply.result _ _ _ _ before.told
+    (omega (arith, c.loop-index-test.true, length-map events came_of))
+    (came_in-more events c.loop-index.index c.index-events-index.result c.as_deref-event.result
+    c.loop-index-test.true c.index-events-index.is c.as_deref-event.ensures)
     before.setup c.step-reply.ensures.steps c.in_err-tell_reply.ensures.begun)

@@ -1,6 +1,6 @@
 use Rattle.std.proofs.Common.{rules, ◌≡◌, ◌+◌, true, subst}
+use Rattle.events.specs.declared.event.Event.TheVariants as event
 use Rattle.machine.specs.Passing.{StepsTo}
-use Rattle.machine.specs.declared.event.Event.TheVariants as event
 use Rattle.boot_core.specs.Answers.{reply_of_result}
 use Rattle.boot_core.specs.Device.{Whole, seen}
 use Rattle.boot_core.proofs.device.Device.accept.Goals as goal

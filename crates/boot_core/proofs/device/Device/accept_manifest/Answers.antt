@@ -1,12 +1,12 @@
 use Rattle.std.proofs.Common.{rules, ◌≡◌, ℕ, ◌+◌, true, List, Err, subst}
 use Rattle.std.specs.Borrow.{Bor}
+use Rattle.events.specs.declared.event.Event.TheVariants as event
 use Rattle.manifest.specs.declared.error.ManifestError.TheVariants.{NoComponent}
 use Rattle.manifest.specs.Fault.{IsManifest}
 use Rattle.manifest.specs.Manifest.{NamesImages}
 use Rattle.set_log.specs.Log.{state_of}
 use Rattle.machine.specs.Passing.{StepsTo}
 use Rattle.machine.specs.declared.error.Fault.TheVariants as no
-use Rattle.machine.specs.declared.event.Event.TheVariants as event
 use Rattle.boot_core.specs.Answers.{reply_of_result}
 use Rattle.boot_core.specs.Device.{StaysHeld, Whole, seen}
 use Rattle.boot_core.specs.Ready.{LogsNoTrial}

@@ -1,4 +1,5 @@
 use Rattle.std.proofs.Common.{rules, ◌≡◌, Bool, true, Some, subst}
+use Rattle.events.specs.declared.event.Event.TheVariants as event
 use Rattle.machine.specs.Boots.{IsReadSound, is_answer}
 use Rattle.machine.specs.Holding.{Stands}
 use Rattle.machine.specs.Passing.{StepsTo}
@@ -7,7 +8,6 @@ use Rattle.boot_core.specs.Wear.{IsWorn}
 use Rattle.set_log.specs.Log.{state_of}
 use Rattle.set_log.specs.declared.state.State.{State}
 use Rattle.upload.specs.Device.{DeviceState}
-use Rattle.machine.specs.declared.event.Event.TheVariants as event
 use Rattle.boot_core.specs.Answers.{reply_of_boot}
 use Rattle.boot_core.specs.Device.{Whole, seen}
 use Rattle.boot_core.specs.Found.{IsStopped}

@@ -1,6 +1,6 @@
 use Rattle.std.proofs.lemmas.Result.{IfOk-weaker}
 use Rattle.boot_cli.proofs.ScriptLaws.{IsRead-read}
-use Rattle.boot_cli.proofs.loading.bytes_of.Goals as goal
+use Rattle.boot_cli.proofs.loading.whole_file.Goals as goal
 
 -- The source of the name was read.
 pub returns : goal.returns
