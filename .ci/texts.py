@@ -2,6 +2,7 @@
 
 import json
 import os
+import pty
 import struct
 import uuid
 
@@ -419,6 +420,21 @@ def check_writes(checks):
         checks.tell("standard error is full: make-device", [] if is_right else [f"{status} {short(out)}"])
 
 
+NOTE = b"note: reading a table from standard input; `bootswap --help` tells more\n"
+
+
+def check_terminal(checks):
+    """Without a word the program says that it reads a table where it reads from a terminal, and nowhere else."""
+    given, wanted = read(table("pair")), read(report("pair"))
+    for words, told in [([], NOTE), (["choose", "-"], b"")]:
+        ours, theirs = pty.openpty()
+        # The last byte ends what is typed.
+        os.write(ours, given + b"\4")
+        checks.expect(f"a table from a terminal: {shown(words)}", words, 0, wanted, told, stdin=theirs)
+        os.close(ours)
+        os.close(theirs)
+
+
 CHECKS = (
     check_examples,
     check_tables,
@@ -427,5 +443,6 @@ CHECKS = (
     check_new_devices,
     check_words,
     check_reads,
+    check_terminal,
     check_writes,
 )

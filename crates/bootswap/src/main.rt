@@ -4,16 +4,24 @@
 #![tactic(auto)]
 
 use boot_cli::{SystemHost, cli, refuse_words};
+use std::io::{IsTerminal, Write};
 use std::process::ExitCode;
 use std::rt::Env;
 use std::{env, io};
+
+/// Tells who gives no word at a terminal what the program waits for.
+const READING: &[u8] = b"note: reading a table from standard input; `bootswap --help` tells more\n";
 
 fn main(rt: HostRuntime) -> ExitCode {
     let alloc = rt.alloc();
     let status = match words_of(&rt) {
         Ok(words) => {
-            let mut host = SystemHost::new(&rt, rt.reader());
-            let (mut out, mut err) = (rt.stdout(), rt.stderr());
+            let (input, mut out, mut err) = (rt.reader(), rt.stdout(), rt.stderr());
+            if words.len() <= 1 && input.is_terminal() {
+                // It is no part of the answer, which goes on without it.
+                let _ = err.write_all(READING);
+            }
+            let mut host = SystemHost::new(&rt, input);
             cli(
                 alloc,
                 &alloc,
