@@ -1,10 +1,13 @@
-//! A file that is replaced whole: what it held stays until all that it is to hold is on the disk.
+//! A file that is replaced whole: what it held stays until all that it is to hold is on the disk. A
+//! block device can't be replaced, and is written in its place.
 
+use crate::holding;
 use crate::holding::{hold, is_one_file};
 use reading_commands::{Access, FlashFault};
 use std::alloc::{AllocError, Allocator};
 use std::fs::{File, Metadata, OpenFile, OpenOptions, Permissions};
 use std::io::{ErrorKind, Write};
+use std::os::unix::fs::{FileExt, FileTypeExt};
 use std::path::PathBuf;
 use std::rt::Files;
 use std::{fs, io};
@@ -37,7 +40,7 @@ fn found<R: Files>(runtime: &R, name: &str) -> io::Result<Option<Metadata>> {
 /// The bytes are written to a new file in the same folder, which takes the name once they are on the
 /// disk. Where that fails the new file is removed. A file that is replaced has to be a plain one
 /// that can be written, and it is held meanwhile. Its permissions stay; a symbolic link to it stays
-/// too, and one that leads nowhere is refused.
+/// too, and one that leads nowhere is refused. A block device is written by [`write_device`].
 pub fn replace_file<R: Files<File = File>, A: Allocator>(
     runtime: &R,
     alloc: &A,
@@ -45,6 +48,9 @@ pub fn replace_file<R: Files<File = File>, A: Allocator>(
     bytes: &[u8],
 ) -> Result<(), FlashFault> {
     let put = match found(runtime, name) {
+        Ok(Some(old)) if old.file_type().is_block_device() => {
+            return write_device(runtime, name, bytes);
+        }
         Ok(Some(old)) => {
             let _held = open_old(runtime, name, &old)?;
             put_over(runtime, alloc, name, old.permissions(), bytes)
@@ -56,6 +62,31 @@ pub fn replace_file<R: Files<File = File>, A: Allocator>(
         ErrorKind::OutOfMemory => FlashFault::NoMemory,
         _ => FlashFault::Failed,
     })
+}
+
+/// Writes a block device of as many bytes in its place, which is held meanwhile, and returns once
+/// they are on the medium. Where a write fails it holds a part of them: there is nowhere else that
+/// they could be put first.
+fn write_device<R: Files<File = File>>(
+    runtime: &R,
+    name: &str,
+    bytes: &[u8],
+) -> Result<(), FlashFault> {
+    let held = holding::open(runtime, name, bytes.len() as u64, Access::Write)?;
+    // Another file may have taken the name, of which a part would not do.
+    if !held.is_device {
+        return Err(FlashFault::Failed);
+    }
+    match write_through(&held.file, bytes) {
+        Ok(()) => Ok(()),
+        Err(_) => Err(FlashFault::Failed),
+    }
+}
+
+/// Writes a file from its first byte on, and returns once all is on the medium.
+fn write_through(file: &File, bytes: &[u8]) -> io::Result<()> {
+    file.write_all_at(bytes, 0)?;
+    file.sync_all()
 }
 
 /// Opens and holds the file that is to be replaced, which is a plain one that can be written.

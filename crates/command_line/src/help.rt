@@ -300,7 +300,8 @@ of the device's flash, all 0xFF, with each IMAGE at the start of its primary
 slot, the first for image 0, and then what a device starts from: empty trailers,
 and a log with the security counters of the images as floors. It prints `done`.
 A file FLASH that is there is replaced, once all is done; it is none of those
-that are read.
+that are read. A block device that is as long as the flash is written in its
+place, and synced.
 
 An IMAGE is an intact image of MCUboot's format that isn't longer than its slot,
 as `bootswap image` describes it. There is one for each image of the device, and
@@ -317,7 +318,8 @@ Where the device can't run the images it prints `refused boot CODE NAME`, such
 as `refused boot 6 InvalidSet`, for an image that isn't intact with its number:
 `refused boot 5 RunningDamaged 1`. Where the device's sizes make no map of its
 flash it prints `refused map CODE NAME`, such as `refused map 1 BadSector`.
-A refusal and an error line leave FLASH as it was.",
+A refusal and an error line leave FLASH as it was; but a block device of which a
+write failed holds a part of the new flash, and is to be provisioned again.",
     after: "Exit status: 0 done, 1 refused, 2 the words are wrong, 4 flash file.
 Example: bootswap provision device.json flash.bin a.img b.img
 `bootswap provision --help` tells what the files look like.",
@@ -328,10 +330,11 @@ Example: bootswap provision device.json flash.bin a.img b.img
      device has another number of images, `image 1 too big` where that file is
      longer than its slot, `flash is an input` where FLASH is one of the files
      that are read, `flash in use` where another program works on FLASH,
+     `flash size` where it is a block device of another length,
      `cannot read NAME`, or `memory`; or the answer could not be written
   2  the words of the command are wrong
-  4  standard error has the line `error: flash file`: FLASH could not be made or
-     replaced
+  4  standard error has the line `error: flash file`: FLASH could not be made,
+     replaced or written
 
 Examples:
   bootswap provision device.json flash.bin a.img b.img

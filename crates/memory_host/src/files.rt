@@ -33,6 +33,8 @@ pub struct WritableFile {
     pub is_there: bool,
     /// Whether it can be made.
     pub can_be_made: bool,
+    /// Whether it is a block device, which is written in its place.
+    pub is_device: bool,
     /// What another program has opened it for, and holds it.
     pub held: Option<Access>,
     /// What the program has opened it for.
@@ -50,6 +52,7 @@ impl WritableFile {
             bytes: Vec::new(alloc),
             is_there: false,
             can_be_made: true,
+            is_device: false,
             held: None,
             open: None,
             writes: 0,
@@ -77,8 +80,21 @@ impl WritableFile {
         Ok(())
     }
 
-    /// Puts a file of these bytes in its place, or makes it. Where that fails it is as it was.
+    /// Writes a block device of as many bytes from its first one on.
+    fn write_device(&mut self, bytes: &[u8]) -> Result<(), FlashFault> {
+        self.open(bytes.len() as u64, Access::Write)?;
+        match self.write_at(0, bytes) {
+            Ok(()) => Ok(()),
+            Err(_) => Err(FlashFault::Failed),
+        }
+    }
+
+    /// Puts a file of these bytes in its place, or makes it. Where that fails it is as it was; a
+    /// block device is written instead.
     fn replace(&mut self, bytes: &[u8]) -> Result<(), FlashFault> {
+        if self.is_device {
+            return self.write_device(bytes);
+        }
         if self.is_there && self.is_in_use(Access::Write) {
             return Err(FlashFault::InUse);
         }

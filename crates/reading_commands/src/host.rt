@@ -18,7 +18,8 @@ pub enum Access {
     Write,
 }
 
-/// Why the file of a flash can't be had, or not be replaced. It is as it was.
+/// Why the file of a flash can't be had, or not be replaced. It is as it was, but for a block device
+/// of which a write failed.
 #[derive(Clone, Copy, Debug, PartialEq, Eq)]
 pub enum FlashFault {
     /// Another program uses it.
@@ -27,7 +28,7 @@ pub enum FlashFault {
     WrongLength,
     /// Memory ran out.
     NoMemory,
-    /// The system could not open, lock, read, make or replace it.
+    /// The system could not open, lock, read, make, replace or write it.
     Failed,
 }
 
@@ -40,7 +41,8 @@ pub trait Host {
     // What is left of standard input, where it is known.
     ghost input: { Self → Option (List ℕ) } = { λ _. None };
 
-    // What the file of a name holds, where it is known.
+    // What the file of a name holds, where it is known. It isn't known of a block device: a write
+    // that fails may leave a part of what was to be written.
     ghost file: { Self → List ℕ → Option (List ℕ) } = { λ _ _. None };
 
     /// All bytes of the file of this name, in memory of `alloc`.
@@ -94,6 +96,9 @@ pub trait Host {
     /// Puts a file that holds `bytes` in the place of the file of this name, or makes it where there
     /// is none. Until it is done that file is as it was, and so it is where this fails. No other
     /// program may use it meanwhile. What takes memory is in that of `alloc`.
+    ///
+    /// A block device has nothing beside it that could take its place. One that is as long as
+    /// `bytes` is written from its first byte on; where a write fails it holds a part of them.
     fn replace_file<A: Allocator>(
         &mut self,
         alloc: A,

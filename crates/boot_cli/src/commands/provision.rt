@@ -38,7 +38,8 @@ pub struct FlashName<'a> {
 /// file is as a JSON value; all else stands in memory of `heap`.
 ///
 /// All is judged before the file is touched, which is none of those that are read. Unless the answer
-/// is `Done`, or can't be written, the file is as it was.
+/// is `Done`, or can't be written, the file is as it was; but a block device of which a write failed
+/// may hold a part of what it was to hold.
 pub fn perform<'a, A: Allocator, H: Host, O: Write>(
     alloc: Global,
     heap: &A,
@@ -196,8 +197,9 @@ fn replace<'a, A: Allocator, H: Host>(
     match host.replace_file(heap, name, bytes) {
         Ok(()) => Ok(()),
         Err(FlashFault::InUse) => Err(Refusal::FlashInUse),
+        Err(FlashFault::WrongLength) => Err(Refusal::FlashSize),
         Err(FlashFault::NoMemory) => Err(Refusal::NoMemory),
-        Err(FlashFault::WrongLength | FlashFault::Failed) => Err(Refusal::FlashFile),
+        Err(FlashFault::Failed) => Err(Refusal::FlashFile),
     }
 }
 

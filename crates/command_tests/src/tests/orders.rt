@@ -415,6 +415,8 @@ const HELPS: [Help; 20] = [
             "refused map 1 BadSector",
             "image count",
             "image 1 too big",
+            "`flash size` ",
+            "a block device ",
             "  2  the words",
             "  4  ",
             "error: flash file",

@@ -2,7 +2,8 @@
 use linked_list_allocator::LocalHeap;
 use memory_host::samples::{COUNTED_FIVE, DEVICE, RUNNING};
 use memory_host::{
-    AMPLE, Device, FLASH_FILE, Left, TWO_IMAGES, Target, expect_run, expect_shown, has, provisioned,
+    AMPLE, Access, Device, FLASH_FILE, Left, TWO_IMAGES, Target, expect_run, expect_shown, has,
+    provisioned,
 };
 use std::process::Abort;
 use std::test::Fail;
@@ -37,18 +38,25 @@ fn expect_flash(
     Ok(())
 }
 
-#[test]
-fn a_new_flash_file_holds_the_images_and_the_first_record_of_the_log(
-    rt: HostRuntime,
-) -> Result<(), Fail> {
-    let images = ["running.img", "five.img"];
-    let parts = [
+/// Images of a device of two.
+const IMAGES: [&str; 2] = ["running.img", "five.img"];
+
+/// What stands on a new flash with these images.
+fn new_parts() -> [Part<'static>; 4] {
+    [
         (0, RUNNING.as_slice()),
         (1536, COUNTED_FIVE.as_slice()),
         (6656, FIRST_RECORD.as_slice()),
         // The closing unit of the third sector of the log.
         (8184, b"\x01".as_slice()),
-    ];
+    ]
+}
+
+#[test]
+fn a_new_flash_file_holds_the_images_and_the_first_record_of_the_log(
+    rt: HostRuntime,
+) -> Result<(), Fail> {
+    let (images, parts) = (IMAGES, new_parts());
     let mut target = provisioned(rt.alloc(), Device::TwoImages, &images)?;
     expect_flash(&rt, &target, 8192, &parts)?;
     let shown = "state steady
@@ -315,6 +323,61 @@ fn a_flash_file_that_cannot_be_made_or_written_is_told(rt: HostRuntime) -> Resul
             assert!(rt; outcome.is(0, "done\n", ""), "{outcome:?}");
             assert!(rt; target.flash.bytes.len() == 8192);
         }
+    }
+    Ok(())
+}
+
+#[test]
+fn a_block_device_is_written_in_its_place(rt: HostRuntime) -> Result<(), Fail> {
+    let mut target = Target::new(rt.alloc(), Device::TwoImages);
+    target.put_flash(&[0; 8192])?;
+    target.flash.is_device = true;
+    // What is refused writes nothing.
+    let outcome = target.provision(rt.alloc(), &["running.img", "long.img"])?;
+    assert!(rt;
+        outcome.is(1, "", "error: image 1 too big\n"),
+        "{outcome:?}"
+    );
+    target.flash.held = Some(Access::Read);
+    let outcome = target.provision(rt.alloc(), &IMAGES)?;
+    assert!(rt; outcome.is(1, "", "error: flash in use\n"), "{outcome:?}");
+    let is_kept = target.flash.bytes.iter().all(|byte| *byte == 0);
+    assert!(rt; is_kept && target.flash.writes == 0, "{target:?}");
+    target.flash.held = None;
+    let outcome = target.provision(rt.alloc(), &IMAGES)?;
+    assert!(rt; outcome.is(0, "done\n", ""), "{outcome:?}");
+    expect_flash(&rt, &target, 8192, &new_parts())
+}
+
+#[test]
+fn a_block_device_of_which_a_write_fails_is_written_again(rt: HostRuntime) -> Result<(), Fail> {
+    let mut target = Target::new(rt.alloc(), Device::TwoImages);
+    target.put_flash(&[0; 8192])?;
+    target.flash.is_device = true;
+    target.flash.failing = Some((1, Left::Half));
+    let outcome = target.provision(rt.alloc(), &IMAGES)?;
+    assert!(rt; outcome.is(4, "", "error: flash file\n"), "{outcome:?}");
+    // It holds a part.
+    let held = target.flash.bytes.as_slice();
+    assert!(rt;
+        held.first() == RUNNING.first() && held.last() == Some(&0),
+        "{target:?}"
+    );
+    let outcome = target.provision(rt.alloc(), &IMAGES)?;
+    assert!(rt; outcome.is(0, "done\n", ""), "{outcome:?}");
+    expect_flash(&rt, &target, 8192, &new_parts())
+}
+
+#[test]
+fn a_block_device_is_as_long_as_the_flash(rt: HostRuntime) -> Result<(), Fail> {
+    for length in [0, 8191, 8193] {
+        let bytes = vec![in rt.alloc(); 0; length]?;
+        let mut target = Target::new(rt.alloc(), Device::TwoImages);
+        target.put_flash(bytes.as_slice())?;
+        target.flash.is_device = true;
+        let outcome = target.provision(rt.alloc(), &["running.img", "running.img"])?;
+        assert!(rt; outcome.is(1, "", "error: flash size\n"), "{outcome:?}");
+        assert!(rt; target.flash.writes == 0 && target.flash.bytes.as_slice() == bytes.as_slice());
     }
     Ok(())
 }
