@@ -20,6 +20,10 @@ def status_after(said):
     return {"refused": 1, "cut": 3}.get(kinds[-1], 0) if kinds else 0
 
 
+# The name of a run whose writes are synced.
+DURABLY = ": --durable"
+
+
 def check_scripts(checks):
     """Each script says what it has to, and leaves a flash that says what it has to."""
     for name in names_in("scripts"):
@@ -27,9 +31,10 @@ def check_scripts(checks):
         device = own if os.path.exists(own) else PAIR
         wanted, state = read(f"{EXAMPLES}/outputs/{name}.txt"), read(f"{EXAMPLES}/states/{name}.txt")
         script, status = f"{EXAMPLES}/scripts/{name}.txt", status_after(wanted)
-        for how, words, given in [("", script, b""), (": as -", "-", read(script))]:
+        for how, words, given in [("", [script], b""), (": as -", ["-"], read(script)), (DURABLY, [script], b"")]:
             flash_of(checks, device=device)
-            checks.expect(f"script {name}{how}", ["run", device, "flash", words], status, wanted, given=given)
+            words = ["run", *(["--durable"] if how == DURABLY else []), device, "flash", *words]
+            checks.expect(f"script {name}{how}", words, status, wanted, given=given)
             checks.expect(f"script {name}{how}: the flash, afterwards", ["show", device, "flash"], 0, state)
 
 

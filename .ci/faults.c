@@ -53,6 +53,8 @@ off_t lseek(int file, off_t at, int from) { return has_failed() ? -1 : (off_t)sy
 
 off_t lseek64(int file, off_t at, int from) { return has_failed() ? -1 : (off_t)syscall(SYS_lseek, file, at, from); }
 
+int fdatasync(int file) { return has_failed() ? -1 : (int)syscall(SYS_fdatasync, file); }
+
 int fsync(int file) { return has_failed() ? -1 : (int)syscall(SYS_fsync, file); }
 
 int fchmod(int file, mode_t mode) { return has_failed() ? -1 : (int)syscall(SYS_fchmod, file, mode); }

@@ -158,17 +158,24 @@ def check_run_faults(checks):
     before = flash_of(checks)
     flashes = [*flashes_of(checks, before)]
 
-    def run(env=os.environ):
+    def run(words, env=os.environ):
         checks.file("flash", before)
-        got = checks.run(["run", PAIR, "flash", SCRIPT], env=env)
+        got = checks.run([*words, PAIR, "flash", SCRIPT], env=env)
         return got, read(f"{checks.folder}/flash")
 
-    for fault in ("fail", "short", "memory"):
-        faults = []
-        for at, (got, kept) in each_fault(checks, fault, run):
-            if not is_run_after(fault, got, kept, flashes) or not boots_behind(checks):
-                faults.append(f"at call {at}: {short(got)}")
-        checks.tell(f"{fault}: run of a device, {at} calls", faults[:5])
+    calls = {}
+    for words in (["run"], ["run", "--durable"]):
+        for fault in ("fail", "short", "memory"):
+            faults = []
+            for at, (got, kept) in each_fault(checks, fault, lambda env: run(words, env)):
+                if not is_run_after(fault, got, kept, flashes) or not boots_behind(checks):
+                    faults.append(f"at call {at}: {short(got)}")
+            checks.tell(f"{fault}: {' '.join(words)} of a device, {at} calls", faults[:5])
+            calls[words[-1], fault] = at
+    # Of what fails, `--durable` adds the syncs alone: one for each write of the file.
+    synced = calls["--durable", "fail"] - calls["run", "fail"]
+    is_right = synced == SUM_OF_WRITES
+    checks.tell("run --durable: its syncs", [] if is_right else [f"{synced}, and not {SUM_OF_WRITES}"])
 
 
 CHECKS = (check_faults, check_provision_faults, check_run_faults)

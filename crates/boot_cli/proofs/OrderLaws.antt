@@ -100,7 +100,7 @@ AnswersOrder-kept (order.Show device flash) input file then old mid new answered
   answered.2,
   AnswersShow-kept answered.0 answered.1 input file old mid new answered.3 kept,
 )
-AnswersOrder-kept (order.Run device flash script) input file then old mid new answered kept = (
+AnswersOrder-kept (order.Run device flash script durable) input file then old mid new answered kept = (
   answered.0,
   answered.1,
   answered.2,

@@ -39,6 +39,6 @@ AnswersOrder answer (order.Provision device flash images) input file then old ne
 AnswersOrder answer (order.Show device flash) input file then old new =
     (one other : Source) × AreNamed device.now flash.now one other
     × AnswersShow answer one other input file old new
-AnswersOrder answer (order.Run device flash script) input file then old new =
+AnswersOrder answer (order.Run device flash script durable) input file then old new =
     (one other : Source) × AreNamed device.now script.now one other
     × AnswersRun answer one (source.File flash) other input file old new

@@ -12,9 +12,11 @@ use std::{fs, io};
 pub struct HeldFile {
     /// The file.
     pub file: File,
-    /// Whether what is written has to be on the medium before the next write: it is a device, which
-    /// may lose power.
+    /// Whether it is a block device.
     pub is_device: bool,
+    /// Whether what is written has to be on the medium before the next write: it is a device, which
+    /// may lose power, or that is asked for.
+    pub is_durable: bool,
 }
 
 /// Opens the file of this name for `access`, and holds it. It is a plain file or a block device,
@@ -34,7 +36,11 @@ pub fn open<R: Files<File = File>>(
     };
     hold(runtime, name, &file, access)?;
     match length_of(&file) {
-        Ok(found) if found == length => Ok(HeldFile { file, is_device }),
+        Ok(found) if found == length => Ok(HeldFile {
+            file,
+            is_device,
+            is_durable: is_device || access == Access::WriteDurably,
+        }),
         Ok(_) => Err(FlashFault::WrongLength),
         Err(_) => Err(FlashFault::Failed),
     }
@@ -60,7 +66,7 @@ fn open_plain<R: Files<File = File>>(
 
 /// Opens a file to be read, and to be written too if it can be and is asked for.
 fn open_for<R: Files<File = File>>(runtime: &R, name: &str, access: Access) -> io::Result<File> {
-    if access == Access::Write
+    if access != Access::Read
         && let Ok(file) = OpenOptions::new()
             .read(true)
             .write(true)
@@ -81,7 +87,7 @@ pub fn hold<R: Files<File = File>>(
 ) -> Result<(), FlashFault> {
     let held = match access {
         Access::Read => file.try_lock_shared(),
-        Access::Write => file.try_lock(),
+        Access::Write | Access::WriteDurably => file.try_lock(),
     };
     match held {
         Ok(()) => {}

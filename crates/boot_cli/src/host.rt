@@ -94,7 +94,7 @@ impl<R: Files<File = File>, I: Read> Host for SystemHost<'_, R, I> {
             return Err(io::Error::from(ErrorKind::NotFound));
         };
         held.file.write_all_at(bytes, at)?;
-        if held.is_device {
+        if held.is_durable {
             held.file.sync_data()?;
         }
         Ok(())

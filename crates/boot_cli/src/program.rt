@@ -6,8 +6,8 @@ use crate::commands::{playing, provision};
 use command_line::{Order, OrderError, STANDARD_INPUT, fault_of, no_text, order};
 use making_commands::make_device;
 use reading_commands::{
-    Answer, Host, Refusal, Source, check, choose, finish, image, manifest_file, refuse, show,
-    status_after,
+    Access, Answer, Host, Refusal, Source, check, choose, finish, image, manifest_file, refuse,
+    show, status_after,
 };
 use std::alloc::{Allocator, Global};
 use std::convert::AsStr;
@@ -124,10 +124,21 @@ fn perform<'a, 'h, A: Allocator, H: Host, O: Write, E: Write>(
             device,
             flash,
             script,
+            durable,
         } => {
             let (device, script) = (Source::named(device), Source::named(script));
-            playing::perform(alloc, heap, device, flash, script, text, host, out)
+            let access = access_of(durable);
+            playing::perform(alloc, heap, device, flash, access, script, text, host, out)
         }
+    }
+}
+
+/// What a run opens its flash for.
+fn access_of(durable: bool) -> Access {
+    if durable {
+        Access::WriteDurably
+    } else {
+        Access::Write
     }
 }
 

@@ -3,6 +3,7 @@ use Rattle.std.specs.Prelude.{Bool, List, [], ◌∷◌, Some, codes, true, fals
 use Rattle.clap.specs.Lexer.{usize_max}
 use Rattle.clap.specs.Simple.{new_shape}
 use Rattle.clap.specs.Words.{App, Rule, Shape, Text, new_rule}
+use Rattle.clap.specs.declared.builder.action.ArgAction.TheVariants.{SetTrue}
 
 -- A name that has to be given.
 abbrev pub one_name : Text → Rule
@@ -22,6 +23,10 @@ one_option name required = record (new_rule name) {
   value_names = 1;
   required = required;
 }
+
+-- An option that has no value: its value is `true` where it is given, and else `false`.
+abbrev pub one_flag : Text → Rule
+one_flag name = record (new_rule name) { long = Some name; action = Some SetTrue }
 
 -- A subcommand that asks for these names, in this order.
 abbrev pub asking : Text → List Rule → Shape
@@ -56,7 +61,8 @@ show_shape = asking (codes "show") (one_name (codes "DEVICE") ∷ one_name (code
 
 abbrev pub run_shape : Shape
 run_shape = asking (codes "run")
-    (one_name (codes "DEVICE") ∷ one_name (codes "FLASH") ∷ one_name (codes "SCRIPT") ∷ [])
+    (one_name (codes "DEVICE") ∷ one_name (codes "FLASH") ∷ one_name (codes "SCRIPT")
+    ∷ one_flag (codes "durable") ∷ [])
 
 -- The program without its subcommands: it has a version, and asks for a subcommand.
 abbrev pub program : App

@@ -2,6 +2,7 @@
 use Rattle.std.specs.Prelude.{◌≡◌, ℕ, ◌==◌, ◌≤◌, Bool, false, IsSomeAnd, List, [], ◌∷◌, Option, Some, None, codes, count_by, if◌then◌else◌, map, nat_lt, option_and_then}
 use Rattle.std.specs.Borrow.{Bor}
 use Rattle.std.specs.List.{AllZip, slice_split}
+use Rattle.std.specs.Option.{option_map_or}
 use Rattle.std.specs.Str.{bytes_eq}
 use Rattle.clap.specs.Words.{Row, Text, all_of, first_of, subcommand_of}
 use Rattle.clap.specs.declared.error.kind.ErrorKind.{ErrorKind}
@@ -22,7 +23,7 @@ command_of (Manifest device file) = codes "manifest"
 command_of (MakeDevice device) = codes "make-device"
 command_of (Provision device flash images) = codes "provision"
 command_of (Show device flash) = codes "show"
-command_of (Run device flash script) = codes "run"
+command_of (Run device flash script durable) = codes "run"
 
 -- The matches of a subcommand have this name for an argument.
 abbrev pub IsNamed : List Row → Text → Text → Type 0
@@ -56,7 +57,11 @@ pub record SaysDevice (rows : List Row) (device : NewDevice) : Type 0 where
   pub class : IsNamed rows (codes "class") device.class.now
   pub trial_boots : HasTrialBoots rows device.trial_boots
 
--- The names of an order are those that the matches of its subcommand have.
+-- The matches say that an option without a value is given.
+abbrev pub is_given : Text → List Row → Bool
+is_given argument rows = option_map_or (bytes_eq (codes "true")) (first_of argument rows) false
+
+-- The names of an order are those that the matches of its subcommand have, and so are its options.
 abbrev pub HasNames : List Row → Order → Type 0
 HasNames rows (Choose table) = IsNamed rows (codes "TABLE") table.now
 HasNames rows (Check table report) =
@@ -70,9 +75,9 @@ HasNames rows (Provision device flash images) =
     × (all_of (codes "IMAGE") rows ≡ Some (map (λ image. image.now) images.items))
 HasNames rows (Show device flash) =
     IsNamed rows (codes "DEVICE") device.now × IsNamed rows (codes "FLASH") flash.now
-HasNames rows (Run device flash script) =
+HasNames rows (Run device flash script durable) =
     IsNamed rows (codes "DEVICE") device.now × IsNamed rows (codes "FLASH") flash.now
-    × IsNamed rows (codes "SCRIPT") script.now
+    × IsNamed rows (codes "SCRIPT") script.now × (durable ≡ is_given (codes "durable") rows)
 
 -- A subcommand with these matches asks for this order.
 abbrev pub Asks : Text → List Row → Order → Type 0
@@ -83,7 +88,7 @@ abbrev pub IsOrderOf : Option (Text × List Row) → Order → Type 0
 IsOrderOf None order = ⊥
 IsOrderOf (Some named) order = Asks named.0 named.1 order
 
--- The words ask for this order: they name its subcommand, and give it its names.
+-- The words ask for this order: they name its subcommand, and give it its names and options.
 abbrev pub IsOrder : List Text → Order → Type 0
 IsOrder words = IsOrderOf (subcommand_of bootswap words)
 
@@ -101,7 +106,7 @@ names_of (Manifest device file) = device ∷ file ∷ []
 names_of (MakeDevice device) = []
 names_of (Provision device flash images) = device ∷ flash ∷ images.items
 names_of (Show device flash) = device ∷ flash ∷ []
-names_of (Run device flash script) = device ∷ flash ∷ script ∷ []
+names_of (Run device flash script durable) = device ∷ flash ∷ script ∷ []
 
 -- `-` is standard input.
 abbrev pub is_standard_input : Bor Text → Bool
@@ -114,7 +119,7 @@ standard_inputs names = count_by is_standard_input names
 -- The flash file is standard input, and would be written to.
 abbrev pub writes_to_standard_input : Order → Bool
 writes_to_standard_input (Provision device flash images) = is_standard_input flash
-writes_to_standard_input (Run device flash script) = is_standard_input flash
+writes_to_standard_input (Run device flash script durable) = is_standard_input flash
 writes_to_standard_input _ = false
 
 -- The fault of an order in its use of standard input: it would write to it, or read it twice.

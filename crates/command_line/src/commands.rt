@@ -4,12 +4,12 @@ ghost use Rattle.std.specs.Prelude.{◌≡◌, IfOk, codes, true};
 ghost use Rattle.clap.specs.Words.{app_of, new_app, shape_of, with_rule, with_subcommand};
 ghost use Rattle.command_line.specs.Commands.{all_names, bootswap, check_shape, choose_shape};
 ghost use Rattle.command_line.specs.Commands.{image_shape, make_device_shape, manifest_shape};
-ghost use Rattle.command_line.specs.Commands.{one_name, one_option, program, provision_shape};
-ghost use Rattle.command_line.specs.Commands.{run_shape, show_shape};
+ghost use Rattle.command_line.specs.Commands.{one_flag, one_name, one_option, program};
+ghost use Rattle.command_line.specs.Commands.{provision_shape, run_shape, show_shape};
 
 use crate::help;
 use crate::help::{Help, OptionHelp};
-use clap::{Arg, Command};
+use clap::{Arg, ArgAction, Command};
 use std::alloc::{AllocError, Global};
 
 pub const CHOOSE: &str = "choose";
@@ -53,6 +53,8 @@ pub mod named {
     pub const CLASS: &str = "class";
 
     pub const TRIAL_BOOTS: &str = "trial-boots";
+
+    pub const DURABLE: &str = "durable";
 }
 
 /// The program with its subcommands.
@@ -142,10 +144,11 @@ pub fn show<'a>(alloc: Global) -> Result<Command<'a>, AllocError>
 pub fn run<'a>(alloc: Global) -> Result<Command<'a>, AllocError>
     ensures { IfOk result (λ command. shape_of command ≡ run_shape) }
 {
-    let command = command(alloc, RUN, help::RUN);
+    let command = command(alloc, RUN, help::RUN).override_usage(help::RUN_USAGE);
     let command = with_name(alloc, command, named::DEVICE, help::DEVICE_FILE)?;
     let command = with_name(alloc, command, named::FLASH, help::FLASH_FILE)?;
-    with_name(alloc, command, named::SCRIPT, help::SCRIPT_FILE)
+    let command = with_name(alloc, command, named::SCRIPT, help::SCRIPT_FILE)?;
+    with_flag(alloc, command, named::DURABLE, help::DURABLE)
 }
 
 /// A command without arguments, with what help says of it.
@@ -190,6 +193,24 @@ fn with_option<'a>(
             .value_name(help.value)
             .required(required)
             .help(help.text),
+    )
+}
+
+/// The command with an option more that has no value.
+fn with_flag<'a>(
+    alloc: Global,
+    command: Command<'a>,
+    name: &'a str,
+    help: &'a str,
+) -> Result<Command<'a>, AllocError>
+    ensures { IfOk result (λ more. app_of more ≡ with_rule (app_of command.entry)
+        (one_flag name.entry.now)) }
+{
+    command.arg(
+        Arg::new(alloc, name)
+            .long(name)
+            .action(ArgAction::SetTrue)
+            .help(help),
     )
 }
 

@@ -155,6 +155,7 @@ fn reads_standard_input_twice(order: &Order<'_>) -> bool
             device,
             flash,
             script,
+            ..
         } => standard_inputs(&[*device, *flash, *script]) > 1,
         Order::Provision {
             device,

@@ -382,6 +382,8 @@ pub const RUN: Help = Help {
     long_about: "Runs a device on a flash file by a script, and prints a reply to each event.
 Each write goes to FLASH at once, so that the next run goes on from there. FLASH
 may be a block device, where each write is synced; no other program may use it.
+With `--durable` each write to a plain file is synced too: it is on the disk
+before the next one, so that a power cut of this machine is one of the device.
 `bootswap help provision` tells what a device file looks like, and makes a flash
 file. In a script first come the writes that are cut, if any:
   cut WRITE TORN
@@ -442,8 +444,12 @@ Example: bootswap run device.json flash.bin script.txt
 
 Examples:
   bootswap run device.json flash.bin script.txt
-  echo boot | bootswap run device.json flash.bin -",
+  echo boot | bootswap run device.json flash.bin -
+  bootswap run --durable device.json flash.bin script.txt",
 };
+
+/// The usage of `run`: its option stands under the names, as `--help` does.
+pub const RUN_USAGE: &str = "bootswap run <DEVICE> <FLASH> <SCRIPT>";
 
 pub const TABLE_FILE: &str = "The file that the table is read from; `-` is standard input";
 
@@ -464,6 +470,8 @@ pub const SHOWN_FLASH_FILE: &str = "The flash file; `-` is standard input";
 pub const FLASH_FILE: &str = "The flash file, which is written to";
 
 pub const SCRIPT_FILE: &str = "The file that the script is read from; `-` is standard input";
+
+pub const DURABLE: &str = "Sync each write of a plain file to the disk before the next";
 
 pub const SECTOR: OptionHelp = OptionHelp {
     value: "BYTES",

@@ -5,7 +5,7 @@ ghost use Rattle.clap.specs.Words.{HasKind, all_of, fault_of, first_of, found_of
 ghost use Rattle.clap.specs.Words.{rows_of, subcommand_of, subcommand_rows_of};
 ghost use Rattle.command_line.specs.Commands.{bootswap};
 ghost use Rattle.command_line.specs.Faults.{IsRefusal};
-ghost use Rattle.command_line.specs.Orders.{Asks, Finds, IsOrder, IsOrderOf, misuse_of};
+ghost use Rattle.command_line.specs.Orders.{Asks, Finds, IsOrder, IsOrderOf, is_given, misuse_of};
 
 use crate::commands::{
     CHECK, CHOOSE, IMAGE, MAKE_DEVICE, MANIFEST, PROVISION, RUN, SHOW, bootswap, named,
@@ -177,10 +177,12 @@ fn run_in<'a>(names: &ArgMatches<'a>) -> Option<Order<'a>>
     let device = name_in(names, named::DEVICE)?;
     let flash = name_in(names, named::FLASH)?;
     let script = name_in(names, named::SCRIPT)?;
+    let durable = is_given(names, named::DURABLE);
     Some(Order::Run {
         device,
         flash,
         script,
+        durable,
     })
 }
 
@@ -190,6 +192,16 @@ pub(crate) fn name_in<'a>(names: &ArgMatches<'a>, argument: &str) -> Option<&'a 
         ≡ first_of argument.now (rows_of (found_of names.now)) }
 {
     names.get_str(argument)
+}
+
+/// Whether the words give this option, which has no value.
+fn is_given(names: &ArgMatches<'_>, option: &str) -> bool
+    ensures { result ≡ is_given option.now (rows_of (found_of names.now)) }
+{
+    match name_in(names, option) {
+        Some(value) => value == "true",
+        None => false,
+    }
 }
 
 /// All the names that they give for it.

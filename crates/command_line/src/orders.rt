@@ -75,5 +75,7 @@ pub enum Order<'a> {
         flash: &'a str,
         /// The name of the script.
         script: &'a str,
+        /// Whether each write is to be on the disk before the next one, of a plain file too.
+        durable: bool,
     },
 }

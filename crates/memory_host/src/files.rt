@@ -64,7 +64,7 @@ impl WritableFile {
     fn is_in_use(&self, access: Access) -> bool {
         match self.held {
             None => false,
-            Some(held) => held == Access::Write || access == Access::Write,
+            Some(held) => held != Access::Read || access != Access::Read,
         }
     }
 
@@ -121,7 +121,7 @@ impl WritableFile {
     fn write_at(&mut self, at: u64, bytes: &[u8]) -> io::Result<()> {
         self.writes = self.writes.saturating_add(1);
         let at = at as usize;
-        if self.open != Some(Access::Write)
+        if matches!(self.open, None | Some(Access::Read))
             || at > self.bytes.len()
             || bytes.len() > self.bytes.len() - at
         {

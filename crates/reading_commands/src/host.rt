@@ -14,8 +14,12 @@ use std::io::Read;
 pub enum Access {
     /// It is read. Other programs may read it at the same time.
     Read,
-    /// It is read and then written. No other program may use it at the same time.
+    /// It is read and then written. No other program may use it at the same time. What is written
+    /// to a block device is on the medium before the write is done; of a plain file the system may
+    /// keep it for a while.
     Write,
+    /// The same, and what is written to a plain file is on the disk too before the write is done.
+    WriteDurably,
 }
 
 /// Why the file of a flash can't be had, or not be replaced. It is as it was, but for a block device

@@ -31,7 +31,7 @@ use std::sync::ledger::{Blank, Ledger};
 
 /// Reads a device file, the flash of the device and a script from `host`, runs the script's events
 /// on the device, and writes each reply to `out` as its event is done. What changes on the flash is
-/// written through to its file at once.
+/// written through to its file at once, which is opened for `access`, one that writes.
 ///
 /// The flash stands in memory of `alloc`, and so does what the device needs to run; the script's
 /// text is put into `text`, and all else stands in memory of `heap`. All files are judged before
@@ -41,6 +41,7 @@ pub fn perform<'a, 'h, A: Allocator, H: Host, O: Write>(
     heap: &'h A,
     device: Source<'a>,
     flash: &'a str,
+    access: Access,
     script: Source<'a>,
     text: &'a mut Vec<u8, &'h A>,
     host: &mut H,
@@ -54,7 +55,7 @@ pub fn perform<'a, 'h, A: Allocator, H: Host, O: Write>(
     let Some(device) = read_device(alloc, heap, device, host, out)? else {
         return Ok(Answer::Refused);
     };
-    let bytes = read_flash(alloc, Source::File(flash), &device.map, Access::Write, host)?;
+    let bytes = read_flash(alloc, Source::File(flash), &device.map, access, host)?;
     *text = script.read(heap, host)?;
     let script = load(alloc, heap, text, is_input_read, host)?;
     let file = HostFile { host };

@@ -9,7 +9,7 @@ use std::test::Fail;
 type Words = &'static [&'static str];
 
 /// Words of each command, and the order that they give.
-const ORDERS: [(Words, &str); 11] = [
+const ORDERS: [(Words, &str); 14] = [
     (
         &["bootswap", "choose", "t.txt"],
         r#"Choose { table: "t.txt" }"#,
@@ -75,7 +75,19 @@ const ORDERS: [(Words, &str); 11] = [
     ),
     (
         &["bootswap", "run", "d.json", "f.bin", "s.txt"],
-        r#"Run { device: "d.json", flash: "f.bin", script: "s.txt" }"#,
+        r#"Run { device: "d.json", flash: "f.bin", script: "s.txt", durable: false }"#,
+    ),
+    (
+        &["bootswap", "run", "--durable", "d.json", "f.bin", "-"],
+        r#"Run { device: "d.json", flash: "f.bin", script: "-", durable: true }"#,
+    ),
+    (
+        &["bootswap", "run", "d.json", "f.bin", "s.txt", "--durable"],
+        r#"Run { device: "d.json", flash: "f.bin", script: "s.txt", durable: true }"#,
+    ),
+    (
+        &["bootswap", "run", "d.json", "f.bin", "--", "--durable"],
+        r#"Run { device: "d.json", flash: "f.bin", script: "--durable", durable: false }"#,
     ),
     (
         &["any name", "choose", "--", "--help"],
@@ -94,7 +106,7 @@ fn each_command_is_read_with_its_names(rt: HostRuntime) -> Result<(), Fail> {
 }
 
 /// Words that give no order, what is told of them, and how the command is used.
-const WRONG_WORDS: [(Words, &str, &str); 13] = [
+const WRONG_WORDS: [(Words, &str, &str); 17] = [
     (
         &["bootswap"],
         "'bootswap' requires a subcommand but one was not provided\n  [subcommands: choose, check, image, manifest, make-device, provision, show, run, help]",
@@ -159,6 +171,26 @@ const WRONG_WORDS: [(Words, &str, &str); 13] = [
         &["bootswap", "run", "a", "b", "c", "d"],
         "unexpected argument 'd' found",
         "run <DEVICE> <FLASH> <SCRIPT>",
+    ),
+    (
+        &["bootswap", "run", "--durable", "--durable", "a", "b", "c"],
+        "the argument '--durable' cannot be used multiple times",
+        "run <DEVICE> <FLASH> <SCRIPT>",
+    ),
+    (
+        &["bootswap", "run", "--durable=true", "a", "b", "c"],
+        "unexpected value 'true' for '--durable' found; no more were expected",
+        "run <DEVICE> <FLASH> <SCRIPT>",
+    ),
+    (
+        &["bootswap", "show", "--durable", "a", "b"],
+        "unexpected argument '--durable' found\n\n  tip: to pass '--durable' as a value, use '-- --durable'",
+        "show <DEVICE> <FLASH>",
+    ),
+    (
+        &["bootswap", "--durable", "run", "a", "b", "c"],
+        "unexpected argument '--durable' found\n\n  tip: 'run --durable' exists",
+        "[COMMAND]",
     ),
 ];
 
@@ -450,6 +482,7 @@ const HELPS: [Help; 20] = [
         words: &["bootswap", "run", "-h"],
         parts: &[
             "Usage: bootswap run <DEVICE> <FLASH> <SCRIPT>\n",
+            "  --durable ",
             "Exit status: 0 ",
             "Example: bootswap run ",
         ],
@@ -479,7 +512,10 @@ const HELPS: [Help; 20] = [
             "  3  the last reply",
             "  4  ",
             "error: flash file",
+            "\nWith `--durable` each write ",
+            "  --durable\n",
             "  bootswap run device.json flash.bin script.txt\n",
+            "  bootswap run --durable device.json flash.bin script.txt\n",
         ],
     },
 ];

@@ -121,6 +121,20 @@ fn a_flash_file_is_written_where_it_was_opened(rt: HostRuntime) -> Result<(), Fa
     Ok(())
 }
 
+#[test]
+fn a_durable_write_is_one(rt: HostRuntime) -> Result<(), Fail> {
+    let path = new_file(&rt)?;
+    let (name, alloc) = (path.as_str(), rt.alloc());
+    fs::write(&rt, name, b"0123")?;
+    let mut host = SystemHost::new(&rt, b"".as_slice());
+    let opened = host.open_flash(alloc, name, 4, Access::WriteDurably);
+    assert!(rt; opened.is_ok_and(|bytes| bytes.as_slice() == b"0123".as_slice()));
+    host.write_flash(1, b"XY")?;
+    expect_alone(&rt, name, b"0XY3")?;
+    fs::remove_file(&rt, name)?;
+    Ok(())
+}
+
 /// Whether a flash file of no bytes is in use for who opens it for this.
 fn is_in_use(rt: &(impl Files<File = File> + AllocGlobal), name: &str, access: Access) -> bool {
     let mut host = SystemHost::new(rt, b"".as_slice());
@@ -140,11 +154,11 @@ fn a_flash_file_that_is_open_is_in_use(rt: HostRuntime) -> Result<(), Fail> {
         let replaced = host.replace_file(alloc, name, b"new");
         assert!(rt; replaced == Err(FlashFault::InUse), "{replaced:?}");
     }
-    {
+    for access in [Access::Write, Access::WriteDurably] {
         let mut host = SystemHost::new(&rt, b"".as_slice());
-        assert!(rt; host.open_flash(alloc, name, 0, Access::Write).is_ok());
+        assert!(rt; host.open_flash(alloc, name, 0, access).is_ok());
         assert!(rt; is_in_use(&rt, name, Access::Read), "it is written");
-        assert!(rt; is_in_use(&rt, name, Access::Write), "it is written");
+        assert!(rt; is_in_use(&rt, name, access), "it is written");
     }
     assert!(rt; !is_in_use(&rt, name, Access::Write), "it was closed");
     expect_alone(&rt, name, b"")?;

@@ -62,6 +62,29 @@ fn a_flash_file_that_another_program_holds_is_left_alone(rt: HostRuntime) -> Res
     Ok(())
 }
 
+#[test]
+fn a_flash_file_is_opened_for_what_the_words_ask(rt: HostRuntime) -> Result<(), Fail> {
+    let mut target = two_images(rt.alloc())?;
+    for (line, access) in [
+        ("show device.json flash.bin", Access::Read),
+        ("run device.json flash.bin script.txt", Access::Write),
+        (
+            "run --durable device.json flash.bin script.txt",
+            Access::WriteDurably,
+        ),
+    ] {
+        let outcome = target.line(rt.alloc(), line, b"boot\naccept pair.json\nreset\n", b"")?;
+        assert!(rt;
+            outcome.err.has(b"") && !outcome.out.has(b""),
+            "{outcome:?}"
+        );
+        assert!(rt; target.flash.open == Some(access), "{line}");
+    }
+    // The durable one wrote too, and what it was to write.
+    assert!(rt; target.flash.writes > 1);
+    Ok(())
+}
+
 /// An event of a trial that goes back.
 #[derive(Clone, Copy, Debug)]
 struct Event {
