@@ -1,2 +1,4 @@
+pub mod Aliases
+pub mod NeedLaws
 pub mod Program
 pub mod Refusals

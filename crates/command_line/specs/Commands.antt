@@ -2,8 +2,8 @@
 use Rattle.std.specs.Prelude.{Bool, List, [], ◌∷◌, Some, codes, true, false}
 use Rattle.clap.specs.Lexer.{usize_max}
 use Rattle.clap.specs.Simple.{new_shape}
-use Rattle.clap.specs.Words.{App, Rule, Shape, Text, new_rule}
-use Rattle.clap.specs.declared.builder.action.ArgAction.TheVariants.{SetTrue}
+use Rattle.clap.specs.Words.{App, Rule, Shape, Text, new_rule, with_rule}
+use Rattle.clap.specs.declared.builder.action.ArgAction.TheVariants.{Append, SetTrue}
 
 -- A name that has to be given.
 abbrev pub one_name : Text → Rule
@@ -27,6 +27,22 @@ one_option name required = record (new_rule name) {
 -- An option that has no value: its value is `true` where it is given, and else `false`.
 abbrev pub one_flag : Text → Rule
 one_flag name = record (new_rule name) { long = Some name; action = Some SetTrue }
+
+-- An option with one value, which may be given again and again.
+abbrev pub options : Text → Rule
+options name = record (new_rule name) {
+  long = Some name;
+  action = Some Append;
+  value_names = 1;
+}
+
+-- An argument with a second name.
+abbrev pub also_named : Rule → Text → Rule
+also_named rule other = record rule { aliases = other ∷ [] }
+
+-- The option of a security counter.
+abbrev pub counter_option : Rule
+counter_option = also_named (one_option (codes "counter") false) (codes "security-counter")
 
 -- A subcommand that asks for these names, in this order.
 abbrev pub asking : Text → List Rule → Shape
@@ -52,6 +68,26 @@ make_device_shape = asking (codes "make-device")
     ∷ one_option (codes "vendor") true ∷ one_option (codes "class") true
     ∷ one_option (codes "trial-boots") false ∷ [])
 
+-- A command with the options of what an image asks of a device: its security counter, and the images
+-- that it needs.
+abbrev pub with_needs : App → App
+with_needs app =
+    with_rule (with_rule (with_rule app counter_option) (options (codes "needs")))
+    (options (codes "needs-one"))
+
+-- A command with the options of what stands in the header of an image besides its version.
+abbrev pub with_header : App → App
+with_header app =
+    with_rule (with_rule (with_rule app (one_option (codes "header-size") false))
+    (one_option (codes "load-address") false)) (one_option (codes "flags") false)
+
+abbrev pub make_image_shape : Shape
+make_image_shape = asking (codes "make-image")
+    (one_name (codes "OUT") ∷ one_name (codes "BODY") ∷ one_option (codes "version") true
+    ∷ counter_option ∷ options (codes "needs") ∷ options (codes "needs-one")
+    ∷ one_option (codes "header-size") false ∷ one_option (codes "load-address") false
+    ∷ one_option (codes "flags") false ∷ [])
+
 abbrev pub provision_shape : Shape
 provision_shape = asking (codes "provision")
     (one_name (codes "DEVICE") ∷ one_name (codes "FLASH") ∷ all_names (codes "IMAGE") ∷ [])
@@ -76,5 +112,5 @@ abbrev pub bootswap : App
 bootswap = record {
   top = record program.top { is_leaf = false };
   subs = choose_shape ∷ check_shape ∷ image_shape ∷ manifest_shape ∷ make_device_shape
-      ∷ provision_shape ∷ show_shape ∷ run_shape ∷ [];
+      ∷ make_image_shape ∷ provision_shape ∷ show_shape ∷ run_shape ∷ [];
 }

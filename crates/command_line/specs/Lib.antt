@@ -1,4 +1,5 @@
 pub mod Codes
 pub mod Commands
 pub mod Faults
+pub mod Needs
 pub mod Orders

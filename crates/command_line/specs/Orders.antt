@@ -1,5 +1,5 @@
 -- What an order says, by the matches that `clap` gives for the words.
-use Rattle.std.specs.Prelude.{◌≡◌, ℕ, ◌==◌, ◌≤◌, Bool, false, IsSomeAnd, List, [], ◌∷◌, Option, Some, None, codes, count_by, if◌then◌else◌, map, nat_lt, option_and_then}
+use Rattle.std.specs.Prelude.{◌≡◌, ℕ, ◌==◌, ◌^◌, ◌<◌, ◌≤◌, Bool, false, IsSomeAnd, List, [], ◌∷◌, Option, Some, None, codes, count_by, if◌then◌else◌, map, nat_lt, option_and_then, unwrap_or}
 use Rattle.std.specs.Borrow.{Bor}
 use Rattle.std.specs.List.{AllZip, slice_split}
 use Rattle.std.specs.Option.{option_map_or}
@@ -9,10 +9,14 @@ use Rattle.clap.specs.declared.error.kind.ErrorKind.{ErrorKind}
 use Rattle.clap.specs.declared.error.kind.ErrorKind.TheVariants.{ArgumentConflict, InvalidValue}
 use Rattle.common.specs.Ascii.{number_of}
 use Rattle.common.specs.declared.limits.TheConstants.{MOST_TRIAL_BOOTS}
+use Rattle.version_order.specs.declared.version.Version.{Version}
+use Rattle.version_order.specs.VersionText.{version_of}
 use Rattle.command_line.specs.Commands.{bootswap}
+use Rattle.command_line.specs.Needs.{AreNeeds, IsNeed}
 use Rattle.command_line.specs.declared.orders.NewDevice.{NewDevice}
+use Rattle.command_line.specs.declared.orders.NewImage.{NewImage}
 use Rattle.command_line.specs.declared.orders.Order.{Order}
-use Rattle.command_line.specs.declared.orders.Order.TheVariants.{Choose, Check, Image, Manifest, MakeDevice, Provision, Show, Run}
+use Rattle.command_line.specs.declared.orders.Order.TheVariants.{Choose, Check, Image, Manifest, MakeDevice, MakeImage, Provision, Show, Run}
 
 -- The subcommand of an order.
 abbrev pub command_of : Order → Text
@@ -21,6 +25,7 @@ command_of (Check table report) = codes "check"
 command_of (Image file) = codes "image"
 command_of (Manifest device file) = codes "manifest"
 command_of (MakeDevice device) = codes "make-device"
+command_of (MakeImage image body values) = codes "make-image"
 command_of (Provision device flash images) = codes "provision"
 command_of (Show device flash) = codes "show"
 command_of (Run device flash script durable) = codes "run"
@@ -61,6 +66,31 @@ pub record SaysDevice (rows : List Row) (device : NewDevice) : Type 0 where
 abbrev pub is_given : Text → List Row → Bool
 is_given argument rows = option_map_or (bytes_eq (codes "true")) (first_of argument rows) false
 
+-- The number below a limit that the matches have for an argument, where they have one.
+abbrev pub HasNumber : Text → ℕ → List Row → Option ℕ → Type 0
+HasNumber argument limit rows None = first_of argument rows ≡ None
+HasNumber argument limit rows (Some number) =
+    (number_at argument rows ≡ Some number) × (number < limit)
+
+-- The version that the matches have.
+abbrev pub version_at : List Row → Option Version
+version_at rows = option_and_then version_of (first_of (codes "version") rows)
+
+-- All that the matches have for an argument.
+abbrev pub texts_at : Text → List Row → List Text
+texts_at argument rows = unwrap_or (all_of argument rows) []
+
+-- The matches of `make-image` say this of an image.
+pub record SaysImage (rows : List Row) (image : NewImage) : Type 0 where
+  pub version : version_at rows ≡ Some image.version
+  pub counter : HasNumber (codes "counter") (2 ^ 32) rows image.counter
+  pub dependencies : AllZip IsNeed (texts_at (codes "needs") rows) image.dependencies.items
+  pub groups : AllZip AreNeeds (texts_at (codes "needs-one") rows)
+      (map (λ group. group.items) image.groups.items)
+  pub header_size : HasNumber (codes "header-size") (2 ^ 16) rows image.header_size
+  pub load_address : HasNumber (codes "load-address") (2 ^ 32) rows image.load_address
+  pub flags : HasNumber (codes "flags") (2 ^ 32) rows image.flags
+
 -- The names of an order are those that the matches of its subcommand have, and so are its options.
 abbrev pub HasNames : List Row → Order → Type 0
 HasNames rows (Choose table) = IsNamed rows (codes "TABLE") table.now
@@ -70,6 +100,9 @@ HasNames rows (Image file) = IsNamed rows (codes "FILE") file.now
 HasNames rows (Manifest device file) =
     IsNamed rows (codes "DEVICE") device.now × IsNamed rows (codes "FILE") file.now
 HasNames rows (MakeDevice device) = SaysDevice rows device
+HasNames rows (MakeImage image body values) =
+    IsNamed rows (codes "OUT") image.now × IsNamed rows (codes "BODY") body.now
+    × SaysImage rows values
 HasNames rows (Provision device flash images) =
     IsNamed rows (codes "DEVICE") device.now × IsNamed rows (codes "FLASH") flash.now
     × (all_of (codes "IMAGE") rows ≡ Some (map (λ image. image.now) images.items))
@@ -104,6 +137,7 @@ names_of (Check table report) = table ∷ report ∷ []
 names_of (Image file) = file ∷ []
 names_of (Manifest device file) = device ∷ file ∷ []
 names_of (MakeDevice device) = []
+names_of (MakeImage image body values) = image ∷ body ∷ []
 names_of (Provision device flash images) = device ∷ flash ∷ images.items
 names_of (Show device flash) = device ∷ flash ∷ []
 names_of (Run device flash script durable) = device ∷ flash ∷ script ∷ []
@@ -116,8 +150,9 @@ is_standard_input name = bytes_eq name.now (codes "-")
 abbrev pub standard_inputs : List (Bor Text) → ℕ
 standard_inputs names = count_by is_standard_input names
 
--- The flash file is standard input, and would be written to.
+-- The file that would be written to is standard input.
 abbrev pub writes_to_standard_input : Order → Bool
+writes_to_standard_input (MakeImage image body values) = is_standard_input image
 writes_to_standard_input (Provision device flash images) = is_standard_input flash
 writes_to_standard_input (Run device flash script durable) = is_standard_input flash
 writes_to_standard_input _ = false

@@ -1,11 +1,13 @@
 //! The program and its subcommands, as `clap` is told of them.
 
-ghost use Rattle.std.specs.Prelude.{◌≡◌, IfOk, codes, true};
-ghost use Rattle.clap.specs.Words.{app_of, new_app, shape_of, with_rule, with_subcommand};
-ghost use Rattle.command_line.specs.Commands.{all_names, bootswap, check_shape, choose_shape};
-ghost use Rattle.command_line.specs.Commands.{image_shape, make_device_shape, manifest_shape};
-ghost use Rattle.command_line.specs.Commands.{one_flag, one_name, one_option, program};
-ghost use Rattle.command_line.specs.Commands.{provision_shape, run_shape, show_shape};
+ghost use Rattle.std.specs.Prelude.{◌≡◌, IfOk, codes, false, true};
+ghost use Rattle.clap.specs.Words.{app_of, new_app, rule_of, shape_of, with_rule};
+ghost use Rattle.clap.specs.Words.{with_subcommand};
+ghost use Rattle.command_line.specs.Commands.{all_names, also_named, bootswap, check_shape};
+ghost use Rattle.command_line.specs.Commands.{choose_shape, image_shape, make_device_shape};
+ghost use Rattle.command_line.specs.Commands.{make_image_shape, manifest_shape, one_flag, one_name};
+ghost use Rattle.command_line.specs.Commands.{one_option, options, program, provision_shape};
+ghost use Rattle.command_line.specs.Commands.{run_shape, show_shape, with_header, with_needs};
 
 use crate::help;
 use crate::help::{Help, OptionHelp};
@@ -21,6 +23,8 @@ pub const IMAGE: &str = "image";
 pub const MANIFEST: &str = "manifest";
 
 pub const MAKE_DEVICE: &str = "make-device";
+
+pub const MAKE_IMAGE: &str = "make-image";
 
 pub const PROVISION: &str = "provision";
 
@@ -55,6 +59,26 @@ pub mod named {
     pub const TRIAL_BOOTS: &str = "trial-boots";
 
     pub const DURABLE: &str = "durable";
+
+    pub const OUT: &str = "OUT";
+
+    pub const BODY: &str = "BODY";
+
+    pub const VERSION: &str = "version";
+
+    pub const COUNTER: &str = "counter";
+
+    pub const SECURITY_COUNTER: &str = "security-counter";
+
+    pub const NEEDS: &str = "needs";
+
+    pub const NEEDS_ONE: &str = "needs-one";
+
+    pub const HEADER_SIZE: &str = "header-size";
+
+    pub const LOAD_ADDRESS: &str = "load-address";
+
+    pub const FLAGS: &str = "flags";
 }
 
 /// The program with its subcommands.
@@ -66,6 +90,7 @@ pub fn bootswap<'a>(alloc: Global) -> Result<Command<'a>, AllocError>
     let program = with_command(program, image(alloc)?)?;
     let program = with_command(program, manifest(alloc)?)?;
     let program = with_command(program, make_device(alloc)?)?;
+    let program = with_command(program, make_image(alloc)?)?;
     let program = with_command(program, provision(alloc)?)?;
     let program = with_command(program, show(alloc)?)?;
     with_command(program, run(alloc)?)
@@ -122,6 +147,48 @@ pub fn make_device<'a>(alloc: Global) -> Result<Command<'a>, AllocError>
     let command = with_option(alloc, command, named::VENDOR, help::VENDOR, true)?;
     let command = with_option(alloc, command, named::CLASS, help::CLASS, true)?;
     with_option(alloc, command, named::TRIAL_BOOTS, help::TRIAL_BOOTS, false)
+}
+
+pub fn make_image<'a>(alloc: Global) -> Result<Command<'a>, AllocError>
+    ensures { IfOk result (λ command. shape_of command ≡ make_image_shape) }
+{
+    let command = command(alloc, MAKE_IMAGE, help::MAKE_IMAGE).override_usage(help::IMAGE_USAGE);
+    let command = with_name(alloc, command, named::OUT, help::NEW_IMAGE_FILE)?;
+    let command = with_name(alloc, command, named::BODY, help::BODY_FILE)?;
+    let command = with_option(alloc, command, named::VERSION, help::VERSION, true)?;
+    let command = with_needs(alloc, command)?;
+    with_header(alloc, command)
+}
+
+/// The command with what an image asks of a device: its security counter, and the images that it
+/// needs.
+fn with_needs<'a>(alloc: Global, command: Command<'a>) -> Result<Command<'a>, AllocError>
+    ensures { IfOk result (λ more. app_of more ≡ with_needs (app_of command.entry)) }
+{
+    let counter = also_named(
+        alloc,
+        named::COUNTER,
+        named::SECURITY_COUNTER,
+        help::COUNTER,
+    )?;
+    let command = command.arg(counter)?;
+    let command = with_options(alloc, command, named::NEEDS, help::NEEDS)?;
+    with_options(alloc, command, named::NEEDS_ONE, help::NEEDS_ONE)
+}
+
+/// The command with what stands in the header of an image besides its version.
+fn with_header<'a>(alloc: Global, command: Command<'a>) -> Result<Command<'a>, AllocError>
+    ensures { IfOk result (λ more. app_of more ≡ with_header (app_of command.entry)) }
+{
+    let command = with_option(alloc, command, named::HEADER_SIZE, help::HEADER_SIZE, false)?;
+    let command = with_option(
+        alloc,
+        command,
+        named::LOAD_ADDRESS,
+        help::LOAD_ADDRESS,
+        false,
+    )?;
+    with_option(alloc, command, named::FLAGS, help::FLAGS, false)
 }
 
 pub fn provision<'a>(alloc: Global) -> Result<Command<'a>, AllocError>
@@ -211,6 +278,43 @@ fn with_flag<'a>(
             .long(name)
             .action(ArgAction::SetTrue)
             .help(help),
+    )
+}
+
+/// An option with one value, which has two names.
+fn also_named<'a>(
+    alloc: Global,
+    name: &'a str,
+    other: &'a str,
+    help: OptionHelp,
+) -> Result<Arg<'a>, AllocError>
+    ensures rule { IfOk result (λ arg. rule_of arg
+        ≡ also_named (one_option name.entry.now false) other.entry.now) }
+    ensures local { IfOk result (λ arg. arg.global ≡ false) }
+{
+    Arg::new(alloc, name)
+        .long(name)
+        .value_name(help.value)
+        .help(help.text)
+        .visible_alias(other)
+}
+
+/// The command with an option more, which has one value, and may be given again and again.
+fn with_options<'a>(
+    alloc: Global,
+    command: Command<'a>,
+    name: &'a str,
+    help: OptionHelp,
+) -> Result<Command<'a>, AllocError>
+    ensures { IfOk result (λ more. app_of more ≡ with_rule (app_of command.entry)
+        (options name.entry.now)) }
+{
+    command.arg(
+        Arg::new(alloc, name)
+            .long(name)
+            .value_name(help.value)
+            .action(ArgAction::Append)
+            .help(help.text),
     )
 }
 

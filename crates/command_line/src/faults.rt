@@ -9,10 +9,11 @@ ghost use Rattle.command_line.specs.Faults.{IsTold, IsUsage};
 ghost use Rattle.command_line.specs.Orders.{misuse_of, names_of, standard_inputs};
 ghost use Rattle.command_line.specs.Orders.{writes_to_standard_input};
 
-use crate::commands::{MAKE_DEVICE, named};
+use crate::commands::{MAKE_DEVICE, MAKE_IMAGE, named};
 use crate::device_words::{number_in, trial_boots_in};
 use crate::error::OrderError;
 use crate::escaped::Escaped;
+use crate::image_words::{dependencies_in, header_size_in, number_said, version_in};
 use crate::order_reading::{named_in, order};
 use crate::orders::{Order, STANDARD_INPUT};
 use crate::{commands, help};
@@ -23,6 +24,9 @@ use std::convert::AsStr;
 
 /// The subcommand `make-device`, as its usage has it.
 const MAKE_DEVICE_NAME: &str = "bootswap make-device";
+
+/// The subcommand `make-image`, as its usage has it.
+const MAKE_IMAGE_NAME: &str = "bootswap make-image";
 
 /// The fault of these words, as it is printed: it names them with their control characters escaped.
 /// `fault` is what `order` answered.
@@ -48,13 +52,14 @@ pub fn no_text(alloc: Global) -> OrderError
     }
 }
 
-/// The fault of words that ask for no order, though `clap` takes them: a word of `make-device` is
-/// no number, or they name no subcommand.
+/// The fault of words that ask for no order, though `clap` takes them: a word of `make-device` or
+/// `make-image` isn't what it has to be, or they name no subcommand.
 pub(crate) fn no_order(alloc: Global, matches: &ArgMatches<'_>) -> OrderError
     ensures { IsUsage InvalidValue result ⊎ IsUsage MissingSubcommand result }
 {
     match named_in(matches) {
         Some((MAKE_DEVICE, names)) => no_number(alloc, names),
+        Some((MAKE_IMAGE, names)) => no_values(alloc, names),
         _ => no_subcommand(alloc),
     }
 }
@@ -83,6 +88,47 @@ fn number_error(alloc: Global, text: &str) -> Result<Error, AllocError>
     command.error(ErrorKind::InvalidValue, text)
 }
 
+/// The fault of words of `make-image` of which one can't be read.
+fn no_values(alloc: Global, names: &ArgMatches<'_>) -> OrderError
+    ensures { IsUsage InvalidValue result }
+{
+    match values_error(alloc, names) {
+        Ok(error) => OrderError::from(error),
+        Err(error) => OrderError::from(error),
+    }
+}
+
+fn values_error(alloc: Global, names: &ArgMatches<'_>) -> Result<Error, AllocError>
+    ensures { IfOk result (λ error. kind_of error ≡ InvalidValue) }
+{
+    let fault = values_fault(alloc, names)?;
+    let mut command = commands::make_image(alloc)?.bin_name(MAKE_IMAGE_NAME)?;
+    command.error(ErrorKind::InvalidValue, fault)
+}
+
+/// What is told of words of `make-image` of which one can't be read.
+fn values_fault(alloc: Global, names: &ArgMatches<'_>) -> Result<&'static str, AllocError> {
+    if version_in(names).is_none() {
+        return Ok(help::NO_VERSION);
+    }
+    if number_said(names, named::COUNTER).is_none() {
+        return Ok(help::NO_COUNTER);
+    }
+    if header_size_in(names).is_none() {
+        return Ok(help::NO_HEADER_SIZE);
+    }
+    if number_said(names, named::LOAD_ADDRESS).is_none() {
+        return Ok(help::NO_LOAD_ADDRESS);
+    }
+    if number_said(names, named::FLAGS).is_none() {
+        return Ok(help::NO_FLAGS);
+    }
+    match dependencies_in(alloc, names)? {
+        None => Ok(help::NO_NEEDS),
+        Some(_) => Ok(help::NO_NEEDS_ONE),
+    }
+}
+
 /// The fault of words that name no subcommand.
 fn no_subcommand(alloc: Global) -> OrderError
     ensures { IsUsage MissingSubcommand result }
@@ -104,7 +150,7 @@ pub(crate) fn misuse(alloc: Global, order: &Order<'_>) -> Result<Option<Error>, 
     ensures { IfOk result (λ found. option_map kind_of found ≡ misuse_of order.now) }
 {
     let (kind, text) = if writes_to_standard_input(order) {
-        (ErrorKind::InvalidValue, help::WRITTEN)
+        (ErrorKind::InvalidValue, written_text(order))
     } else if reads_standard_input_twice(order) {
         (ErrorKind::ArgumentConflict, help::TWICE)
     } else {
@@ -112,6 +158,14 @@ pub(crate) fn misuse(alloc: Global, order: &Order<'_>) -> Result<Option<Error>, 
     };
     let fault = command_of(alloc, order)?.error(kind, text)?;
     Ok(Some(fault))
+}
+
+/// What is told of an order that would write to standard input.
+fn written_text(order: &Order<'_>) -> &'static str {
+    match order {
+        Order::MakeImage { .. } => help::IMAGE_WRITTEN,
+        _ => help::WRITTEN,
+    }
 }
 
 /// The subcommand of an order, with its name as its usage has it.
@@ -122,6 +176,7 @@ fn command_of<'a>(alloc: Global, order: &Order<'_>) -> Result<Command<'a>, Alloc
         Order::Image { .. } => (commands::image(alloc), "bootswap image"),
         Order::Manifest { .. } => (commands::manifest(alloc), "bootswap manifest"),
         Order::MakeDevice { .. } => (commands::make_device(alloc), MAKE_DEVICE_NAME),
+        Order::MakeImage { .. } => (commands::make_image(alloc), MAKE_IMAGE_NAME),
         Order::Provision { .. } => (commands::provision(alloc), "bootswap provision"),
         Order::Show { .. } => (commands::show(alloc), "bootswap show"),
         Order::Run { .. } => (commands::run(alloc), "bootswap run"),
@@ -134,6 +189,7 @@ fn writes_to_standard_input(order: &Order<'_>) -> bool
 {
     match order {
         Order::Provision { flash, .. } | Order::Run { flash, .. } => is_standard_input(flash),
+        Order::MakeImage { image, .. } => is_standard_input(image),
         Order::Choose { .. }
         | Order::Check { .. }
         | Order::Image { .. }
@@ -150,6 +206,9 @@ fn reads_standard_input_twice(order: &Order<'_>) -> bool
         Order::Choose { .. } | Order::Image { .. } | Order::MakeDevice { .. } => false,
         Order::Check { table, report } => is_standard_input(table) && is_standard_input(report),
         Order::Manifest { device, file } => is_standard_input(device) && is_standard_input(file),
+        Order::MakeImage { image, body, .. } => {
+            is_standard_input(image) && is_standard_input(body)
+        }
         Order::Show { device, flash } => is_standard_input(device) && is_standard_input(flash),
         Order::Run {
             device,

@@ -57,6 +57,7 @@ named `-` is standard input.",
 Examples:
   bootswap make-device --sector 512 --slots 2,2 --vendor python.org \\
       --class sensor > device.json
+  bootswap make-image a.img body.bin --version 1.0.0
   bootswap provision device.json flash.bin a.img b.img
   bootswap show device.json flash.bin
   bootswap run device.json flash.bin script.txt
@@ -293,6 +294,62 @@ Examples:
 pub const USAGE: &str = "bootswap make-device --sector <BYTES> --slots <N,N,..>
            --vendor <DOMAIN> --class <NAME> [--trial-boots <N>]";
 
+pub const MAKE_IMAGE: Help = Help {
+    about: "Makes an image of MCUboot's format out of its body",
+    long_about: "Reads the body of an image from BODY, and makes the image in the file OUT: header,
+body, what the image asks of a device, and its digest. It prints `done`. An
+image of version 2.0.0+0, with security counter 5, that needs image 1 with at
+least version 2.0.0+0:
+  bootswap make-image a.img body.bin --version 2.0.0 --counter 5 \\
+      --needs '1 2.0.0'
+
+What `bootswap image` says of it, where the body is `ABCD`:
+  version 2.0.0+0
+  length 104
+  counter 5
+  digest 3a93df27e2afd898a939255877208cb1c4cac33854961dc724212a7bbe2ba2bc
+  needs 1 2.0.0+0
+
+A version is `major.minor.revision+build`, and last parts that are 0 may be left
+out. `--needs` may be given up to 16 times. `--needs-one '1 2.0.0 2 2.0.0'` says
+that it needs one of these images, one to four; it may be given up to 4 times.
+The quotes keep the words of one dependency together.
+
+Without `--counter` the image has no security counter, which counts as 0. Zero
+bytes fill a header of more than 32 bytes. A file OUT that is there is replaced,
+once all is done; it isn't BODY. The image is not signed.
+
+Where no image can have what is asked for it prints `refused CODE NAME`:
+  refused 1 BadHeaderSize        the header has 32 bytes at least
+  refused 2 UnsupportedFlags     the flags are 0 or a sum of 1, 16 and 256
+  refused 3 TooManyDependencies  there are at most 16
+  refused 4 TooBig               a body has at most 4294967295 bytes
+  refused 6 BadGroups            there are at most 4, of one to four images",
+    after: "Exit status: 0 done, 1 refused, 2 the words are wrong.
+Example: bootswap make-image a.img body.bin --version 1.0.0
+`bootswap make-image --help` tells more.",
+    long_after: "Exit status:
+  0  OUT is made, and `done` is printed
+  1  what is asked for is refused, and why is printed; or standard error has a
+     line `error: ..`: `image is an input` where OUT is BODY, `image in use`
+     where another program works on OUT, `cannot read NAME`, `cannot write NAME`
+     where OUT could not be made or replaced, or `memory`; or the answer could
+     not be written
+  2  the words of the command are wrong, or one of them is no number, version or
+     dependency
+
+Examples:
+  bootswap make-image a.img body.bin --version 1.0.0
+  bootswap make-image a.img - --version 1.4.2+7 --counter 3 \\
+      --needs '1 2.0.0' --needs-one '2 1.0.0 3 1.0.0' < body.bin
+  bootswap image a.img",
+};
+
+/// The usage of `make-image`, which would be too long for a line.
+pub const IMAGE_USAGE: &str = "bootswap make-image <OUT> <BODY> --version <VERSION> [--counter <N>]
+           [--needs <'J VERSION'>].. [--needs-one <'J VERSION ..'>]..
+           [--header-size <BYTES>] [--load-address <N>] [--flags <N>]";
+
 pub const PROVISION: Help = Help {
     about: "Makes the flash file of a device, an image for each slot pair",
     long_about: "Makes the flash of a device in a file and provisions it: FLASH gets the length
@@ -498,6 +555,69 @@ pub const TRIAL_BOOTS: OptionHelp = OptionHelp {
     text: "The boots of a trial, 1 to 7; without it there is one",
 };
 
+pub const NEW_IMAGE_FILE: &str = "The image file that is made";
+
+pub const BODY_FILE: &str = "The file that the body is read from; `-` is standard input";
+
+pub const VERSION: OptionHelp = OptionHelp {
+    value: "VERSION",
+    text: "The version of the image, such as 1.4.2+7",
+};
+
+pub const COUNTER: OptionHelp = OptionHelp {
+    value: "N",
+    text: "Security counter",
+};
+
+pub const NEEDS: OptionHelp = OptionHelp {
+    value: "J VERSION",
+    text: "It needs image J, with at least that version",
+};
+
+pub const NEEDS_ONE: OptionHelp = OptionHelp {
+    value: "J VERSION ..",
+    text: "It needs one of these, each with a version",
+};
+
+pub const HEADER_SIZE: OptionHelp = OptionHelp {
+    value: "BYTES",
+    text: "The bytes of the header; without it 32",
+};
+
+pub const LOAD_ADDRESS: OptionHelp = OptionHelp {
+    value: "N",
+    text: "Where it is to be loaded; without it 0",
+};
+
+pub const FLAGS: OptionHelp = OptionHelp {
+    value: "N",
+    text: "The flags of the header; without it 0",
+};
+
+/// The fault of words whose version is none.
+pub const NO_VERSION: &str = "`--version` is `major.minor.revision+build`, such as 1.4.2+7; last \
+     parts may be left out";
+
+/// The fault of words whose security counter is no number.
+pub const NO_COUNTER: &str = "`--counter` is a number, in digits, below 4294967296";
+
+/// The fault of words whose length of the header is none.
+pub const NO_HEADER_SIZE: &str = "`--header-size` is a number of bytes, in digits, below 65536";
+
+/// The fault of words whose load address is no number.
+pub const NO_LOAD_ADDRESS: &str = "`--load-address` is a number, in digits, below 4294967296";
+
+/// The fault of words whose flags are no number.
+pub const NO_FLAGS: &str = "`--flags` is a number, in digits, below 4294967296";
+
+/// The fault of words whose dependency is none.
+pub const NO_NEEDS: &str =
+    "`--needs` is the number of an image and a version, in one word: '1 2.0.0'";
+
+/// The fault of words whose group is none.
+pub const NO_NEEDS_ONE: &str =
+    "`--needs-one` is numbers of images, each with a version, in one word: '1 2.0.0 2 2.0.0'";
+
 /// The fault of words whose sector is no number.
 pub const NO_SECTOR: &str = "`--sector` is a number of bytes, in digits, below 4294967296";
 
@@ -516,6 +636,9 @@ pub const TWICE: &str = "standard input, `-`, can be read for one file only";
 
 /// The fault of an order that writes to standard input.
 pub const WRITTEN: &str = "the flash file is written to, so it can't be standard input, `-`";
+
+/// The fault of an order that makes an image on standard input.
+pub const IMAGE_WRITTEN: &str = "the image file is made, so it can't be standard input, `-`";
 
 /// The fault of words that ask for no order.
 pub const NO_ORDER: &str = "a subcommand is required but one was not provided";

@@ -1,11 +1,11 @@
 //! The command line: what the words of a `bootswap` command ask for, and what the program says of
 //! itself.
 //!
-//! Promises: an order has exactly the subcommand, the names of files and the numbers that `clap`'s
-//! definition of the matches gives for the words, and names standard input once at most; each other
-//! answer is a fault in the words, a request for help or the version, or want of memory. Files are
-//! named here and not opened. Allocates to read the words and to make texts. The program alone may
-//! call it.
+//! Promises: an order has exactly the subcommand, the names of files, the numbers, the version and
+//! the dependencies that `clap`'s definition of the matches gives for the words, and names standard
+//! input once at most; each other answer is a fault in the words, a request for help or the version,
+//! or want of memory. Files are named here and not opened. Allocates to read the words and to make
+//! texts. The program alone may call it.
 #![tactic(auto)]
 
 mod commands;
@@ -14,6 +14,7 @@ mod error;
 mod escaped;
 mod faults;
 mod help;
+mod image_words;
 mod order_reading;
 mod orders;
 
@@ -21,4 +22,4 @@ pub use error::OrderError;
 pub use escaped::Escaped;
 pub use faults::{fault_of, no_text};
 pub use order_reading::order;
-pub use orders::{NewDevice, Order, STANDARD_INPUT};
+pub use orders::{NewDevice, NewImage, Order, STANDARD_INPUT};

@@ -8,11 +8,12 @@ ghost use Rattle.command_line.specs.Faults.{IsRefusal};
 ghost use Rattle.command_line.specs.Orders.{Asks, Finds, IsOrder, IsOrderOf, is_given, misuse_of};
 
 use crate::commands::{
-    CHECK, CHOOSE, IMAGE, MAKE_DEVICE, MANIFEST, PROVISION, RUN, SHOW, bootswap, named,
+    CHECK, CHOOSE, IMAGE, MAKE_DEVICE, MAKE_IMAGE, MANIFEST, PROVISION, RUN, SHOW, bootswap, named,
 };
 use crate::device_words::device_in;
 use crate::error::OrderError;
 use crate::faults::{misuse, no_order};
+use crate::image_words::image_values_in;
 use crate::orders::Order;
 use clap::{ArgMatches, Error};
 use std::alloc::{AllocError, Global};
@@ -20,9 +21,9 @@ use std::convert::AsStr;
 
 /// What `words` ask for, of which the first is the program's own name.
 ///
-/// Else they ask for help or the version, or are at fault: by `clap`, because they have no number
-/// where one has to be, or because the order names standard input for two files, or for a flash
-/// file that is written to.
+/// Else they ask for help or the version, or are at fault: by `clap`, because they have no number,
+/// version or dependency where one has to be, or because the order names standard input for two
+/// files, or for a file that is written to.
 pub fn order<'a, S: AsStr>(alloc: Global, words: &'a [S]) -> Result<Order<'a>, OrderError>
     ensures order { IfOk result (IsOrder (map S.text words.entry.now)) }
     ensures sound { IfOk result (λ order. misuse_of order ≡ None) }
@@ -47,8 +48,8 @@ fn matches_of<'a, S: AsStr>(alloc: Global, words: &'a [S]) -> Result<ArgMatches<
     bootswap(alloc)?.try_get_matches_from(words)
 }
 
-/// The order that a parse found. All its names are there, since `clap` asks for them; its numbers
-/// may be none.
+/// The order that a parse found. All its names are there, since `clap` asks for them; its numbers,
+/// versions and dependencies may be none.
 fn order_in<'a>(alloc: Global, matches: &ArgMatches<'a>) -> Result<Option<Order<'a>>, AllocError>
     ensures { IfOk result (Finds (IsOrderOf (subcommand_rows_of matches.now))) }
 {
@@ -88,6 +89,9 @@ fn order_of<'a>(
     }
     if command == MAKE_DEVICE {
         return make_device_in(alloc, names);
+    }
+    if command == MAKE_IMAGE {
+        return make_image_in(alloc, names);
     }
     if command == PROVISION {
         return provision_in(alloc, names);
@@ -139,6 +143,25 @@ fn make_device_in<'a>(
 {
     match device_in(alloc, names)? {
         Some(device) => Ok(Some(Order::MakeDevice { device })),
+        None => Ok(None),
+    }
+}
+
+fn make_image_in<'a>(alloc: Global, names: &ArgMatches<'a>) -> Result<Option<Order<'a>>, AllocError>
+    ensures { IfOk result (Finds (Asks (codes "make-image") (rows_of (found_of names.now)))) }
+{
+    let Some(image) = name_in(names, named::OUT) else {
+        return Ok(None);
+    };
+    let Some(body) = name_in(names, named::BODY) else {
+        return Ok(None);
+    };
+    match image_values_in(alloc, names)? {
+        Some(values) => Ok(Some(Order::MakeImage {
+            image,
+            body,
+            values,
+        })),
         None => Ok(None),
     }
 }
@@ -205,7 +228,7 @@ fn is_given(names: &ArgMatches<'_>, option: &str) -> bool
 }
 
 /// All the names that they give for it.
-fn names_in<'m, 'a>(names: &'m ArgMatches<'a>, argument: &str) -> Option<&'m [&'a str]>
+pub(crate) fn names_in<'m, 'a>(names: &'m ArgMatches<'a>, argument: &str) -> Option<&'m [&'a str]>
     ensures { option_map (λ found. map (λ name. name.now) found.now) result
         ≡ all_of argument.now (rows_of (found_of names.now)) }
 {

@@ -1,5 +1,7 @@
 //! What a command is asked to do.
 
+use version_order::{Dependency, Version};
+
 /// The word that names standard input.
 pub const STANDARD_INPUT: &str = "-";
 
@@ -17,6 +19,25 @@ pub struct NewDevice<'a> {
     /// How many boots a trial has, where the words say it: 1 to
     /// [`common::limits::MOST_TRIAL_BOOTS`].
     pub trial_boots: Option<u8>,
+}
+
+/// What an image that is to be made says of itself, as the words have it.
+#[derive(Debug, Drop)]
+pub struct NewImage {
+    /// Its version.
+    pub version: Version,
+    /// Its security counter, where the words say it.
+    pub counter: Option<u32>,
+    /// What it needs of other images, in the order of the words.
+    pub dependencies: Vec<Dependency>,
+    /// Of each of these it needs one, in the order of the words. None is empty.
+    pub groups: Vec<Vec<Dependency>>,
+    /// The length of its header in bytes, where the words say it.
+    pub header_size: Option<u16>,
+    /// Where it is to be loaded, where the words say it.
+    pub load_address: Option<u32>,
+    /// The flags of its header, where the words say them.
+    pub flags: Option<u32>,
 }
 
 /// What the words ask for: a subcommand, with the names that the words give its files.
@@ -50,6 +71,15 @@ pub enum Order<'a> {
     MakeDevice {
         /// The device.
         device: NewDevice<'a>,
+    },
+    /// The making of an image.
+    MakeImage {
+        /// The name of the image's file, which isn't standard input.
+        image: &'a str,
+        /// The name of the file that holds its body.
+        body: &'a str,
+        /// What it says of itself.
+        values: NewImage,
     },
     /// The making of a flash file.
     Provision {

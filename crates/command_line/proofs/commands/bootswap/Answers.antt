@@ -13,7 +13,8 @@ returns c =
     let image = added _ _ _ _ _ check c.in_ok-image.ensures c.in_ok-program-4.ensures in
     let manifest = added _ _ _ _ _ image c.in_ok-manifest.ensures c.in_ok-program-5.ensures in
     let make_device = added _ _ _ _ _ manifest c.in_ok-make_device.ensures c.in_ok-program-6.ensures in
-    let provision = added _ _ _ _ _ make_device c.in_ok-provision.ensures c.in_ok-program-7.ensures in
-    let show = added _ _ _ _ _ provision c.in_ok-show.ensures c.in_ok-program-8.ensures in
-    IfOk-weaker c.with_command-8.result _ (λ command. app_of command ≡ bootswap)
-    (λ command run. added _ _ _ _ _ show c.in_ok-run.ensures run) c.with_command-8.ensures
+    let make_image = added _ _ _ _ _ make_device c.in_ok-make_image.ensures c.in_ok-program-7.ensures in
+    let provision = added _ _ _ _ _ make_image c.in_ok-provision.ensures c.in_ok-program-8.ensures in
+    let show = added _ _ _ _ _ provision c.in_ok-show.ensures c.in_ok-program-9.ensures in
+    IfOk-weaker c.with_command-9.result _ (λ command. app_of command ≡ bootswap)
+    (λ command run. added _ _ _ _ _ show c.in_ok-run.ensures run) c.with_command-9.ensures

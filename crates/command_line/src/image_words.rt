@@ -1,0 +1,204 @@
+//! The words of `make-image`: what the image says of itself.
+
+ghost use Rattle.std.specs.Prelude.{◌≡◌, ◌^◌, IfOk, codes, map, option_map};
+ghost use Rattle.std.specs.List.{AllZip};
+ghost use Rattle.clap.specs.Words.{found_of, rows_of};
+ghost use Rattle.command_line.specs.Needs.{AreNeeds, IsNeed, need_of, needs_of, spaced};
+ghost use Rattle.command_line.specs.Orders.{Finds, HasNumber, SaysImage, texts_at, version_at};
+
+use crate::commands::named;
+use crate::device_words::number_in;
+use crate::order_reading::{name_in, names_in};
+use crate::orders::NewImage;
+use clap::ArgMatches;
+use common::ascii::number_u8;
+use std::alloc::{AllocError, Global};
+use version_order::{Dependency, Version};
+
+/// What the words say of an image; none where one of them can't be read.
+pub fn image_values_in(
+    alloc: Global,
+    names: &ArgMatches<'_>,
+) -> Result<Option<NewImage>, AllocError>
+    ensures { IfOk result (Finds (SaysImage (rows_of (found_of names.now)))) }
+{
+    let Some(version) = version_in(names) else {
+        return Ok(None);
+    };
+    let Some(counter) = number_said(names, named::COUNTER) else {
+        return Ok(None);
+    };
+    let Some(dependencies) = dependencies_in(alloc, names)? else {
+        return Ok(None);
+    };
+    let Some(groups) = groups_in(alloc, names)? else {
+        return Ok(None);
+    };
+    let Some(header_size) = header_size_in(names) else {
+        return Ok(None);
+    };
+    let Some(load_address) = number_said(names, named::LOAD_ADDRESS) else {
+        return Ok(None);
+    };
+    let Some(flags) = number_said(names, named::FLAGS) else {
+        return Ok(None);
+    };
+    Ok(Some(NewImage {
+        version,
+        counter,
+        dependencies,
+        groups,
+        header_size,
+        load_address,
+        flags,
+    }))
+}
+
+/// The version that the words give.
+pub fn version_in(names: &ArgMatches<'_>) -> Option<Version>
+    ensures { result ≡ version_at (rows_of (found_of names.now)) }
+{
+    Version::parse(name_in(names, named::VERSION)?).ok()
+}
+
+/// The number that the words give for this argument, where they give one; none where what they give
+/// is no number.
+pub fn number_said(names: &ArgMatches<'_>, argument: &str) -> Option<Option<u32>>
+    ensures { Finds (HasNumber argument.now (2 ^ 32) (rows_of (found_of names.now))) result }
+{
+    if name_in(names, argument).is_none() {
+        return Some(None);
+    }
+    Some(Some(number_in(names, argument)?))
+}
+
+/// The length of the header, where the words give it; none where it is no number below 65536.
+pub fn header_size_in(names: &ArgMatches<'_>) -> Option<Option<u16>>
+    ensures { Finds (HasNumber (codes "header-size") (2 ^ 16) (rows_of (found_of names.now))) result }
+{
+    if name_in(names, named::HEADER_SIZE).is_none() {
+        return Some(None);
+    }
+    let size = u16::try_from(number_in(names, named::HEADER_SIZE)?).ok()?;
+    Some(Some(size))
+}
+
+/// The dependencies that the words give; none where one of the words says no dependency.
+pub fn dependencies_in(
+    alloc: Global,
+    names: &ArgMatches<'_>,
+) -> Result<Option<Vec<Dependency>>, AllocError>
+    ensures { IfOk result (Finds (λ dependencies. AllZip IsNeed
+        (texts_at (codes "needs") (rows_of (found_of names.now))) dependencies.items)) }
+{
+    match names_in(names, named::NEEDS) {
+        Some(words) => dependencies_of(alloc, words),
+        None => Ok(Some(Vec::new(alloc))),
+    }
+}
+
+/// The groups that the words give; none where one of the words says no group.
+pub fn groups_in(
+    alloc: Global,
+    names: &ArgMatches<'_>,
+) -> Result<Option<Vec<Vec<Dependency>>>, AllocError>
+    ensures { IfOk result (Finds (λ groups. AllZip AreNeeds
+        (texts_at (codes "needs-one") (rows_of (found_of names.now)))
+        (map (λ group. group.items) groups.items))) }
+{
+    match names_in(names, named::NEEDS_ONE) {
+        Some(words) => groups_of(alloc, words),
+        None => Ok(Some(Vec::new(alloc))),
+    }
+}
+
+/// The dependencies that these words say, each one.
+fn dependencies_of(alloc: Global, words: &[&str]) -> Result<Option<Vec<Dependency>>, AllocError>
+    ensures { IfOk result (Finds (λ dependencies.
+        AllZip IsNeed (map (λ word. word.now) words.now) dependencies.items)) }
+{
+    let mut dependencies = Vec::new(alloc);
+    for word in words {
+        let Some(dependency) = dependency_of(alloc, word)? else {
+            return Ok(None);
+        };
+        dependencies.push(dependency)?;
+    }
+    Ok(Some(dependencies))
+}
+
+/// The groups that these words say, each one.
+fn groups_of(alloc: Global, words: &[&str]) -> Result<Option<Vec<Vec<Dependency>>>, AllocError>
+    ensures { IfOk result (Finds (λ groups.
+        AllZip AreNeeds (map (λ word. word.now) words.now)
+        (map (λ group. group.items) groups.items))) }
+{
+    let mut groups = Vec::new(alloc);
+    for word in words {
+        let Some(group) = needs_in(alloc, word)? else {
+            return Ok(None);
+        };
+        groups.push(group)?;
+    }
+    Ok(Some(groups))
+}
+
+/// The one dependency that a word says.
+fn dependency_of(alloc: Global, word: &str) -> Result<Option<Dependency>, AllocError>
+    ensures { IfOk result (Finds (IsNeed word.now)) }
+{
+    let Some(needs) = needs_in(alloc, word)? else {
+        return Ok(None);
+    };
+    match needs.as_slice() {
+        [need] => Ok(Some(*need)),
+        _ => Ok(None),
+    }
+}
+
+/// The dependencies that a word says: of each the number of an image and a version, parted by
+/// spaces.
+fn needs_in(alloc: Global, word: &str) -> Result<Option<Vec<Dependency>>, AllocError>
+    ensures { IfOk result (λ needs. option_map (λ needs. needs.items) needs
+        ≡ needs_of (spaced word.now)) }
+{
+    let words = spaced_words(alloc, word)?;
+    needs_of(alloc, &words)
+}
+
+/// The words of a text, parted by spaces.
+fn spaced_words<'a>(alloc: Global, text: &'a str) -> Result<Vec<&'a str>, AllocError>
+    ensures { IfOk result (λ words. map (λ word. word.now) words.items ≡ spaced text.now) }
+{
+    text.split(' ').collect(alloc)
+}
+
+/// The dependencies that these words say, two words each.
+fn needs_of(alloc: Global, words: &[&str]) -> Result<Option<Vec<Dependency>>, AllocError>
+    ensures { IfOk result (λ needs. option_map (λ needs. needs.items) needs
+        ≡ needs_of (map (λ word. word.now) words.now)) }
+{
+    let mut needs = Vec::new(alloc);
+    let mut rest = words;
+    while let [image, minimum, after @ ..] = rest {
+        let Some(need) = need_of(image, minimum) else {
+            return Ok(None);
+        };
+        needs.push(need)?;
+        rest = after;
+    }
+    if rest.is_empty() {
+        Ok(Some(needs))
+    } else {
+        Ok(None)
+    }
+}
+
+/// The dependency that these two words say.
+fn need_of(image: &str, minimum: &str) -> Option<Dependency>
+    ensures { result ≡ need_of image.now minimum.now }
+{
+    let image = number_u8(image.as_bytes())?;
+    let minimum = Version::parse(minimum).ok()?;
+    Some(Dependency { image, minimum })
+}
