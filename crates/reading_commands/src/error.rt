@@ -27,6 +27,12 @@ pub enum Refusal<'a> {
     /// The flash file that is to be made is one of the files that are read for it.
     #[error("flash is an input")]
     FlashIsInput,
+    /// The image file that is to be made is the one that its body is read from.
+    #[error("image is an input")]
+    ImageIsInput,
+    /// Another program uses the image file that is to be made.
+    #[error("image in use")]
+    ImageInUse,
     /// There are not as many image files as the map of the device has images.
     #[error("image count")]
     ImageCount,
@@ -39,6 +45,9 @@ pub enum Refusal<'a> {
     /// A file or standard input could not be read to its end.
     #[error("cannot read {0}")]
     CannotRead(Source<'a>),
+    /// A file that is no flash could not be made, or not be replaced.
+    #[error("cannot write {0}")]
+    CannotReplace(Source<'a>),
     /// Memory ran out.
     #[error("memory")]
     NoMemory,
