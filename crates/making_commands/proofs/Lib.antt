@@ -1,1 +1,3 @@
+mod FileLaws
 pub mod NewDeviceLaws
+pub mod NewImageLaws

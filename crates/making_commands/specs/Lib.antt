@@ -1,1 +1,2 @@
 pub mod NewDeviceEnd
+pub mod NewImageEnd

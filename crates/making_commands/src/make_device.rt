@@ -7,7 +7,8 @@ ghost use Rattle.making_commands.specs.NewDeviceEnd.{AnswersNewDevice, IsAsked};
 ghost use Rattle.sector_map.specs.Making.{HasSizes};
 
 use crate::map_text::map_text;
-use answers::{DeviceFault, DeviceFile, map_refusal_text, write_all};
+use crate::telling::tell;
+use answers::{DeviceFault, DeviceFile, map_refusal_text};
 use command_line::NewDevice;
 use manifest::{Identity, class_id, vendor_id};
 use reading_commands::{Answer, Refusal};
@@ -128,18 +129,5 @@ fn expect_file<'a>(alloc: Global, text: &[u8], device: &DeviceFile) -> Result<()
         Ok(read) if read == *device => Ok(()),
         Err(DeviceFault::NoMemory) => Err(Refusal::NoMemory),
         _ => Err(Refusal::DeviceFile),
-    }
-}
-
-/// Writes a text, and flushes it.
-fn tell<'a, W: Write>(text: &[u8], to: &mut W) -> Result<(), Refusal<'a>>
-    ensures { OnOk result (Appends (W.contents to.old) (W.contents to.new) text.now) }
-{
-    let Ok(()) = write_all(to, text) else {
-        return Err(Refusal::CannotWrite);
-    };
-    match to.flush() {
-        Ok(()) => Ok(()),
-        Err(_) => Err(Refusal::CannotWrite),
     }
 }

@@ -8,5 +8,5 @@ returns g c = (
   c.device_of-device.result,
   search rules,
   c.in_ok-expect_file.ensures,
-  rw (c.as_bytes.ensures.value, ← c.as_bytes-2.ensures.value) c.in_ok-tell.ensures,
+  rw (c.as_bytes.ensures.value, ← c.as_bytes-2.ensures.value) c.in_ok-tell.ensures.told,
 )

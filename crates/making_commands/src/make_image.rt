@@ -1,0 +1,170 @@
+//! `bootswap make-image`: an image, by its body and what it is to say of itself.
+ghost use Rattle.std.specs.Prelude.{◌≡◌, ◌≢◌, IfErr, IfOk, OnOk, map, string_bytes};
+ghost use Rattle.std.specs.List.{AllZip};
+ghost use Rattle.std.specs.Io.KnownBytes.{Appends};
+ghost use Rattle.reading_commands.specs.Input.{IsKnownAs, KeepsFiles};
+ghost use Rattle.making_commands.specs.NewImageEnd.{AnswersMade, AnswersNewImage, AreAlternatives, EndsUnmade, IsImageFor, LeavesFiles, RefusesImage, fault_text};
+
+use crate::telling::tell;
+use command_line::NewImage;
+use reading_commands::{Answer, FlashFault, Host, Refusal, Source};
+use std::alloc::{AllocError, Allocator};
+use std::io::Write;
+use tlv::{ImageSpec, MakeError, make_image};
+use version_order::Dependency;
+
+/// The length of a header in bytes where the words don't say it: that of its fields.
+const USUAL_HEADER_SIZE: u16 = 32;
+
+/// Reads the body of an image from `host`, makes the image that is asked for, and then makes or
+/// replaces its file. Writes to `out` that it is done, or why there is no such image. All stands in
+/// memory of `heap`.
+///
+/// The image is made before its file is touched, which isn't that of the body. Unless the answer is
+/// `Done`, or can't be written, the file is as it was.
+pub fn perform<'a, A: Allocator, H: Host, O: Write>(
+    heap: &A,
+    image: &'a str,
+    body: Source<'a>,
+    asked: &NewImage,
+    host: &mut H,
+    out: &mut O,
+) -> Result<Answer, Refusal<'a>>
+    ensures answers { IfOk result (λ answer. AnswersNewImage answer body.entry asked.now
+        (H.input host.old) (H.file host.old) (H.file host.new image.now)
+        (O.contents out.old) (O.contents out.new)) }
+    ensures kept { EndsUnmade result
+        → LeavesFiles body.entry (H.file host.old) (H.file host.new) }
+{
+    let source = body;
+    let body = source.read(heap, host)?;
+    refuse_input(host, image, source)?;
+    make(heap, image, asked, &body, host, out)
+}
+
+/// Refuses an image whose file is what is read here, by whatever name.
+fn refuse_input<'a, H: Host>(
+    host: &H,
+    image: &'a str,
+    source: Source<'_>,
+) -> Result<(), Refusal<'a>> {
+    let Source::File(name) = source else {
+        return Ok(());
+    };
+    if name == image {
+        return Err(Refusal::ImageIsInput);
+    }
+    match host.is_same_file(name, image) {
+        Ok(false) => Ok(()),
+        Ok(true) => Err(Refusal::ImageIsInput),
+        Err(_) => Err(Refusal::CannotReplace(Source::File(image))),
+    }
+}
+
+/// Makes the image that is asked for, with this body, and then makes or replaces its file.
+fn make<'a, A: Allocator, H: Host, O: Write>(
+    heap: &A,
+    image: &'a str,
+    asked: &NewImage,
+    body: &[u8],
+    host: &mut H,
+    out: &mut O,
+) -> Result<Answer, Refusal<'a>>
+    ensures made { IfOk result (λ answer. AnswersMade answer asked.now body.now
+        (H.file host.new image.now) (O.contents out.old) (O.contents out.new)) }
+    ensures kept { EndsUnmade result → KeepsFiles (H.file host.old) (H.file host.new) }
+{
+    match image_of(heap, asked, body) {
+        Ok(bytes) => {
+            replace(heap, image, &bytes, host)?;
+            tell(b"done\n", out)?;
+            Ok(Answer::Done)
+        }
+        Err(MakeError::NoMemory) => Err(Refusal::NoMemory),
+        Err(fault) => {
+            refuse(heap, fault, out)?;
+            Ok(Answer::Refused)
+        }
+    }
+}
+
+/// The image that is asked for, with this body.
+fn image_of<'h, A: Allocator>(
+    heap: &'h A,
+    asked: &NewImage,
+    body: &[u8],
+) -> Result<Vec<u8, &'h A>, MakeError>
+    ensures made { IfOk result (λ bytes. IsImageFor asked.now body.now bytes.items) }
+    ensures refused { IfErr result (λ fault. (fault ≢ MakeError.NoMemory)
+        → RefusesImage asked.now body.now fault) }
+{
+    let groups = slices_of(heap, asked.groups.as_slice())?;
+    let spec = ImageSpec {
+        load_address: asked.load_address.unwrap_or(0),
+        header_size: asked.header_size.unwrap_or(USUAL_HEADER_SIZE),
+        flags: asked.flags.unwrap_or(0),
+        version: asked.version,
+        counter: asked.counter,
+        dependencies: asked.dependencies.as_slice(),
+        groups: groups.as_slice(),
+        body,
+    };
+    make_image(heap, &spec)
+}
+
+/// The alternatives of each of these groups.
+fn slices_of<'g, 'h, A: Allocator>(
+    heap: &'h A,
+    groups: &'g [Vec<Dependency>],
+) -> Result<Vec<&'g [Dependency], &'h A>, AllocError>
+    ensures { IfOk result (λ slices.
+        AllZip AreAlternatives (map (λ group. group.items) groups.now) slices.items) }
+{
+    let mut slices = Vec::new(heap);
+    for group in groups {
+        slices.push(group.as_slice())?;
+    }
+    Ok(slices)
+}
+
+/// Makes or replaces the file of an image.
+fn replace<'a, A: Allocator, H: Host>(
+    heap: &A,
+    name: &'a str,
+    bytes: &[u8],
+    host: &mut H,
+) -> Result<(), Refusal<'a>>
+    ensures done { OnOk result (IsKnownAs (H.file host.new name.now) bytes.now) }
+    ensures failed { IfErr result (λ _. KeepsFiles (H.file host.old) (H.file host.new)) }
+{
+    match host.replace_file(heap, name, bytes) {
+        Ok(()) => Ok(()),
+        Err(FlashFault::InUse) => Err(Refusal::ImageInUse),
+        Err(FlashFault::NoMemory) => Err(Refusal::NoMemory),
+        Err(FlashFault::WrongLength | FlashFault::Failed) => {
+            Err(Refusal::CannotReplace(Source::File(name)))
+        }
+    }
+}
+
+/// Writes to `out` why there is no image.
+fn refuse<'a, A: Allocator, O: Write>(
+    heap: &A,
+    fault: MakeError,
+    out: &mut O,
+) -> Result<(), Refusal<'a>>
+    ensures { OnOk result (Appends (O.contents out.old) (O.contents out.new) (fault_text fault)) }
+{
+    let Ok(text) = fault_text(heap, fault) else {
+        return Err(Refusal::NoMemory);
+    };
+    tell(text.as_bytes(), out)
+}
+
+/// Why there is no image, by the number and the name of the first check that fails.
+fn fault_text<A: Allocator>(heap: &A, fault: MakeError) -> Result<String<&A>, AllocError>
+    ensures { IfOk result (λ text. string_bytes text ≡ fault_text fault) }
+{
+    let (code, name) = (fault.code(), fault.name());
+    format!(in heap; "refused {code} {name}\n")
+}

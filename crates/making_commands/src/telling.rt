@@ -1,0 +1,21 @@
+//! What a command writes to an output.
+ghost use Rattle.std.specs.Prelude.{◌≡◌, IfErr, OnOk};
+ghost use Rattle.std.specs.Io.KnownBytes.{Appends};
+
+use answers::write_all;
+use reading_commands::Refusal;
+use std::io::Write;
+
+/// Writes a text, and flushes it.
+pub fn tell<'a, W: Write>(text: &[u8], to: &mut W) -> Result<(), Refusal<'a>>
+    ensures told { OnOk result (Appends (W.contents to.old) (W.contents to.new) text.now) }
+    ensures untold { IfErr result (λ refusal. refusal ≡ Refusal.CannotWrite) }
+{
+    let Ok(()) = write_all(to, text) else {
+        return Err(Refusal::CannotWrite);
+    };
+    match to.flush() {
+        Ok(()) => Ok(()),
+        Err(_) => Err(Refusal::CannotWrite),
+    }
+}
