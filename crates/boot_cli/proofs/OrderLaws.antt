@@ -15,6 +15,7 @@ use Rattle.boot_cli.specs.OrderEnd.{AnswersOrder}
 use Rattle.boot_cli.specs.ProvisionEnd.{AnswersMade, AnswersProvision}
 use Rattle.boot_cli.specs.RunEnd.{AnswersRun}
 use Rattle.making_commands.proofs.NewDeviceLaws.{AnswersNewDevice-kept}
+use Rattle.making_commands.proofs.NewImageLaws.{AnswersNewImage-kept}
 use Rattle.reading_commands.proofs.AnswerLaws.{AnswersCheck-kept, AnswersChoice-kept, AnswersDescription-kept, AnswersManifest-kept, AnswersShow-kept}
 
 pub AnswersMade-kept : (made : Made) (old mid new : Option (List ℕ))
@@ -89,6 +90,8 @@ AnswersOrder-kept (order.Manifest device named) input file then old mid new answ
 )
 AnswersOrder-kept (order.MakeDevice device) input file then old mid new answered kept =
     AnswersNewDevice-kept device old mid new answered kept
+AnswersOrder-kept (order.MakeImage image body values) input file then old mid new answered kept =
+    (answered.0, answered.1, AnswersNewImage-kept answered.0 values input file (then image.now) old mid new answered.2 kept)
 AnswersOrder-kept (order.Provision device flash images) input file then old mid new answered kept = (
   answered.0,
   answered.1,

@@ -1,5 +1,5 @@
 //! The program `bootswap` but for its `main`: its words, and what they ask for. The commands that
-//! write no flash stand in `reading_commands`, and those that make a file out of the words alone in
+//! write no flash stand in `reading_commands`, and those that make device files and images in
 //! `making_commands`; here are those of a device itself, on a file, that boots, takes uploads and
 //! survives power cuts.
 //!

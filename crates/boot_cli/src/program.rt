@@ -4,7 +4,7 @@ ghost use Rattle.boot_cli.specs.OrderEnd.{AnswersOrder};
 
 use crate::commands::{playing, provision};
 use command_line::{Order, OrderError, STANDARD_INPUT, fault_of, no_text, order};
-use making_commands::make_device;
+use making_commands::{make_device, make_image};
 use reading_commands::{
     Access, Answer, Host, Refusal, Source, check, choose, finish, image, manifest_file, refuse,
     show, status_after,
@@ -108,6 +108,11 @@ fn perform<'a, 'h, A: Allocator, H: Host, O: Write, E: Write>(
             manifest_file::perform(alloc, heap, device, file, host, out)
         }
         Order::MakeDevice { device } => make_device::perform(alloc, heap, &device, out, err),
+        Order::MakeImage {
+            image,
+            body,
+            values,
+        } => make_image::perform(heap, image, Source::named(body), &values, host, out),
         Order::Provision {
             device,
             flash,
