@@ -9,6 +9,7 @@ mod image_bytes;
 mod images;
 mod made_images;
 mod make_device;
+mod make_image;
 mod manifests;
 mod orders;
 mod sizes;

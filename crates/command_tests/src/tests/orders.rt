@@ -9,7 +9,7 @@ use std::test::Fail;
 type Words = &'static [&'static str];
 
 /// Words of each command, and the order that they give.
-const ORDERS: [(Words, &str); 14] = [
+const ORDERS: [(Words, &str); 16] = [
     (
         &["bootswap", "choose", "t.txt"],
         r#"Choose { table: "t.txt" }"#,
@@ -52,6 +52,37 @@ const ORDERS: [(Words, &str); 14] = [
             "--sector=4294967295",
         ],
         r#"MakeDevice { device: NewDevice { sector_size: 4294967295, sectors: [0], vendor: "", class: "-", trial_boots: Some(7) } }"#,
+    ),
+    (
+        &[
+            "bootswap",
+            "make-image",
+            "a.img",
+            "-",
+            "--version",
+            "1.4.2+7",
+        ],
+        r#"MakeImage { image: "a.img", body: "-", values: NewImage { version: Version { major: 1, minor: 4, revision: 2, build: 7 }, counter: None, dependencies: [], groups: [], header_size: None, load_address: None, flags: None } }"#,
+    ),
+    (
+        &[
+            "bootswap",
+            "make-image",
+            "--needs=1 2",
+            "--flags=16",
+            "--needs-one=3 4 5 6.7",
+            "a.img",
+            "--header-size=48",
+            "--version=0",
+            "--needs-one",
+            "8 9",
+            "--security-counter=5",
+            "b.bin",
+            "--load-address=4294967295",
+            "--needs",
+            "255 255.255.65535+4294967295",
+        ],
+        r#"MakeImage { image: "a.img", body: "b.bin", values: NewImage { version: Version { major: 0, minor: 0, revision: 0, build: 0 }, counter: Some(5), dependencies: [Dependency { image: 1, minimum: Version { major: 2, minor: 0, revision: 0, build: 0 } }, Dependency { image: 255, minimum: Version { major: 255, minor: 255, revision: 65535, build: 4294967295 } }], groups: [[Dependency { image: 3, minimum: Version { major: 4, minor: 0, revision: 0, build: 0 } }, Dependency { image: 5, minimum: Version { major: 6, minor: 7, revision: 0, build: 0 } }], [Dependency { image: 8, minimum: Version { major: 9, minor: 0, revision: 0, build: 0 } }]], header_size: Some(48), load_address: Some(4294967295), flags: Some(16) } }"#,
     ),
     (
         &["bootswap", "provision", "d.json", "f.bin", "a.img"],
@@ -109,7 +140,7 @@ fn each_command_is_read_with_its_names(rt: HostRuntime) -> Result<(), Fail> {
 const WRONG_WORDS: [(Words, &str, &str); 17] = [
     (
         &["bootswap"],
-        "'bootswap' requires a subcommand but one was not provided\n  [subcommands: choose, check, image, manifest, make-device, provision, show, run, help]",
+        "'bootswap' requires a subcommand but one was not provided\n  [subcommands: choose, check, image, manifest, make-device, make-image, provision, show, run, help]",
         "[COMMAND]",
     ),
     (
@@ -300,7 +331,7 @@ struct Help {
 
 /// Every help. The short ones name the exit statuses and an example, the long ones what is read and
 /// printed.
-const HELPS: [Help; 20] = [
+const HELPS: [Help; 22] = [
     Help {
         words: &["bootswap", "-h"],
         parts: &[
@@ -310,6 +341,7 @@ const HELPS: [Help; 20] = [
             "  image        Checks an image",
             "  manifest     Checks a manifest",
             "  make-device  Makes the device file",
+            "  make-image   Makes an image",
             "  provision    Makes the flash file",
             "  show         Prints what stands",
             "  run          Runs a device",
@@ -427,6 +459,25 @@ const HELPS: [Help; 20] = [
             "  largest 1 1024\n  flash 8192\n",
             "  --trial-boots <N>\n",
             "  refused map 4 TooLarge ",
+            "  2  the words",
+        ],
+    },
+    Help {
+        words: &["bootswap", "make-image", "-h"],
+        parts: &[
+            "Usage: bootswap make-image <OUT> <BODY> --version <VERSION> [--counter <N>]\n",
+            "  --counter <N> ",
+            "security-counter",
+            "Exit status: 0 ",
+            "Example: bootswap make-image ",
+        ],
+    },
+    Help {
+        words: &["bootswap", "help", "make-image"],
+        parts: &[
+            "  bootswap make-image a.img body.bin --version 2.0.0 --counter 5 \\\n      --needs '1 2.0.0'\n",
+            "  length 104\n",
+            "  refused 6 BadGroups ",
             "  2  the words",
         ],
     },
