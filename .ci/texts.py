@@ -325,7 +325,58 @@ def check_new_devices(checks):
         checks.expect(f"make-device: {told}: {sector} {slots}", asked(sector, slots, "v", "c"), 1, out)
 
 
-COMMANDS = ("choose", "check", "image", "manifest", "make-device", "provision", "show", "run")
+# The images of examples/images that `make-image` makes of the body `ABCD`, and the words for them.
+NEW_IMAGES = {
+    "one": ["--version", "1.0.0+0"],
+    "needing": ["--version", "2.0.0+0", "--needs", "1 2.0.0+0"],
+    "partner": ["--needs=0 2", "--version=2"],
+    "needing3": ["--version", "3.0", "--needs", "1 3.0.0"],
+    "partner3": ["--version", "3.0.0", "--needs", "0 3.0"],
+    "counted": ["--version", "1.0.0+0", "--counter", "5", "--needs", "1 2.0.0+0"],
+    "patched": ["--version", "1.1", "--security-counter", "5"],
+    "stale": ["--version", "1.2", "--counter=4"],
+    "either": ["--version", "2.0.0+0", "--needs-one", "1 2.0.0+0 2 2.0.0+0"],
+}
+
+
+def check_new_images(checks):
+    """Images that `make-image` makes are those of the format, and the other commands take them."""
+    body = checks.file("body", b"ABCD")
+    for name, words in NEW_IMAGES.items():
+        wanted = read(f"{EXAMPLES}/images/{name}.img")
+        for source in (body, "-"):
+            title = f"make-image: {name}{' of standard input' if source == '-' else ''}"
+            checks.expect(title, ["make-image", "made", source, *words], 0, b"done\n", given=b"ABCD")
+            is_same = read(f"{checks.folder}/made") == wanted
+            checks.tell(f"{title}: its bytes", [] if is_same else ["they are others"])
+        told = read(f"{EXAMPLES}/descriptions/{name}.txt")
+        checks.expect(f"make-image: {name} is described", ["image", "made"], 0, told)
+    checks.expect("make-image: its group isn't met", ["provision", PAIR, "new", "made", ONE], 1, b"refused boot 6 InvalidSet\n")
+    checks.expect("make-image: one", ["make-image", "made", body, *NEW_IMAGES["one"]], 0, b"done\n")
+    checks.expect("make-image: its flash is made", ["provision", PAIR, "new", "made", "made"], 0, b"done\n")
+    os.remove(f"{checks.folder}/new")
+    check_kept_images(checks, body)
+
+
+def check_kept_images(checks, body):
+    """What `make-image` can't make leaves a file as it was."""
+    words, old = NEW_IMAGES["one"], read(f"{checks.folder}/made")
+    os.symlink("made", f"{checks.folder}/link")
+    for title, image, source, more, status, out, err, how in [
+        ("a write fails", "made", body, [], 1, b"", b"error: cannot write made\n", {"most": 10}),
+        ("its values are refused", "made", body, ["--flags=2"], 1, b"refused 2 UnsupportedFlags\n", b"", {}),
+        ("it is its body", "made", "made", [], 1, b"", b"error: image is an input\n", {}),
+        ("it is its body by another name", "made", "link", [], 1, b"", b"error: image is an input\n", {}),
+        ("its body isn't there", "made", "absent", [], 1, b"", b"error: cannot read absent\n", {}),
+    ]:
+        before = sorted(os.listdir(checks.folder))
+        checks.expect(f"make-image: {title}", ["make-image", image, source, *words, *more], status, out, err, **how)
+        is_kept = read(f"{checks.folder}/made") == old and sorted(os.listdir(checks.folder)) == before
+        checks.tell(f"make-image: {title}: the file stays", [] if is_kept else ["it doesn't"])
+    os.remove(f"{checks.folder}/link")
+
+
+COMMANDS = ("choose", "check", "image", "manifest", "make-device", "make-image", "provision", "show", "run")
 
 
 def check_words(checks):
@@ -342,6 +393,8 @@ def check_words(checks):
     wrong += [["show", "-", "-"], ["run", "a", "b"], ["run", "a", "b", "c", "d"], ["run", "a", "-", "b"]]
     wrong += [["run", "-", "a", "-"], ["make-device"], asked("x", [2], "v", "c"), asked(2**32, [2], "v", "c")]
     wrong += [asked(512, [2, ""], "v", "c"), asked(512, ["2 2"], "v", "c"), asked(512, [2], "v", "c", 0)]
+    wrong += [["make-image"], ["make-image", "a", "b"], ["make-image", "-", "b", "--version=1"]]
+    wrong += [["make-image", "a", "b", "--version=x"], ["make-image", "a", "b", "--version=1", "--needs=1"]]
     wrong += [asked(512, [2], "v", "c", 8), asked(512, [2], "v", "c", 1, 1), asked(512, [2], "v", "c")[:-2]]
     for words in [*wrong, ["choose", b"\xff"], ["a\nb\x1bc"]]:
         status, out, err = checks.run(words)
@@ -441,6 +494,7 @@ CHECKS = (
     check_images,
     check_manifests,
     check_new_devices,
+    check_new_images,
     check_words,
     check_reads,
     check_terminal,
