@@ -3,16 +3,10 @@ use Rattle.std.proofs.Common.{◌≡◌, List, refl, rules, subst, true}
 use Rattle.std.specs.Prelude.{Err, IfErr, Ok, Result}
 use Rattle.clap.specs.Faults.{is_simple_and_free}
 use Rattle.clap.specs.Simple.{is_simple}
-use Rattle.clap.specs.Words.{App, FailsBy, HasKind, HasMatchesOf, Shape, Text, fault_of, subcommand_of, subcommand_rows_of, with_subcommand}
+use Rattle.clap.specs.Words.{App, FailsBy, HasKind, HasMatchesOf, Text, fault_of, subcommand_of, subcommand_rows_of}
 use Rattle.clap.specs.declared.error.Error.{Error}
 use Rattle.clap.specs.declared.parser.matches.ArgMatches.{ArgMatches}
 use Rattle.command_line.specs.Commands.{bootswap}
-
-pub added : (before known after : App) (below shape : Shape) → before ≡ known → below ≡ shape
-    → after ≡ with_subcommand before below → after ≡ with_subcommand known shape
-added before known after below shape same below_same more =
-    subst (λ (a : App). after ≡ with_subcommand a shape) same
-    (subst (λ (s : Shape). after ≡ with_subcommand before s) below_same more)
 
 is_simple_program : is_simple bootswap ≡ true
 is_simple_program = refl

@@ -2,7 +2,7 @@
 use Rattle.std.specs.Prelude.{Bool, List, [], ◌∷◌, Some, codes, true, false}
 use Rattle.clap.specs.Lexer.{usize_max}
 use Rattle.clap.specs.Simple.{new_shape}
-use Rattle.clap.specs.Words.{App, Rule, Shape, Text, new_rule, with_rule}
+use Rattle.clap.specs.Words.{App, Rule, Shape, Text, new_rule, with_rule, with_subcommand}
 use Rattle.clap.specs.declared.builder.action.ArgAction.TheVariants.{Append, SetTrue}
 
 -- A name that has to be given.
@@ -106,6 +106,23 @@ program = record {
   top = record (new_shape (codes "bootswap")) { has_version = true; subcommand_required = true };
   subs = [];
 }
+
+-- The commands of the choice over a table, behind those that there are.
+abbrev pub with_choices : App → App
+with_choices app = with_subcommand (with_subcommand app choose_shape) check_shape
+
+-- The commands that say what a file holds.
+abbrev pub with_descriptions : App → App
+with_descriptions app = with_subcommand (with_subcommand app image_shape) manifest_shape
+
+-- The commands that make a file out of the words.
+abbrev pub with_makers : App → App
+with_makers app = with_subcommand (with_subcommand app make_device_shape) make_image_shape
+
+-- The commands of a device on a file.
+abbrev pub with_devices : App → App
+with_devices app =
+    with_subcommand (with_subcommand (with_subcommand app provision_shape) show_shape) run_shape
 
 -- The program.
 abbrev pub bootswap : App

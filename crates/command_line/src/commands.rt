@@ -7,7 +7,9 @@ ghost use Rattle.command_line.specs.Commands.{all_names, also_named, bootswap, c
 ghost use Rattle.command_line.specs.Commands.{choose_shape, image_shape, make_device_shape};
 ghost use Rattle.command_line.specs.Commands.{make_image_shape, manifest_shape, one_flag, one_name};
 ghost use Rattle.command_line.specs.Commands.{one_option, options, program, provision_shape};
-ghost use Rattle.command_line.specs.Commands.{run_shape, show_shape, with_header, with_needs};
+ghost use Rattle.command_line.specs.Commands.{run_shape, show_shape, with_choices};
+ghost use Rattle.command_line.specs.Commands.{with_descriptions, with_devices, with_header};
+ghost use Rattle.command_line.specs.Commands.{with_makers, with_needs};
 
 use crate::help;
 use crate::help::{Help, OptionHelp};
@@ -85,12 +87,40 @@ pub mod named {
 pub fn bootswap<'a>(alloc: Global) -> Result<Command<'a>, AllocError>
     ensures { IfOk result (λ command. app_of command ≡ bootswap) }
 {
-    let program = with_command(program(alloc)?, choose(alloc)?)?;
-    let program = with_command(program, check(alloc)?)?;
+    let program = with_choices(alloc, program(alloc)?)?;
+    let program = with_descriptions(alloc, program)?;
+    let program = with_makers(alloc, program)?;
+    with_devices(alloc, program)
+}
+
+/// The program with the commands of the choice over a table.
+fn with_choices<'a>(alloc: Global, program: Command<'a>) -> Result<Command<'a>, AllocError>
+    ensures { IfOk result (λ more. app_of more ≡ with_choices (app_of program.entry)) }
+{
+    let program = with_command(program, choose(alloc)?)?;
+    with_command(program, check(alloc)?)
+}
+
+/// The program with the commands that say what a file holds.
+fn with_descriptions<'a>(alloc: Global, program: Command<'a>) -> Result<Command<'a>, AllocError>
+    ensures { IfOk result (λ more. app_of more ≡ with_descriptions (app_of program.entry)) }
+{
     let program = with_command(program, image(alloc)?)?;
-    let program = with_command(program, manifest(alloc)?)?;
+    with_command(program, manifest(alloc)?)
+}
+
+/// The program with the commands that make a file out of the words.
+fn with_makers<'a>(alloc: Global, program: Command<'a>) -> Result<Command<'a>, AllocError>
+    ensures { IfOk result (λ more. app_of more ≡ with_makers (app_of program.entry)) }
+{
     let program = with_command(program, make_device(alloc)?)?;
-    let program = with_command(program, make_image(alloc)?)?;
+    with_command(program, make_image(alloc)?)
+}
+
+/// The program with the commands of a device on a file.
+fn with_devices<'a>(alloc: Global, program: Command<'a>) -> Result<Command<'a>, AllocError>
+    ensures { IfOk result (λ more. app_of more ≡ with_devices (app_of program.entry)) }
+{
     let program = with_command(program, provision(alloc)?)?;
     let program = with_command(program, show(alloc)?)?;
     with_command(program, run(alloc)?)
