@@ -296,9 +296,9 @@ pub const USAGE: &str = "bootswap make-device --sector <BYTES> --slots <N,N,..>
 
 pub const MAKE_IMAGE: Help = Help {
     about: "Makes an image of MCUboot's format out of its body",
-    long_about: "Reads the body of an image from BODY, and makes the image in the file OUT: header,
-body, what the image asks of a device, and its digest. It prints `done`. An
-image of version 2.0.0+0, with security counter 5, that needs image 1 with at
+    long_about: "Reads the body of an image from BODY, and makes the image in the file OUT:
+header, body, what the image asks of a device, and its digest. It prints `done`.
+An image of version 2.0.0+0, with security counter 5, that needs image 1 with at
 least version 2.0.0+0:
   bootswap make-image a.img body.bin --version 2.0.0 --counter 5 \\
       --needs '1 2.0.0'
