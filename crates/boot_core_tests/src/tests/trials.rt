@@ -28,6 +28,19 @@ run 1 1.0.0+0
 6 done
 ";
 
+/// The same event, with its bytes lent for as long as the event is.
+fn lent<'a>(event: &'a Event<&[u8]>) -> Event<&'a [u8]> {
+    match event {
+        Event::Accept(bytes) => Event::Accept(bytes),
+        Event::Piece(image, bytes) => Event::Piece(*image, bytes),
+        Event::Finish(image) => Event::Finish(*image),
+        Event::Withdraw(image) => Event::Withdraw(*image),
+        Event::Confirm(image) => Event::Confirm(*image),
+        Event::Boot => Event::Boot,
+        Event::Reset => Event::Reset,
+    }
+}
+
 /// Asserts what follows the boot of a new device, an upload of two images that need each other, and
 /// the boot that takes them on trial.
 fn expect_in_trial(
@@ -46,7 +59,9 @@ fn expect_in_trial(
         Event::Finish(0),
         Event::Boot,
     ]?;
-    all.extend_from_slice(events)?;
+    for event in events {
+        all.push(lent(event))?;
+    }
     let outcome = outcome_of(rt, &[2, 2], boots, two_images(rt)?, &[], all.as_slice())?;
     let wanted = format!(in rt.alloc();
         "{UPLOADED}7 trial\ntake 0 2.0.0+0\ntake 1 2.0.0+0\n{told}"
@@ -278,7 +293,9 @@ fn tried(
         Event::Finish(0),
         Event::Boot,
     ]?;
-    events.extend_from_slice(after)?;
+    for event in after {
+        events.push(lent(event))?;
+    }
     outcome_of(rt, &[2, 2], boots, two_images(rt)?, cuts, events.as_slice())
 }
 
