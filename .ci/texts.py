@@ -1,5 +1,6 @@
 """What the built program does with tables, reports, images and manifests, and with words and files that are wrong."""
 
+import hashlib
 import json
 import os
 import pty
@@ -356,6 +357,67 @@ def check_new_images(checks):
     checks.expect("make-image: its flash is made", ["provision", PAIR, "new", "made", "made"], 0, b"done\n")
     os.remove(f"{checks.folder}/new")
     check_kept_images(checks, body)
+    check_unreadable_options(checks, body)
+    check_sixteen_needs(checks, body)
+
+
+# What `make-image` tells of options that can't be read, and such options.
+UNREADABLE = {
+    "`--version` is `major.minor.revision+build`, such as 1.4.2+7; last parts may be left out": [
+        "--version=", "--version=1.0.0.0", "--version=256", "--version=01", "--version=v1"
+    ],
+    "`--counter` is a number, in digits, below 4294967296": [
+        "--counter=", "--counter=4294967296", "--security-counter=+1", "--counter=0x1"
+    ],
+    "`--header-size` is a number of bytes, in digits, below 65536": ["--header-size=65536", "--header-size=x"],
+    "`--load-address` is a number, in digits, below 4294967296": ["--load-address=4294967296"],
+    "`--flags` is a number, in digits, below 4294967296": ["--flags=00"],
+    "`--needs` is the number of an image and a version, in one word: '1 2.0.0'": [
+        "--needs=", "--needs=1", "--needs=1 ", "--needs=1  2.0.0", "--needs= 1 2.0.0", "--needs=256 2.0.0",
+        "--needs=1 2.0.0 2 2.0.0", "--needs=1 2.0.x", "--needs=1,2.0.0",
+    ],
+    "`--needs-one` is numbers of images, each with a version, in one word: '1 2.0.0 2 2.0.0'": [
+        "--needs-one=", "--needs-one=1 2.0.0 2", "--needs-one=1 2.0.0 2 2.0.0 ", "--needs-one=1 2.0.0 x 2.0.0",
+        "--needs-one=1 2.0.0 2 65536.0",
+    ],
+}
+
+IMAGE_USAGE = """
+
+Usage: bootswap make-image <OUT> <BODY> --version <VERSION> [--counter <N>]
+           [--needs <'J VERSION'>].. [--needs-one <'J VERSION ..'>]..
+           [--header-size <BYTES>] [--load-address <N>] [--flags <N>]
+
+For more information, try '--help'.
+"""
+
+
+def check_unreadable_options(checks, body):
+    """Options of `make-image` that can't be read are faults in the words, each with its own sentence."""
+    for told, options in UNREADABLE.items():
+        for option in options:
+            more = [] if option.startswith("--version") else ["--version=1.0.0+0"]
+            err = f"error: {told}{IMAGE_USAGE}".encode()
+            checks.expect(f"make-image: {option}", ["make-image", "made", body, option, *more], 2, b"", err)
+
+
+def image_with_sixteen_needs():
+    """Returns the image of version 1.0.0+0, of the body `ABCD`, that needs the images 0 to 15 at 2.0.0+0."""
+    entries = [b"\x40\0\x0c\0" + bytes([image, 0, 0, 0, 2, 0, 0, 0, 0, 0, 0, 0]) for image in range(16)]
+    area = b"\x08\x69" + (4 + 16 * len(entries)).to_bytes(2, "little") + b"".join(entries)
+    header = b"\x3d\xb8\xf3\x96" + bytes(4) + b"\x20\0" + len(area).to_bytes(2, "little") + b"\4\0\0\0"
+    hashed = header + bytes(4) + b"\1" + bytes(7) + bytes(4) + b"ABCD" + area
+    return hashed + b"\x07\x69\x28\0\x10\0\x20\0" + hashlib.sha256(hashed).digest()
+
+
+def check_sixteen_needs(checks, body):
+    """An image needs sixteen others at most."""
+    needs = [f"--needs={image} 2.0.0" for image in range(17)]
+    words = ["make-image", "made", body, "--version=1"]
+    checks.expect("make-image: 16 dependencies", [*words, *needs[:16]], 0, b"done\n")
+    is_same = read(f"{checks.folder}/made") == image_with_sixteen_needs()
+    checks.tell("make-image: 16 dependencies: its bytes", [] if is_same else ["they are others"])
+    checks.expect("make-image: 17 dependencies", [*words, *needs], 1, b"refused 3 TooManyDependencies\n")
 
 
 def check_kept_images(checks, body):

@@ -132,37 +132,6 @@ fn an_image_that_was_made_is_taken(rt: HostRuntime) -> Result<(), Fail> {
     run(rt.alloc(), &mut host, &words).expect(0, GROUP_TOLD, "", "image")
 }
 
-/// The bytes of the image of version 1.0.0+0 that needs the images 0 to 15, each at 2.0.0+0.
-const SIXTEEN_NEEDS: &str =
-    "3db8f39600000000200004010400000000000000010000000000000000000000414243440869040140000c0000000000020000000000000040000c0001000000020000000000000040000c0002000000020000000000000040000c0003000000020000000000000040000c0004000000020000000000000040000c0005000000020000000000000040000c0006000000020000000000000040000c0007000000020000000000000040000c0008000000020000000000000040000c0009000000020000000000000040000c000a000000020000000000000040000c000b000000020000000000000040000c000c000000020000000000000040000c000d000000020000000000000040000c000e000000020000000000000040000c000f0000000200000000000000076928001000200042d0dcc7dee94329c07f7f11e409eeaf2d455993c81cca123bea2be17abcd390";
-
-/// Words that need so many images, from 0 on, each at 2.0.0+0.
-fn words_with_needs<'w>(alloc: Global, needs: &'w [String]) -> Result<Vec<&'w str>, AllocError> {
-    let mut words = words_of(alloc, FLASH_FILE, BODY_FILE, &["--version=1"])?;
-    for need in needs {
-        words.push(need.as_str())?;
-    }
-    Ok(words)
-}
-
-#[test]
-fn an_image_needs_sixteen_others_at_most(rt: HostRuntime) -> Result<(), Fail> {
-    let mut needs = Vec::new(rt.alloc());
-    for image in 0..16 {
-        needs.push(format!(in rt.alloc(); "--needs={image} 2.0.0+0")?)?;
-    }
-    let words = words_with_needs(rt.alloc(), needs.as_slice())?;
-    let mut host = host_of(rt.alloc());
-    run(rt.alloc(), &mut host, words.as_slice()).expect(0, "done\n", "", 16)?;
-    expect_image(rt.alloc(), &host, SIXTEEN_NEEDS)?;
-    drop(words);
-    needs.push(format!(in rt.alloc(); "--needs=16 2.0.0+0")?)?;
-    let words = words_with_needs(rt.alloc(), needs.as_slice())?;
-    let refused = "refused 3 TooManyDependencies\n";
-    run(rt.alloc(), &mut host, words.as_slice()).expect(1, refused, "", 17)?;
-    expect_image(rt.alloc(), &host, SIXTEEN_NEEDS)
-}
-
 /// Options of images that can't be, and what is told of them: the first check that fails.
 const REFUSED: [(&[&str], &str); 7] = [
     (&["--header-size=31"], "refused 1 BadHeaderSize\n"),
@@ -208,67 +177,6 @@ fn images_that_cannot_be_are_refused_by_the_first_check(rt: HostRuntime) -> Resu
 /// How the command is used.
 const USAGE: &str =
     "\n\nUsage: bootswap make-image <OUT> <BODY> --version <VERSION> [--counter <N>]\n           [--needs <'J VERSION'>].. [--needs-one <'J VERSION ..'>]..\n           [--header-size <BYTES>] [--load-address <N>] [--flags <N>]\n\nFor more information, try '--help'.\n";
-
-const NO_VERSION: &str =
-    "`--version` is `major.minor.revision+build`, such as 1.4.2+7; last parts may be left out";
-
-const NO_COUNTER: &str = "`--counter` is a number, in digits, below 4294967296";
-
-const NO_HEADER_SIZE: &str = "`--header-size` is a number of bytes, in digits, below 65536";
-
-const NO_LOAD_ADDRESS: &str = "`--load-address` is a number, in digits, below 4294967296";
-
-const NO_FLAGS: &str = "`--flags` is a number, in digits, below 4294967296";
-
-const NO_NEEDS: &str = "`--needs` is the number of an image and a version, in one word: '1 2.0.0'";
-
-const NO_NEEDS_ONE: &str =
-    "`--needs-one` is numbers of images, each with a version, in one word: '1 2.0.0 2 2.0.0'";
-
-/// Options that can't be read, and what is told.
-const UNREADABLE: [(&str, &str); 27] = [
-    ("--version=", NO_VERSION),
-    ("--version=1.0.0.0", NO_VERSION),
-    ("--version=256", NO_VERSION),
-    ("--version=01", NO_VERSION),
-    ("--version=v1", NO_VERSION),
-    ("--counter=", NO_COUNTER),
-    ("--counter=4294967296", NO_COUNTER),
-    ("--security-counter=+1", NO_COUNTER),
-    ("--counter=0x1", NO_COUNTER),
-    ("--header-size=65536", NO_HEADER_SIZE),
-    ("--header-size=x", NO_HEADER_SIZE),
-    ("--load-address=4294967296", NO_LOAD_ADDRESS),
-    ("--flags=00", NO_FLAGS),
-    ("--needs=", NO_NEEDS),
-    ("--needs=1", NO_NEEDS),
-    ("--needs=1 ", NO_NEEDS),
-    ("--needs=1  2.0.0", NO_NEEDS),
-    ("--needs= 1 2.0.0", NO_NEEDS),
-    ("--needs=256 2.0.0", NO_NEEDS),
-    ("--needs=1 2.0.0 2 2.0.0", NO_NEEDS),
-    ("--needs=1 2.0.x", NO_NEEDS),
-    ("--needs=1,2.0.0", NO_NEEDS),
-    ("--needs-one=", NO_NEEDS_ONE),
-    ("--needs-one=1 2.0.0 2", NO_NEEDS_ONE),
-    ("--needs-one=1 2.0.0 2 2.0.0 ", NO_NEEDS_ONE),
-    ("--needs-one=1 2.0.0 x 2.0.0", NO_NEEDS_ONE),
-    ("--needs-one=1 2.0.0 2 65536.0", NO_NEEDS_ONE),
-];
-
-#[test]
-fn words_that_cannot_be_read_are_faults_of_usage(rt: HostRuntime) -> Result<(), Fail> {
-    for (option, told) in UNREADABLE {
-        let mut words = words_of(rt.alloc(), FLASH_FILE, BODY_FILE, &[option])?;
-        if told != NO_VERSION {
-            words.push("--version=1.0.0+0")?;
-        }
-        let err = format!(in rt.alloc(); "error: {told}{USAGE}")?;
-        let outcome = run(rt.alloc(), &mut host_of(rt.alloc()), words.as_slice());
-        outcome.expect(2, "", err.as_str(), words.as_slice())?;
-    }
-    Ok(())
-}
 
 /// Names of the image and of its body that don't do, the status, and what is told.
 const NAMES: [(&str, &str, u8, &str); 6] = [
