@@ -28,11 +28,15 @@ run 1 1.0.0+0
 6 done
 ";
 
-/// The same event, with its bytes lent for as long as the event is.
-fn lent<'a>(event: &'a Event<&[u8]>) -> Event<&'a [u8]> {
+/// The text that [`pair`] gives.
+const PAIR: &str =
+    r#"{"manifest-version":1,"sequence-number":1,"vendor-id":"886313e1-3b8a-5372-9b90-0c9aee199e5d","class-id":"74b0b1ed-70fe-5a24-9102-6a41c2172c6d","components":[{"component-id":0,"kind":"test","payload-digest":"fe88ef28572ecaa2691d61458e393edb880bdca5831197bab8673082920c0a99","size":96},{"component-id":1,"kind":"test","payload-digest":"aec6e45d3aa1b928f93ca89f4c4835da6b261ffea3de90c93242ca94c188cc4f","size":96}]}"#;
+
+/// The same event once more.
+fn again(event: &Event<&'static [u8]>) -> Event<&'static [u8]> {
     match event {
-        Event::Accept(bytes) => Event::Accept(bytes),
-        Event::Piece(image, bytes) => Event::Piece(*image, bytes),
+        Event::Accept(bytes) => Event::Accept(*bytes),
+        Event::Piece(image, bytes) => Event::Piece(*image, *bytes),
         Event::Finish(image) => Event::Finish(*image),
         Event::Withdraw(image) => Event::Withdraw(*image),
         Event::Confirm(image) => Event::Confirm(*image),
@@ -46,13 +50,12 @@ fn lent<'a>(event: &'a Event<&[u8]>) -> Event<&'a [u8]> {
 fn expect_in_trial(
     rt: &(impl Abort + AllocGlobal),
     boots: u8,
-    events: &[Event<&[u8]>],
+    events: &[Event<&'static [u8]>],
     told: &str,
 ) -> Result<(), Fail> {
-    let text = pair(rt.alloc())?;
     let mut all = vec![in rt.alloc();
         Event::Boot,
-        Event::Accept(text.as_bytes()),
+        Event::Accept(PAIR.as_bytes()),
         Event::Piece(0, &FIRST),
         Event::Piece(1, &SECOND),
         Event::Finish(1),
@@ -60,7 +63,7 @@ fn expect_in_trial(
         Event::Boot,
     ]?;
     for event in events {
-        all.push(lent(event))?;
+        all.push(again(event))?;
     }
     let outcome = outcome_of(rt, &[2, 2], boots, two_images(rt)?, &[], all.as_slice())?;
     let wanted = format!(in rt.alloc();
@@ -281,12 +284,11 @@ fn tried(
     rt: &(impl Abort + AllocGlobal),
     boots: u8,
     cuts: &[Cut],
-    after: &[Event<&[u8]>],
+    after: &[Event<&'static [u8]>],
 ) -> Result<Outcome, Fail> {
-    let text = pair(rt.alloc())?;
     let mut events = vec![in rt.alloc();
         Event::Boot,
-        Event::Accept(text.as_bytes()),
+        Event::Accept(PAIR.as_bytes()),
         Event::Piece(0, &FIRST),
         Event::Piece(1, &SECOND),
         Event::Finish(1),
@@ -294,7 +296,7 @@ fn tried(
         Event::Boot,
     ]?;
     for event in after {
-        events.push(lent(event))?;
+        events.push(again(event))?;
     }
     outcome_of(rt, &[2, 2], boots, two_images(rt)?, cuts, events.as_slice())
 }
