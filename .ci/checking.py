@@ -10,7 +10,8 @@ import time
 ROOT = os.path.dirname(os.path.dirname(os.path.realpath(__file__)))
 EXAMPLES = f"{ROOT}/examples"
 
-# The device file that the examples of manifests and of scripts are for, and the image that its flash begins with.
+# The device file that the examples of manifests and of scripts are for, and the image that its
+# flash begins with.
 PAIR = f"{EXAMPLES}/devices/pair.json"
 ONE = f"{EXAMPLES}/images/one.img"
 

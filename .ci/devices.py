@@ -455,7 +455,8 @@ def check_replies(checks):
     checks.expect("reply: what runs is damaged", ["run", PAIR, "flash", "-"], 1, told, given=b"boot\n")
 
 
-# How many boots come to a device whose run is killed: their replies are far more text than a pipe holds.
+# How many boots come to a device whose run is killed: their replies are far more text than a pipe
+# holds.
 MANY = 20_000
 
 

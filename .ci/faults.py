@@ -130,7 +130,8 @@ def is_run_after(fault, got, kept, flashes):
     if (got, kept) == ((0, numbered(USUAL), b""), flashes[-1]):
         return True
     told = max(at for at in range(len(USUAL)) if out.startswith(numbered(USUAL[:at])))
-    # Each event whose reply was told is done, and so is the one whose reply could not be told, or not to its end.
+    # Each event whose reply was told is done, and so is the one whose reply could not be told, or
+    # not to its end.
     is_stopped = kept == flashes[told + 1]
     if fault == "memory":
         is_refused = (status, err) == (0, b"") and out in of_no_memory() and kept == flashes[0]

@@ -27,14 +27,16 @@ PROGRAM = f"{OUT}/bootswap"
 # What is told before a build: as measured on 4 processors, all of them taken.
 COST = "40 to 75 minutes of one processor, 1 GB of disk"
 
-# The most memory that the check of a crate has taken, in bytes, and what each further process of one takes.
+# The most memory that the check of a crate has taken, in bytes, and what each further process of
+# one takes.
 MEMORY, MEMORY_OF_JOB = 2_300_000_000, 800_000_000
 
 # The most processes that are of use to one check.
 MOST_JOBS = 4
 
-# What the proof of a crate took, in seconds of a processor, with four checks side by side. It says which crates others wait for
-# longest, and nothing else. Lines are a poor guess of it: much of `command_line` and `manifest` is what `clap` and JSON bring.
+# What the proof of a crate took, in seconds of a processor, with four checks side by side. It says
+# which crates others wait for longest, and nothing else. Lines are a poor guess of it: much of
+# `command_line` and `manifest` is what `clap` and JSON bring.
 SECONDS = {
     "answers": 200,
     "boot_cli": 270,

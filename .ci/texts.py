@@ -63,7 +63,8 @@ BAD_TABLES = [
     ("nor do these", b"image 0 1.0.0+0 0 0\nneeds-one 0 1.0.0+1 1 1.0.0+0\n", "running set not valid"),
 ]
 
-# Reports that the program didn't make: what is odd of each, the table's name, the lines, and whether it is right.
+# Reports that the program didn't make: what is odd of each, the table's name, the lines, and
+# whether it is right.
 THREE = "run 0 1.0.0+0, take 1 2.0.0+0, run 2 1.0.0+0"
 EITHER, NEITHER = "run 0 1.0.0+0, run 1 1.0.0+0, run 2 2.0.0+0", "run 0 1.0.0+0, run 1 1.0.0+0, run 2 1.0.0+0"
 REPORTS = [
@@ -178,7 +179,8 @@ def with_duplicate(name, value, text):
     return b'{"%s": %s, ' % (name.encode(), json.dumps(value).encode()) + text[1:]
 
 
-# What is odd of a device file, its text, and what the program says: an error line, what it prints, or that it is one.
+# What is odd of a device file, its text, and what the program says: an error line, what it prints,
+# or that it is one.
 DEVICES = [
     ("nothing", b"", "error: device file"),
     ("a list", b"[]", "error: device file"),
@@ -279,7 +281,8 @@ def asked(sector, slots, vendor, name, *boots):
     return words + [it for many in boots for it in ("--trial-boots", str(many))]
 
 
-# Devices of one image and of eight, at the limits of their sizes, and their vendors, classes and boots of a trial.
+# Devices of one image and of eight, at the limits of their sizes, and their vendors, classes and
+# boots of a trial.
 NEW_DEVICES = [
     (512, [2, 2], "python.org", "sensor"),
     (512, [1], "example.com", "", 1),
@@ -465,7 +468,8 @@ def check_words(checks):
         checks.tell(f"wrong words: {words}", [] if is_told else [f"{status} {short(out)} {short(err)}"])
 
 
-# Names of files that aren't there, and how they are told: as text what would end the line, or turn its direction.
+# Names of files that aren't there, and how they are told: as text what would end the line, or turn
+# its direction.
 ESCAPED = [
     ("a\nb", "a\\nb"),
     ("a\r\tb", "a\\r\\tb"),

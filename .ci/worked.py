@@ -5,8 +5,8 @@ import hashlib
 from builders import component, device, image, manifest, version
 from checking import EXAMPLES, ONE, PAIR, flash_of, read, short
 
-# The worked run: two images are tried, one is confirmed, and both go back. For each of its events how many writes it
-# makes of a flash that was provisioned, by the tables of docs/FORMATS.md.
+# The worked run: two images are tried, one is confirmed, and both go back. For each of its events
+# how many writes it makes of a flash that was provisioned, by the tables of docs/FORMATS.md.
 WORKED = "reverted"
 WRITES = [0, 2, 2, 2, 1, 1, 38, 1, 44, 0]
 SUM_OF_WRITES = sum(WRITES)
@@ -86,7 +86,8 @@ def check_cuts(checks):
     checks.expect("a cut behind the last write", words, 0, out, given=cut_script(SUM_OF_WRITES + 1, "hex:00"))
 
 
-# A device of three images whose request for image 0 needs one of the others: its run, and what a boot may say.
+# A device of three images whose request for image 0 needs one of the others: its run, and what a
+# boot may say.
 EITHER = f"{EXAMPLES}/devices/either.json"
 OLD, NEW = ["run 0 1.0.0+0", "run 1 1.0.0+0", "run 2 1.0.0+0"], ["run 0 2.0.0+0", "run 1 1.0.0+0", "run 2 2.0.0+0"]
 BOOTS = {

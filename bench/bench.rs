@@ -1,4 +1,5 @@
-//! Times the proved crates, as a static library, against a plain implementation, and prints ratios alone.
+//! Times the proved crates, as a static library, against a plain implementation, and prints ratios
+//! alone.
 
 mod inputs;
 mod plain_choice;
@@ -72,7 +73,8 @@ fn is_below(name: &str, over_digest: f64, limit: f64) -> bool {
     kept
 }
 
-/// Prints how often describing a slot with an image of a megabyte holds the time of its digest, and returns it.
+/// Prints how often describing a slot with an image of a megabyte holds the time of its digest, and
+/// returns it.
 fn time_slot() -> f64 {
     let image = inputs::image(MEGABYTE);
     let (bytes, hashed) = (&image.bytes[..], &image.bytes[..image.hashed]);
@@ -86,8 +88,8 @@ fn time_slot() -> f64 {
     ratio
 }
 
-/// Prints how many bytes are read to describe a slot with the images of the most dependencies and groups, and answers
-/// whether each slot is read as much as it has to be, and no more.
+/// Prints how many bytes are read to describe a slot with the images of the most dependencies and
+/// groups, and answers whether each slot is read as much as it has to be, and no more.
 fn counts_reads() -> bool {
     let full = inputs::full_image();
     let read = proved::slot_reads(&full.bytes);
@@ -172,7 +174,8 @@ fn expect_same_choices() {
     assert!(proved::check(table.as_bytes(), report.as_bytes()));
     assert!(!proved::check(table.as_bytes(), table.as_bytes()));
     let mut random = Random::new();
-    // How often none and some were taken, and how often there was no table and no valid running set.
+    // How often none and some were taken, and how often there was no table and no valid running
+    // set.
     let mut seen = [0; 4];
     for _ in 0..RANDOM_INPUTS {
         let table = inputs::random_table(&mut random);

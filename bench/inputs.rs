@@ -36,7 +36,8 @@ pub fn image(body_size: usize) -> Image {
     image_of(body_size, 1, 2, 0, 1)
 }
 
-/// An intact image without a body, with a security counter and as many dependencies as an image may have.
+/// An intact image without a body, with a security counter and as many dependencies as an image may
+/// have.
 pub fn full_image() -> Image {
     image_of(0, 1, 16, 0, 1)
 }
@@ -103,8 +104,8 @@ fn area(magic: u16, entries: &[(u16, &[u8])]) -> Vec<u8> {
     area
 }
 
-/// An image without a body, at times with too many entries, with up to three bytes changed, at times with the
-/// digest that then is right, cut off, or with a byte behind it.
+/// An image without a body, at times with too many entries, with up to three bytes changed, at
+/// times with the digest that then is right, cut off, or with a byte behind it.
 pub fn damaged_image(random: &mut Random) -> Vec<u8> {
     let mut rarely = |usual: usize, other: u64| match random.below(8) {
         0 => random.below(other) as usize,
@@ -130,9 +131,9 @@ pub fn damaged_image(random: &mut Random) -> Vec<u8> {
     bytes
 }
 
-/// A full table: eight images, 16 dependencies of each running and each requested image. The last request
-/// needs a version that no image reaches, and each other one needs, by its last dependency, the request after
-/// it, so that all eight are refused, one after the other.
+/// A full table: eight images, 16 dependencies of each running and each requested image. The last
+/// request needs a version that no image reaches, and each other one needs, by its last dependency,
+/// the request after it, so that all eight are refused, one after the other.
 pub fn full_table() -> String {
     let mut table = String::new();
     for image in 0..8 {
@@ -161,9 +162,10 @@ pub fn full_table() -> String {
     table
 }
 
-/// The full table with four groups of four alternatives of each running and each requested image. Of each group the
-/// first three alternatives can't come. Each request but the last needs by its last group, and by nothing else, the
-/// request after it, so that all eight are refused, one after the other.
+/// The full table with four groups of four alternatives of each running and each requested image.
+/// Of each group the first three alternatives can't come. Each request but the last needs by its
+/// last group, and by nothing else, the request after it, so that all eight are refused, one after
+/// the other.
 pub fn full_table_with_groups() -> String {
     let mut table = String::new();
     for image in 0..8 {

@@ -197,7 +197,8 @@ fn is_valid(images: &[Image]) -> bool {
     })
 }
 
-/// First the requests that are refused by themselves, then again and again the lowest that needs what can't come.
+/// First the requests that are refused by themselves, then again and again the lowest that needs
+/// what can't come.
 fn refusals(images: &[Image]) -> Vec<Refusal> {
     let mut refusals = Vec::new();
     for (image, told) in images.iter().enumerate() {
@@ -242,7 +243,8 @@ fn next_refusal(images: &[Image], refusals: &[Refusal]) -> Option<Refusal> {
 }
 
 fn needs_reason(images: &[Image], refusals: &[Refusal], entry: &Entry) -> Option<Reason> {
-    // A request that isn't refused is at least the running version, so it is the best that can come.
+    // A request that isn't refused is at least the running version, so it is the best that can
+    // come.
     let is_reached = |needed: &Dependency| {
         let number = usize::from(needed.image);
         images

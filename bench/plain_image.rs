@@ -99,8 +99,9 @@ pub fn describe(bytes: &[u8]) -> Result<Description, Fault> {
     })
 }
 
-/// The bytes of a flash that have to be read to describe this intact image: what the digest is taken of once, and once
-/// more the header, the head of each area and entry, and the values that are needed.
+/// The bytes of a flash that have to be read to describe this intact image: what the digest is
+/// taken of once, and once more the header, the head of each area and entry, and the values that
+/// are needed.
 pub fn needed_reads(bytes: &[u8]) -> u64 {
     let protected_at = usize::from(read_u16(bytes, 8)) + read_u32(bytes, 12) as usize;
     let protected_size = usize::from(read_u16(bytes, 10));

@@ -1,4 +1,5 @@
-//! The exports of the proved static library `bench_exports`. A slice crosses as a pointer and a length.
+//! The exports of the proved static library `bench_exports`. A slice crosses as a pointer and a
+//! length.
 
 #[link(name = "bench_exports", kind = "static")]
 #[link(name = "libc_c", kind = "static")] // the toolchain's way to `malloc` and `free`
@@ -16,7 +17,8 @@ unsafe extern "C" {
     fn bench_slot_reads(bytes: *const u8, length: usize) -> u64;
 }
 
-/// The length of the intact image that the bytes are, or 2^63 and the number of the first check that fails.
+/// The length of the intact image that the bytes are, or 2^63 and the number of the first check
+/// that fails.
 pub fn describe(bytes: &[u8]) -> u64 {
     // SAFETY: the pointer and the length are those of a slice, which is only read.
     unsafe { bench_describe(bytes.as_ptr(), bytes.len()) }
@@ -28,8 +30,8 @@ pub fn digest(bytes: &[u8]) -> u64 {
     unsafe { bench_digest(bytes.as_ptr(), bytes.len()) }
 }
 
-/// The taken requests in the lowest eight bits and the number of refusals above them, 2^63 for a text that is
-/// no table, or 2^63 + 1 for running images that don't fit each other.
+/// The taken requests in the lowest eight bits and the number of refusals above them, 2^63 for a
+/// text that is no table, or 2^63 + 1 for running images that don't fit each other.
 pub fn choose(text: &[u8]) -> u64 {
     // SAFETY: as in `describe`.
     unsafe { bench_choose(text.as_ptr(), text.len()) }
@@ -41,11 +43,12 @@ pub fn check(table: &[u8], report: &[u8]) -> bool {
     unsafe { bench_check(table.as_ptr(), table.len(), report.as_ptr(), report.len()) }
 }
 
-/// What a slot is described by that begins with the bytes: the length of its image, or 2^63 and the number of the
-/// first check that fails; 2^63 where the bytes don't fit the slot or memory is refused. It is described once, and
-/// `again` times more.
+/// What a slot is described by that begins with the bytes: the length of its image, or 2^63 and the
+/// number of the first check that fails; 2^63 where the bytes don't fit the slot or memory is
+/// refused. It is described once, and `again` times more.
 pub fn describe_slot(bytes: &[u8], again: u32) -> u64 {
-    // SAFETY: as in `describe`. No signal handler calls it, and what it allocates is freed when it returns.
+    // SAFETY: as in `describe`. No signal handler calls it, and what it allocates is freed when it
+    // returns.
     unsafe { bench_describe_slot(bytes.as_ptr(), bytes.len(), again) }
 }
 

@@ -34,7 +34,8 @@ impl<const N: usize> Rounds<N> {
     }
 }
 
-/// How often the time that one side takes more than another holds that of a third: by the shortest time of each.
+/// How often the time that one side takes more than another holds that of a third: by the shortest
+/// time of each.
 pub fn ratio_of_shortest(more: Side, less: Side, other: Side) -> f64 {
     let mut shortest = [f64::INFINITY; 3];
     for _ in 0..ROUNDS {

@@ -1,5 +1,5 @@
--- Why bytes are no device file, by why the value of their text says nothing of a device; and what is true of each
--- device of a file.
+-- Why bytes are no device file, by why the value of their text says nothing of a device; and what
+-- is true of each device of a file.
 use Rattle.std.proofs.Common.{◌≡◌, ℕ, List, None, Some, arith, codes, subst}
 use Rattle.std.proofs.Math.Logic.{⊎_elim}
 use Rattle.serde_json.specs.Data.{Data}

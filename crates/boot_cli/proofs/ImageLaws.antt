@@ -52,7 +52,8 @@ slice_get-push (y ∷ xs) last x (suc i) is = ⊎_elim
     (λ (new : (i ≡ length xs) × (x ≡ last)). inr (ap (λ n. suc n) new.0, new.1))
     (slice_get-push xs last x i is)
 
--- The first so many files were read, from a host that is at this state now, and put over a new flash.
+-- The first so many files were read, from a host that is at this state now, and put over a new
+-- flash.
 pub record AreRead (map : SectorMap) (names : List (Bor (List ℕ))) (count : ℕ)
     (old_input : Option (List ℕ)) (old_file : FileBytes) (input : Option (List ℕ)) (file : FileBytes)
     (bytes : List ℕ) : Type 0 where

@@ -149,9 +149,9 @@ Adds-cut write torn old new cut events input files added is = λ known stays. (
   stays,
 )
 
--- The text was read up to what is left of it, from a host that was at one state and is at another now: whatever
--- follows, these writes and those of the rest are to be cut by the whole text, and this and what comes by the rest
--- come by it.
+-- The text was read up to what is left of it, from a host that was at one state and is at another
+-- now: whatever follows, these writes and those of the rest are to be cut by the whole text, and
+-- this and what comes by the rest come by it.
 abbrev pub AreLoaded : List ℕ → List ℕ → Reading → Option (List ℕ) → FileBytes
     → Option (List ℕ) → FileBytes → List Armed → List (Event (List ℕ)) → Type 0
 AreLoaded text rest reading old_input old_files input files cuts came =

@@ -1,4 +1,5 @@
--- Replies that are told one by one: what all of them come to, and what stands where one could not be told.
+-- Replies that are told one by one: what all of them come to, and what stands where one could not
+-- be told.
 use Rattle.std.proofs.Common.{◌≡◌, ℕ, ◌+◌, ◌-◌, ◌<◌, ◌≤◌, false, List, [], ◌∷◌, ◌++◌, Option, Some, ap, append-nil, arith, get_or, length, length-append, map, refl, subst, sym, take, ◌∙◌}
 use Rattle.std.specs.Prelude.{Vec}
 use Rattle.std.specs.Io.KnownBytes.{Appends}

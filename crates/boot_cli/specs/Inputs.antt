@@ -24,7 +24,8 @@ abbrev pub NameFiles : List (List ℕ) → Type 0
 NameFiles [] = Unit {0}
 NameFiles (name ∷ rest) = (name ≢ codes "-") × NameFiles rest
 
--- Each file keeps what it is known to hold. What files hold once standard input was read is not said.
+-- Each file keeps what it is known to hold. What files hold once standard input was read is not
+-- said.
 abbrev pub LeavesFiles : Source → List (List ℕ) → FileBytes → FileBytes → Type 0
 LeavesFiles StandardInput names old new = Unit {0}
 LeavesFiles (File name) names old new = NameFiles names → KeepsFiles old new

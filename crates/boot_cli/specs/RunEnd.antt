@@ -40,8 +40,8 @@ armed_chip map bytes cuts = with_armed (flash_of map bytes) cuts
 abbrev pub armed_flash : SectorMap → List ℕ → List Armed → Memory
 armed_flash map bytes cuts = record { chip = armed_chip map bytes cuts; writes = 0 }
 
--- A device that was just made, over a flash with these bytes of whose writes these are to be cut, and
--- no others. It isn't up, and no upload is open.
+-- A device that was just made, over a flash with these bytes of whose writes these are to be cut,
+-- and no others. It isn't up, and no upload is open.
 pub record IsMadeOf (map : SectorMap) (bytes : List ℕ) (cuts : List Armed) (here : DeviceView)
     : Type 0 where
   pub flash : here.flash ≡ armed_chip map bytes cuts

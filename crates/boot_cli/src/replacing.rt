@@ -16,8 +16,8 @@ use std::{fs, io};
 /// left its own.
 const MOST_NAMES: u32 = 100;
 
-/// Whether two names are of one file that is there: each is looked up as far as symbolic links lead,
-/// and names of one file have its number in common.
+/// Whether two names are of one file that is there: each is looked up as far as symbolic links
+/// lead, and names of one file have its number in common.
 pub fn is_same_file<R: Files>(runtime: &R, one: &str, other: &str) -> io::Result<bool> {
     match (found(runtime, one)?, found(runtime, other)?) {
         (Some(one), Some(other)) => Ok(is_one_file(&one, &other)),
@@ -37,10 +37,10 @@ fn found<R: Files>(runtime: &R, name: &str) -> io::Result<Option<Metadata>> {
 /// Puts a file of these bytes in the place of the file of this name, or makes it where there is
 /// none.
 ///
-/// The bytes are written to a new file in the same folder, which takes the name once they are on the
-/// disk. Where that fails the new file is removed. A file that is replaced has to be a plain one
-/// that can be written, and it is held meanwhile. Its permissions stay; a symbolic link to it stays
-/// too, and one that leads nowhere is refused. A block device is written by [`write_device`].
+/// The bytes are written to a new file in the same folder, which takes the name once they are on
+/// the disk. Where that fails the new file is removed. A file that is replaced has to be a plain
+/// one that can be written, and it is held meanwhile. Its permissions stay; a symbolic link to it
+/// stays too, and one that leads nowhere is refused. A block device is written by [`write_device`].
 pub fn replace_file<R: Files<File = File>, A: Allocator>(
     runtime: &R,
     alloc: &A,

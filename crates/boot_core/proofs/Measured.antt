@@ -22,7 +22,8 @@ use Rattle.boot_core.proofs.SwapSizes.{moves_kept}
 
 -- ---- there is one size
 
--- one number is used of a slot: were there two, the slot would begin with no image, and all of it be used
+-- one number is used of a slot: were there two, the slot would begin with no image, and all of it
+-- be used
 used_cases : (slot : List ℕ) (n m : ℕ) → IsUsed slot n → IsUsed slot m → (same : Bool) → (n == m) ≡ same → n ≡ m
 used_cases slot n m one other true is = grind (arith, nat_tests, is)
 used_cases slot n m one other false is =

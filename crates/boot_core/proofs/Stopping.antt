@@ -1,4 +1,5 @@
--- A device that the flash stopped: it isn't up and has no uploads, and its flash is off as the cut left it.
+-- A device that the flash stopped: it isn't up and has no uploads, and its flash is off as the cut
+-- left it.
 use Rattle.std.proofs.Common.{◌≡◌, ℕ, ◌+◌, Bool, true, false, List, Option, Some, Result, Ok, Err, IsErrOf, arith, refl, sym, ◌∙◌, ap, subst, ⊎_elim, inl, inr}
 use Rattle.std.specs.Borrow.{Bor}
 use Rattle.events.specs.declared.event.Event.TheVariants as event

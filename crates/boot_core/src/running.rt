@@ -58,9 +58,9 @@ fn call<F: Flash>(alloc: Global, device: &mut Device<F>, event: &Event<&[u8]>) -
 ///
 /// For every event and wherever power fails in it: where the device holds a state of the machine of
 /// whole images, the event with this reply is a step of that machine to a state which the device
-/// holds then, and the reply is `Cut` exactly where a write was cut. The flash has power as the step
-/// begins, and when it ends; so steps in a row are a run, and a caller who tells each reply before
-/// the next step needs no memory for the replies.
+/// holds then, and the reply is `Cut` exactly where a write was cut. The flash has power as the
+/// step begins, and when it ends; so steps in a row are a run, and a caller who tells each reply
+/// before the next step needs no memory for the replies.
 pub fn step<F: Flash>(alloc: Global, device: &mut Device<F>, event: &Event<&[u8]>) -> Reply
     requires { device.old.here.flash.is_on ≡ true }
     ensures { Steps event.now device.old device.new result }

@@ -119,7 +119,8 @@ pub(crate) fn settle_and_record<F: Flash>(
     requires few { left ≤ MOST_BOOTS_LEFT }
     requires rest { (i : ℕ) → map.now.images ≤ i
         → slice_index floors i ≡ slice_index state.now.floors i }
-    ensures { SettlesAndRecords map.now state.now left floors (F.chip flash.old) (F.chip flash.new) result }
+    ensures { SettlesAndRecords map.now state.now left floors (F.chip flash.old) (F.chip flash.new)
+        result }
 {
     settle_set(flash, map, state.mask, settling_for(state.permanent))?;
     if state.permanent {

@@ -1,4 +1,5 @@
--- The requests of all images are decided once where those of the first images are, and no other is refused.
+-- The requests of all images are decided once where those of the first images are, and no other is
+-- refused.
 use Rattle.std.proofs.Common.{◌≡◌, ℕ, ◌<◌, ◌≤◌, false, length, count_by, get_or, inl, inr, refl, ap, arith, eq-eqb}
 use Rattle.std.specs.Prelude.{◌==◌, All}
 use Rattle.std.specs.Option.{option_map_or}

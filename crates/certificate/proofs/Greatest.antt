@@ -1,4 +1,5 @@
--- The combination of a right report contains every valid one: no request that a valid combination takes is refused.
+-- The combination of a right report contains every valid one: no request that a valid combination
+-- takes is refused.
 use Rattle.std.proofs.Common.{◌≡◌, ℕ, zero, suc, ◌<◌, Bool, true, false, not, List, take, Some, None, count_by, inl, inr, sym, ap, ◌∙◌, eqb, arith}
 use Rattle.std.specs.Prelude.{◌==◌, ⊤, IsTrue, Contains, slice_get}
 use Rattle.std.specs.List.{list_all, list_any}

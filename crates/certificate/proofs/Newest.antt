@@ -40,7 +40,8 @@ module _ (table : Table) (j : ℕ) (image : Image) (has_image : image_at table j
             (sym not) (at_least_running greatest is.valid)
       ]
 
--- the version of each image in the greatest combination is at least the one in any valid combination
+-- the version of each image in the greatest combination is at least the one in any valid
+-- combination
 pub greatest_is_newest : (table : Table) (greatest other : ℕ → Bool) → IsGreatest table greatest
     → IsValid table other → (j : ℕ) → IsAtLeastIn table greatest other j
 greatest_is_newest table greatest other is valid j =

@@ -1,5 +1,5 @@
--- Reading a report is exact: what is read is spelled so, what is spelled so is read, and the fault is the
--- first.
+-- Reading a report is exact: what is read is spelled so, what is spelled so is read, and the fault
+-- is the first.
 use Rattle.std.proofs.Common.{◌≡◌, ℕ, ◌≤◌, false, List, [], ◌∷◌, ◌++◌, length, Some, Result, Ok, Err, refl, ap, subst, ◌∙◌, inl, arith, lit<}
 use Rattle.std.specs.List.{AllZip}
 use Rattle.std.proofs.lemmas.List.{append-nil}

@@ -1,4 +1,5 @@
--- The running images fit each other where each of their dependencies and groups is met by what runs.
+-- The running images fit each other where each of their dependencies and groups is met by what
+-- runs.
 use Rattle.std.proofs.Common.{◌≡◌, Bool, true}
 use Rattle.std.specs.List.{list_all}
 use Rattle.std.proofs.lemmas.Bool.{false≢true}

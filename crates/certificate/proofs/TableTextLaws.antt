@@ -1,4 +1,5 @@
--- Reading a table is exact: what is read is spelled so, what is spelled so is read, and the fault is the first.
+-- Reading a table is exact: what is read is spelled so, what is spelled so is read, and the fault
+-- is the first.
 use Rattle.std.proofs.Common.{◌≡◌, ℕ, ◌≤◌, List, [], ◌∷◌, ◌++◌, length, Some, Result, Ok, Err, refl, ap, subst, ◌∙◌, inl, arith, lit<}
 use Rattle.std.specs.Prelude.{option_map}
 use Rattle.std.specs.List.{AllZip}

@@ -9,7 +9,7 @@ use common::ascii::{cut, number_u8};
 use version_order::Version;
 
 /// What one line of a report says.
-#[derive(Clone, Debug, Drop, PartialEq, Eq)]
+#[derive(Drop)]
 pub enum ReportLine {
     /// `run I VERSION`: image I runs on.
     Run {

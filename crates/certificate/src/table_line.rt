@@ -7,7 +7,7 @@ use common::ascii::{cut, number, number_u8};
 use version_order::{Dependency, Group, Version};
 
 /// What one line of a table says.
-#[derive(Clone, Debug, Drop, PartialEq, Eq)]
+#[derive(Drop)]
 pub enum TableLine {
     /// `image I VERSION COUNTER FLOOR` begins image I: what runs, and the floor.
     Image {

@@ -110,7 +110,8 @@ counts_only_looks before now next so_far looked =
     looked ∙ ap (λ (steps : Steps). record steps { looks = now.looks + 1 }) so_far
     ∙ ap (λ (n : ℕ). record before { looks = n }) (sym count)
 
--- the requests that were looked at among the first images, each in the place of a refusal: so many looks were made
+-- the requests that were looked at among the first images, each in the place of a refusal: so many
+-- looks were made
 pub record AreLooks (table : Table) (refusals : List Refusal) (n before after : ℕ) : Type 0 where
   pub looked : List Refusal
   pub once : IsOnce table (refusals ++ looked)

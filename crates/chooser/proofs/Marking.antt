@@ -285,8 +285,8 @@ module _ (table : Table) (refusals : List Refusal) (refusal : Refusal) (i : ℕ)
       → needs_reason table (refusals ++ refusal ∷ []) i ≡ needs_reason table refusals i
   needs_reason-push independent = reason_of_image-push (image_at table i) independent
 
-  -- a request that remains and isn't a dependant of the dropped image needs what can't come after the drop exactly
-  -- where it did before
+  -- a request that remains and isn't a dependant of the dropped image needs what can't come after
+  -- the drop exactly where it did before
   has_need-push : (refusal.image == i) ≡ false
       → is_left_dependant table (refusals ++ refusal ∷ []) refusal.image i ≡ false
       → has_need table (refusals ++ refusal ∷ []) i ≡ has_need table refusals i

@@ -68,8 +68,8 @@ make_device_shape = asking (codes "make-device")
     ∷ one_option (codes "vendor") true ∷ one_option (codes "class") true
     ∷ one_option (codes "trial-boots") false ∷ [])
 
--- A command with the options of what an image asks of a device: its security counter, and the images
--- that it needs.
+-- A command with the options of what an image asks of a device: its security counter, and the
+-- images that it needs.
 abbrev pub with_needs : App → App
 with_needs app =
     with_rule (with_rule (with_rule app counter_option) (options (codes "needs")))

@@ -74,7 +74,8 @@ pub fn number_said(names: &ArgMatches<'_>, argument: &str) -> Option<Option<u32>
 
 /// The length of the header, where the words give it; none where it is no number below 65536.
 pub fn header_size_in(names: &ArgMatches<'_>) -> Option<Option<u16>>
-    ensures { Finds (HasNumber (codes "header-size") (2 ^ 16) (rows_of (found_of names.now))) result }
+    ensures { Finds (HasNumber (codes "header-size") (2 ^ 16) (rows_of (found_of names.now)))
+        result }
 {
     if name_in(names, named::HEADER_SIZE).is_none() {
         return Some(None);

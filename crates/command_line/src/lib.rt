@@ -3,9 +3,9 @@
 //!
 //! Promises: an order has exactly the subcommand, the names of files, the numbers, the version and
 //! the dependencies that `clap`'s definition of the matches gives for the words, and names standard
-//! input once at most; each other answer is a fault in the words, a request for help or the version,
-//! or want of memory. Files are named here and not opened. Allocates to read the words and to make
-//! texts. The program alone may call it.
+//! input once at most; each other answer is a fault in the words, a request for help or the
+//! version, or want of memory. Files are named here and not opened. Allocates to read the words and
+//! to make texts. The program alone may call it.
 #![tactic(auto)]
 
 mod commands;

@@ -1,4 +1,5 @@
--- Lists read by place: what a test, a search, a count, a filter and a joined list say of the element at a place.
+-- Lists read by place: what a test, a search, a count, a filter and a joined list say of the
+-- element at a place.
 use Rattle.std.proofs.Common.{◌≡◌, ℕ, zero, suc, ◌+◌, ◌<◌, Bool, true, false, cond, List, [], ◌∷◌, ◌++◌, take, Option, Some, None, ◌⊎◌, count_by, inl, inr, refl, sym, ap, subst, ◌∙◌, arith}
 use Rattle.std.specs.Prelude.{IfSome, IsTrue, find, slice_get, Contains}
 use Rattle.std.specs.List.{AllByRecursion, AllZip, cons_option, filter_map, list_all, list_any}
@@ -163,7 +164,8 @@ filter_map-none h p (w ∷ xs) zero x none at =
 filter_map-none h p (w ∷ xs) (suc k) x none at =
     filter_map-none h p xs k x (cons_option-none p (h w) (filter_map h xs) none).1 at
 
--- what holds at each place of two lists, given what stands before it, holds at each place of the joined one
+-- what holds at each place of two lists, given what stands before it, holds at each place of the
+-- joined one
 pub each-append : {X : Type 0} (Q : List X → X → Type 0) (xs ys : List X) → ((k : ℕ) → IfSome (slice_get xs k) (Q (take k xs))) → ((k : ℕ) → IfSome (slice_get ys k) (Q (xs ++ take k ys))) → (k : ℕ) → IfSome (slice_get (xs ++ ys) k) (Q (take k (xs ++ ys)))
 each-append Q [] ys front back k = back k
 each-append Q (x ∷ xs) ys front back zero = front 0

@@ -81,7 +81,8 @@ products_apart a b e other = ⊎_elim
 pub mul_le : (a b e : ℕ) → a ≤ b → a * e ≤ b * e
 mul_le a b e le = grind arith
 
--- The sector of an address that is written so isn't before one that begins at or before the address ..
+-- The sector of an address that is written so isn't before one that begins at or before the address
+-- ..
 pub sector_from : (a s e o : ℕ) → a * e ≤ s * e + o → o < e → a ≤ s
 sector_from a s e o low small = ⊎_elim
     (λ (before : s < a). absurd (omega (arith, product_le s a e before))) (λ (le : a ≤ s). le) (cases_lt s a)

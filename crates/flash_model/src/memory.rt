@@ -21,9 +21,9 @@ use std::sync::ledger::{Blank, Book, Ledger, Share};
 /// that cuts leave from `arm`.
 ///
 /// Contracts see it as a `Memory` (`memory_of`): the chip, which has the armed cuts in the order of
-/// their arming, and the number of writes. The counts of cuts and of completed erases have no bound and take
-/// no bytes: they are tokens of the ledger `L`. So a flash is made in a function that is generic in
-/// `L`, whose caller picks the ledger:
+/// their arming, and the number of writes. The counts of cuts and of completed erases have no bound
+/// and take no bytes: they are tokens of the ledger `L`. So a flash is made in a function that is
+/// generic in `L`, whose caller picks the ledger:
 ///
 /// ```text
 /// fn helper<L: Ledger>(alloc: Global, blank: Blank) -> Result<(), AllocError>

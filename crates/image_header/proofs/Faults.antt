@@ -1,4 +1,5 @@
--- Laws of a header's faults: bytes have one at most, and none where they begin with a header that is accepted.
+-- Laws of a header's faults: bytes have one at most, and none where they begin with a header that
+-- is accepted.
 use Rattle.std.specs.Prelude.{◌≡◌, ℕ, zero, suc, ◌<◌, ◌≤◌, List, length}
 use Rattle.std.proofs.Common.{refl, sym, ap, subst, ◌∙◌, arith}
 use Rattle.byteorder.specs.Endian.{little_number}

@@ -44,7 +44,8 @@ drop-number_4 k x bytes within fits e =
     let bounded = IsBytes-take 4 (drop k bytes) (IsBytes-drop k bytes fits) in
     drop-part k 4 bytes (little_bytes 4 x) (le_bytes_4 part x whole bounded (omega arith))
 
--- Bytes that begin with the magic number and go on with the fields of a header begin with that header.
+-- Bytes that begin with the magic number and go on with the fields of a header begin with that
+-- header.
 pub BeginsWith-fields : (bytes : List ℕ) (header : Header) → 32 ≤ length bytes → IsBytes bytes
     → little_number 4 bytes ≡ header_magic → FitsHeader header → drop 4 bytes ≡ field_bytes header ++ drop 32 bytes
     → BeginsWith bytes header

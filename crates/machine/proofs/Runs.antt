@@ -79,7 +79,8 @@ runs_more setup old mid new events replies event reply runs steps = λ m holds.
     let after = steps before.0 before.2 in
     (after.0, run_more setup m before.0 after.0 events replies event reply before.1 after.1, after.2)
 
--- as a loop over events has it: of what the device was made with, of the events so far, and of the replies
+-- as a loop over events has it: of what the device was made with, of the events so far, and of the
+-- replies
 pub runs_on : (setup here : Setup) (old mid new : DeviceView) (events more : List DeviceEvent)
     (replies answered : List Reply) (event : DeviceEvent) (reply : Reply) → here ≡ setup
     → more ≡ events ++ event ∷ [] → answered ≡ replies ++ reply ∷ []

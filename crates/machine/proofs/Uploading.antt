@@ -1,4 +1,5 @@
--- What the calls of uploads leave, as steps of the machine: manifests, pieces, ends of uploads and withdrawals.
+-- What the calls of uploads leave, as steps of the machine: manifests, pieces, ends of uploads and
+-- withdrawals.
 use Rattle.std.proofs.Common.{◌≡◌, ℕ, ◌+◌, Bool, true, false, List, [], ◌∷◌, Option, Some, Result, Ok, Err, refl, sym}
 use Rattle.std.proofs.Common.{◌∙◌, ap, subst, arith, ⊎_elim, inl}
 use Rattle.std.specs.Borrow.{Bor}

@@ -23,8 +23,8 @@ const USUAL_TRIAL_BOOTS: u8 = 1;
 /// parts of its flash lie; where its sizes make no map, it writes to `out` why.
 ///
 /// The texts are made in memory of `heap` before one is written, and the device file is read back,
-/// for which its JSON value stands in memory of `alloc`. What is written is flushed, so that nothing
-/// is told of a file that couldn't be written.
+/// for which its JSON value stands in memory of `alloc`. What is written is flushed, so that
+/// nothing is told of a file that couldn't be written.
 pub fn perform<'a, A: Allocator, O: Write, E: Write>(
     alloc: Global,
     heap: &A,

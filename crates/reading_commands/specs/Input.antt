@@ -18,7 +18,8 @@ FileBytes = List ℕ → Option (List ℕ)
 abbrev pub IsKnownAs : Option (List ℕ) → List ℕ → Type 0
 IsKnownAs known bytes = IfSome known (λ held. bytes ≡ held)
 
--- These are so many of the known bytes, from that number on, where any are known; and always so many.
+-- These are so many of the known bytes, from that number on, where any are known; and always so
+-- many.
 pub record IsKnownPart (known : Option (List ℕ)) (from count : ℕ) (part : List ℕ) : Type 0 where
   pub many : length part ≡ count
   pub there : IfSome known (λ held. from + count ≤ length held)

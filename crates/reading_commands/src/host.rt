@@ -22,8 +22,8 @@ pub enum Access {
     WriteDurably,
 }
 
-/// Why the file of a flash can't be had, or not be replaced. It is as it was, but for a block device
-/// of which a write failed.
+/// Why the file of a flash can't be had, or not be replaced. It is as it was, but for a block
+/// device of which a write failed.
 #[derive(Clone, Copy, Debug, PartialEq, Eq)]
 pub enum FlashFault {
     /// Another program uses it.
@@ -97,9 +97,9 @@ pub trait Host {
     fn write_flash(&mut self, at: u64, bytes: &[u8]) -> io::Result<()>
         ensures input { Keeps (input self.old) (input self.new) };
 
-    /// Puts a file that holds `bytes` in the place of the file of this name, or makes it where there
-    /// is none. Until it is done that file is as it was, and so it is where this fails. No other
-    /// program may use it meanwhile. What takes memory is in that of `alloc`.
+    /// Puts a file that holds `bytes` in the place of the file of this name, or makes it where
+    /// there is none. Until it is done that file is as it was, and so it is where this fails. No
+    /// other program may use it meanwhile. What takes memory is in that of `alloc`.
     ///
     /// A block device has nothing beside it that could take its place. One that is as long as
     /// `bytes` is written from its first byte on; where a write fails it holds a part of them.

@@ -32,8 +32,8 @@ impl<'a> PartText<'a> {
         Some(PartText { from, count })
     }
 
-    /// The numbers that the words are: that of the first byte, from 0, and how many there are. `None`
-    /// where a word is no decimal number without leading zeros, or isn't below 2^64.
+    /// The numbers that the words are: that of the first byte, from 0, and how many there are.
+    /// `None` where a word is no decimal number without leading zeros, or isn't below 2^64.
     pub fn numbers(self) -> Option<(usize, usize)>
         ensures { IfSome result (λ numbers. ((part_words self.entry).from ≡ decimal numbers.0)
             × ((part_words self.entry).count ≡ decimal numbers.1)) }

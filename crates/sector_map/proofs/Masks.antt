@@ -1,4 +1,5 @@
--- Masks that have no image from some number on: nothing is left of them when they are shifted by it.
+-- Masks that have no image from some number on: nothing is left of them when they are shifted by
+-- it.
 use Rattle.std.proofs.Common.{◌≡◌, ℕ, zero, suc, ◌+◌, ◌-◌, ◌/◌, ◌%◌, ◌^◌, ◌<◌, ◌≤◌, Bool, true, false, ◌*◌, ◌==◌, List, [], ◌∷◌, length, get_or, if◌then◌else◌, arith, ap, ⊎_elim, sym, ◌∙◌, refl}
 use Rattle.std.proofs.lemmas.Bool.{cases_lt}
 use Rattle.std.proofs.lemmas.Bool.Decides.{nat_tests}

@@ -1,5 +1,5 @@
--- Which tests of parts hold what others do. Each says that a part which the wider test leaves is left by the
--- narrower one too, as keeps_wider takes it.
+-- Which tests of parts hold what others do. Each says that a part which the wider test leaves is
+-- left by the narrower one too, as keeps_wider takes it.
 use Rattle.std.proofs.Common.{◌≡◌, ℕ, Bool, true, false, ◌==◌, ◌&&◌, sym, ◌∙◌, ap, refl}
 use Rattle.std.proofs.lemmas.Bool.{eqb-true}
 use Rattle.sector_map.specs.declared.layout.Side.{Side}

@@ -1,4 +1,5 @@
--- Bytes have one first fault at most: the checks stand in a row, and the first that fails has its name.
+-- Bytes have one first fault at most: the checks stand in a row, and the first that fails has its
+-- name.
 use Rattle.std.proofs.Common.{◌≡◌, ℕ, zero, suc, ◌+◌, ◌<◌, ◌≤◌, inl, inr, List, length, Option, None, Some, refl, sym, ap, subst, ◌∙◌, arith}
 use Rattle.common.specs.Checks.{FailsFirst, PassBefore}
 use Rattle.common.proofs.ChecksLaws.{FailsFirst-unique}

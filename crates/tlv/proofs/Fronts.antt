@@ -1,4 +1,5 @@
--- The image that lies where a header and areas pass their checks, and that no image lies where a check fails.
+-- The image that lies where a header and areas pass their checks, and that no image lies where a
+-- check fails.
 use Rattle.std.proofs.Common.{◌≡◌, ◌≢◌, ℕ, ◌+◌, ◌-◌, ◌<◌, ◌≤◌, ◌⊎◌, inl, inr, List, [], ◌++◌, length, take, drop, Option, None, Some, refl, sym, ap, subst, ◌∙◌, append_assoc, arith}
 use Rattle.std.proofs.lemmas.List.{length-append, length-drop, length-take-le, take-append-drop}
 use Rattle.image_header.specs.declared.header.Header.{Header}

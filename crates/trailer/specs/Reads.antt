@@ -14,8 +14,8 @@ pub record HasPlace (map : SectorMap) (image from_end n : ℕ) (chip : Chip) : T
   pub room : n ≤ from_end
   pub within : from_end ≤ WITHDRAWN
 
--- The map is laid out on the flash, has the image, and its trailers have that status unit: there are
--- three for each sector of the slot.
+-- The map is laid out on the flash, has the image, and its trailers have that status unit: there
+-- are three for each sector of the slot.
 pub record HasStatus (map : SectorMap) (image status : ℕ) (chip : Chip) : Type 0 where
   pub laid_out : IsLaidOut map chip
   pub there : image < map.images

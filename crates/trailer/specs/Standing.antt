@@ -57,6 +57,8 @@ abbrev pub requested_fields : Kind → Fields
 requested_fields kind = record erased_fields { magic = Good; image_ok = is_permanent kind }
 
 -- The bytes of a slot behind its first sector are as they were.
-pub record KeepsBehindFirst (map : SectorMap) (image : ℕ) (side : Side) (old new : Chip) : Type 0 where
+pub record KeepsBehindFirst (map : SectorMap) (image : ℕ) (side : Side) (old new : Chip)
+    : Type 0 where
   pub each : (k : ℕ) → map.sector_size ≤ k
-      → slice_index (part_of map new (Slot image side)) k ≡ slice_index (part_of map old (Slot image side)) k
+      → slice_index (part_of map new (Slot image side)) k
+      ≡ slice_index (part_of map old (Slot image side)) k

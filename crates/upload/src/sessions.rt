@@ -14,7 +14,7 @@ use trailer::Kind;
 pub(crate) const UNIT: usize = 8;
 
 /// An upload that is open.
-#[derive(Clone, Debug, Drop, PartialEq, Eq)]
+#[derive(Debug, Drop)]
 pub struct Upload {
     /// How many bytes the file is to have.
     pub size: u32,

@@ -97,7 +97,8 @@ part_text-cut separator text n front =
       | Some after ↦ λ found. rw front at (cut-parts separator text after found)
     ] refl
 
--- what was read of a part: the number, what follows its separator, and the version that was made of both
+-- what was read of a part: the number, what follows its separator, and the version that was made of
+-- both
 record SpellsPart (limit separator : ℕ) (next : ℕ → Option (List ℕ) → Option Version) (text : List ℕ)
     (version : Version) : Type 0 where
   number : ℕ

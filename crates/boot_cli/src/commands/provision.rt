@@ -32,14 +32,14 @@ pub struct FlashName<'a> {
     pub name: &'a str,
 }
 
-/// Reads a device file and its images from `host`, makes a flash with each image at the front of its
-/// primary slot, makes it a device's, and then makes or replaces its file. Writes to `out` that it
-/// is done, or why it is refused. The flash stands in memory of `alloc`, and so does what the device
-/// file is as a JSON value; all else stands in memory of `heap`.
+/// Reads a device file and its images from `host`, makes a flash with each image at the front of
+/// its primary slot, makes it a device's, and then makes or replaces its file. Writes to `out` that
+/// it is done, or why it is refused. The flash stands in memory of `alloc`, and so does what the
+/// device file is as a JSON value; all else stands in memory of `heap`.
 ///
-/// All is judged before the file is touched, which is none of those that are read. Unless the answer
-/// is `Done`, or can't be written, the file is as it was; but a block device of which a write failed
-/// may hold a part of what it was to hold.
+/// All is judged before the file is touched, which is none of those that are read. Unless the
+/// answer is `Done`, or can't be written, the file is as it was; but a block device of which a
+/// write failed may hold a part of what it was to hold.
 pub fn perform<'a, A: Allocator, H: Host, O: Write>(
     alloc: Global,
     heap: &A,

@@ -3,8 +3,8 @@ use Rattle.boot_cli.specs.Loading.{armed_in, came_in}
 use Rattle.boot_cli.proofs.ScriptLaws.{AreLoaded}
 use Rattle.boot_cli.proofs.loading.load.Given as goal
 
--- no more lines were counted than there are bytes before what is left; and what the lines so far have cut and what
--- came by them, with that of the rest, is that of the text
+-- no more lines were counted than there are bytes before what is left; and what the lines so far
+-- have cut and what came by them, with that of the rest, is that of the text
 abbrev pub invariant-loop-reader : goal.invariant-loop-reader
 invariant-loop-reader g l =
     (l.number + length l.rest ≤ length l.text)

@@ -6,8 +6,8 @@ use Rattle.chooser.proofs.Counting.{most_looks}
 use Rattle.chooser.proofs.Order.{IsRefusalList}
 use Rattle.chooser.proofs.choice.all_refusals.Given as goal
 
--- the list so far is in the standard order and refuses each request once at most, the marks are right for it, and the
--- steps are counted
+-- the list so far is in the standard order and refuses each request once at most, the marks are
+-- right for it, and the steps are counted
 abbrev pub invariant-loop-refusal : goal.invariant-loop-refusal
 invariant-loop-refusal l = record {
   listed : IsRefusalList l.table l.refusals.items;

@@ -3,7 +3,8 @@ use Rattle.reading_commands.proofs.AnswerLaws.{GiveBoth-read, TellsManifest-answ
 use Rattle.answers.specs.declared.manifest_file.ManifestEnd.TheVariants.{Done, Refused}
 use Rattle.reading_commands.proofs.manifest_file.perform.Goals as goal
 
--- Both are what their sources gave, the first is the device's file, and what the second says to it was written.
+-- Both are what their sources gave, the first is the device's file, and what the second says to it
+-- was written.
 pub returns-in-Done : goal.returns-in-Done
 returns-in-Done g c =
     let read = rw c.in-Some.is at c.in_ok-of_device.ensures.read in (

@@ -4,7 +4,8 @@ use Rattle.reading_commands.proofs.ShowLaws.{Shows-since}
 use Rattle.answers.specs.declared.show.ShowEnd.TheVariants.{Done, Refused}
 use Rattle.reading_commands.proofs.show.perform.Goals as goal
 
--- Both are what their sources gave, the first is the device's file, and what stands on the second was written.
+-- Both are what their sources gave, the first is the device's file, and what stands on the second
+-- was written.
 pub returns-in-Done : goal.returns-in-Done
 returns-in-Done g c =
     let read = rw c.in-Some.is at c.in_ok-of_device.ensures.read in (

@@ -3,7 +3,8 @@ use Rattle.boot_cli.proofs.EndLaws.{AnswersProvision-read, KeepsFiles-told}
 use Rattle.boot_cli.proofs.InputLaws.{KeepsFiles-itself, KeepsFiles-twice, LeavesFiles-read}
 use Rattle.boot_cli.proofs.commands.provision.perform.Goals as goal
 
--- The device file and the images were read in turn, and what came of making their flash was written.
+-- The device file and the images were read in turn, and what came of making their flash was
+-- written.
 pub returns-clause-answers : goal.returns-clause-answers
 returns-clause-answers g c =
     let read = rw c.in-Some.is at c.in_ok-device.ensures.read in
