@@ -1,5 +1,5 @@
 -- An argument with a second name.
-use Rattle.std.proofs.Common.{◌≡◌, List, [], ◌∷◌, ◌++◌, Bool, Bor, ap, map, ◌∙◌}
+use Rattle.std.proofs.Common.{◌≡◌, List, ◌++◌, Bool, Bor, ap, map, ◌∙◌}
 use Rattle.std.proofs.lemmas.List.{map-append}
 use Rattle.clap.specs.Adds.{AddsAliases}
 use Rattle.clap.specs.Words.{Rule, Text, rule_of}

@@ -1,9 +1,13 @@
 -- The program's subcommands, and the names that each of them asks for, in the words of `clap`.
-use Rattle.std.specs.Prelude.{Bool, List, [], ◌∷◌, Some, codes, true, false}
+use Rattle.std.specs.Prelude.{Bool, List, [], ◌∷◌, Some, codes, fold, true, false}
 use Rattle.clap.specs.Lexer.{usize_max}
 use Rattle.clap.specs.Simple.{new_shape}
 use Rattle.clap.specs.Words.{App, Rule, Shape, Text, new_rule, with_rule, with_subcommand}
 use Rattle.clap.specs.declared.builder.action.ArgAction.TheVariants.{Append, SetTrue}
+use Rattle.command_line.specs.declared.arguments.Argument.{Argument}
+use Rattle.command_line.specs.declared.arguments.Argument.TheVariants as argument
+use Rattle.command_line.specs.declared.commands.Subcommand.{Subcommand}
+use Rattle.command_line.specs.declared.commands.Subcommand.TheVariants as sub
 
 -- A name that has to be given.
 abbrev pub one_name : Text → Rule
@@ -44,6 +48,24 @@ also_named rule other = record rule { aliases = other ∷ [] }
 abbrev pub counter_option : Rule
 counter_option = also_named (one_option (codes "counter") false) (codes "security-counter")
 
+-- What an argument asks for.
+abbrev pub rule_for : Argument → Rule
+rule_for (argument.File name help) = one_name name.now
+rule_for (argument.Files name help) = all_names name.now
+rule_for (argument.Required name help) = one_option name.now true
+rule_for (argument.Optional name help) = one_option name.now false
+rule_for (argument.Aliased name other help) = also_named (one_option name.now false) other.now
+rule_for (argument.Repeated name help) = options name.now
+rule_for (argument.Flag name help) = one_flag name.now
+
+-- A command with an argument more ..
+abbrev pub with_argument : App → Argument → App
+with_argument command argument = with_rule command (rule_for argument)
+
+-- .. or with these, in this order.
+abbrev pub with_arguments : App → List Argument → App
+with_arguments command arguments = fold with_argument command arguments
+
 -- A subcommand that asks for these names, in this order.
 abbrev pub asking : Text → List Rule → Shape
 asking command rules = record (new_shape command) { rules = rules }
@@ -67,19 +89,6 @@ make_device_shape = asking (codes "make-device")
     (one_option (codes "sector") true ∷ one_option (codes "slots") true
     ∷ one_option (codes "vendor") true ∷ one_option (codes "class") true
     ∷ one_option (codes "trial-boots") false ∷ [])
-
--- A command with the options of what an image asks of a device: its security counter, and the
--- images that it needs.
-abbrev pub with_needs : App → App
-with_needs app =
-    with_rule (with_rule (with_rule app counter_option) (options (codes "needs")))
-    (options (codes "needs-one"))
-
--- A command with the options of what stands in the header of an image besides its version.
-abbrev pub with_header : App → App
-with_header app =
-    with_rule (with_rule (with_rule app (one_option (codes "header-size") false))
-    (one_option (codes "load-address") false)) (one_option (codes "flags") false)
 
 abbrev pub make_image_shape : Shape
 make_image_shape = asking (codes "make-image")
@@ -107,22 +116,21 @@ program = record {
   subs = [];
 }
 
--- The commands of the choice over a table, behind those that there are.
-abbrev pub with_choices : App → App
-with_choices app = with_subcommand (with_subcommand app choose_shape) check_shape
+-- The shape of each subcommand.
+abbrev pub shape_for : Subcommand → Shape
+shape_for sub.Choose = choose_shape
+shape_for sub.Check = check_shape
+shape_for sub.Image = image_shape
+shape_for sub.Manifest = manifest_shape
+shape_for sub.MakeDevice = make_device_shape
+shape_for sub.MakeImage = make_image_shape
+shape_for sub.Provision = provision_shape
+shape_for sub.Show = show_shape
+shape_for sub.Run = run_shape
 
--- The commands that say what a file holds.
-abbrev pub with_descriptions : App → App
-with_descriptions app = with_subcommand (with_subcommand app image_shape) manifest_shape
-
--- The commands that make a file out of the words.
-abbrev pub with_makers : App → App
-with_makers app = with_subcommand (with_subcommand app make_device_shape) make_image_shape
-
--- The commands of a device on a file.
-abbrev pub with_devices : App → App
-with_devices app =
-    with_subcommand (with_subcommand (with_subcommand app provision_shape) show_shape) run_shape
+-- The program with a subcommand more.
+abbrev pub with_command : App → Subcommand → App
+with_command app subcommand = with_subcommand app (shape_for subcommand)
 
 -- The program.
 abbrev pub bootswap : App

@@ -9,7 +9,7 @@ ghost use Rattle.command_line.specs.Faults.{IsTold, IsUsage};
 ghost use Rattle.command_line.specs.Orders.{misuse_of, names_of, standard_inputs};
 ghost use Rattle.command_line.specs.Orders.{writes_to_standard_input};
 
-use crate::commands::{MAKE_DEVICE, MAKE_IMAGE, named};
+use crate::commands::{MAKE_DEVICE, MAKE_IMAGE, Subcommand, named};
 use crate::device_words::{number_in, trial_boots_in};
 use crate::error::OrderError;
 use crate::escaped::Escaped;
@@ -18,15 +18,9 @@ use crate::order_reading::{named_in, order};
 use crate::orders::{Order, STANDARD_INPUT};
 use crate::{commands, help};
 use clap::error::ErrorKind;
-use clap::{ArgMatches, Command, Error};
+use clap::{ArgMatches, Error};
 use std::alloc::{AllocError, Global};
 use std::convert::AsStr;
-
-/// The subcommand `make-device`, as its usage has it.
-const MAKE_DEVICE_NAME: &str = "bootswap make-device";
-
-/// The subcommand `make-image`, as its usage has it.
-const MAKE_IMAGE_NAME: &str = "bootswap make-image";
 
 /// The fault of these words, as it is printed: it names them with their control characters escaped.
 /// `fault` is what `order` answered.
@@ -75,17 +69,10 @@ fn no_number(alloc: Global, names: &ArgMatches<'_>) -> OrderError
     } else {
         help::NO_SLOTS
     };
-    match number_error(alloc, text) {
+    match subcommand_error(alloc, Subcommand::MakeDevice, ErrorKind::InvalidValue, text) {
         Ok(error) => OrderError::from(error),
         Err(error) => OrderError::from(error),
     }
-}
-
-fn number_error(alloc: Global, text: &str) -> Result<Error, AllocError>
-    ensures { IfOk result (λ error. kind_of error ≡ InvalidValue) }
-{
-    let mut command = commands::make_device(alloc)?.bin_name(MAKE_DEVICE_NAME)?;
-    command.error(ErrorKind::InvalidValue, text)
 }
 
 /// The fault of words of `make-image` of which one can't be read.
@@ -102,8 +89,7 @@ fn values_error(alloc: Global, names: &ArgMatches<'_>) -> Result<Error, AllocErr
     ensures { IfOk result (λ error. kind_of error ≡ InvalidValue) }
 {
     let fault = values_fault(alloc, names)?;
-    let mut command = commands::make_image(alloc)?.bin_name(MAKE_IMAGE_NAME)?;
-    command.error(ErrorKind::InvalidValue, fault)
+    subcommand_error(alloc, Subcommand::MakeImage, ErrorKind::InvalidValue, fault)
 }
 
 /// What is told of words of `make-image` of which one can't be read.
@@ -156,7 +142,7 @@ pub(crate) fn misuse(alloc: Global, order: &Order<'_>) -> Result<Option<Error>, 
     } else {
         return Ok(None);
     };
-    let fault = command_of(alloc, order)?.error(kind, text)?;
+    let fault = subcommand_error(alloc, subcommand_of(order), kind, text)?;
     Ok(Some(fault))
 }
 
@@ -168,20 +154,34 @@ fn written_text(order: &Order<'_>) -> &'static str {
     }
 }
 
-/// The subcommand of an order, with its name as its usage has it.
-fn command_of<'a>(alloc: Global, order: &Order<'_>) -> Result<Command<'a>, AllocError> {
-    let (command, name) = match order {
-        Order::Choose { .. } => (commands::choose(alloc), "bootswap choose"),
-        Order::Check { .. } => (commands::check(alloc), "bootswap check"),
-        Order::Image { .. } => (commands::image(alloc), "bootswap image"),
-        Order::Manifest { .. } => (commands::manifest(alloc), "bootswap manifest"),
-        Order::MakeDevice { .. } => (commands::make_device(alloc), MAKE_DEVICE_NAME),
-        Order::MakeImage { .. } => (commands::make_image(alloc), MAKE_IMAGE_NAME),
-        Order::Provision { .. } => (commands::provision(alloc), "bootswap provision"),
-        Order::Show { .. } => (commands::show(alloc), "bootswap show"),
-        Order::Run { .. } => (commands::run(alloc), "bootswap run"),
-    };
-    command?.bin_name(name)
+/// The subcommand of an order.
+fn subcommand_of(order: &Order<'_>) -> Subcommand {
+    match order {
+        Order::Choose { .. } => Subcommand::Choose,
+        Order::Check { .. } => Subcommand::Check,
+        Order::Image { .. } => Subcommand::Image,
+        Order::Manifest { .. } => Subcommand::Manifest,
+        Order::MakeDevice { .. } => Subcommand::MakeDevice,
+        Order::MakeImage { .. } => Subcommand::MakeImage,
+        Order::Provision { .. } => Subcommand::Provision,
+        Order::Show { .. } => Subcommand::Show,
+        Order::Run { .. } => Subcommand::Run,
+    }
+}
+
+/// A fault in the words of a subcommand.
+fn subcommand_error(
+    alloc: Global,
+    subcommand: Subcommand,
+    kind: ErrorKind,
+    text: &str,
+) -> Result<Error, AllocError>
+    ensures { IfOk result (λ error. kind_of error ≡ kind) }
+{
+    let mut command = subcommand
+        .command(alloc)?
+        .bin_name(subcommand.usage_name())?;
+    command.error(kind, text)
 }
 
 fn writes_to_standard_input(order: &Order<'_>) -> bool
@@ -204,12 +204,23 @@ fn reads_standard_input_twice(order: &Order<'_>) -> bool
 {
     match order {
         Order::Choose { .. } | Order::Image { .. } | Order::MakeDevice { .. } => false,
-        Order::Check { table, report } => is_standard_input(table) && is_standard_input(report),
-        Order::Manifest { device, file } => is_standard_input(device) && is_standard_input(file),
-        Order::MakeImage { image, body, .. } => {
-            is_standard_input(image) && is_standard_input(body)
+        Order::Check {
+            table: first,
+            report: second,
         }
-        Order::Show { device, flash } => is_standard_input(device) && is_standard_input(flash),
+        | Order::Manifest {
+            device: first,
+            file: second,
+        }
+        | Order::MakeImage {
+            image: first,
+            body: second,
+            ..
+        }
+        | Order::Show {
+            device: first,
+            flash: second,
+        } => is_standard_input(first) && is_standard_input(second),
         Order::Run {
             device,
             flash,

@@ -8,6 +8,7 @@
 //! to make texts. The program alone may call it.
 #![tactic(auto)]
 
+mod arguments;
 mod commands;
 mod device_words;
 mod error;

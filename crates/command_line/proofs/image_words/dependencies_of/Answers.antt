@@ -1,4 +1,4 @@
-use Rattle.std.proofs.Common.{◌≡◌, ℕ, List, [], Bor, Some, ap, get_or, sym, ◌∙◌}
+use Rattle.std.proofs.Common.{ℕ, List, [], Bor, get_or}
 use Rattle.std.proofs.lemmas.List.{get_or_default}
 use Rattle.common.proofs.Mapped.{AllZip-at, AllZip-more}
 use Rattle.command_line.specs.Needs.{IsNeed}
