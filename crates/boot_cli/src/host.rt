@@ -46,10 +46,15 @@ impl<'a, R: Files, I: Read> SystemHost<'a, R, I> {
 impl<R: Files<File = File>, I: Read> Host for SystemHost<'_, R, I> {
     ghost input = { λ host. I.remaining host.input };
 
-    fn read_file<A: Allocator>(&mut self, alloc: A, name: &str) -> io::Result<Vec<u8, A>> {
-        let mut file = File::open(self.runtime, name)?;
+    fn read_file<A: Allocator>(
+        &mut self,
+        alloc: A,
+        name: &str,
+        most: u32,
+    ) -> io::Result<Vec<u8, A>> {
+        let mut start = File::open(self.runtime, name)?.take(u64::from(most) + 1);
         let mut bytes = Vec::new(alloc);
-        file.read_to_end(&mut bytes)?;
+        start.read_to_end(&mut bytes)?;
         Ok(bytes)
     }
 

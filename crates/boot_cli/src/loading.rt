@@ -3,7 +3,7 @@ ghost use Rattle.std.specs.Prelude.{◌≡◌, ◌≢◌, ◌∷◌, ◌++◌, [
 ghost use Rattle.std.specs.Io.KnownBytes.{Keeps};
 ghost use Rattle.std.specs.Option.{option_map};
 ghost use Rattle.events.specs.Event.{event_map};
-ghost use Rattle.reading_commands.specs.Input.{IsKnownPart, KeepsFiles};
+ghost use Rattle.reading_commands.specs.Input.{Gives, IsKnownPart, KeepsFiles, KeepsOthers};
 ghost use Rattle.script.specs.Said.{file_of, part_words, said, said_file, said_torn};
 ghost use Rattle.boot_cli.specs.Loading.{Adds, Passes, armed_in, armed_of, came_in, came_of};
 ghost use Rattle.boot_cli.specs.Script.{Comes, IsCutBy, IsPieceOf, IsRead, IsScript, Known, ReadsFile, StaysKnown};
@@ -11,7 +11,7 @@ ghost use Rattle.boot_cli.specs.Script.{Comes, IsCutBy, IsPieceOf, IsRead, IsScr
 use common::lines::first_line;
 use events::Event;
 use flash_model::Torn;
-use reading_commands::{Host, Refusal, Source};
+use reading_commands::{Host, MOST_FILE, MOST_SCRIPT, Refusal, Source};
 use script::{FileText, Line, PartText, Reading, TornText, line_of};
 use std::alloc::{Allocator, Global};
 use std::io::ErrorKind;
@@ -43,6 +43,26 @@ struct Reader<'h, 'r, A, H> {
     host: &'r mut H,
     /// Whether standard input was read before.
     is_input_read: bool,
+}
+
+/// The text of a script, from `host`, in memory of `heap`. One that is too long is refused in the
+/// line that goes past the most.
+pub fn read_script<'a, 'h, A: Allocator, H: Host>(
+    heap: &'h A,
+    script: Source<'a>,
+    host: &mut H,
+) -> Result<Vec<u8, &'h A>, Refusal<'a>>
+    ensures bytes { IfOk result (λ bytes.
+        Gives script.entry (H.input host.old) (H.file host.old) bytes.items) }
+    ensures others { KeepsOthers script.entry (H.input host.old) (H.file host.old)
+        (H.input host.new) (H.file host.new) }
+{
+    let start = script.read_start(heap, host, MOST_SCRIPT)?;
+    if start.len() <= MOST_SCRIPT as usize {
+        return Ok(start);
+    }
+    let ended = start.iter().filter(|byte| **byte == b'\n').count();
+    Err(Refusal::ScriptLine(ended.saturating_add(1)))
 }
 
 /// Reads a script from its text, and each file that its lines name from `host`, in memory of
@@ -196,7 +216,7 @@ fn whole_file<'a, 'h, A: Allocator, H: Host>(
         return Err(Refusal::ScriptLine(number));
     }
     reader.is_input_read |= source.is_standard_input();
-    source.read(reader.heap, reader.host)
+    source.read(reader.heap, reader.host, MOST_FILE)
 }
 
 /// What the line of this number names of a file: a part of it, or all. Of a file no other part is

@@ -11,7 +11,7 @@ use std::rt::Files;
 
 /// So many bytes of the file of this name, from its byte `from` on, in memory of `alloc`, where it
 /// has them. Of a plain file nothing else is read. A pipe or a device, whose length isn't known, is
-/// read to its end.
+/// read from its front up to the end of the part.
 pub fn read_part<R: Files<File = File>, A: Allocator>(
     runtime: &R,
     alloc: A,
@@ -21,16 +21,18 @@ pub fn read_part<R: Files<File = File>, A: Allocator>(
 ) -> io::Result<Option<Vec<u8, A>>>
     ensures many { IfOk result (λ read. IfSome read (λ part. length part.items ≡ count)) }
 {
-    let mut file = File::open(runtime, name)?;
+    let file = File::open(runtime, name)?;
     let found = file.metadata()?;
+    let Some(end) = from.checked_add(count) else {
+        return Ok(None);
+    };
     if !found.is_file() {
         let mut bytes = Vec::new(alloc);
-        file.read_to_end(&mut bytes)?;
+        file.take(end as u64).read_to_end(&mut bytes)?;
         return Ok(part_of(bytes, from, count));
     }
-    match from.checked_add(count) {
-        Some(end) if end as u64 <= found.len() => {}
-        _ => return Ok(None),
+    if end as u64 > found.len() {
+        return Ok(None);
     }
     let mut part = vec![in alloc; 0; count]?;
     file.read_exact_at(&mut part, from as u64)?;

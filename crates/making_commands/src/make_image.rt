@@ -7,7 +7,7 @@ ghost use Rattle.making_commands.specs.NewImageEnd.{AnswersMade, AnswersNewImage
 
 use crate::telling::tell;
 use command_line::NewImage;
-use reading_commands::{Answer, FlashFault, Host, Refusal, Source};
+use reading_commands::{Answer, FlashFault, Host, MOST_FILE, Refusal, Source};
 use std::alloc::{AllocError, Allocator};
 use std::io::Write;
 use tlv::{ImageSpec, MakeError, make_image};
@@ -37,7 +37,7 @@ pub fn perform<'a, A: Allocator, H: Host, O: Write>(
         → LeavesFiles body.entry (H.file host.old) (H.file host.new) }
 {
     let source = body;
-    let body = source.read(heap, host)?;
+    let body = source.read(heap, host, MOST_FILE)?;
     refuse_input(host, image, source)?;
     make(heap, image, asked, &body, host, out)
 }

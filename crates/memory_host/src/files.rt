@@ -197,8 +197,15 @@ impl<'f, 'i> MemoryHost<'f, 'i> {
 impl Host for MemoryHost<'_, '_> {
     ghost input = { λ host. Some host.input.now };
 
-    fn read_file<A: Allocator>(&mut self, alloc: A, name: &str) -> io::Result<Vec<u8, A>> {
-        let bytes = Vec::from_slice(alloc, self.bytes_of(name)?)?;
+    fn read_file<A: Allocator>(
+        &mut self,
+        alloc: A,
+        name: &str,
+        most: u32,
+    ) -> io::Result<Vec<u8, A>> {
+        let bytes = self.bytes_of(name)?;
+        let count = bytes.len().min((most as usize).saturating_add(1));
+        let bytes = Vec::from_slice(alloc, &bytes[..count])?;
         self.read = self.read.saturating_add(bytes.len() as u64);
         Ok(bytes)
     }
@@ -246,7 +253,7 @@ impl Host for MemoryHost<'_, '_> {
         {
             flash.open(length, access)?;
         }
-        match self.read_file(alloc, name) {
+        match self.read_file(alloc, name, u32::MAX) {
             Ok(bytes) if bytes.len() as u64 == length => Ok(bytes),
             Ok(_) => Err(FlashFault::WrongLength),
             Err(error) if error.kind() == ErrorKind::OutOfMemory => Err(FlashFault::NoMemory),

@@ -24,6 +24,7 @@ status_of_refusal no.ImageCount = 1
 status_of_refusal (no.ImageTooBig image) = 1
 status_of_refusal (no.ScriptLine line) = 1
 status_of_refusal (no.CannotRead source) = 1
+status_of_refusal (no.TooLong source most) = 1
 status_of_refusal (no.CannotReplace source) = 1
 status_of_refusal no.NoMemory = 1
 status_of_refusal no.FlashFile = 4

@@ -4,8 +4,9 @@ ghost use Rattle.reading_commands.specs.AnswerEnd.{AnswersChoice};
 
 use crate::answer::Answer;
 use crate::error::Refusal;
-use crate::host::{Host, StandardInput};
+use crate::host::Host;
 use crate::source::Source;
+use crate::table_input::read_table;
 use answers::{ChooseEnd, choose_over};
 use std::alloc::Allocator;
 use std::io::Write;
@@ -21,14 +22,8 @@ pub fn perform<'a, A: Allocator, H: Host, O: Write>(
     ensures { IfOk result (λ answer. AnswersChoice answer table.entry
         (H.input host.old) (H.file host.old) (O.contents out.old) (O.contents out.new)) }
 {
-    let end = match table {
-        Source::StandardInput => choose_over(heap, &mut StandardInput(host), out),
-        Source::File(_) => {
-            let bytes = table.read(heap, host)?;
-            choose_over(heap, &mut bytes.as_slice(), out)
-        }
-    };
-    match end {
+    let bytes = read_table(heap, table, host)?;
+    match choose_over(heap, &mut bytes.as_slice(), out) {
         ChooseEnd::Done => Ok(Answer::Done),
         ChooseEnd::BadLine(line) => Err(Refusal::TableLine(line)),
         ChooseEnd::NotValid => Err(Refusal::NotValid),

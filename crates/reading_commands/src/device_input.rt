@@ -8,6 +8,7 @@ ghost use Rattle.reading_commands.specs.Input.{Gives, IsKnownAs, KeepsFiles, Kee
 
 use crate::error::Refusal;
 use crate::host::{Access, FlashFault, Host};
+use crate::limits::MOST_JSON;
 use crate::source::Source;
 use answers::{DeviceFault, DeviceFile, map_refusal_text, write_all};
 use sector_map::{MapError, SectorMap};
@@ -29,7 +30,10 @@ pub fn read_device<'a, A: Allocator, H: Host, O: Write>(
     ensures others { KeepsOthers device.entry (H.input host.old) (H.file host.old)
         (H.input host.new) (H.file host.new) }
 {
-    let bytes = device.read(heap, host)?;
+    let bytes = device.read_start(heap, host, MOST_JSON)?;
+    if bytes.len() > MOST_JSON as usize {
+        return Err(Refusal::DeviceFile);
+    }
     match DeviceFile::read(alloc, &bytes) {
         Ok(device) => Ok(Some(device)),
         Err(DeviceFault::Malformed) => Err(Refusal::DeviceFile),
@@ -75,7 +79,7 @@ pub fn read_flash<'a, H: Host>(
         (H.input host.new) (H.file host.new) }
 {
     let bytes = match flash {
-        Source::StandardInput => flash.read(alloc, host)?,
+        Source::StandardInput => flash.read_start(alloc, host, map.bytes_in_all())?,
         Source::File(name) => open_flash(alloc, name, map, access, host)?,
     };
     if bytes.len() != map.bytes_in_all() as usize {

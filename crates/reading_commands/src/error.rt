@@ -45,6 +45,9 @@ pub enum Refusal<'a> {
     /// A file or standard input could not be read to its end.
     #[error("cannot read {0}")]
     CannotRead(Source<'a>),
+    /// A file or standard input has more than so many bytes.
+    #[error("{0} is longer than {1} bytes")]
+    TooLong(Source<'a>, u32),
     /// A file that is no flash could not be made, or not be replaced.
     #[error("cannot write {0}")]
     CannotReplace(Source<'a>),

@@ -1,6 +1,6 @@
 //! What the program asks of the system: the bytes of files and of standard input, and the file of a
 //! flash.
-ghost use Rattle.std.specs.Prelude.{IfErr, IfOk, IfSome, List, ℕ, None, OnOk, Option};
+ghost use Rattle.std.specs.Prelude.{◌≤◌, IfErr, IfOk, IfSome, List, ℕ, None, OnOk, Option, length};
 ghost use Rattle.std.specs.Io.{ReadsAtMost};
 ghost use Rattle.std.specs.Io.KnownBytes.{Keeps, ReadConsumes};
 ghost use Rattle.reading_commands.specs.Input.{IsKnownAs, IsKnownPart, KeepsFiles};
@@ -49,9 +49,11 @@ pub trait Host {
     // that fails may leave a part of what was to be written.
     ghost file: { Self → List ℕ → Option (List ℕ) } = { λ _ _. None };
 
-    /// All bytes of the file of this name, in memory of `alloc`.
-    fn read_file<A: Allocator>(&mut self, alloc: A, name: &str) -> io::Result<Vec<u8, A>>
-        ensures bytes { IfOk result (λ bytes. IsKnownAs (file self.old name.now) bytes.items) }
+    /// The bytes of the file of this name, in memory of `alloc`: all of them where it has at most
+    /// `most`, and else one more than that, from its front. No others are read.
+    fn read_file<A: Allocator>(&mut self, alloc: A, name: &str, most: u32) -> io::Result<Vec<u8, A>>
+        ensures bytes { IfOk result (λ bytes. length bytes.items ≤ most
+            → IsKnownAs (file self.old name.now) bytes.items) }
         ensures files { KeepsFiles (file self.old) (file self.new) }
         ensures input { Keeps (input self.old) (input self.new) };
 

@@ -5,6 +5,7 @@ ghost use Rattle.reading_commands.specs.AnswerEnd.{AnswersDescription};
 use crate::answer::Answer;
 use crate::error::Refusal;
 use crate::host::Host;
+use crate::limits::MOST_FILE;
 use crate::source::Source;
 use answers::{DescribeEnd, describe_over};
 use std::alloc::Allocator;
@@ -21,7 +22,7 @@ pub fn perform<'a, A: Allocator, H: Host, O: Write>(
     ensures { IfOk result (λ answer. AnswersDescription answer image.entry
         (H.input host.old) (H.file host.old) (O.contents out.old) (O.contents out.new)) }
 {
-    let bytes = image.read(heap, host)?;
+    let bytes = image.read(heap, host, MOST_FILE)?;
     match describe_over(heap, &bytes, out) {
         DescribeEnd::Done => Ok(Answer::Done),
         DescribeEnd::Refused => Ok(Answer::Refused),

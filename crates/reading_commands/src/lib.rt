@@ -16,12 +16,15 @@ mod device_input;
 mod error;
 mod host;
 pub mod image;
+mod limits;
 pub mod manifest_file;
 pub mod show;
 mod source;
+mod table_input;
 
 pub use answer::{Answer, finish, refuse, status_after};
 pub use device_input::{read_device, read_flash};
 pub use error::Refusal;
 pub use host::{Access, FlashFault, Host, StandardInput};
+pub use limits::{MOST_FILE, MOST_SCRIPT};
 pub use source::Source;

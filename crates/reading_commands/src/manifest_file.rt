@@ -7,6 +7,7 @@ use crate::answer::Answer;
 use crate::device_input::read_device;
 use crate::error::Refusal;
 use crate::host::Host;
+use crate::limits::MOST_JSON;
 use crate::source::Source;
 use answers::{ManifestEnd, tell_over};
 use std::alloc::{Allocator, Global};
@@ -30,7 +31,7 @@ pub fn perform<'a, A: Allocator, H: Host, O: Write>(
     let Some(of_device) = read_device(alloc, heap, device, host, out)? else {
         return Ok(Answer::Refused);
     };
-    let bytes = file.read(heap, host)?;
+    let bytes = file.read(heap, host, MOST_JSON)?;
     match tell_over(alloc, heap, &bytes, &of_device.identity, out) {
         ManifestEnd::Done => Ok(Answer::Done),
         ManifestEnd::Refused => Ok(Answer::Refused),

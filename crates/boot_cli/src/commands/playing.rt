@@ -15,7 +15,7 @@ ghost use Rattle.boot_cli.specs.Telling.{BreaksOff, TellsAll, TellsSome};
 ghost use Rattle.reading_commands.specs.declared.source.Source.TheVariants as source;
 
 use crate::host::HostFile;
-use crate::loading::{Cut, Script, load};
+use crate::loading::{Cut, Script, load, read_script};
 use answers::{DeviceFile, flash_of, reply_text, write_all};
 use boot_core::{Device, step};
 use events::Event;
@@ -56,7 +56,7 @@ pub fn perform<'a, 'h, A: Allocator, H: Host, O: Write>(
         return Ok(Answer::Refused);
     };
     let bytes = read_flash(alloc, Source::File(flash), &device.map, access, host)?;
-    *text = script.read(heap, host)?;
+    *text = read_script(heap, script, host)?;
     let script = load(alloc, heap, text, is_input_read, host)?;
     let file = HostFile { host };
     play_script(alloc, heap, &device, bytes, script, file, out)

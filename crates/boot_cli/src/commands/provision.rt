@@ -90,8 +90,9 @@ fn read_images<'a, A: Allocator, H: Host>(
     };
     for image in 0..map.images {
         let source = source_at(images, image);
-        let file = source.read(heap, host)?;
-        if file.len() > map.slot_length(image) as usize {
+        let most = map.slot_length(image);
+        let file = source.read_start(heap, host, most)?;
+        if file.len() > most as usize {
             return Err(Refusal::ImageTooBig(image));
         }
         put(&mut bytes, map.slot_start(image, Side::Primary), &file);

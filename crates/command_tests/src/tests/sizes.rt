@@ -1,4 +1,6 @@
 //! Answers of the greatest size: every limit of a table at once, and an image of several megabytes.
+//! And how much is read of what is too long.
+use memory_host::samples::{DEVICE, ONE_IMAGE};
 use memory_host::{AMPLE, Files, Limits, MemoryHost, run_within};
 use std::alloc::{AllocError, Global};
 use std::process::Abort;
@@ -179,5 +181,68 @@ counter 0
 digest 959b351f24e328aeda152a1f7cb19d2cc7e78d5dd8e5afdabc6b55d63dee11e8
 ";
     assert!(rt; outcome.is(0, answer, ""), "{outcome:?}");
+    Ok(())
+}
+
+/// Asserts that this run is refused so, after it read so many bytes of its files.
+fn expect_read(
+    rt: &(impl Abort + AllocGlobal),
+    files: Files<'_>,
+    words: &[&str],
+    err: &str,
+    read: u64,
+) {
+    let mut host = MemoryHost::new(files, b"");
+    let outcome = run_within(rt.alloc(), &rt.alloc(), &mut host, words, AMPLE);
+    assert!(rt; outcome.is(1, "", err), "{outcome:?}");
+    assert_eq!(rt; host.read, read);
+}
+
+#[test]
+fn of_a_file_that_is_too_long_one_byte_past_the_most_is_read(rt: HostRuntime) -> Result<(), Fail> {
+    let long = vec![in rt.alloc(); b' '; 2_000_000]?;
+    let files = [
+        ("long", long.as_slice()),
+        ("device.json", DEVICE.as_bytes()),
+        ("table.txt", ONE_IMAGE.as_bytes()),
+    ];
+    let (device, table) = (DEVICE.len() as u64, ONE_IMAGE.len() as u64);
+    for (words, err, read) in [
+        (
+            ["bootswap", "choose", "long"].as_slice(),
+            "error: table line 1\n",
+            65_537,
+        ),
+        (
+            ["bootswap", "check", "table.txt", "long"].as_slice(),
+            "error: report line 1\n",
+            table.saturating_add(65_537),
+        ),
+        (
+            ["bootswap", "manifest", "long", "long"].as_slice(),
+            "error: device file\n",
+            1_048_577,
+        ),
+        (
+            ["bootswap", "manifest", "device.json", "long"].as_slice(),
+            "error: long is longer than 1048576 bytes\n",
+            device.saturating_add(1_048_577),
+        ),
+        (
+            [
+                "bootswap",
+                "provision",
+                "device.json",
+                "new",
+                "long",
+                "long",
+            ]
+            .as_slice(),
+            "error: image 0 too big\n",
+            device.saturating_add(1025),
+        ),
+    ] {
+        expect_read(&rt, files.as_slice(), words, err, read);
+    }
     Ok(())
 }

@@ -13,7 +13,10 @@ fn what_cannot_be_read_is_not_an_empty_file(rt: HostRuntime) {
     let mut host = SystemHost::new(&rt, b"".as_slice());
     // A folder can be opened, and fails to be read.
     for name in ["/", "/no/such/file"] {
-        assert!(rt; host.read_file(rt.alloc(), name).is_err(), "{name}");
+        assert!(rt;
+            host.read_file(rt.alloc(), name, u32::MAX).is_err(),
+            "{name}"
+        );
     }
 }
 
@@ -75,7 +78,7 @@ fn a_file_is_replaced_and_written_in_its_place(rt: HostRuntime) -> Result<(), Fa
     assert!(rt; host.replace_file(alloc, name, b"short").is_ok());
     expect_alone(&rt, name, b"short")?;
     fs::remove_file(&rt, name)?;
-    assert!(rt; host.read_file(alloc, name).is_err());
+    assert!(rt; host.read_file(alloc, name, u32::MAX).is_err());
     assert!(rt; host.replace_file(alloc, name, b"made").is_ok());
     expect_alone(&rt, name, b"made")?;
     fs::remove_file(&rt, name)?;

@@ -29,9 +29,9 @@ put-requires g c =
       arith,
       room,
       long,
-      c.if-len-slot_length.false,
+      c.if-len-most.false,
       c.len.ensures,
-      c.slot_length.ensures,
+      c.slot_length-most.ensures,
       c.in_ok-file.file.ok.0,
       c.slot_start.ensures,
       c.loop-image.invariant.whole,
@@ -44,12 +44,13 @@ loop-image-preserved g c =
     let image = c.loop-image.image in
     let file = c.in_ok-file.file in
     let short : length file.items ≤ length_of map (Slot image Primary) =
-    omega (arith, c.if-len-slot_length.false, c.len.ensures, c.slot_length.ensures, file.ok.0) in
+    omega (arith, c.if-len-most.false, c.len.ensures, c.slot_length-most.ensures, file.ok.0) in
+    let all : length file.items ≤ c.slot_length-most.result = omega (arith, c.if-len-most.false, c.len.ensures, file.ok.0) in
     let within : image < length c.args.images.now = omega (arith, c.loop-image-test.true, c.if-images-from.false, c.from.ensures) in
     let put = c.put.ensures ∙ ap (λ at. replaced at c.deref.result.now c.loop-image.bytes.items) c.slot_start.ensures
     ∙ ap (λ content. replaced (start_of map (Slot image Primary)) content c.loop-image.bytes.items) c.deref.ensures.value in
     AreRead-more map c.args.images.now image _ _ _ _ _ _ _ _ c.source_at-source.result file.items
-    map.is_map c.loop-image-test.true within c.source_at-source.ensures c.in_ok-file.ensures.bytes
+    map.is_map c.loop-image-test.true within c.source_at-source.ensures (c.in_ok-file.ensures.bytes all)
     c.in_ok-file.ensures.others short put c.loop-image.invariant
 
 -- All were read.
@@ -83,8 +84,8 @@ returns-in_err-file-clause-kept g c = λ all.
     KeepsFiles-twice _ _ _ (c.loop-image.invariant.kept all)
     (KeepsFiles-read names image c.source_at-source.result _ _ _ _ within all c.source_at-source.ensures c.in_err-file.ensures.others)
 
-pub returns-then-len-slot_length-clause-kept : goal.returns-then-len-slot_length-clause-kept
-returns-then-len-slot_length-clause-kept g c = λ all.
+pub returns-then-len-most-clause-kept : goal.returns-then-len-most-clause-kept
+returns-then-len-most-clause-kept g c = λ all.
     let image = c.loop-image.image in
     let names = c.args.images.now in
     let within : image < length names = omega (arith, c.loop-image-test.true, c.if-images-from.false, c.from.ensures) in
