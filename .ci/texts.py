@@ -1,14 +1,16 @@
 """What the built program does with tables, reports, images and manifests, and with words and files that are wrong."""
 
 import hashlib
+import itertools
 import json
 import os
 import pty
+import re
 import struct
 import uuid
 
 from builders import ABC, COUNTER, DEPENDENCY, VENDOR, component, device, group, image, little, manifest
-from checking import EXAMPLES, ONE, PAIR, flash_of, names_in, read, report, short, shown, table
+from checking import EXAMPLES, ONE, PAIR, ROOT, flash_of, names_in, read, report, short, shown, table
 
 
 def check_examples(checks):
@@ -468,6 +470,38 @@ def check_words(checks):
         checks.tell(f"wrong words: {words}", [] if is_told else [f"{status} {short(out)} {short(err)}"])
 
 
+# The tables of codes and names in docs/FORMATS.md, by the line that stands before each.
+TABLES_OF_CODES = [
+    "7. Nothing follows the image",
+    "Values that no image can have are refused",
+    "A map is refused by the first of these",
+    "| `Cut` | power failed in the call",
+    "A device takes a manifest that names",
+    "Refusals of uploads:",
+]
+
+
+def codes_under(head):
+    """Returns the rows of the first table under this line of docs/FORMATS.md, as `CODE NAME WHAT IT SAYS`."""
+    _, found, text = read(f"{ROOT}/docs/FORMATS.md").decode().partition(f"\n{head}")
+    row = re.compile(r"\| (?:`refused )?(\d+)(?: | \| `)(\w+)` \| (.*) \|")
+    lines = itertools.dropwhile(lambda line: not row.fullmatch(line), text.splitlines())
+    return [" ".join(row.fullmatch(it).groups()) for it in itertools.takewhile(row.fullmatch, lines)]
+
+
+def check_codes(checks):
+    """`codes` lists each code and name as docs/FORMATS.md has it, and help does too."""
+    status, out, err = checks.run(["codes"])
+    listed = " ".join(out.decode().split())
+    checks.tell("codes: its status", [] if (status, err) == (0, b"") else [f"{status} {short(err)}"])
+    for head in TABLES_OF_CODES:
+        rows = codes_under(head)
+        lacks = [it for it in rows if f" {it} " not in f"{listed} "]
+        checks.tell(f"codes: {len(rows)} of {head.strip('|')}", lacks if rows else ["there are none"])
+    status, told, err = checks.run(["help", "codes"])
+    checks.tell("help codes", [] if (status, err) == (0, b"") and out in told else [f"{status} {short(told)}"])
+
+
 # Names of files that aren't there, and how they are told: as text what would end the line, or turn
 # its direction.
 ESCAPED = [
@@ -562,6 +596,7 @@ CHECKS = (
     check_new_devices,
     check_new_images,
     check_words,
+    check_codes,
     check_reads,
     check_terminal,
     check_writes,

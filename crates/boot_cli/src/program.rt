@@ -6,8 +6,8 @@ use crate::commands::{playing, provision};
 use command_line::{Order, OrderError, STANDARD_INPUT, fault_of, no_text, order};
 use making_commands::{make_device, make_image};
 use reading_commands::{
-    Access, Answer, Host, Refusal, Source, check, choose, finish, image, manifest_file, refuse,
-    show, status_after,
+    Access, Answer, Host, Refusal, Source, check, choose, codes, finish, image, manifest_file,
+    refuse, show, status_after,
 };
 use std::alloc::{Allocator, Global};
 use std::convert::AsStr;
@@ -135,6 +135,7 @@ fn perform<'a, 'h, A: Allocator, H: Host, O: Write, E: Write>(
             let access = access_of(durable);
             playing::perform(alloc, heap, device, flash, access, script, text, host, out)
         }
+        Order::Codes => codes::perform(out),
     }
 }
 

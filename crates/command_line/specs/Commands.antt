@@ -109,6 +109,9 @@ run_shape = asking (codes "run")
     (one_name (codes "DEVICE") ∷ one_name (codes "FLASH") ∷ one_name (codes "SCRIPT")
     ∷ one_flag (codes "durable") ∷ [])
 
+abbrev pub codes_shape : Shape
+codes_shape = new_shape (codes "codes")
+
 -- The program without its subcommands: it has a version, and asks for a subcommand.
 abbrev pub program : App
 program = record {
@@ -127,6 +130,7 @@ shape_for sub.MakeImage = make_image_shape
 shape_for sub.Provision = provision_shape
 shape_for sub.Show = show_shape
 shape_for sub.Run = run_shape
+shape_for sub.Codes = codes_shape
 
 -- The program with a subcommand more.
 abbrev pub with_command : App → Subcommand → App
@@ -137,5 +141,5 @@ abbrev pub bootswap : App
 bootswap = record {
   top = record program.top { is_leaf = false };
   subs = choose_shape ∷ check_shape ∷ image_shape ∷ manifest_shape ∷ make_device_shape
-      ∷ make_image_shape ∷ provision_shape ∷ show_shape ∷ run_shape ∷ [];
+      ∷ make_image_shape ∷ provision_shape ∷ show_shape ∷ run_shape ∷ codes_shape ∷ [];
 }

@@ -1,5 +1,5 @@
 -- What an order says, by the matches that `clap` gives for the words.
-use Rattle.std.specs.Prelude.{◌≡◌, ℕ, ◌==◌, ◌^◌, ◌<◌, ◌≤◌, Bool, false, IsSomeAnd, List, [], ◌∷◌, Option, Some, None, codes, count_by, if◌then◌else◌, map, nat_lt, option_and_then, unwrap_or}
+use Rattle.std.specs.Prelude.{◌≡◌, ℕ, ◌==◌, ◌^◌, ◌<◌, ◌≤◌, Bool, false, IsSomeAnd, List, [], ◌∷◌, Option, Some, None, codes, count_by, if◌then◌else◌, map, nat_lt, option_and_then, unwrap_or, ⊤}
 use Rattle.std.specs.Borrow.{Bor}
 use Rattle.std.specs.List.{AllZip, slice_split}
 use Rattle.std.specs.Option.{option_map_or}
@@ -16,7 +16,7 @@ use Rattle.command_line.specs.Needs.{AreNeeds, IsNeed}
 use Rattle.command_line.specs.declared.orders.NewDevice.{NewDevice}
 use Rattle.command_line.specs.declared.orders.NewImage.{NewImage}
 use Rattle.command_line.specs.declared.orders.Order.{Order}
-use Rattle.command_line.specs.declared.orders.Order.TheVariants.{Choose, Check, Image, Manifest, MakeDevice, MakeImage, Provision, Show, Run}
+use Rattle.command_line.specs.declared.orders.Order.TheVariants.{Choose, Check, Image, Manifest, MakeDevice, MakeImage, Provision, Show, Run, Codes}
 
 -- The subcommand of an order.
 abbrev pub command_of : Order → Text
@@ -29,6 +29,7 @@ command_of (MakeImage image body values) = codes "make-image"
 command_of (Provision device flash images) = codes "provision"
 command_of (Show device flash) = codes "show"
 command_of (Run device flash script durable) = codes "run"
+command_of Codes = codes "codes"
 
 -- The matches of a subcommand have this name for an argument.
 abbrev pub IsNamed : List Row → Text → Text → Type 0
@@ -111,6 +112,7 @@ HasNames rows (Show device flash) =
 HasNames rows (Run device flash script durable) =
     IsNamed rows (codes "DEVICE") device.now × IsNamed rows (codes "FLASH") flash.now
     × IsNamed rows (codes "SCRIPT") script.now × (durable ≡ is_given (codes "durable") rows)
+HasNames rows Codes = ⊤
 
 -- A subcommand with these matches asks for this order.
 abbrev pub Asks : Text → List Row → Order → Type 0
@@ -141,6 +143,7 @@ names_of (MakeImage image body values) = image ∷ body ∷ []
 names_of (Provision device flash images) = device ∷ flash ∷ images.items
 names_of (Show device flash) = device ∷ flash ∷ []
 names_of (Run device flash script durable) = device ∷ flash ∷ script ∷ []
+names_of Codes = []
 
 -- `-` is standard input.
 abbrev pub is_standard_input : Bor Text → Bool

@@ -2,8 +2,8 @@
 
 ghost use Rattle.std.specs.Prelude.{◌≡◌, IfOk};
 ghost use Rattle.clap.specs.Words.{app_of, new_app, shape_of};
-ghost use Rattle.command_line.specs.Commands.{bootswap, check_shape, choose_shape, image_shape};
-ghost use Rattle.command_line.specs.Commands.{make_device_shape, make_image_shape};
+ghost use Rattle.command_line.specs.Commands.{bootswap, check_shape, choose_shape, codes_shape};
+ghost use Rattle.command_line.specs.Commands.{image_shape, make_device_shape, make_image_shape};
 ghost use Rattle.command_line.specs.Commands.{manifest_shape, program, provision_shape, run_shape};
 ghost use Rattle.command_line.specs.Commands.{shape_for, show_shape, with_command};
 
@@ -30,6 +30,8 @@ pub const PROVISION: &str = "provision";
 pub const SHOW: &str = "show";
 
 pub const RUN: &str = "run";
+
+pub const CODES: &str = "codes";
 
 /// What the words name, as help calls it; and the options, which two hyphens stand before.
 pub mod named {
@@ -92,10 +94,11 @@ pub enum Subcommand {
     Provision,
     Show,
     Run,
+    Codes,
 }
 
 /// The subcommands, in the order in which help lists them.
-const SUBCOMMANDS: [Subcommand; 9] = [
+const SUBCOMMANDS: [Subcommand; 10] = [
     Subcommand::Choose,
     Subcommand::Check,
     Subcommand::Image,
@@ -105,6 +108,7 @@ const SUBCOMMANDS: [Subcommand; 9] = [
     Subcommand::Provision,
     Subcommand::Show,
     Subcommand::Run,
+    Subcommand::Codes,
 ];
 
 /// The program with its subcommands.
@@ -156,6 +160,7 @@ impl Subcommand {
             Subcommand::Provision => provision(alloc),
             Subcommand::Show => show(alloc),
             Subcommand::Run => run(alloc),
+            Subcommand::Codes => codes(alloc),
         }
     }
 
@@ -171,6 +176,7 @@ impl Subcommand {
             Subcommand::Provision => "bootswap provision",
             Subcommand::Show => "bootswap show",
             Subcommand::Run => "bootswap run",
+            Subcommand::Codes => "bootswap codes",
         }
     }
 }
@@ -281,6 +287,12 @@ fn run<'a>(alloc: Global) -> Result<Command<'a>, AllocError>
     ];
     let command = new_command(alloc, RUN, help::RUN);
     with_arguments(alloc, command.override_usage(help::RUN_USAGE), &arguments)
+}
+
+fn codes<'a>(alloc: Global) -> Result<Command<'a>, AllocError>
+    ensures { IfOk result (λ command. shape_of command ≡ codes_shape) }
+{
+    Ok(new_command(alloc, CODES, help::CODES))
 }
 
 /// A command without arguments, with what help says of it.

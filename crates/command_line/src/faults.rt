@@ -166,6 +166,7 @@ fn subcommand_of(order: &Order<'_>) -> Subcommand {
         Order::Provision { .. } => Subcommand::Provision,
         Order::Show { .. } => Subcommand::Show,
         Order::Run { .. } => Subcommand::Run,
+        Order::Codes => Subcommand::Codes,
     }
 }
 
@@ -195,7 +196,8 @@ fn writes_to_standard_input(order: &Order<'_>) -> bool
         | Order::Image { .. }
         | Order::Manifest { .. }
         | Order::MakeDevice { .. }
-        | Order::Show { .. } => false,
+        | Order::Show { .. }
+        | Order::Codes => false,
     }
 }
 
@@ -203,7 +205,8 @@ fn reads_standard_input_twice(order: &Order<'_>) -> bool
     ensures { result ≡ nat_lt 1 (standard_inputs (names_of order.now)) }
 {
     match order {
-        Order::Choose { .. } | Order::Image { .. } | Order::MakeDevice { .. } => false,
+        Order::Choose { .. } | Order::Image { .. } | Order::MakeDevice { .. } | Order::Codes =>
+            false,
         Order::Check {
             table: first,
             report: second,

@@ -1,5 +1,7 @@
 //! What the program says of itself. No line is longer than 80 columns.
 
+use crate::codes::REFUSALS;
+
 /// What help says of a command.
 #[derive(Clone, Copy, Debug)]
 pub struct Help {
@@ -44,7 +46,8 @@ runs and what is requested in its place.
 With no command the program does `choose` on standard input. A file that is
 named `-` is standard input.",
     after: "Exit status: 0 done, 1 refused, 2 the words are wrong, 3 cut, 4 flash file.
-`bootswap --help` tells more, `bootswap help run` what a script looks like.",
+`bootswap --help` tells more, `bootswap help run` what a script looks like, and
+`bootswap codes` what the code and the name of a refusal say.",
     long_after: "Exit status:
   0  done; `check` says yes
   1  refused: `check` says no; the answer, or the last reply of `run`, is a
@@ -503,6 +506,21 @@ Examples:
   bootswap run device.json flash.bin script.txt
   echo boot | bootswap run device.json flash.bin -
   bootswap run --durable device.json flash.bin script.txt",
+};
+
+pub const CODES: Help = Help {
+    about: "Lists what the codes and names of refusals say",
+    long_about: REFUSALS,
+    after: "Exit status: 0 done, 1 the list could not be written, 2 the words are wrong.
+Example: bootswap codes",
+    long_after: "Exit status:
+  0  the list is printed, as it stands above
+  1  it could not be written
+  2  the words of the command are wrong
+
+Examples:
+  bootswap codes
+  bootswap codes | grep BadDigest",
 };
 
 /// The usage of `run`: its option stands under the names, as `--help` does.

@@ -9,6 +9,7 @@
 #![tactic(auto)]
 
 mod arguments;
+mod codes;
 mod commands;
 mod device_words;
 mod error;
@@ -19,6 +20,7 @@ mod image_words;
 mod order_reading;
 mod orders;
 
+pub use codes::REFUSALS;
 pub use error::OrderError;
 pub use escaped::Escaped;
 pub use faults::{fault_of, no_text};

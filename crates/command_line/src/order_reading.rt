@@ -8,7 +8,8 @@ ghost use Rattle.command_line.specs.Faults.{IsRefusal};
 ghost use Rattle.command_line.specs.Orders.{Asks, Finds, IsOrder, IsOrderOf, is_given, misuse_of};
 
 use crate::commands::{
-    CHECK, CHOOSE, IMAGE, MAKE_DEVICE, MAKE_IMAGE, MANIFEST, PROVISION, RUN, SHOW, bootswap, named,
+    CHECK, CHOOSE, CODES, IMAGE, MAKE_DEVICE, MAKE_IMAGE, MANIFEST, PROVISION, RUN, SHOW, bootswap,
+    named,
 };
 use crate::device_words::device_in;
 use crate::error::OrderError;
@@ -101,6 +102,9 @@ fn order_of<'a>(
     }
     if command == RUN {
         return Ok(run_in(names));
+    }
+    if command == CODES {
+        return Ok(Some(Order::Codes));
     }
     Ok(None)
 }

@@ -108,4 +108,6 @@ pub enum Order<'a> {
         /// Whether each write is to be on the disk before the next one, of a plain file too.
         durable: bool,
     },
+    /// What the codes and names of refusals say.
+    Codes,
 }

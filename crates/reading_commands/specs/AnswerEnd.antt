@@ -13,6 +13,8 @@ use Rattle.answers.specs.declared.show.ShowEnd.{ShowEnd}
 use Rattle.answers.specs.declared.show.ShowEnd.TheVariants as show
 use Rattle.answers.specs.declared.device.DeviceFile.{DeviceFile}
 use Rattle.reading_commands.specs.declared.source.Source.{Source}
+use Rattle.std.specs.Io.KnownBytes.{Appends}
+use Rattle.command_line.specs.declared.codes.TheConstants.{REFUSALS}
 use Rattle.answers.specs.CheckEnd.{Judges}
 use Rattle.answers.specs.ChooseEnd.{Writes}
 use Rattle.answers.specs.DescribeEnd.{Tells}
@@ -99,3 +101,9 @@ AnswersShow Refused device flash input files old new =
     ShowsDevice show.Refused device flash input files old new
     ⊎ RefusesMap device input files old new
 AnswersShow Cut device flash input files old new = ⊥
+
+-- `codes` wrote the list of all codes and names.
+abbrev pub AnswersCodes : Answer → Option (List ℕ) → Option (List ℕ) → Type 0
+AnswersCodes Done old new = Appends old new REFUSALS.now
+AnswersCodes Refused old new = ⊥
+AnswersCodes Cut old new = ⊥

@@ -12,6 +12,7 @@
 mod answer;
 pub mod check;
 pub mod choose;
+pub mod codes;
 mod device_input;
 mod error;
 mod host;

@@ -9,7 +9,7 @@ use std::test::Fail;
 type Words = &'static [&'static str];
 
 /// Words of each command, and the order that they give.
-const ORDERS: [(Words, &str); 16] = [
+const ORDERS: [(Words, &str); 17] = [
     (
         &["bootswap", "choose", "t.txt"],
         r#"Choose { table: "t.txt" }"#,
@@ -124,6 +124,7 @@ const ORDERS: [(Words, &str); 16] = [
         &["any name", "choose", "--", "--help"],
         r#"Choose { table: "--help" }"#,
     ),
+    (&["bootswap", "codes"], "Codes"),
 ];
 
 #[test]
@@ -140,7 +141,7 @@ fn each_command_is_read_with_its_names(rt: HostRuntime) -> Result<(), Fail> {
 const WRONG_WORDS: [(Words, &str, &str); 17] = [
     (
         &["bootswap"],
-        "'bootswap' requires a subcommand but one was not provided\n  [subcommands: choose, check, image, manifest, make-device, make-image, provision, show, run, help]",
+        "'bootswap' requires a subcommand but one was not provided\n  [subcommands: choose, check, image, manifest, make-device, make-image, provision, show, run, codes, help]",
         "[COMMAND]",
     ),
     (
@@ -331,7 +332,7 @@ struct Help {
 
 /// Every help. The short ones name the exit statuses and an example, the long ones what is read and
 /// printed.
-const HELPS: [Help; 22] = [
+const HELPS: [Help; 24] = [
     Help {
         words: &["bootswap", "-h"],
         parts: &[
@@ -345,6 +346,7 @@ const HELPS: [Help; 22] = [
             "  provision    Makes the flash file",
             "  show         Prints what stands",
             "  run          Runs a device",
+            "  codes        Lists what the codes",
             "Exit status: 0 done, 1 refused, 2",
         ],
     },
@@ -567,6 +569,22 @@ const HELPS: [Help; 22] = [
             "  --durable\n",
             "  bootswap run device.json flash.bin script.txt\n",
             "  bootswap run --durable device.json flash.bin script.txt\n",
+        ],
+    },
+    Help {
+        words: &["bootswap", "codes", "-h"],
+        parts: &[
+            "Usage: bootswap codes\n",
+            "Exit status: 0 ",
+            "Example: bootswap codes",
+        ],
+    },
+    Help {
+        words: &["bootswap", "help", "codes"],
+        parts: &[
+            "\n  10 BadDigest            the digest entry isn't the SHA-256",
+            "\n   5 RunningDamaged       the running bytes",
+            "  2  the words",
         ],
     },
 ];
