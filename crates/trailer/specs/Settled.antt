@@ -29,6 +29,10 @@ pub record IsSettled (confirmed : Bool) (primary secondary : Fields) : Type 0 wh
 abbrev pub IsFree : List ℕ → List ℕ → Type 0
 IsFree units bytes = (are_erased units ≡ true) ⊎ (units ≡ bytes)
 
+-- The magic of a trailer isn't torn.
+abbrev pub IsMagicFree : SectorMap → Chip → ℕ → Side → Type 0
+IsMagicFree map chip image side = IsFree (bytes_at map chip image side MAGIC_PLACE 16) good_magic
+
 -- image_ok isn't torn; of an image that isn't confirmed it is erased.
 pub record IsOkFree (confirmed : Bool) (unit : List ℕ) : Type 0 where
   pub kept : confirmed ≡ true → IsFree unit flag
@@ -45,7 +49,7 @@ pub record IsWhole (map : SectorMap) (chip : Chip) (image : ℕ) (side : Side) (
     : Type 0 where
   pub copy_done : IsFree (bytes_at map chip image side COPY_DONE 8) flag
   pub image_ok : IsOkFree confirmed (bytes_at map chip image side IMAGE_OK 8)
-  pub magic : IsFree (bytes_at map chip image side MAGIC_PLACE 16) good_magic
+  pub magic : IsMagicFree map chip image side
 
 -- A primary trailer that needn't be erased for its units to be written: none of them is torn, and
 -- it isn't settled after a swap back, for which it is erased always.

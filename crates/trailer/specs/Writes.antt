@@ -1,13 +1,14 @@
 -- What a call does that writes units of a trailer.
-use Rattle.std.specs.Prelude.{◌≡◌, ℕ, ◌+◌, ◌*◌, ◌%◌, ◌<◌, ◌≤◌, List, length, Some, Result, OnOk}
+use Rattle.std.specs.Prelude.{◌≡◌, ℕ, ◌+◌, ◌*◌, ◌%◌, ◌<◌, ◌≤◌, List, length, Some, true, Result, OnOk}
 use Rattle.flash_model.specs.declared.error.FlashError.{FlashError}
 use Rattle.flash_model.specs.Chip.{Chip, Ends, Reads, SameOutside}
 use Rattle.sector_map.specs.declared.layout.SectorMap.{SectorMap}
 use Rattle.sector_map.specs.declared.layout.Side.{Side}
 use Rattle.sector_map.specs.Map.{IsLaidOut, Keeps, slot_sectors, start_of}
 use Rattle.sector_map.specs.Part.{TrailerOf, only}
-use Rattle.trailer.specs.declared.format.TheConstants.{SWAP_SIZE, WITHDRAWN}
-use Rattle.trailer.specs.Fields.{Fields, bytes_at, fields_at, flag, place_of, size_bytes}
+use Rattle.trailer.specs.declared.format.TheConstants.{IMAGE_OK, MAGIC_PLACE, SWAP_SIZE, WITHDRAWN}
+use Rattle.trailer.specs.declared.kinds.Magic.TheVariants.{Good}
+use Rattle.trailer.specs.Fields.{Fields, bytes_at, fields_at, flag, good_magic, place_of, size_bytes}
 use Rattle.trailer.specs.Status.{status_count_of}
 
 -- The map is laid out on the flash, has the image, and its trailers have whole units of n bytes
@@ -50,6 +51,27 @@ pub record WritesField (map : SectorMap) (image : ℕ) (side : Side) (from_end :
   pub bytes : OnOk result (bytes_at map new image side from_end (length units) ≡ units)
   pub erases : OnOk result (new.erases ≡ old.erases)
   pub ends : Ends result old new
+
+-- A call sets image_ok,
+abbrev pub SetsImageOk : SectorMap → ℕ → Side → Chip → Chip → {T : Type 0} → Result T FlashError
+    → Type 0
+SetsImageOk map image side old new result =
+    WritesField map image side IMAGE_OK flag (λ fields. fields.image_ok ≡ true)
+    (λ was now. record was { image_ok = now.image_ok }) old new result
+
+-- or that a request is withdrawn,
+abbrev pub SetsWithdrawn : SectorMap → ℕ → Side → Chip → Chip → {T : Type 0} → Result T FlashError
+    → Type 0
+SetsWithdrawn map image side old new result =
+    WritesField map image side WITHDRAWN flag (λ fields. fields.withdrawn ≡ true)
+    (λ was now. record was { withdrawn = now.withdrawn }) old new result
+
+-- or writes the magic.
+abbrev pub WritesMagic : SectorMap → ℕ → Side → Chip → Chip → {T : Type 0} → Result T FlashError
+    → Type 0
+WritesMagic map image side old new result =
+    WritesField map image side MAGIC_PLACE good_magic (λ fields. fields.magic ≡ Good)
+    (λ was now. record was { magic = now.magic }) old new result
 
 -- A call writes the unit of swap_size.
 pub record WritesSize (map : SectorMap) (image : ℕ) (side : Side) (swap_size : ℕ)

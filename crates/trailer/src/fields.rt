@@ -1,10 +1,10 @@
 //! Writing one field of a trailer.
 
-ghost use Rattle.std.specs.Prelude.{◌≡◌, true, false};
+ghost use Rattle.std.specs.Prelude.{◌≡◌, false};
 ghost use Rattle.sector_map.specs.Map.{HasImage};
-ghost use Rattle.trailer.specs.Fields.{fields_at, flag, good_magic};
-ghost use Rattle.trailer.specs.declared.kinds.Magic.TheVariants.{Good, Unset};
-ghost use Rattle.trailer.specs.Writes.{WritesField};
+ghost use Rattle.trailer.specs.Fields.{fields_at};
+ghost use Rattle.trailer.specs.declared.kinds.Magic.TheVariants.{Unset};
+ghost use Rattle.trailer.specs.Writes.{SetsImageOk, SetsWithdrawn, WritesMagic};
 
 use crate::format::{IMAGE_OK, MAGIC, MAGIC_PLACE, WITHDRAWN};
 use crate::units::write_units;
@@ -21,9 +21,7 @@ pub(crate) fn set_image_ok<F: Flash>(
 ) -> Result<(), FlashError>
     requires image { HasImage map.now image (F.chip flash.old) }
     requires erased { (fields_at map.now (F.chip flash.old) image side).image_ok ≡ false }
-    ensures { WritesField map.now image side IMAGE_OK flag (λ fields. fields.image_ok ≡ true)
-        (λ was now. record was { image_ok = now.image_ok })
-        (F.chip flash.old) (F.chip flash.new) result }
+    ensures { SetsImageOk map.now image side (F.chip flash.old) (F.chip flash.new) result }
 {
     write_units(flash, map, image, side, IMAGE_OK, &FLAG)
 }
@@ -38,9 +36,7 @@ pub(crate) fn set_withdrawn<F: Flash>(
 ) -> Result<(), FlashError>
     requires image { HasImage map.now image (F.chip flash.old) }
     requires erased { (fields_at map.now (F.chip flash.old) image side).withdrawn ≡ false }
-    ensures { WritesField map.now image side WITHDRAWN flag (λ fields. fields.withdrawn ≡ true)
-        (λ was now. record was { withdrawn = now.withdrawn })
-        (F.chip flash.old) (F.chip flash.new) result }
+    ensures { SetsWithdrawn map.now image side (F.chip flash.old) (F.chip flash.new) result }
 {
     write_units(flash, map, image, side, WITHDRAWN, &FLAG)
 }
@@ -55,9 +51,7 @@ pub(crate) fn write_magic<F: Flash>(
 ) -> Result<(), FlashError>
     requires image { HasImage map.now image (F.chip flash.old) }
     requires unset { (fields_at map.now (F.chip flash.old) image side).magic ≡ Unset }
-    ensures { WritesField map.now image side MAGIC_PLACE good_magic (λ fields. fields.magic ≡ Good)
-        (λ was now. record was { magic = now.magic })
-        (F.chip flash.old) (F.chip flash.new) result }
+    ensures { WritesMagic map.now image side (F.chip flash.old) (F.chip flash.new) result }
 {
     write_units(flash, map, image, side, MAGIC_PLACE, &MAGIC)
 }

@@ -3,10 +3,10 @@
 ghost use Rattle.std.specs.Prelude.{◌≡◌, ◌||◌};
 ghost use Rattle.std.specs.Str.{bytes_eq};
 ghost use Rattle.sector_map.specs.Map.{HasImage};
-ghost use Rattle.trailer.specs.declared.format.TheConstants.{MAGIC_PLACE};
 ghost use Rattle.flash_model.specs.Units.{are_erased};
-ghost use Rattle.trailer.specs.Fields.{bytes_at, flag, good_magic};
-ghost use Rattle.trailer.specs.Settled.{IsFree, IsOkFree, IsWhole, is_confirmed, is_whole_magic};
+ghost use Rattle.trailer.specs.Fields.{bytes_at, flag};
+ghost use Rattle.trailer.specs.Settled.{IsFree, IsMagicFree, IsOkFree, IsWhole, is_confirmed};
+ghost use Rattle.trailer.specs.Settled.{is_whole_magic};
 ghost use Rattle.trailer.specs.Reads.{Decides, HasPlace};
 ghost use Rattle.trailer.specs.Settles.{MakesWhole, Settles};
 
@@ -65,8 +65,7 @@ fn is_magic_free<F: Flash>(
     side: Side,
 ) -> Result<bool, FlashError>
     requires { HasImage map.now image (F.chip flash.old) }
-    ensures { Decides
-        (IsFree (bytes_at map.now (F.chip flash.old) image side MAGIC_PLACE 16) good_magic)
+    ensures { Decides (IsMagicFree map.now (F.chip flash.old) image side)
         (F.chip flash.old) (F.chip flash.new) result }
 {
     let magic = read_magic(flash, map, image, side)?;
