@@ -34,33 +34,34 @@ MEMORY, MEMORY_OF_JOB = 2_300_000_000, 800_000_000
 # The most processes that are of use to one check.
 MOST_JOBS = 4
 
-# What the proof of a crate took, in seconds of a processor, with four checks side by side. It says
+# What the proof of a crate took, in seconds of a processor, in a first build on 4 of them. It says
 # which crates others wait for longest, and nothing else. Lines are a poor guess of it: much of
 # `command_line` and `manifest` is what `clap` and JSON bring.
 SECONDS = {
-    "answers": 200,
-    "boot_cli": 270,
-    "boot_core": 300,
-    "bootswap": 60,
-    "certificate": 345,
-    "chooser": 97,
-    "command_line": 385,
+    "answers": 127,
+    "boot_cli": 230,
+    "boot_core": 318,
+    "bootswap": 99,
+    "certificate": 183,
+    "chooser": 68,
+    "command_line": 225,
     "common": 19,
-    "file_flash": 44,
-    "flash_model": 100,
-    "image_header": 41,
-    "machine": 80,
-    "making_commands": 60,
-    "manifest": 129,
-    "reading_commands": 90,
-    "script": 79,
-    "sector_map": 56,
-    "set_log": 90,
-    "swap_scratch": 70,
-    "tlv": 232,
-    "trailer": 181,
-    "upload": 170,
-    "version_order": 42,
+    "events": 16,
+    "file_flash": 31,
+    "flash_model": 66,
+    "image_header": 23,
+    "machine": 45,
+    "making_commands": 78,
+    "manifest": 72,
+    "reading_commands": 130,
+    "script": 48,
+    "sector_map": 30,
+    "set_log": 55,
+    "swap_scratch": 35,
+    "tlv": 179,
+    "trailer": 118,
+    "upload": 110,
+    "version_order": 22,
 }
 
 TARGET = "x86_64-unknown-linux-gnu"
@@ -173,6 +174,8 @@ class Build:
         self.left = [it for it in crates if not it.is_built(toolchain)]
         self.running, self.processes, self.is_stopped = {}, set(), False
         self.processors, self.memory = len(os.sched_getaffinity(0)), 0.9 * free_memory()
+        # A check with several processes has parts in which one of them works and the others wait.
+        self.most = self.processors + self.processors // 2
         # How long the proofs take that wait for each other, from a crate on.
         self.behind = {it: it.seconds for it in crates}
         for crate in reversed(crates):
@@ -184,14 +187,14 @@ class Build:
 
     def run(self):
         """Proves and builds all that is left."""
-        at_once = min(self.processors, max(int(self.memory // MEMORY), 0))
+        at_once = min(self.most, max(int(self.memory // MEMORY), 0))
         if not at_once:
             raise NotBuilt(f"a check takes up to {MEMORY / 1e9:.1f} GB of memory, and less is free")
         tell(
             f"proving and building the program: {len(self.left)} crates, {at_once} side by side; from nothing it takes "
             f"{COST}, and up to {at_once * MEMORY / 1e9:.1f} GB of memory"
         )
-        with ThreadPoolExecutor(self.processors) as pool:
+        with ThreadPoolExecutor(self.most) as pool:
             try:
                 while self.left or self.running:
                     self.start_what_fits(pool)
@@ -216,12 +219,12 @@ class Build:
 
     def jobs_for(self, crate, waiting):
         """Returns how many processes a crate may have, behind which so many wait that are ready with it: none where
-        processors or memory are taken.
+        all processes or the memory are taken.
 
         The crate that the longest way is behind has two at least, for all the others wait for it in the end.
         """
         taken = [jobs for _, jobs in self.running.values()]
-        idle = self.processors - sum(taken)
+        idle = self.most - sum(taken)
         room = self.memory - sum(MEMORY + (jobs - 1) * MEMORY_OF_JOB for jobs in taken) - MEMORY
         if idle <= 0 or room < 0:
             return 0
