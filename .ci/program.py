@@ -1,9 +1,9 @@
 """Proves and builds the program `bootswap`, for the command of that name.
 
-Each crate is proved by the toolchain's `rattle build`, over the statements of the crates below it, as many side by side
-as there are processors and memory for. What is built stands in out/build: a library NAME.rlib for each crate, and
-beside it NAME.stamp, which says of what sources it was made. So a build that was broken off goes on with the crates
-that it had not yet built.
+Each crate is proved by the toolchain's `rattle build`, over the statements of the crates below it. At most half again
+as many processes work at once as there are processors, and as many as memory allows. What is built stands in out/build:
+a library NAME.rlib for each crate, and beside it NAME.stamp, which says of what sources it was made. So a build that
+was broken off goes on with the crates that it had not yet built.
 """
 
 import contextlib
