@@ -6,7 +6,7 @@ use crate::answer::Answer;
 use crate::error::Refusal;
 use crate::host::Host;
 use crate::source::Source;
-use crate::table_input::{read_report, read_table};
+use crate::table_input::{Text, read_text};
 use answers::{CheckEnd, check_over};
 use certificate::Table;
 use std::alloc::Allocator;
@@ -24,11 +24,11 @@ pub fn perform<'a, A: Allocator, H: Host, O: Write>(
     ensures { IfOk result (λ answer. AnswersCheck answer table.entry report.entry
         (H.input host.old) (H.file host.old) (O.contents out.old) (O.contents out.new)) }
 {
-    let table = read_table(heap, table, host)?;
+    let table = read_text(heap, Text::Table, table, host)?;
     if let Err(bad) = Table::parse(&table) {
         return Err(Refusal::TableLine(bad.0));
     }
-    let report = read_report(heap, report, host)?;
+    let report = read_text(heap, Text::Report, report, host)?;
     match check_over(&table, &report, out) {
         CheckEnd::Yes => Ok(Answer::Done),
         CheckEnd::No => Ok(Answer::Refused),

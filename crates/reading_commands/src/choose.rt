@@ -6,7 +6,7 @@ use crate::answer::Answer;
 use crate::error::Refusal;
 use crate::host::Host;
 use crate::source::Source;
-use crate::table_input::read_table;
+use crate::table_input::{Text, read_text};
 use answers::{ChooseEnd, choose_over};
 use std::alloc::Allocator;
 use std::io::Write;
@@ -22,7 +22,7 @@ pub fn perform<'a, A: Allocator, H: Host, O: Write>(
     ensures { IfOk result (λ answer. AnswersChoice answer table.entry
         (H.input host.old) (H.file host.old) (O.contents out.old) (O.contents out.new)) }
 {
-    let bytes = read_table(heap, table, host)?;
+    let bytes = read_text(heap, Text::Table, table, host)?;
     match choose_over(heap, &mut bytes.as_slice(), out) {
         ChooseEnd::Done => Ok(Answer::Done),
         ChooseEnd::BadLine(line) => Err(Refusal::TableLine(line)),

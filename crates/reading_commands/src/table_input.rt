@@ -9,45 +9,55 @@ use crate::source::Source;
 use certificate::{Report, Table};
 use std::alloc::Allocator;
 
-/// The text of a table, from `host`, in memory of `heap`. One that is longer than any table is
-/// refused as all of it would be, for a line at its front.
-pub fn read_table<'a, 'h, A: Allocator, H: Host>(
-    heap: &'h A,
-    table: Source<'a>,
-    host: &mut H,
-) -> Result<Vec<u8, &'h A>, Refusal<'a>>
-    ensures bytes { IfOk result (λ bytes.
-        Gives table.entry (H.input host.old) (H.file host.old) bytes.items) }
-    ensures others { KeepsOthers table.entry (H.input host.old) (H.file host.old)
-        (H.input host.new) (H.file host.new) }
-{
-    let start = table.read_start(heap, host, MOST_TABLE)?;
-    if start.len() <= MOST_TABLE as usize {
-        return Ok(start);
-    }
-    match Table::parse(&start) {
-        Err(bad) => Err(Refusal::TableLine(bad.0)),
-        Ok(_) => Err(Refusal::TooLong(table, MOST_TABLE)),
+/// What a text is to be.
+#[derive(Clone, Copy, Debug)]
+pub enum Text {
+    /// A table.
+    Table,
+    /// A report.
+    Report,
+}
+
+impl Text {
+    /// Why bytes are no such text, by the first line that none goes on from; none where they are
+    /// one.
+    fn fault<'a>(self, bytes: &[u8]) -> Option<Refusal<'a>> {
+        match self {
+            Text::Table => match Table::parse(bytes) {
+                Ok(_) => None,
+                Err(bad) => Some(Refusal::TableLine(bad.0)),
+            },
+            Text::Report => match Report::parse(bytes) {
+                Ok(_) => None,
+                Err(bad) => Some(Refusal::ReportLine(bad.0)),
+            },
+        }
     }
 }
 
-/// The text of a report, as that of a table.
-pub fn read_report<'a, 'h, A: Allocator, H: Host>(
+/// A text, from `host`, in memory of `heap`. One that is longer than any is refused as all of it
+/// would be, for a line at its front.
+///
+/// # Errors
+/// `TableLine` or `ReportLine` for the first line that is wrong of a text that is too long;
+/// `CannotRead` where it can't be read; `NoMemory`.
+pub fn read_text<'a, 'h, A: Allocator, H: Host>(
     heap: &'h A,
-    report: Source<'a>,
+    text: Text,
+    source: Source<'a>,
     host: &mut H,
 ) -> Result<Vec<u8, &'h A>, Refusal<'a>>
     ensures bytes { IfOk result (λ bytes.
-        Gives report.entry (H.input host.old) (H.file host.old) bytes.items) }
-    ensures others { KeepsOthers report.entry (H.input host.old) (H.file host.old)
+        Gives source.entry (H.input host.old) (H.file host.old) bytes.items) }
+    ensures others { KeepsOthers source.entry (H.input host.old) (H.file host.old)
         (H.input host.new) (H.file host.new) }
 {
-    let start = report.read_start(heap, host, MOST_TABLE)?;
+    let start = source.read_start(heap, host, MOST_TABLE)?;
     if start.len() <= MOST_TABLE as usize {
         return Ok(start);
     }
-    match Report::parse(&start) {
-        Err(bad) => Err(Refusal::ReportLine(bad.0)),
-        Ok(_) => Err(Refusal::TooLong(report, MOST_TABLE)),
+    match text.fault(&start) {
+        Some(fault) => Err(fault),
+        None => Err(Refusal::TooLong(source, MOST_TABLE)),
     }
 }
