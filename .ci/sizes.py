@@ -27,6 +27,8 @@ def check_endless(checks):
         (["show", ENDLESS, "flash"], "device file"),
         (["run", ENDLESS, "flash", "absent"], "device file"),
         (["run", PAIR, "flash", ENDLESS], "script line 1"),
+        (["make-manifest", ENDLESS, "--sequence=1", "--test=0=absent"], "device file"),
+        (["make-manifest", PAIR, "--sequence=1", "--test=0=absent", "--precursor", ENDLESS], f"cannot read {ENDLESS}"),
     ]:
         checks.expect(f"without an end: {' '.join(map(os.path.basename, words))}", words, 1, err=f"error: {told}\n".encode())
     for words, told in [
@@ -75,10 +77,13 @@ def check_longest(checks):
         checks.expect(f"a table of {size} bytes", ["choose", "-"], 1, err=b"error: table line 3\n", given=given)
         given = padded(b"run 0 1.0.0+0\n", size)
         checks.expect(f"a report of {size} bytes", ["check", table("pair"), "-"], 1, err=b"error: report line 2\n", given=given)
-    line = b"withdraw 0\n"
+    line, longer = b"withdraw 0\n", b"withdraw 10\n"
     lines = MOST_SCRIPT // len(line)
-    given = line * (lines + 9)
-    checks.expect("a script that is too long", ["run", PAIR, "flash", "-"], 1, err=b"error: script line %d\n" % (lines + 1), given=given)
+    # The line that goes past the most: by some of its bytes, or by its line feed alone.
+    for name, count in [("some bytes", 0), ("a line feed", (MOST_SCRIPT + 1) % len(line))]:
+        given = longer * count + line * (lines + 9)
+        told = b"error: script line %d\n" % (given[:MOST_SCRIPT].count(b"\n") + 1)
+        checks.expect(f"a script that is too long by {name}", ["run", PAIR, "flash", "-"], 1, err=told, given=given)
 
 
 CHECKS = (check_endless, check_parts, check_longest)

@@ -45,8 +45,11 @@ struct Reader<'h, 'r, A, H> {
     is_input_read: bool,
 }
 
-/// The text of a script, from `host`, in memory of `heap`. One that is too long is refused in the
-/// line that goes past the most.
+/// The text of a script, from `host`, in memory of `heap`.
+///
+/// # Errors
+/// `ScriptLine` where it is too long, with the line that goes past the most; `CannotRead` where it
+/// can't be read; `NoMemory`.
 pub fn read_script<'a, 'h, A: Allocator, H: Host>(
     heap: &'h A,
     script: Source<'a>,
@@ -61,7 +64,11 @@ pub fn read_script<'a, 'h, A: Allocator, H: Host>(
     if start.len() <= MOST_SCRIPT as usize {
         return Ok(start);
     }
-    let ended = start.iter().filter(|byte| **byte == b'\n').count();
+    let ended = start
+        .iter()
+        .take(MOST_SCRIPT as usize)
+        .filter(|byte| **byte == b'\n')
+        .count();
     Err(Refusal::ScriptLine(ended.saturating_add(1)))
 }
 
