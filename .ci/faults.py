@@ -45,6 +45,8 @@ def check_faults(checks):
     runs += [["image", f"{EXAMPLES}/images/counted.img"], ["manifest", PAIR, f"{EXAMPLES}/manifests/both.json"]]
     runs += [["show", PAIR, "flash"], ["show", PAIR, "gone"]]
     runs += [["make-device", "--sector", "512", "--slots", "2,2", "--vendor", "python.org", "--class", "sensor"]]
+    files = [f"--test=0={EXAMPLES}/images/needing.img", f"--permanent=1={EXAMPLES}/images/padded.img"]
+    runs += [["make-manifest", PAIR, "--sequence", "1", "--precursor", "flash", *files], ["codes"]]
     runs += [["frob"], ["--help"]]
     for words in runs:
         usual = checks.run(words, given=pair)
@@ -56,8 +58,9 @@ def check_faults(checks):
             checks.tell(f"{fault}: {shown(words)}, {at} calls", faults[:5])
 
 
-def is_provision_after(fault, got, left, kept, made):
-    """Whether `provision` may end so and leave these files, where it found the first others, and makes the second."""
+def is_made_after(fault, got, left, kept, made, refusal):
+    """Whether a command that makes a file may end so and leave these files, where it found the first others, and makes
+    the second. `refusal` is how it ends where its file can't be made."""
     status, out, err = got
     if got == (0, b"done\n", b""):
         return left == made
@@ -66,32 +69,44 @@ def is_provision_after(fault, got, left, kept, made):
         return True
     if fault == "memory":
         return got == (1, b"", b"error: memory\n") and left == kept
-    is_told = got == (4, b"", b"error: flash file\n") or (status == 1 and err.startswith(b"error: cannot read "))
+    is_told = got == refusal or (status == 1 and err.startswith(b"error: cannot read "))
     return fault == "fail" and is_told and not out and left == kept
 
 
-def check_provision_faults(checks):
-    """The same of `provision`, with the files that it leaves: FLASH is as it was or whole, and nothing is beside it."""
-    whole = flash_of(checks)
-    others = {*os.listdir(checks.folder), "count", "faults.so"} - {"flash"}
-    for old in (None, b"old"):
-        kept, made = {} if old is None else {"flash": old}, {"flash": whole}
+# The commands that make a file: their words, the file, and how they end where it can't be made.
+MAKING = [
+    (["provision", PAIR, "flash", ONE, ONE], "flash", (4, b"", b"error: flash file\n")),
+    (["make-image", "made", "body", "--version=1.0.0"], "made", (1, b"", b"error: cannot write made\n")),
+]
 
-        def run(env=os.environ):
-            if old is None and os.path.exists(f"{checks.folder}/flash"):
-                os.remove(f"{checks.folder}/flash")
-            elif old is not None:
-                checks.file("flash", old)
-            got = checks.run(["provision", PAIR, "flash", ONE, ONE], env=env)
-            return got, {it: read(f"{checks.folder}/{it}") for it in os.listdir(checks.folder) if it not in others}
 
-        for fault in ("fail", "short", "memory"):
-            faults = []
-            for at, (got, left) in each_fault(checks, fault, run):
-                if not is_provision_after(fault, got, left, kept, made):
-                    faults.append(f"at call {at}: {short(got)}, {sorted(left)}")
-            name = "a flash file that is there" if old else "a new flash file"
-            checks.tell(f"{fault}: provision of {name}, {at} calls", faults[:5])
+def check_making_faults(checks):
+    """The same of each command that makes a file, with the files that it leaves: its own is as it was or whole, and
+    nothing is beside it."""
+    checks.file("body", b"ABCD")
+    for words, file, refusal in MAKING:
+        path = f"{checks.folder}/{file}"
+        checks.run(words)
+        whole = read(path)
+        others = {*os.listdir(checks.folder), "count", "faults.so"} - {file}
+        for old in (None, b"old"):
+            kept, made = {} if old is None else {file: old}, {file: whole}
+
+            def run(env=os.environ):
+                if old is None and os.path.exists(path):
+                    os.remove(path)
+                elif old is not None:
+                    checks.file(file, old)
+                got = checks.run(words, env=env)
+                return got, {it: read(f"{checks.folder}/{it}") for it in os.listdir(checks.folder) if it not in others}
+
+            for fault in ("fail", "short", "memory"):
+                faults = []
+                for at, (got, left) in each_fault(checks, fault, run):
+                    if not is_made_after(fault, got, left, kept, made, refusal):
+                        faults.append(f"at call {at}: {short(got)}, {sorted(left)}")
+                name = "that is there" if old else "that isn't there"
+                checks.tell(f"{fault}: {words[0]} of a file {name}, {at} calls", faults[:5])
 
 
 def boots_behind(checks):
@@ -179,4 +194,4 @@ def check_run_faults(checks):
     checks.tell("run --durable: its syncs", [] if is_right else [f"{synced}, and not {SUM_OF_WRITES}"])
 
 
-CHECKS = (check_faults, check_provision_faults, check_run_faults)
+CHECKS = (check_faults, check_making_faults, check_run_faults)

@@ -443,7 +443,7 @@ def check_kept_images(checks, body):
     os.remove(f"{checks.folder}/link")
 
 
-COMMANDS = ("choose", "check", "image", "manifest", "make-device", "make-image", "provision", "show", "run")
+COMMANDS = ("choose", "check", "image", "manifest", "make-device", "make-image", "make-manifest", "provision", "show", "run")
 
 
 def check_words(checks):
@@ -462,6 +462,8 @@ def check_words(checks):
     wrong += [asked(512, [2, ""], "v", "c"), asked(512, ["2 2"], "v", "c"), asked(512, [2], "v", "c", 0)]
     wrong += [["make-image"], ["make-image", "a", "b"], ["make-image", "-", "b", "--version=1"]]
     wrong += [["make-image", "a", "b", "--version=x"], ["make-image", "a", "b", "--version=1", "--needs=1"]]
+    wrong += [["make-manifest"], ["make-manifest", "a"], ["make-manifest", "a", "--sequence=1"]]
+    wrong += [["make-manifest", "--sequence=1", "--test=0=b"], ["make-manifest", "-", "--sequence=1", "--test=0=-"]]
     wrong += [asked(512, [2], "v", "c", 8), asked(512, [2], "v", "c", 1, 1), asked(512, [2], "v", "c")[:-2]]
     for words in [*wrong, ["choose", b"\xff"], ["a\nb\x1bc"]]:
         status, out, err = checks.run(words)

@@ -20,7 +20,7 @@ use Rattle.boot_cli.specs.ProvisionEnd.{AnswersMade, AnswersProvision, EndsBefor
 use Rattle.boot_cli.specs.RunEnd.{AnswersRun, Plays, RunsDevice}
 use Rattle.boot_cli.specs.Script.{IsScript, Known, StaysKnown, known_after}
 use Rattle.reading_commands.specs.Status.{status_of_answer}
-use Rattle.boot_cli.proofs.InputLaws.{GiveEach-one, GiveEach-read}
+use Rattle.reading_commands.proofs.InputLaws.{GiveEach-one, GiveEach-read}
 use Rattle.boot_cli.proofs.ScriptLaws.{StaysKnown-itself, StaysKnown-read}
 
 -- what comes of making a flash isn't that the power failed

@@ -16,9 +16,9 @@ use Rattle.sector_map.proofs.Places.{before_within}
 use Rattle.reading_commands.specs.declared.source.Source.{Source}
 use Rattle.answers.specs.FlashOf.{IsFlashOf}
 use Rattle.reading_commands.specs.Input.{FileBytes, Gives, IsNamed, KeepsFiles, KeepsOthers}
-use Rattle.boot_cli.specs.Inputs.{GiveEach, NameFiles, names_of}
+use Rattle.reading_commands.specs.Inputs.{GiveEach, NameFiles, names_of}
 use Rattle.boot_cli.specs.ProvisionEnd.{new_flash, with_files}
-use Rattle.boot_cli.proofs.InputLaws.{GiveEach-read, KeepsFiles-itself, KeepsFiles-read, KeepsFiles-twice}
+use Rattle.reading_commands.proofs.InputLaws.{GiveEach-read, KeepsFiles-itself, KeepsFiles-read, KeepsFiles-twice}
 
 -- a slot lies in the flash
 pub slot_within : (map : SectorMap) (image : ℕ) → IsMap map → image < map.images

@@ -1,7 +1,6 @@
 mod EndLaws
 mod FileLaws
 mod ImageLaws
-mod InputLaws
 mod OrderLaws
 mod ScriptLaws
 mod TellingLaws

@@ -10,12 +10,13 @@ use Rattle.boot_cli.specs.declared.commands.provision.Made.TheVariants as made
 use Rattle.reading_commands.specs.declared.source.Source.{Source}
 use Rattle.reading_commands.specs.declared.source.Source.TheVariants as source
 use Rattle.reading_commands.specs.Input.{FileBytes}
-use Rattle.boot_cli.specs.Inputs.{names_of}
+use Rattle.reading_commands.specs.Inputs.{names_of}
 use Rattle.boot_cli.specs.OrderEnd.{AnswersOrder}
 use Rattle.boot_cli.specs.ProvisionEnd.{AnswersMade, AnswersProvision}
 use Rattle.boot_cli.specs.RunEnd.{AnswersRun}
 use Rattle.making_commands.proofs.NewDeviceLaws.{AnswersNewDevice-kept}
 use Rattle.making_commands.proofs.NewImageLaws.{AnswersNewImage-kept}
+use Rattle.making_commands.proofs.NewManifestEnds.{AnswersNewManifest-kept}
 use Rattle.reading_commands.proofs.AnswerLaws.{AnswersCheck-kept, AnswersChoice-kept, AnswersDescription-kept, AnswersManifest-kept, AnswersShow-kept}
 
 pub AnswersMade-kept : (made : Made) (old mid new : Option (List ℕ))
@@ -92,6 +93,8 @@ AnswersOrder-kept (order.MakeDevice device) input file then old mid new answered
     AnswersNewDevice-kept device old mid new answered kept
 AnswersOrder-kept (order.MakeImage image body values) input file then old mid new answered kept =
     (answered.0, answered.1, AnswersNewImage-kept answered.0 values input file (then image.now) old mid new answered.2 kept)
+AnswersOrder-kept (order.MakeManifest device manifest) input file then old mid new answered kept =
+    (answered.0, answered.1, AnswersNewManifest-kept answered.0 manifest input file old mid new answered.2 kept)
 AnswersOrder-kept (order.Provision device flash images) input file then old mid new answered kept = (
   answered.0,
   answered.1,

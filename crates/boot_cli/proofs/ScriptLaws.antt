@@ -24,7 +24,7 @@ use Rattle.boot_cli.specs.declared.loading.Cut.{Cut}
 use Rattle.boot_cli.specs.Loading.{Adds, Passes, armed_in, armed_of, came_in, came_of}
 use Rattle.boot_cli.specs.Script.{AllCome, AllCut, Comes, IsCutBy, IsPieceOf, IsRead, IsScript, Known, ReadsFile, StaysKnown, known_after}
 use Rattle.reading_commands.proofs.AnswerLaws.{Gives-kept}
-use Rattle.boot_cli.proofs.InputLaws.{kept_itself, kept_twice}
+use Rattle.reading_commands.proofs.InputLaws.{kept_itself, kept_twice}
 
 -- what is known of a host, where nothing happened
 pub StaysKnown-itself : (input : Option (List ℕ)) (files : FileBytes)

@@ -1,4 +1,3 @@
-pub mod Inputs
 pub mod Loading
 pub mod OrderEnd
 pub mod ProvisionEnd

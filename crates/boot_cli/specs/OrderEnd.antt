@@ -9,7 +9,8 @@ use Rattle.reading_commands.specs.AnswerEnd.{AnswersCheck, AnswersChoice, Answer
 use Rattle.reading_commands.specs.Input.{FileBytes, IsNamed}
 use Rattle.making_commands.specs.NewDeviceEnd.{AnswersNewDevice}
 use Rattle.making_commands.specs.NewImageEnd.{AnswersNewImage}
-use Rattle.boot_cli.specs.Inputs.{names_of}
+use Rattle.making_commands.specs.NewManifestEnd.{AnswersNewManifest}
+use Rattle.reading_commands.specs.Inputs.{names_of}
 use Rattle.boot_cli.specs.ProvisionEnd.{AnswersProvision}
 use Rattle.boot_cli.specs.RunEnd.{AnswersRun}
 
@@ -37,6 +38,9 @@ AnswersOrder answer (order.MakeDevice device) input file then old new =
 AnswersOrder answer (order.MakeImage image body values) input file then old new =
     (source : Source) × IsNamed body.now source
     × AnswersNewImage answer source values input file (then image.now) old new
+AnswersOrder answer (order.MakeManifest device manifest) input file then old new =
+    (source : Source) × IsNamed device.now source
+    × AnswersNewManifest answer source manifest input file old new
 AnswersOrder answer (order.Provision device flash images) input file then old new =
     (source : Source) × IsNamed device.now source
     × AnswersProvision answer source (names_of images.items) input file (then flash.now) old new

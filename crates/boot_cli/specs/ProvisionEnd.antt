@@ -22,7 +22,7 @@ use Rattle.answers.specs.DeviceFile.{IsDeviceFile}
 use Rattle.answers.specs.FlashOf.{flash_of}
 use Rattle.reading_commands.specs.DeviceInput.{RefusesMap}
 use Rattle.reading_commands.specs.Input.{FileBytes, IsKnownAs, IsNamed}
-use Rattle.boot_cli.specs.Inputs.{GiveEach}
+use Rattle.reading_commands.specs.Inputs.{GiveEach}
 use Rattle.answers.specs.ReplyText.{refused_fault_text}
 
 -- Bytes of a flash with these files over the fronts of primary slots, from that of this image on.

@@ -24,7 +24,7 @@ use Rattle.answers.specs.DeviceFile.{IsDeviceFile}
 use Rattle.answers.specs.FlashOf.{IsFlashOf, flash_of}
 use Rattle.reading_commands.specs.DeviceInput.{RefusesMap}
 use Rattle.reading_commands.specs.Input.{FileBytes}
-use Rattle.boot_cli.specs.Inputs.{GiveEach}
+use Rattle.reading_commands.specs.Inputs.{GiveEach}
 use Rattle.answers.specs.ReplyText.{replies_text}
 use Rattle.boot_cli.specs.Script.{IsScript, Known, came_by, known_after}
 

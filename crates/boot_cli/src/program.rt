@@ -4,7 +4,7 @@ ghost use Rattle.boot_cli.specs.OrderEnd.{AnswersOrder};
 
 use crate::commands::{playing, provision};
 use command_line::{Order, OrderError, STANDARD_INPUT, fault_of, no_text, order};
-use making_commands::{make_device, make_image};
+use making_commands::{make_device, make_image, make_manifest};
 use reading_commands::{
     Access, Answer, Host, Refusal, Source, check, choose, codes, finish, image, manifest_file,
     refuse, show, status_after,
@@ -113,6 +113,10 @@ fn perform<'a, 'h, A: Allocator, H: Host, O: Write, E: Write>(
             body,
             values,
         } => make_image::perform(heap, image, Source::named(body), &values, host, out),
+        Order::MakeManifest { device, manifest } => {
+            let device = Source::named(device);
+            make_manifest::perform(alloc, heap, device, &manifest, host, out, err)
+        }
         Order::Provision {
             device,
             flash,

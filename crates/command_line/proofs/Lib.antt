@@ -1,4 +1,5 @@
 pub mod Aliases
+pub mod ComponentLaws
 pub mod Folds
 pub mod NeedLaws
 pub mod Program

@@ -97,6 +97,12 @@ make_image_shape = asking (codes "make-image")
     ∷ one_option (codes "header-size") false ∷ one_option (codes "load-address") false
     ∷ one_option (codes "flags") false ∷ [])
 
+abbrev pub make_manifest_shape : Shape
+make_manifest_shape = asking (codes "make-manifest")
+    (one_name (codes "DEVICE") ∷ one_option (codes "sequence") true
+    ∷ one_option (codes "precursor") false ∷ options (codes "test")
+    ∷ options (codes "permanent") ∷ [])
+
 abbrev pub provision_shape : Shape
 provision_shape = asking (codes "provision")
     (one_name (codes "DEVICE") ∷ one_name (codes "FLASH") ∷ all_names (codes "IMAGE") ∷ [])
@@ -127,6 +133,7 @@ shape_for sub.Image = image_shape
 shape_for sub.Manifest = manifest_shape
 shape_for sub.MakeDevice = make_device_shape
 shape_for sub.MakeImage = make_image_shape
+shape_for sub.MakeManifest = make_manifest_shape
 shape_for sub.Provision = provision_shape
 shape_for sub.Show = show_shape
 shape_for sub.Run = run_shape
@@ -141,5 +148,6 @@ abbrev pub bootswap : App
 bootswap = record {
   top = record program.top { is_leaf = false };
   subs = choose_shape ∷ check_shape ∷ image_shape ∷ manifest_shape ∷ make_device_shape
-      ∷ make_image_shape ∷ provision_shape ∷ show_shape ∷ run_shape ∷ codes_shape ∷ [];
+      ∷ make_image_shape ∷ make_manifest_shape ∷ provision_shape ∷ show_shape ∷ run_shape
+      ∷ codes_shape ∷ [];
 }

@@ -1,22 +1,24 @@
 -- What an order says, by the matches that `clap` gives for the words.
-use Rattle.std.specs.Prelude.{◌≡◌, ℕ, ◌==◌, ◌^◌, ◌<◌, ◌≤◌, Bool, false, IsSomeAnd, List, [], ◌∷◌, Option, Some, None, codes, count_by, if◌then◌else◌, map, nat_lt, option_and_then, unwrap_or, ⊤}
+use Rattle.std.specs.Prelude.{◌≡◌, ℕ, ◌==◌, ◌^◌, ◌<◌, ◌≤◌, Bool, false, true, IsSomeAnd, List, [], ◌∷◌, ◌++◌, Option, Some, None, codes, count_by, if◌then◌else◌, length, map, nat_lt, option_and_then, option_map, option_to_list, unwrap_or, ⊤}
 use Rattle.std.specs.Borrow.{Bor}
-use Rattle.std.specs.List.{AllZip, slice_split}
+use Rattle.std.specs.List.{AllZip, after_first, before_first, position_or_len, slice_split}
 use Rattle.std.specs.Option.{option_map_or}
 use Rattle.std.specs.Str.{bytes_eq}
 use Rattle.clap.specs.Words.{Row, Text, all_of, first_of, subcommand_of}
 use Rattle.clap.specs.declared.error.kind.ErrorKind.{ErrorKind}
 use Rattle.clap.specs.declared.error.kind.ErrorKind.TheVariants.{ArgumentConflict, InvalidValue}
-use Rattle.common.specs.Ascii.{number_of}
-use Rattle.common.specs.declared.limits.TheConstants.{MOST_TRIAL_BOOTS}
+use Rattle.common.specs.Ascii.{number_below, number_of}
+use Rattle.common.specs.declared.limits.TheConstants.{MOST_IMAGES, MOST_TRIAL_BOOTS}
 use Rattle.version_order.specs.declared.version.Version.{Version}
 use Rattle.version_order.specs.VersionText.{version_of}
 use Rattle.command_line.specs.Commands.{bootswap}
 use Rattle.command_line.specs.Needs.{AreNeeds, IsNeed}
 use Rattle.command_line.specs.declared.orders.NewDevice.{NewDevice}
+use Rattle.command_line.specs.declared.orders.NewComponent.{NewComponent}
 use Rattle.command_line.specs.declared.orders.NewImage.{NewImage}
+use Rattle.command_line.specs.declared.orders.NewManifest.{NewManifest}
 use Rattle.command_line.specs.declared.orders.Order.{Order}
-use Rattle.command_line.specs.declared.orders.Order.TheVariants.{Choose, Check, Image, Manifest, MakeDevice, MakeImage, Provision, Show, Run, Codes}
+use Rattle.command_line.specs.declared.orders.Order.TheVariants.{Choose, Check, Image, Manifest, MakeDevice, MakeImage, MakeManifest, Provision, Show, Run, Codes}
 
 -- The subcommand of an order.
 abbrev pub command_of : Order → Text
@@ -26,6 +28,7 @@ command_of (Image file) = codes "image"
 command_of (Manifest device file) = codes "manifest"
 command_of (MakeDevice device) = codes "make-device"
 command_of (MakeImage image body values) = codes "make-image"
+command_of (MakeManifest device manifest) = codes "make-manifest"
 command_of (Provision device flash images) = codes "provision"
 command_of (Show device flash) = codes "show"
 command_of (Run device flash script durable) = codes "run"
@@ -92,6 +95,36 @@ pub record SaysImage (rows : List Row) (image : NewImage) : Type 0 where
   pub load_address : HasNumber (codes "load-address") (2 ^ 32) rows image.load_address
   pub flags : HasNumber (codes "flags") (2 ^ 32) rows image.flags
 
+-- `=`, which parts the number of an image from the name of a file.
+abbrev pub is_equals_sign : ℕ → Bool
+is_equals_sign byte = byte == 61
+
+-- A word says this file and its image, of a kind: the number of the image, `=`, and the name of the
+-- file, which is all that follows the first `=`.
+pub record IsComponent (kind : Bool) (word : Text) (component : NewComponent) : Type 0 where
+  pub parted : position_or_len is_equals_sign word < length word
+  pub image : number_below 256 (before_first is_equals_sign word) ≡ Some component.image
+  pub file : component.file.now ≡ after_first is_equals_sign word
+  pub permanent : component.permanent ≡ kind
+
+-- Words say these files, each one.
+abbrev pub AreComponents : Bool → List Text → List NewComponent → Type 0
+AreComponents kind words components = AllZip (IsComponent kind) words components
+
+-- The matches of `make-manifest` say this of a manifest: one to eight files, those for a test
+-- before those that are to stay.
+pub record SaysManifest (rows : List Row) (manifest : NewManifest) : Type 0 where
+  pub sequence : number_at (codes "sequence") rows ≡ Some manifest.sequence
+  pub precursor : option_map (λ flash. flash.now) manifest.precursor
+      ≡ first_of (codes "precursor") rows
+  pub tests : List NewComponent
+  pub permanent : List NewComponent
+  pub are_tests : AreComponents false (texts_at (codes "test") rows) tests
+  pub are_permanent : AreComponents true (texts_at (codes "permanent") rows) permanent
+  pub components : manifest.components.items ≡ tests ++ permanent
+  pub some : 0 < length manifest.components.items
+  pub most : length manifest.components.items ≤ MOST_IMAGES
+
 -- The names of an order are those that the matches of its subcommand have, and so are its options.
 abbrev pub HasNames : List Row → Order → Type 0
 HasNames rows (Choose table) = IsNamed rows (codes "TABLE") table.now
@@ -104,6 +137,8 @@ HasNames rows (MakeDevice device) = SaysDevice rows device
 HasNames rows (MakeImage image body values) =
     IsNamed rows (codes "OUT") image.now × IsNamed rows (codes "BODY") body.now
     × SaysImage rows values
+HasNames rows (MakeManifest device manifest) =
+    IsNamed rows (codes "DEVICE") device.now × SaysManifest rows manifest
 HasNames rows (Provision device flash images) =
     IsNamed rows (codes "DEVICE") device.now × IsNamed rows (codes "FLASH") flash.now
     × (all_of (codes "IMAGE") rows ≡ Some (map (λ image. image.now) images.items))
@@ -132,6 +167,12 @@ abbrev pub Finds : {T : Type 0} → (T → Type 0) → Option T → Type 0
 Finds IsSo None = (one : _) → IsSo one → ⊥
 Finds IsSo (Some found) = IsSo found
 
+-- The names of the files that a manifest is made of: a flash, where there is one, and then those
+-- that may come.
+abbrev pub files_of : NewManifest → List (Bor Text)
+files_of manifest =
+    option_to_list manifest.precursor ++ map (λ component. component.file) manifest.components.items
+
 -- All the names of an order.
 abbrev pub names_of : Order → List (Bor Text)
 names_of (Choose table) = table ∷ []
@@ -140,6 +181,7 @@ names_of (Image file) = file ∷ []
 names_of (Manifest device file) = device ∷ file ∷ []
 names_of (MakeDevice device) = []
 names_of (MakeImage image body values) = image ∷ body ∷ []
+names_of (MakeManifest device manifest) = device ∷ files_of manifest
 names_of (Provision device flash images) = device ∷ flash ∷ images.items
 names_of (Show device flash) = device ∷ flash ∷ []
 names_of (Run device flash script durable) = device ∷ flash ∷ script ∷ []

@@ -4,8 +4,9 @@ ghost use Rattle.std.specs.Prelude.{◌≡◌, IfOk};
 ghost use Rattle.clap.specs.Words.{app_of, new_app, shape_of};
 ghost use Rattle.command_line.specs.Commands.{bootswap, check_shape, choose_shape, codes_shape};
 ghost use Rattle.command_line.specs.Commands.{image_shape, make_device_shape, make_image_shape};
-ghost use Rattle.command_line.specs.Commands.{manifest_shape, program, provision_shape, run_shape};
-ghost use Rattle.command_line.specs.Commands.{shape_for, show_shape, with_command};
+ghost use Rattle.command_line.specs.Commands.{make_manifest_shape, manifest_shape, program};
+ghost use Rattle.command_line.specs.Commands.{provision_shape, run_shape, shape_for, show_shape};
+ghost use Rattle.command_line.specs.Commands.{with_command};
 
 use crate::arguments::{Argument, with_arguments};
 use crate::help;
@@ -24,6 +25,8 @@ pub const MANIFEST: &str = "manifest";
 pub const MAKE_DEVICE: &str = "make-device";
 
 pub const MAKE_IMAGE: &str = "make-image";
+
+pub const MAKE_MANIFEST: &str = "make-manifest";
 
 pub const PROVISION: &str = "provision";
 
@@ -80,6 +83,14 @@ pub mod named {
     pub const LOAD_ADDRESS: &str = "load-address";
 
     pub const FLAGS: &str = "flags";
+
+    pub const SEQUENCE: &str = "sequence";
+
+    pub const PRECURSOR: &str = "precursor";
+
+    pub const TEST: &str = "test";
+
+    pub const PERMANENT: &str = "permanent";
 }
 
 /// A subcommand of the program.
@@ -91,6 +102,7 @@ pub enum Subcommand {
     Manifest,
     MakeDevice,
     MakeImage,
+    MakeManifest,
     Provision,
     Show,
     Run,
@@ -98,13 +110,14 @@ pub enum Subcommand {
 }
 
 /// The subcommands, in the order in which help lists them.
-const SUBCOMMANDS: [Subcommand; 10] = [
+const SUBCOMMANDS: [Subcommand; 11] = [
     Subcommand::Choose,
     Subcommand::Check,
     Subcommand::Image,
     Subcommand::Manifest,
     Subcommand::MakeDevice,
     Subcommand::MakeImage,
+    Subcommand::MakeManifest,
     Subcommand::Provision,
     Subcommand::Show,
     Subcommand::Run,
@@ -157,6 +170,7 @@ impl Subcommand {
             Subcommand::Manifest => manifest(alloc),
             Subcommand::MakeDevice => make_device(alloc),
             Subcommand::MakeImage => make_image(alloc),
+            Subcommand::MakeManifest => make_manifest(alloc),
             Subcommand::Provision => provision(alloc),
             Subcommand::Show => show(alloc),
             Subcommand::Run => run(alloc),
@@ -173,6 +187,7 @@ impl Subcommand {
             Subcommand::Manifest => "bootswap manifest",
             Subcommand::MakeDevice => "bootswap make-device",
             Subcommand::MakeImage => "bootswap make-image",
+            Subcommand::MakeManifest => "bootswap make-manifest",
             Subcommand::Provision => "bootswap provision",
             Subcommand::Show => "bootswap show",
             Subcommand::Run => "bootswap run",
@@ -249,6 +264,24 @@ fn make_image<'a>(alloc: Global) -> Result<Command<'a>, AllocError>
     ];
     let command = new_command(alloc, MAKE_IMAGE, help::MAKE_IMAGE);
     with_arguments(alloc, command.override_usage(help::IMAGE_USAGE), &arguments)
+}
+
+fn make_manifest<'a>(alloc: Global) -> Result<Command<'a>, AllocError>
+    ensures { IfOk result (λ command. shape_of command ≡ make_manifest_shape) }
+{
+    let arguments = [
+        Argument::File(named::DEVICE, help::DEVICE_FILE),
+        Argument::Required(named::SEQUENCE, help::SEQUENCE),
+        Argument::Optional(named::PRECURSOR, help::PRECURSOR),
+        Argument::Repeated(named::TEST, help::TEST),
+        Argument::Repeated(named::PERMANENT, help::PERMANENT),
+    ];
+    let command = new_command(alloc, MAKE_MANIFEST, help::MAKE_MANIFEST);
+    with_arguments(
+        alloc,
+        command.override_usage(help::MANIFEST_USAGE),
+        &arguments,
+    )
 }
 
 fn provision<'a>(alloc: Global) -> Result<Command<'a>, AllocError>

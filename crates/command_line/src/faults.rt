@@ -1,21 +1,22 @@
 //! The faults that the program itself finds in words, as `clap` prints its own.
 
-ghost use Rattle.std.specs.Prelude.{◌≡◌, ◌⊎◌, IfOk, codes, nat_lt, option_map};
+ghost use Rattle.std.specs.Prelude.{◌≡◌, ◌⊎◌, ◌∷◌, IfOk, codes, nat_lt, option_map};
 ghost use Rattle.std.specs.Str.{bytes_eq};
 ghost use Rattle.clap.specs.Words.{kind_of};
 ghost use Rattle.clap.specs.declared.error.kind.ErrorKind.TheVariants.{InvalidValue};
 ghost use Rattle.clap.specs.declared.error.kind.ErrorKind.TheVariants.{MissingSubcommand};
 ghost use Rattle.command_line.specs.Faults.{IsTold, IsUsage};
-ghost use Rattle.command_line.specs.Orders.{misuse_of, names_of, standard_inputs};
+ghost use Rattle.command_line.specs.Orders.{files_of, misuse_of, names_of, standard_inputs};
 ghost use Rattle.command_line.specs.Orders.{writes_to_standard_input};
 
-use crate::commands::{MAKE_DEVICE, MAKE_IMAGE, Subcommand, named};
+use crate::commands::{MAKE_DEVICE, MAKE_IMAGE, MAKE_MANIFEST, Subcommand, named};
 use crate::device_words::{number_in, trial_boots_in};
 use crate::error::OrderError;
 use crate::escaped::Escaped;
 use crate::image_words::{dependencies_in, header_size_in, number_said, version_in};
+use crate::manifest_words::components_in;
 use crate::order_reading::{named_in, order};
-use crate::orders::{Order, STANDARD_INPUT};
+use crate::orders::{NewManifest, Order, STANDARD_INPUT};
 use crate::{commands, help};
 use clap::error::ErrorKind;
 use clap::{ArgMatches, Error};
@@ -46,14 +47,15 @@ pub fn no_text(alloc: Global) -> OrderError
     }
 }
 
-/// The fault of words that ask for no order, though `clap` takes them: a word of `make-device` or
-/// `make-image` isn't what it has to be, or they name no subcommand.
+/// The fault of words that ask for no order, though `clap` takes them: a word of `make-device`,
+/// `make-image` or `make-manifest` isn't what it has to be, or they name no subcommand.
 pub(crate) fn no_order(alloc: Global, matches: &ArgMatches<'_>) -> OrderError
     ensures { IsUsage InvalidValue result ⊎ IsUsage MissingSubcommand result }
 {
     match named_in(matches) {
         Some((MAKE_DEVICE, names)) => no_number(alloc, names),
         Some((MAKE_IMAGE, names)) => no_values(alloc, names),
+        Some((MAKE_MANIFEST, names)) => no_components(alloc, names),
         _ => no_subcommand(alloc),
     }
 }
@@ -115,6 +117,43 @@ fn values_fault(alloc: Global, names: &ArgMatches<'_>) -> Result<&'static str, A
     }
 }
 
+/// The fault of words of `make-manifest` of which one can't be read, or that say no file, or too
+/// many.
+fn no_components(alloc: Global, names: &ArgMatches<'_>) -> OrderError
+    ensures { IsUsage InvalidValue result }
+{
+    match components_error(alloc, names) {
+        Ok(error) => OrderError::from(error),
+        Err(error) => OrderError::from(error),
+    }
+}
+
+fn components_error(alloc: Global, names: &ArgMatches<'_>) -> Result<Error, AllocError>
+    ensures { IfOk result (λ error. kind_of error ≡ InvalidValue) }
+{
+    let fault = components_fault(alloc, names)?;
+    subcommand_error(
+        alloc,
+        Subcommand::MakeManifest,
+        ErrorKind::InvalidValue,
+        fault,
+    )
+}
+
+/// What is told of words of `make-manifest` that say no manifest.
+fn components_fault(alloc: Global, names: &ArgMatches<'_>) -> Result<&'static str, AllocError> {
+    if number_in(names, named::SEQUENCE).is_none() {
+        return Ok(help::NO_SEQUENCE);
+    }
+    if components_in(alloc, names, named::TEST, false)?.is_none() {
+        return Ok(help::NO_TEST);
+    }
+    match components_in(alloc, names, named::PERMANENT, true)? {
+        None => Ok(help::NO_PERMANENT),
+        Some(_) => Ok(help::NO_COMPONENTS),
+    }
+}
+
 /// The fault of words that name no subcommand.
 fn no_subcommand(alloc: Global) -> OrderError
     ensures { IsUsage MissingSubcommand result }
@@ -163,6 +202,7 @@ fn subcommand_of(order: &Order<'_>) -> Subcommand {
         Order::Manifest { .. } => Subcommand::Manifest,
         Order::MakeDevice { .. } => Subcommand::MakeDevice,
         Order::MakeImage { .. } => Subcommand::MakeImage,
+        Order::MakeManifest { .. } => Subcommand::MakeManifest,
         Order::Provision { .. } => Subcommand::Provision,
         Order::Show { .. } => Subcommand::Show,
         Order::Run { .. } => Subcommand::Run,
@@ -196,6 +236,7 @@ fn writes_to_standard_input(order: &Order<'_>) -> bool
         | Order::Image { .. }
         | Order::Manifest { .. }
         | Order::MakeDevice { .. }
+        | Order::MakeManifest { .. }
         | Order::Show { .. }
         | Order::Codes => false,
     }
@@ -230,6 +271,7 @@ fn reads_standard_input_twice(order: &Order<'_>) -> bool
             script,
             ..
         } => standard_inputs(&[*device, *flash, *script]) > 1,
+        Order::MakeManifest { device, manifest } => inputs_of_manifest(device, manifest) > 1,
         Order::Provision {
             device,
             flash,
@@ -239,6 +281,24 @@ fn reads_standard_input_twice(order: &Order<'_>) -> bool
             others.saturating_add(standard_inputs(images.as_slice())) > 1
         }
     }
+}
+
+/// How many of the files that a manifest is made of are standard input.
+fn inputs_of_manifest(device: &str, manifest: &NewManifest<'_>) -> usize
+    ensures { result ≡ standard_inputs (device.entry ∷ files_of manifest.now) }
+{
+    let device = usize::from(is_standard_input(device));
+    let flash = usize::from(
+        manifest
+            .precursor
+            .is_some_and(|flash| is_standard_input(flash)),
+    );
+    let components = manifest
+        .components
+        .iter()
+        .filter(|component| is_standard_input(component.file))
+        .count();
+    (device + flash).saturating_add(components)
 }
 
 fn standard_inputs(names: &[&str]) -> usize

@@ -61,6 +61,7 @@ Examples:
   bootswap make-device --sector 512 --slots 2,2 --vendor python.org \\
       --class sensor > device.json
   bootswap make-image a.img body.bin --version 1.0.0
+  bootswap make-manifest device.json --sequence 2 --test 0=a.img > manifest.json
   bootswap provision device.json flash.bin a.img b.img
   bootswap show device.json flash.bin
   bootswap run device.json flash.bin script.txt
@@ -353,6 +354,62 @@ pub const IMAGE_USAGE: &str = "bootswap make-image <OUT> <BODY> --version <VERSI
            [--needs <'J VERSION'>].. [--needs-one <'J VERSION ..'>]..
            [--header-size <BYTES>] [--load-address <N>] [--flags <N>]";
 
+pub const MAKE_MANIFEST: Help = Help {
+    about: "Makes a manifest, of the files that may come to a device",
+    long_about: "Reads a device file and the files that may come to the device, and prints the
+manifest that lets them come: it is for the device's vendor and class, and has
+the length and the SHA-256 of each file. `--test 0=a.img` says that the file
+a.img is for image 0, and that the device is to try it: it goes back to the old
+image unless the new one is confirmed. `--permanent 0=a.img` says that it is to
+stay. Each may be given again and again, an image once:
+  bootswap make-manifest device.json --sequence 2 --test 0=a.img \\
+      --test 1=b.img > manifest.json
+
+The manifest of the file `abc` for a test of image 0 is:
+  {\"manifest-version\":1,\"sequence-number\":1,
+   \"vendor-id\":\"886313e1-3b8a-5372-9b90-0c9aee199e5d\",
+   \"class-id\":\"9ed1b5d5-f629-5008-93c6-1958ba5b9953\",
+   \"components\":[
+    {\"component-id\":0,\"kind\":\"test\",\"size\":3,
+     \"payload-digest\":\"ba7816bf8f01cfea414140de5dae2223b00361a396177a9cb410ff61f20015ad\"}]}
+
+A device takes no manifest with a lower sequence number than the last one that it
+took. With `--precursor FLASH` the files are only for devices that run the images
+that run on that flash: the manifest names the digests of those whose files may
+come. FLASH is only read.
+
+On standard error a line `note: ..` tells of a file that the device will not
+take, since it is no intact image, or since it is longer than its slot. The
+manifest is made nevertheless.
+
+`refused 6 NoComponent` says that the device has no such image, and
+`refused 7 RepeatedComponent` that two files are for one image. Where no intact
+image runs on FLASH it prints `refused boot 5 RunningDamaged IMAGE`, and where
+the device's sizes make no map of its flash `refused map CODE NAME`.",
+    after: "Exit status: 0 done, 1 refused, 2 the words are wrong.
+Example: bootswap make-manifest device.json --sequence 2 --test 0=a.img
+`bootswap make-manifest --help` tells more.",
+    long_after: "Exit status:
+  0  the manifest is printed
+  1  what is asked for is refused, and why is printed; or standard error has a
+     line `error: ..`: `device file` where DEVICE is none, `flash size` where
+     FLASH isn't as long as the device's flash, `flash in use` where another
+     program writes to FLASH, `cannot read NAME`, or `memory`; or what had to be
+     printed could not be written
+  2  the words of the command are wrong
+
+Examples:
+  bootswap make-manifest device.json --sequence 2 --test 0=a.img > manifest.json
+  bootswap make-manifest device.json --sequence 3 --precursor flash.bin \\
+      --permanent 0=a.img --permanent 1=b.img > manifest.json
+  bootswap manifest device.json manifest.json",
+};
+
+/// The usage of `make-manifest`, which would be too long for a line.
+pub const MANIFEST_USAGE: &str =
+    "bootswap make-manifest <DEVICE> --sequence <N> [--precursor <FLASH>]
+           [--test <I=FILE>].. [--permanent <I=FILE>]..";
+
 pub const PROVISION: Help = Help {
     about: "Makes the flash file of a device, an image for each slot pair",
     long_about: "Makes the flash of a device in a file and provisions it: FLASH gets the length
@@ -611,6 +668,39 @@ pub const FLAGS: OptionHelp = OptionHelp {
     value: "N",
     text: "The flags of the header; without it 0",
 };
+
+pub const SEQUENCE: OptionHelp = OptionHelp {
+    value: "N",
+    text: "The sequence number of the manifest",
+};
+
+pub const PRECURSOR: OptionHelp = OptionHelp {
+    value: "FLASH",
+    text: "The files follow the images that run on this flash",
+};
+
+pub const TEST: OptionHelp = OptionHelp {
+    value: "I=FILE",
+    text: "FILE may come for image I, for a test",
+};
+
+pub const PERMANENT: OptionHelp = OptionHelp {
+    value: "I=FILE",
+    text: "FILE may come for image I, to stay",
+};
+
+/// The fault of words whose sequence number is none.
+pub const NO_SEQUENCE: &str = "`--sequence` is a number, in digits, below 4294967296";
+
+/// The fault of words whose file for a test is none.
+pub const NO_TEST: &str = "`--test` is the number of an image and its file: 0=a.img";
+
+/// The fault of words whose file that is to stay is none.
+pub const NO_PERMANENT: &str = "`--permanent` is the number of an image and its file: 0=a.img";
+
+/// The fault of words that say no file, or more files than a device has images.
+pub const NO_COMPONENTS: &str =
+    "give one to eight files that may come, by `--test I=FILE` or `--permanent I=FILE`";
 
 /// The fault of words whose version is none.
 pub const NO_VERSION: &str = "`--version` is `major.minor.revision+build`, such as 1.4.2+7; last \

@@ -17,6 +17,7 @@ mod escaped;
 mod faults;
 mod help;
 mod image_words;
+mod manifest_words;
 mod order_reading;
 mod orders;
 
@@ -25,4 +26,4 @@ pub use error::OrderError;
 pub use escaped::Escaped;
 pub use faults::{fault_of, no_text};
 pub use order_reading::order;
-pub use orders::{NewDevice, NewImage, Order, STANDARD_INPUT};
+pub use orders::{NewComponent, NewDevice, NewImage, NewManifest, Order, STANDARD_INPUT};

@@ -8,13 +8,14 @@ ghost use Rattle.command_line.specs.Faults.{IsRefusal};
 ghost use Rattle.command_line.specs.Orders.{Asks, Finds, IsOrder, IsOrderOf, is_given, misuse_of};
 
 use crate::commands::{
-    CHECK, CHOOSE, CODES, IMAGE, MAKE_DEVICE, MAKE_IMAGE, MANIFEST, PROVISION, RUN, SHOW, bootswap,
-    named,
+    CHECK, CHOOSE, CODES, IMAGE, MAKE_DEVICE, MAKE_IMAGE, MAKE_MANIFEST, MANIFEST, PROVISION, RUN,
+    SHOW, bootswap, named,
 };
 use crate::device_words::device_in;
 use crate::error::OrderError;
 use crate::faults::{misuse, no_order};
 use crate::image_words::image_values_in;
+use crate::manifest_words::manifest_values_in;
 use crate::orders::Order;
 use clap::{ArgMatches, Error};
 use std::alloc::{AllocError, Global};
@@ -94,6 +95,9 @@ fn order_of<'a>(
     if command == MAKE_IMAGE {
         return make_image_in(alloc, names);
     }
+    if command == MAKE_MANIFEST {
+        return make_manifest_in(alloc, names);
+    }
     if command == PROVISION {
         return provision_in(alloc, names);
     }
@@ -166,6 +170,21 @@ fn make_image_in<'a>(alloc: Global, names: &ArgMatches<'a>) -> Result<Option<Ord
             body,
             values,
         })),
+        None => Ok(None),
+    }
+}
+
+fn make_manifest_in<'a>(
+    alloc: Global,
+    names: &ArgMatches<'a>,
+) -> Result<Option<Order<'a>>, AllocError>
+    ensures { IfOk result (Finds (Asks (codes "make-manifest") (rows_of (found_of names.now)))) }
+{
+    let Some(device) = name_in(names, named::DEVICE) else {
+        return Ok(None);
+    };
+    match manifest_values_in(alloc, names)? {
+        Some(manifest) => Ok(Some(Order::MakeManifest { device, manifest })),
         None => Ok(None),
     }
 }

@@ -40,6 +40,29 @@ pub struct NewImage {
     pub flags: Option<u32>,
 }
 
+/// A file that may come to a device, as the words have it.
+#[derive(Clone, Copy, Debug)]
+pub struct NewComponent<'a> {
+    /// The number of the image that it is for.
+    pub image: u8,
+    /// Whether it is to be requested for good; else it is for a test.
+    pub permanent: bool,
+    /// The name of the file.
+    pub file: &'a str,
+}
+
+/// A manifest that is to be made, as the words have it.
+#[derive(Debug, Drop)]
+pub struct NewManifest<'a> {
+    /// Its sequence number.
+    pub sequence: u32,
+    /// The name of a flash file, where what runs there is what the files are for.
+    pub precursor: Option<&'a str>,
+    /// The files that may come: those for a test, in the order of the words, and then those that
+    /// are to stay.
+    pub components: Vec<NewComponent<'a>>,
+}
+
 /// What the words ask for: a subcommand, with the names that the words give its files.
 #[derive(Debug, Drop)]
 pub enum Order<'a> {
@@ -80,6 +103,13 @@ pub enum Order<'a> {
         body: &'a str,
         /// What it says of itself.
         values: NewImage,
+    },
+    /// The making of a manifest.
+    MakeManifest {
+        /// The name of the device file.
+        device: &'a str,
+        /// What the manifest says.
+        manifest: NewManifest<'a>,
     },
     /// The making of a flash file.
     Provision {

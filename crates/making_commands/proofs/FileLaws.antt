@@ -1,13 +1,10 @@
 -- What files keep while a body is read and its image is made.
 use Rattle.std.proofs.Common.{ℕ, List, Option}
-use Rattle.std.proofs.KnownBytes.{Keeps-refl, Keeps-trans}
+use Rattle.std.proofs.KnownBytes.{Keeps-trans}
 use Rattle.reading_commands.specs.Input.{FileBytes, KeepsFiles, KeepsOthers}
 use Rattle.reading_commands.specs.declared.source.Source.{Source}
 use Rattle.reading_commands.specs.declared.source.Source.TheVariants.{StandardInput, File}
 use Rattle.making_commands.specs.NewImageEnd.{LeavesFiles}
-
-pub KeepsFiles-itself : (files : FileBytes) → KeepsFiles files files
-KeepsFiles-itself files = λ name. Keeps-refl (files name)
 
 -- a source was read, and then files were kept
 pub LeavesFiles-read : (source : Source) (input mid_input : Option (List ℕ))

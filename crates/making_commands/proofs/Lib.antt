@@ -1,3 +1,5 @@
 mod FileLaws
 pub mod NewDeviceLaws
 pub mod NewImageLaws
+pub mod NewManifestEnds
+mod NewManifestLaws

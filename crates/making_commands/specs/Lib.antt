@@ -1,2 +1,4 @@
 pub mod NewDeviceEnd
 pub mod NewImageEnd
+pub mod NewManifestEnd
+pub mod NewManifestSteps

@@ -1,4 +1,5 @@
 pub mod AnswerEnd
 pub mod DeviceInput
 pub mod Input
+pub mod Inputs
 pub mod Status

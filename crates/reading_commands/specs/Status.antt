@@ -15,6 +15,7 @@ status_of_refusal (no.TableLine line) = 1
 status_of_refusal (no.ReportLine line) = 1
 status_of_refusal no.NotValid = 1
 status_of_refusal no.DeviceFile = 1
+status_of_refusal no.Manifest = 1
 status_of_refusal no.FlashSize = 1
 status_of_refusal no.FlashInUse = 1
 status_of_refusal no.FlashIsInput = 1

@@ -18,6 +18,10 @@ pub enum Refusal<'a> {
     /// The text is no device file.
     #[error("device file")]
     DeviceFile,
+    /// What is asked for makes no manifest for the device. It is never printed: what is wrong with
+    /// it is told before.
+    #[error("manifest")]
+    Manifest,
     /// The flash file isn't as long as the map of the device.
     #[error("flash size")]
     FlashSize,

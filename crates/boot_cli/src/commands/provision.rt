@@ -4,7 +4,7 @@ ghost use Rattle.std.specs.Io.KnownBytes.{Appends};
 ghost use Rattle.flash_model.specs.Torn.{replaced};
 ghost use Rattle.answers.specs.FlashOf.{IsFlashOf};
 ghost use Rattle.reading_commands.specs.Input.{IsKnownAs, IsNamed, KeepsFiles};
-ghost use Rattle.boot_cli.specs.Inputs.{LeavesFiles, NameFiles, names_of};
+ghost use Rattle.reading_commands.specs.Inputs.{LeavesFiles, NameFiles, names_of};
 ghost use Rattle.boot_cli.specs.ProvisionEnd.{AnswersMade, AnswersProvision, EndsBefore, EndsMade, IsOther, ReadsImages, done_text, new_flash};
 
 use answers::{flash_of, refused_fault_text, write_all};

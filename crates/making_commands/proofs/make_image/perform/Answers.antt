@@ -1,5 +1,6 @@
 use Rattle.std.proofs.lemmas.Result.{IfOk-weaker}
-use Rattle.making_commands.proofs.FileLaws.{KeepsFiles-itself, LeavesFiles-read}
+use Rattle.reading_commands.proofs.InputLaws.{KeepsFiles-itself}
+use Rattle.making_commands.proofs.FileLaws.{LeavesFiles-read}
 use Rattle.making_commands.proofs.NewImageLaws.{AnswersMade-same}
 use Rattle.making_commands.proofs.make_image.perform.Goals as goal
 

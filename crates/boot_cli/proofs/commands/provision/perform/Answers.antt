@@ -1,6 +1,6 @@
 use Rattle.std.proofs.lemmas.Result.{IfOk-weaker}
 use Rattle.boot_cli.proofs.EndLaws.{AnswersProvision-read, KeepsFiles-told}
-use Rattle.boot_cli.proofs.InputLaws.{KeepsFiles-itself, KeepsFiles-twice, LeavesFiles-read}
+use Rattle.reading_commands.proofs.InputLaws.{KeepsFiles-itself, KeepsFiles-twice, LeavesFiles-read}
 use Rattle.boot_cli.proofs.commands.provision.perform.Goals as goal
 
 -- The device file and the images were read in turn, and what came of making their flash was

@@ -6,9 +6,9 @@ use Rattle.sector_map.specs.declared.layout.Side.TheVariants.{Primary}
 use Rattle.sector_map.specs.Map.{length_of, sectors_of, start_of}
 use Rattle.sector_map.specs.Part.{Slot}
 use Rattle.reading_commands.specs.Input.{IsNamed}
-use Rattle.boot_cli.specs.Inputs.{names_of}
+use Rattle.reading_commands.specs.Inputs.{names_of}
 use Rattle.boot_cli.proofs.ImageLaws.{AreRead-more, AreRead-none, slot_within}
-use Rattle.boot_cli.proofs.InputLaws.{KeepsFiles-itself, KeepsFiles-read, KeepsFiles-twice}
+use Rattle.reading_commands.proofs.InputLaws.{KeepsFiles-itself, KeepsFiles-read, KeepsFiles-twice}
 use Rattle.boot_cli.proofs.commands.provision.read_images.Goals as goal
 
 -- Nothing was read, and the flash is erased.

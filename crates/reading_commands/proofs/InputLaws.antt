@@ -6,7 +6,7 @@ use Rattle.std.specs.Io.KnownBytes.{Keeps}
 use Rattle.reading_commands.specs.declared.source.Source.{Source}
 use Rattle.reading_commands.specs.declared.source.Source.TheVariants.{StandardInput, File}
 use Rattle.reading_commands.specs.Input.{FileBytes, Gives, IsNamed, KeepsFiles, KeepsOthers}
-use Rattle.boot_cli.specs.Inputs.{GiveEach, LeavesFiles, NameFiles, names_of}
+use Rattle.reading_commands.specs.Inputs.{GiveEach, LeavesFiles, NameFiles, names_of}
 use Rattle.reading_commands.proofs.AnswerLaws.{Gives-kept}
 
 -- what sources give after a read that kept it, they gave before

@@ -1,0 +1,28 @@
+use Rattle.std.proofs.Common.{ℕ, List, [], Bor, get_or}
+use Rattle.std.proofs.lemmas.List.{get_or_default}
+use Rattle.common.proofs.Mapped.{AllZip-at, AllZip-more}
+use Rattle.command_line.specs.Orders.{IsComponent}
+use Rattle.command_line.proofs.manifest_words.components_of.Goals as goal
+
+-- the word at a place
+abbrev word_at : List (Bor (List ℕ)) → ℕ → Bor (List ℕ)
+word_at words place = get_or words place (record { ref_ptr = (0, 0); now = [] })
+
+-- What is found of each word would be found of this one.
+pub returns-in_default : goal.returns-in_default
+returns-in_default c = λ components each.
+    let word = word_at c.args.words.now c.loop-word.word-index in
+    let is = get_or_default c.args.words.now c.loop-word.word-index _ word c.loop-word-test.true in
+    let at = AllZip-at (IsComponent c.args.permanent) (λ w. w.now) c.args.words.now components c.loop-word.word-index word
+    c.loop-word-test.true is each in
+    rw c.in_default.is at c.component_of.ensures at.0 at.1
+
+-- The file of one word more.
+pub loop-word-preserved : goal.loop-word-preserved
+loop-word-preserved c =
+    let word = word_at c.args.words.now c.loop-word.word-index in
+    let is = get_or_default c.args.words.now c.loop-word.word-index _ word c.loop-word-test.true in
+    let more = AllZip-more (IsComponent c.args.permanent) (λ w. w.now) c.args.words.now c.loop-word.components.items
+    c.loop-word.word-index word c.in-Some.component c.loop-word-test.true is c.loop-word.invariant
+    (rw c.in-Some.is at c.component_of.ensures) in
+    rw c.in_ok-push.ensures.items more

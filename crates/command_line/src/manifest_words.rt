@@ -1,0 +1,97 @@
+//! The words of `make-manifest`: what the manifest says, and of which files.
+
+ghost use Rattle.std.specs.Prelude.{◌≡◌, IfOk, map, option_map};
+ghost use Rattle.clap.specs.Words.{found_of, rows_of};
+ghost use Rattle.command_line.specs.Orders.{AreComponents, Finds, IsComponent, SaysManifest};
+ghost use Rattle.command_line.specs.Orders.{texts_at};
+
+use crate::commands::named;
+use crate::device_words::number_in;
+use crate::order_reading::{name_in, names_in};
+use crate::orders::{NewComponent, NewManifest};
+use clap::ArgMatches;
+use common::ascii::number_u8;
+use common::limits::MOST_IMAGES;
+use std::alloc::{AllocError, Global};
+
+/// What the words say of a manifest; none where one of them can't be read, and where they say no
+/// file, or more files than a device has images.
+pub fn manifest_values_in<'a>(
+    alloc: Global,
+    names: &ArgMatches<'a>,
+) -> Result<Option<NewManifest<'a>>, AllocError>
+    ensures { IfOk result (Finds (SaysManifest (rows_of (found_of names.now)))) }
+{
+    let Some(sequence) = number_in(names, named::SEQUENCE) else {
+        return Ok(None);
+    };
+    let Some(mut components) = components_in(alloc, names, named::TEST, false)? else {
+        return Ok(None);
+    };
+    let Some(permanent) = components_in(alloc, names, named::PERMANENT, true)? else {
+        return Ok(None);
+    };
+    components.extend_from_slice(&permanent)?;
+    let count = components.len();
+    if count == 0 {
+        return Ok(None);
+    }
+    if count > MOST_IMAGES {
+        return Ok(None);
+    }
+    Ok(Some(NewManifest {
+        sequence,
+        precursor: name_in(names, named::PRECURSOR),
+        components,
+    }))
+}
+
+/// The files that the words give for this option; none where one of them says no image and file.
+pub fn components_in<'a>(
+    alloc: Global,
+    names: &ArgMatches<'a>,
+    option: &str,
+    permanent: bool,
+) -> Result<Option<Vec<NewComponent<'a>>>, AllocError>
+    ensures { IfOk result (λ found.
+        Finds (AreComponents permanent (texts_at option.now (rows_of (found_of names.now))))
+        (option_map (λ components. components.items) found)) }
+{
+    match names_in(names, option) {
+        Some(words) => components_of(alloc, words, permanent),
+        None => Ok(Some(Vec::new(alloc))),
+    }
+}
+
+/// The files that these words say, each one.
+fn components_of<'a>(
+    alloc: Global,
+    words: &[&'a str],
+    permanent: bool,
+) -> Result<Option<Vec<NewComponent<'a>>>, AllocError>
+    ensures { IfOk result (λ found.
+        Finds (AreComponents permanent (map (λ word. word.now) words.now))
+        (option_map (λ components. components.items) found)) }
+{
+    let mut components = Vec::new(alloc);
+    for word in words {
+        let Some(component) = component_of(word, permanent) else {
+            return Ok(None);
+        };
+        components.push(component)?;
+    }
+    Ok(Some(components))
+}
+
+/// The file that a word says, and the image that it is for: `1=b.img`.
+fn component_of<'a>(word: &'a str, permanent: bool) -> Option<NewComponent<'a>>
+    ensures { Finds (IsComponent permanent word.entry.now) result }
+{
+    let (image, file) = word.split_once('=')?;
+    let image = number_u8(image.as_bytes())?;
+    Some(NewComponent {
+        image,
+        permanent,
+        file,
+    })
+}

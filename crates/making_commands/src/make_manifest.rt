@@ -1,0 +1,192 @@
+//! `bootswap make-manifest`: the manifest that lets files come to a device.
+ghost use Rattle.std.specs.Prelude.{◌≡◌, ◌↔◌, Any, IfNone, IfOk, IfSome, IsTrue, OnOk, length};
+ghost use Rattle.std.specs.Prelude.{string_bytes, true};
+ghost use Rattle.std.specs.Io.KnownBytes.{Appends};
+ghost use Rattle.answers.specs.AnswerText.{refused_text};
+ghost use Rattle.answers.specs.ReplyText.{refused_fault_text};
+ghost use Rattle.machine.specs.declared.error.Fault.TheVariants.{RunningDamaged};
+ghost use Rattle.making_commands.specs.NewManifestEnd.{AnswersNewManifest, HaveImages, IsFault};
+ghost use Rattle.making_commands.specs.NewManifestEnd.{Repeats};
+ghost use Rattle.making_commands.specs.NewManifestSteps.{IsReadBack, Writes};
+ghost use Rattle.manifest.specs.Codes.{code_of, name_of};
+
+use crate::manifest_json::manifest_json;
+use crate::new_components::read_components;
+use crate::precursors::{Precursors, read_precursors};
+use crate::telling::tell;
+use answers::{DeviceFile, refused_fault_text};
+use command_line::{NewComponent, NewManifest};
+use machine::Fault;
+use manifest::{Identity, Manifest, ManifestError};
+use reading_commands::{Answer, Host, Refusal, Source, read_device};
+use std::alloc::{AllocError, Allocator, Global};
+use std::io::Write;
+
+/// Reads a device file, the flash whose images have to run, where one is asked for, and each file
+/// that may come from `host`, one after the other, and writes to `out` the manifest that is asked
+/// for; where there is no such manifest for the device, it writes to `out` why. Then it writes to
+/// `err` which of the files the device will not take.
+///
+/// The manifest is made in memory of `heap`, where the device file and one file after the other
+/// stand too, and read back before it is written, for which its JSON value stands in memory of
+/// `alloc`. So does the flash. What is written is flushed, so that nothing is told of a manifest
+/// that couldn't be written.
+pub fn perform<'a, A: Allocator, H: Host, O: Write, E: Write>(
+    alloc: Global,
+    heap: &A,
+    device: Source<'a>,
+    asked: &NewManifest<'a>,
+    host: &mut H,
+    out: &mut O,
+    err: &mut E,
+) -> Result<Answer, Refusal<'a>>
+    ensures { IfOk result (λ answer. AnswersNewManifest answer device.entry asked.now
+        (H.input host.old) (H.file host.old) (O.contents out.old) (O.contents out.new)) }
+{
+    let Some(of_device) = read_device(alloc, heap, device, host, out)? else {
+        return Ok(Answer::Refused);
+    };
+    if let Some(fault) = fault_in(&asked.components, of_device.map.images) {
+        refuse(heap, fault, out)?;
+        return Ok(Answer::Refused);
+    }
+    match read_precursors(alloc, &of_device.map, asked, host)? {
+        Precursors::Are(precursors) => {
+            write_manifest(alloc, heap, &of_device, asked, &precursors, host, out, err)?;
+            Ok(Answer::Done)
+        }
+        Precursors::DamagedAt(image) => {
+            refuse_running(heap, image, out)?;
+            Ok(Answer::Refused)
+        }
+    }
+}
+
+/// What is wrong with the files that are asked for, of a device with so many images.
+fn fault_in(asked: &[NewComponent<'_>], images: u8) -> Option<ManifestError>
+    ensures fault { IfSome result (IsFault images asked.now) }
+    ensures sound { IfNone result (HaveImages images asked.now) }
+{
+    if !have_images(asked, images) {
+        return Some(ManifestError::NoComponent);
+    }
+    if repeats(asked) {
+        return Some(ManifestError::RepeatedComponent);
+    }
+    None
+}
+
+/// Whether every file is for an image that there is.
+fn have_images(asked: &[NewComponent<'_>], images: u8) -> bool
+    ensures { IsTrue result ↔ HaveImages images asked.now }
+{
+    asked.iter().all(|component| component.image < images)
+}
+
+/// Whether a file is for the image of one before it.
+fn repeats(asked: &[NewComponent<'_>]) -> bool
+    ensures { result ≡ true → Repeats asked.now }
+{
+    for (place, component) in asked.iter().enumerate() {
+        if is_named(&asked[..place], component.image) {
+            return true;
+        }
+    }
+    false
+}
+
+/// Whether one of these files is for this image.
+fn is_named(asked: &[NewComponent<'_>], image: u8) -> bool
+    ensures { IsTrue result ↔ Any (λ component. component.image ≡ image) asked.now }
+{
+    asked.iter().any(|component| component.image == image)
+}
+
+/// Reads the files that may come, and writes to `out` the manifest that lets them come where these
+/// images run, and to `err` which of them the device will not take.
+fn write_manifest<'a, A: Allocator, H: Host, O: Write, E: Write>(
+    alloc: Global,
+    heap: &A,
+    device: &DeviceFile,
+    asked: &NewManifest<'a>,
+    precursors: &[Option<[u8; 32]>],
+    host: &mut H,
+    out: &mut O,
+    err: &mut E,
+) -> Result<(), Refusal<'a>>
+    requires same { length precursors.now ≡ length asked.now.components.items }
+    requires there { HaveImages device.now.map.images asked.now.components.items }
+    ensures { OnOk result (Writes device.now asked.now precursors.now
+        (H.input host.old) (H.file host.old) (O.contents out.old) (O.contents out.new)) }
+{
+    let mut notes = String::new(heap);
+    let asked_for = asked.components.as_slice();
+    let components = read_components(heap, &device.map, asked_for, precursors, host, &mut notes)?;
+    let manifest = Manifest {
+        sequence: asked.sequence,
+        components,
+    };
+    let Ok(text) = manifest_json(heap, &device.identity, &manifest) else {
+        return Err(Refusal::NoMemory);
+    };
+    expect_manifest(alloc, text.as_bytes(), &device.identity, &manifest)?;
+    tell(text.as_bytes(), out)?;
+    tell(notes.as_bytes(), err)
+}
+
+/// Refuses a text that isn't this manifest, to a device of this identity.
+///
+/// The text that is made of a manifest is that manifest, so that this refuses for want of memory
+/// alone. Nothing is proved of how it is made, but that what is read back is the manifest.
+fn expect_manifest<'a>(
+    alloc: Global,
+    text: &[u8],
+    identity: &Identity,
+    manifest: &Manifest,
+) -> Result<(), Refusal<'a>>
+    ensures { OnOk result (IsReadBack identity.now text.now manifest.now) }
+{
+    match Manifest::read(alloc, text, identity) {
+        Ok(read) if read == *manifest => Ok(()),
+        Err(ManifestError::NoMemory) => Err(Refusal::NoMemory),
+        _ => Err(Refusal::Manifest),
+    }
+}
+
+/// Writes to `out` why there is no manifest, by the number and the name of the refusal.
+fn refuse<'a, A: Allocator, O: Write>(
+    heap: &A,
+    fault: ManifestError,
+    out: &mut O,
+) -> Result<(), Refusal<'a>>
+    ensures { OnOk result (Appends (O.contents out.old) (O.contents out.new)
+        (refused_text (code_of fault) (name_of fault))) }
+{
+    let Ok(text) = fault_text(heap, fault) else {
+        return Err(Refusal::NoMemory);
+    };
+    tell(text.as_bytes(), out)
+}
+
+fn fault_text<A: Allocator>(heap: &A, fault: ManifestError) -> Result<String<&A>, AllocError>
+    ensures { IfOk result (λ text. string_bytes text
+        ≡ refused_text (code_of fault) (name_of fault)) }
+{
+    let (code, name) = (fault.code(), fault.name());
+    format!(in heap; "refused {code} {name}\n")
+}
+
+/// Writes to `out` that no intact image of this number runs.
+fn refuse_running<'a, A: Allocator, O: Write>(
+    heap: &A,
+    image: u8,
+    out: &mut O,
+) -> Result<(), Refusal<'a>>
+    ensures { OnOk result (Appends (O.contents out.old) (O.contents out.new)
+        (refused_fault_text (RunningDamaged image))) }
+{
+    let Ok(text) = refused_fault_text(heap, Fault::RunningDamaged(image)) else {
+        return Err(Refusal::NoMemory);
+    };
+    tell(text.as_bytes(), out)
+}

@@ -1,0 +1,52 @@
+//! The JSON text of a manifest.
+
+use manifest::{Component, Identity, Manifest};
+use std::alloc::{AllocError, Allocator};
+
+/// The text of a manifest for devices of this identity, in memory of `heap`: a JSON object whose
+/// keys stand in the order in which they are described, a component to two lines.
+pub fn manifest_json<'h, A: Allocator>(
+    heap: &'h A,
+    identity: &Identity,
+    manifest: &Manifest,
+) -> Result<String<&'h A>, AllocError> {
+    let sequence = manifest.sequence;
+    let (vendor, class) = (identity.vendor, identity.class);
+    let mut text = format!(in heap;
+        "{{\"manifest-version\":1,\"sequence-number\":{sequence},\n \"vendor-id\":\"{vendor}\",\n"
+    )?;
+    write!(text, " \"class-id\":\"{class}\",\n \"components\":[")?;
+    let mut before = "";
+    for component in manifest.components.as_slice() {
+        write!(text, "{before}\n")?;
+        write_component(heap, &mut text, component)?;
+        before = ",";
+    }
+    writeln!(text, "]}}")?;
+    Ok(text)
+}
+
+/// Adds a component to the text of a manifest.
+fn write_component<A: Allocator>(
+    heap: &A,
+    text: &mut String<&A>,
+    component: &Component,
+) -> Result<(), AllocError> {
+    let (image, size) = (component.image, component.size);
+    let kind = if component.permanent {
+        "permanent"
+    } else {
+        "test"
+    };
+    let digest = hex::encode(heap, component.digest.as_slice())?;
+    write!(
+        text,
+        "  {{\"component-id\":{image},\"kind\":\"{kind}\",\"size\":{size},\n"
+    )?;
+    write!(text, "   \"payload-digest\":\"{digest}\"")?;
+    if let Some(precursor) = component.precursor {
+        let precursor = hex::encode(heap, precursor.as_slice())?;
+        write!(text, ",\n   \"precursor-digest\":\"{precursor}\"")?;
+    }
+    write!(text, "}}")
+}

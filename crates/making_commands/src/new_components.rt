@@ -1,0 +1,96 @@
+//! The files that may come to a device, which are read for its manifest.
+ghost use Rattle.std.specs.Prelude.{◌≡◌, ◌<◌, IfOk, length};
+ghost use Rattle.making_commands.specs.NewManifestEnd.{HaveImages};
+ghost use Rattle.making_commands.specs.NewManifestSteps.{ReadsComponent, ReadsComponents};
+
+use arrayvec::ArrayVec;
+use command_line::NewComponent;
+use manifest::{Component, MOST_COMPONENTS};
+use reading_commands::{Host, MOST_FILE, Refusal, Source};
+use sector_map::SectorMap;
+use sha2::{Digest, Sha256};
+use std::alloc::{AllocError, Allocator};
+use tlv::describe;
+
+/// The components of a manifest for these files, which are read from `host` one after the other
+/// into memory of `heap`, where these images have to run. Adds to `notes` which files a device with
+/// this map will not take.
+pub fn read_components<'a, A: Allocator, H: Host>(
+    heap: &A,
+    map: &SectorMap,
+    asked: &[NewComponent<'a>],
+    precursors: &[Option<[u8; 32]>],
+    host: &mut H,
+    notes: &mut String<&A>,
+) -> Result<ArrayVec<Component, MOST_COMPONENTS>, Refusal<'a>>
+    requires same { length precursors.now ≡ length asked.now }
+    requires there { HaveImages map.now.images asked.now }
+    ensures { IfOk result (λ components. ReadsComponents asked.now precursors.now
+        (H.input host.old) (H.file host.old) components.items) }
+{
+    let mut components = ArrayVec::new();
+    for place in 0..asked.len() {
+        let (asked, precursor) = (&asked[place], precursors[place]);
+        let component = read_component(heap, map, asked, precursor, host, notes)?;
+        if components.is_full() {
+            return Err(Refusal::Manifest);
+        }
+        components.push(component);
+    }
+    Ok(components)
+}
+
+/// The component for this file, which is read from `host`, where this image has to run.
+fn read_component<'a, A: Allocator, H: Host>(
+    heap: &A,
+    map: &SectorMap,
+    asked: &NewComponent<'a>,
+    precursor: Option<[u8; 32]>,
+    host: &mut H,
+    notes: &mut String<&A>,
+) -> Result<Component, Refusal<'a>>
+    requires { asked.now.image < map.now.images }
+    ensures { IfOk result (ReadsComponent asked.now precursor (H.input host.old) (H.file host.old)
+        (H.input host.new) (H.file host.new)) }
+{
+    let source = Source::named(asked.file);
+    let file = source.read(heap, host, MOST_FILE)?;
+    let Ok(size) = u32::try_from(file.len()) else {
+        return Err(Refusal::TooLong(source, MOST_FILE));
+    };
+    if write_notes(notes, map, asked.image, source, &file).is_err() {
+        return Err(Refusal::NoMemory);
+    }
+    Ok(Component {
+        image: asked.image,
+        permanent: asked.permanent,
+        size,
+        digest: Sha256::digest(file.as_slice()),
+        precursor,
+    })
+}
+
+/// Adds to notes why a device with this map will not take a file for an image, a line for each
+/// reason.
+fn write_notes<A: Allocator>(
+    notes: &mut String<&A>,
+    map: &SectorMap,
+    image: u8,
+    source: Source<'_>,
+    file: &[u8],
+) -> Result<(), AllocError>
+    requires { image < map.now.images }
+{
+    if let Err(fault) = describe(file) {
+        let (code, name) = (fault.code(), fault.name());
+        writeln!(notes, "note: {source} is no intact image: {code} {name}")?;
+    }
+    let (long, slot) = (file.len(), map.slot_length(image));
+    if long > slot as usize {
+        writeln!(
+            notes,
+            "note: {source} has {long} bytes, and the slots of image {image} {slot}"
+        )?;
+    }
+    Ok(())
+}

@@ -1,0 +1,125 @@
+//! The images that have to run where the files of a manifest may come: those that run on a flash.
+ghost use Rattle.std.specs.Prelude.{◌≡◌, ◌<◌, IfOk, true};
+ghost use Rattle.sector_map.specs.Map.{IsLaidOut};
+ghost use Rattle.answers.specs.FlashOf.{IsFlashOf, flash_of};
+ghost use Rattle.making_commands.specs.NewManifestEnd.{HaveImages};
+ghost use Rattle.making_commands.specs.NewManifestSteps.{FindsNone, FindsPrecursor};
+ghost use Rattle.making_commands.specs.NewManifestSteps.{FindsPrecursors, ReadsPrecursors};
+
+use answers::flash_of;
+use arrayvec::ArrayVec;
+use command_line::{NewComponent, NewManifest};
+use flash_model::Flash;
+use manifest::MOST_COMPONENTS;
+use reading_commands::{Access, Host, Refusal, Source, read_flash};
+use sector_map::{SectorMap, Side};
+use std::alloc::Global;
+use std::marker::Brand;
+use std::sync::ledger::{Blank, Ledger};
+use tlv::describe_slot;
+
+/// The images that have to run where the files of a manifest may come.
+#[derive(Drop)]
+pub enum Precursors {
+    /// For each file the digest of the image that has to run; none where any may run.
+    Are(ArrayVec<Option<[u8; 32]>, MOST_COMPONENTS>),
+    /// The image of this number that runs isn't intact, and a file is for it.
+    DamagedAt(u8),
+}
+
+/// The images that run on the flash that is asked for, which is read from `host` into memory of
+/// `alloc`: for each file the digest of the image that it is for. There are none where no flash is
+/// asked for, and then nothing is read.
+///
+/// # Errors
+/// `Manifest` where more files are asked for than a manifest has components; those of
+/// [`read_flash`] where the flash can't be had.
+pub fn read_precursors<'a, H: Host>(
+    alloc: Global,
+    map: &SectorMap,
+    asked: &NewManifest<'a>,
+    host: &mut H,
+) -> Result<Precursors, Refusal<'a>>
+    requires there { HaveImages map.now.images asked.now.components.items }
+    ensures { IfOk result (ReadsPrecursors map.now asked.now (H.input host.old) (H.file host.old)
+        (H.input host.new) (H.file host.new)) }
+{
+    let components = asked.components.as_slice();
+    let Some(flash) = asked.precursor else {
+        return any_precursors(components);
+    };
+    let bytes = read_flash(alloc, Source::named(flash), map, Access::Read, host)?;
+    precursors_in::<Brand>(alloc, Blank::new(2), map, bytes, components)
+}
+
+/// No image has to run, for any of these files.
+fn any_precursors<'a>(asked: &[NewComponent<'_>]) -> Result<Precursors, Refusal<'a>>
+    ensures { IfOk result (FindsNone asked.now) }
+{
+    let mut precursors = ArrayVec::new();
+    for _ in asked {
+        if precursors.is_full() {
+            return Err(Refusal::Manifest);
+        }
+        precursors.push(None);
+    }
+    Ok(Precursors::Are(precursors))
+}
+
+/// The images that run on a flash of these bytes, for each of these files.
+fn precursors_in<'a, L: Ledger>(
+    alloc: Global,
+    blank: Blank,
+    map: &SectorMap,
+    bytes: Vec<u8>,
+    asked: &[NewComponent<'_>],
+) -> Result<Precursors, Refusal<'a>>
+    requires name { blank.name ≡ L.name }
+    requires parts { blank.parts ≡ L.parts }
+    requires two { L.parts ≡ 2 }
+    requires whole { IsFlashOf map.now bytes.items }
+    requires there { HaveImages map.now.images asked.now }
+    ensures { IfOk result (FindsPrecursors map.now (flash_of map.now bytes.items) asked.now) }
+{
+    let mut flash = flash_of::<L>(alloc, blank, map, bytes);
+    precursors_on(&mut flash, map, asked)
+}
+
+/// The images that run on a flash that has power, for each of these files.
+fn precursors_on<'a, F: Flash>(
+    flash: &mut F,
+    map: &SectorMap,
+    asked: &[NewComponent<'_>],
+) -> Result<Precursors, Refusal<'a>>
+    requires laid_out { IsLaidOut map.now (F.chip flash.old) }
+    requires there { HaveImages map.now.images asked.now }
+    requires on { (F.chip flash.old).is_on ≡ true }
+    ensures { IfOk result (FindsPrecursors map.now (F.chip flash.old) asked.now) }
+{
+    let mut precursors = ArrayVec::new();
+    for component in asked {
+        let Some(digest) = running_digest(flash, map, component.image) else {
+            return Ok(Precursors::DamagedAt(component.image));
+        };
+        if precursors.is_full() {
+            return Err(Refusal::Manifest);
+        }
+        precursors.push(Some(digest));
+    }
+    Ok(Precursors::Are(precursors))
+}
+
+/// The digest of the image of this number that runs, on a flash that has power; none where it isn't
+/// intact.
+fn running_digest<F: Flash>(flash: &mut F, map: &SectorMap, image: u8) -> Option<[u8; 32]>
+    requires laid_out { IsLaidOut map.now (F.chip flash.old) }
+    requires there { image < map.now.images }
+    requires on { (F.chip flash.old).is_on ≡ true }
+    ensures same { F.chip flash.new ≡ F.chip flash.old }
+    ensures found { FindsPrecursor map.now (F.chip flash.old) image result }
+{
+    match describe_slot(flash, map, image, Side::Primary) {
+        Ok(description) => Some(description.digest),
+        Err(_) => None,
+    }
+}
