@@ -23,11 +23,12 @@ def group(alternatives, last=b""):
     return (0xA0, alternatives * DEPENDENCY[1] + last)
 
 
-def image(protected=(COUNTER, DEPENDENCY), body=b"ABCD", digests=1, digest_kind=0x10, **fields):
-    """An image, of version 1.2.3+4 where none is given, with these protected entries, so many entries of its digest, and these fields."""
+def image(protected=(COUNTER, DEPENDENCY), body=b"ABCD", digests=1, digest_kind=0x10, more=(), **fields):
+    """An image, of version 1.2.3+4 where none is given, with these protected entries, so many entries of its digest,
+    more unprotected entries behind them, and these fields."""
     inner = area(0x6908, protected) if protected else b""
     hashed = header(len(inner), len(body), **fields) + body + inner
-    return hashed + area(0x6907, digests * [(digest_kind, hashlib.sha256(hashed).digest())])
+    return hashed + area(0x6907, [*digests * [(digest_kind, hashlib.sha256(hashed).digest())], *more])
 
 
 def version(major, minor=0, revision=0, build=0):

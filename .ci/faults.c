@@ -1,7 +1,10 @@
 /* Loaded before a program, makes one of its calls go wrong, the one whose number is FAULT_AT: of those that open, lock,
-   read, write, sync, close, look up or rename a file (FAULT=fail), of those that read or write (FAULT=short, after which the call
-   moves one byte at most), or of the allocations (FAULT=memory). When the program ends, the number of those calls is written to the file
-   FAULT_COUNT. `./gate` compiles and uses it. */
+   read, write, sync, close, look up or rename a file (FAULT=fail), of those that read (FAULT=unread, or FAULT=starve
+   for want of memory), of those that write (FAULT=nothing, where the call takes no byte), of those that read or write
+   (FAULT=short, after which the call moves one byte at most), or of the allocations (FAULT=memory). Or of those that
+   read or write each other one is interrupted (FAULT=interrupt), or each moves one byte (FAULT=trickle). When the
+   program ends, the number of those calls is written to the file FAULT_COUNT, and how many bytes were read to the file
+   FAULT_READ. `./gate` compiles and uses it. */
 #define _GNU_SOURCE
 #include <errno.h>
 #include <fcntl.h>
@@ -17,6 +20,9 @@ extern void *__libc_malloc(size_t size);
 extern void *__libc_realloc(void *old, size_t size);
 
 static long calls;
+
+/* How many bytes were read. */
+static long taken;
 
 static int is_asked(const char *fault) {
     const char *asked = getenv("FAULT");
@@ -72,33 +78,62 @@ int close(int file) {
     return is_bad ? -1 : closed;
 }
 
+/* Whether this call is one of those that are interrupted: each other one. */
+static int is_interrupted(void) {
+    if (is_asked("interrupt") && ++calls % 2) {
+        errno = EINTR;
+        return 1;
+    }
+    return 0;
+}
+
 /* Makes a call that moves bytes; `at` is a place of the file, for the calls that take one. */
 static ssize_t moved(long call, int file, const void *bytes, size_t length, off_t at) {
-    if (has_failed()) {
+    if (has_failed() || is_interrupted()) {
         return -1;
     }
-    if (is_asked("short") && is_now()) {
+    if (is_asked("trickle") || (is_asked("short") && is_now())) {
         length = length ? 1 : 0;
     }
     return syscall(call, file, bytes, length, at);
 }
 
-ssize_t read(int file, void *bytes, size_t length) { return moved(SYS_read, file, bytes, length, 0); }
+/* Makes a call that reads, and counts the bytes that it gives. */
+static ssize_t received(long call, int file, void *bytes, size_t length, off_t at) {
+    if ((is_asked("unread") || is_asked("starve")) && is_now()) {
+        errno = is_asked("starve") ? ENOMEM : EIO;
+        return -1;
+    }
+    ssize_t given = moved(call, file, bytes, length, at);
+    taken += given > 0 ? given : 0;
+    return given;
+}
 
-ssize_t write(int file, const void *bytes, size_t length) { return moved(SYS_write, file, bytes, length, 0); }
+ssize_t read(int file, void *bytes, size_t length) { return received(SYS_read, file, bytes, length, 0); }
 
-ssize_t __write(int file, const void *bytes, size_t length) { return moved(SYS_write, file, bytes, length, 0); }
+/* Makes a call that writes. */
+static ssize_t sent(long call, int file, const void *bytes, size_t length, off_t at) {
+    return is_asked("nothing") && is_now() ? 0 : moved(call, file, bytes, length, at);
+}
 
-ssize_t pread(int file, void *bytes, size_t length, off_t at) { return moved(SYS_pread64, file, bytes, length, at); }
+ssize_t write(int file, const void *bytes, size_t length) { return sent(SYS_write, file, bytes, length, 0); }
 
-ssize_t pread64(int file, void *bytes, size_t length, off_t at) { return moved(SYS_pread64, file, bytes, length, at); }
+ssize_t __write(int file, const void *bytes, size_t length) { return sent(SYS_write, file, bytes, length, 0); }
+
+ssize_t pread(int file, void *bytes, size_t length, off_t at) {
+    return received(SYS_pread64, file, bytes, length, at);
+}
+
+ssize_t pread64(int file, void *bytes, size_t length, off_t at) {
+    return received(SYS_pread64, file, bytes, length, at);
+}
 
 ssize_t pwrite(int file, const void *bytes, size_t length, off_t at) {
-    return moved(SYS_pwrite64, file, bytes, length, at);
+    return sent(SYS_pwrite64, file, bytes, length, at);
 }
 
 ssize_t pwrite64(int file, const void *bytes, size_t length, off_t at) {
-    return moved(SYS_pwrite64, file, bytes, length, at);
+    return sent(SYS_pwrite64, file, bytes, length, at);
 }
 
 static int has_no_memory(void) {
@@ -113,13 +148,19 @@ void *malloc(size_t size) { return has_no_memory() ? NULL : __libc_malloc(size);
 
 void *realloc(void *old, size_t size) { return has_no_memory() ? NULL : __libc_realloc(old, size); }
 
-__attribute__((destructor)) static void tell(void) {
-    const char *name = getenv("FAULT_COUNT");
-    long counted = calls;
+/* Writes a number to the file of the name that the environment has, if any. */
+static void tell_number(const char *where, long number) {
+    const char *name = getenv(where);
     FILE *file;
-    unsetenv("FAULT");
     if (name && (file = fopen(name, "w"))) {
-        fprintf(file, "%ld\n", counted);
+        fprintf(file, "%ld\n", number);
         fclose(file);
     }
+}
+
+__attribute__((destructor)) static void tell(void) {
+    long calls_made = calls, bytes_read = taken;
+    unsetenv("FAULT");
+    tell_number("FAULT_COUNT", calls_made);
+    tell_number("FAULT_READ", bytes_read);
 }

@@ -83,7 +83,8 @@ def check_precursors(checks):
     flash_of(checks)
     running = described("one")
     usual = {"size": 96, "precursor_digest": running}
-    wanted = [component(component_id=it, payload_digest=digest_of(file), **usual) for it, file in ((0, NEEDING), (1, PARTNER))]
+    pair = [(0, NEEDING), (1, PARTNER)]
+    wanted = [component(component_id=it, payload_digest=digest_of(file), **usual) for it, file in pair]
     files = [f"--test=0={NEEDING}", f"--test=1={PARTNER}"]
     words = asked("--precursor", "flash", *files)
     value = manifest(components=wanted)
@@ -91,8 +92,10 @@ def check_precursors(checks):
     whole = read(f"{checks.folder}/flash")
     words = asked("--precursor", "-", *files)
     expect_value(checks, "make-manifest: the flash as -", words, value, given=whole)
-    upload = f"boot\naccept {made}\npiece 0 {NEEDING}\npiece 1 {PARTNER}\nfinish 0\nfinish 1\nboot\nconfirm 0\nconfirm 1\n"
-    boots = b"1 plain\nrun 0 1.0.0+0\nrun 1 1.0.0+0\n2 done\n3 done\n4 done\n5 done\n6 done\n7 trial\ntake 0 2.0.0+0\ntake 1 2.0.0+0\n8 done\n9 done\n"
+    upload = f"boot\naccept {made}\npiece 0 {NEEDING}\npiece 1 {PARTNER}\nfinish 0\nfinish 1\n"
+    upload += "boot\nconfirm 0\nconfirm 1\n"
+    boots = b"1 plain\nrun 0 1.0.0+0\nrun 1 1.0.0+0\n2 done\n3 done\n4 done\n5 done\n6 done\n"
+    boots += b"7 trial\ntake 0 2.0.0+0\ntake 1 2.0.0+0\n8 done\n9 done\n"
     script = checks.file("script", upload.encode())
     checks.expect("make-manifest: a device that runs it takes the files", ["run", PAIR, "flash", script], 0, boots)
     again = f"boot\naccept {made}\n".encode()
@@ -119,19 +122,21 @@ def check_precursors(checks):
 def check_refused_manifests(checks):
     """What makes no manifest for the device is refused, before a file is read; files that it won't take are told."""
     bad, small = checks.file("bad", b"{}"), checks.file("small", device(sector=64))
-    for name, words, status, out, err in [
-        ("an image that the device doesn't have", asked("--test=2=absent"), 1, b"refused 6 NoComponent\n", b""),
-        ("an image twice", asked("--test=0=absent", "--permanent=0=absent"), 1, b"refused 7 RepeatedComponent\n", b""),
-        ("an image twice, and one too high", asked("--test=0=a", "--test=0=a", "--test=255=a"), 1, b"refused 6 NoComponent\n", b""),
-        ("an image twice, and no flash", asked("--test=0=a", "--test=0=a", "--precursor=absent"), 1, b"refused 7 RepeatedComponent\n", b""),
-        ("a file that isn't there", asked("--test=0=absent"), 1, b"", b"error: cannot read absent\n"),
-        ("the second file isn't there", asked(f"--test=0={ONE}", "--test=1=absent"), 1, b"", b"error: cannot read absent\n"),
-        ("a flash that isn't there", asked("--precursor=gone", "--test=0=absent"), 1, b"", b"error: cannot read gone\n"),
-        ("a device file that isn't there", asked("--test=9=a", of="absent"), 1, b"", b"error: cannot read absent\n"),
-        ("no device file", asked("--test=9=a", of=bad), 1, b"", b"error: device file\n"),
-        ("a refused map", asked("--test=9=a", of=small), 1, b"refused map 1 BadSector\n", b""),
+    one_too_high, twice = b"refused 6 NoComponent\n", b"refused 7 RepeatedComponent\n"
+    absent = b"error: cannot read absent\n"
+    for name, words, out, err in [
+        ("an image that the device doesn't have", asked("--test=2=absent"), one_too_high, b""),
+        ("an image twice", asked("--test=0=absent", "--permanent=0=absent"), twice, b""),
+        ("an image twice, and one too high", asked("--test=0=a", "--test=0=a", "--test=255=a"), one_too_high, b""),
+        ("an image twice, and no flash", asked("--test=0=a", "--test=0=a", "--precursor=absent"), twice, b""),
+        ("a file that isn't there", asked("--test=0=absent"), b"", absent),
+        ("the second file isn't there", asked(f"--test=0={ONE}", "--test=1=absent"), b"", absent),
+        ("a flash that isn't there", asked("--precursor=gone", "--test=0=absent"), b"", b"error: cannot read gone\n"),
+        ("a device file that isn't there", asked("--test=9=a", of="absent"), b"", absent),
+        ("no device file", asked("--test=9=a", of=bad), b"", b"error: device file\n"),
+        ("a refused map", asked("--test=9=a", of=small), b"refused map 1 BadSector\n", b""),
     ]:
-        checks.expect(f"make-manifest: {name}", words, status, out, err)
+        checks.expect(f"make-manifest: {name}", words, 1, out, err)
     full, more = checks.file("full", image([], body=952 * b"x")), checks.file("more", image([], body=953 * b"x"))
     changed = checks.file("changed\n", read(ONE)[:-1] + b"x")
     for name, file, size, err in [
@@ -143,7 +148,8 @@ def check_refused_manifests(checks):
         expect_value(checks, f"make-manifest: a file that is {name}", asked(f"--test=0={file}"), value, err)
     with open("/dev/full", "wb") as stream:
         status, _, err = checks.run(asked("--test=0=full"), stdout=stream)
-        checks.tell("make-manifest: it can't be written", [] if (status, err) == (1, b"") else [f"{status} {short(err)}"])
+        is_right = (status, err) == (1, b"")
+        checks.tell("make-manifest: it can't be written", [] if is_right else [f"{status} {short(err)}"])
         status, out, _ = checks.run(asked("--test=0=more"), stderr=stream)
         is_right = status == 1 and json.loads(out)["components"][0]["size"] == 1025
         checks.tell("make-manifest: its note can't be written", [] if is_right else [f"{status} {short(out)}"])

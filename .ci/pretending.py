@@ -1,0 +1,150 @@
+"""What the built program does where the system pretends: that a flash file is a block device, or that a write fails."""
+
+import fcntl
+import os
+import subprocess
+
+from checking import PAIR, ROOT, read, short
+from devices import IN_USE, placed
+from making_flashes import ACCEPT_FAILS, BACK_FAILS, UPGRADE_FAILS, WORKED_EVENTS, new_parts
+from stories import UPLOADED, flash_in, new_device, run_of, script_of
+from worked import BACK, NEEDS, NO_TRIAL, NOT_UP, PLAIN, SUM_OF_WRITES, TRIED, USUAL, WRITES, event_of, numbered
+
+FAULT = b"error: flash file\n"
+
+
+def pretending(checks, **what):
+    """The environment of a run to which this is pretended."""
+    library = f"{checks.folder}/pretended.so"
+    if not os.path.exists(library):
+        subprocess.run(["cc", "-O1", "-fPIC", "-shared", "-o", library, f"{ROOT}/.ci/pretended.c"], check=True)
+    return {**os.environ, "LD_PRELOAD": library, **{name: str(it) for name, it in what.items()}}
+
+
+def as_block_device(checks, bytes):
+    """Puts these bytes in the flash file, and returns the environment in which that is a block device."""
+    path = f"{checks.folder}/{checks.file('flash', bytes)}"
+    return pretending(checks, BLOCK_DEVICE=os.stat(path).st_ino)
+
+
+def counted(checks):
+    """How many writes a run told, and how many syncs right behind one."""
+    return tuple(map(int, read(f"{checks.folder}/count").split()))
+
+
+def tell_whole(checks, name, wanted):
+    """A check: the flash holds these bytes, and nothing lies beside it."""
+    faults = [] if flash_in(checks) == wanted else ["it holds others"]
+    checks.tell(name, faults + [it for it in os.listdir(checks.folder) if it.startswith("flash.new")])
+
+
+def check_block_devices(checks):
+    """A block device is written in its place, held meanwhile, and as long as the flash; a refusal writes nothing."""
+    images, wanted = ["one.img", "patched.img"], placed(8192, new_parts())
+    new_device(checks)
+    made, old = ["provision", PAIR, "flash", *images], bytes(8192)
+    env = as_block_device(checks, old)
+    number, told = env["BLOCK_DEVICE"], b"error: image 1 too big\n"
+    refused = ["provision", PAIR, "flash", "one.img", "long.img"]
+    checks.expect("a block device: a refusal", refused, 1, err=told, env=env)
+    with open(f"{checks.folder}/flash", "rb") as held:
+        fcntl.flock(held, fcntl.LOCK_SH)
+        checks.expect("a block device that another program holds", made, 1, err=IN_USE, env=env)
+    tell_whole(checks, "a block device: what is refused writes nothing", old)
+    checks.expect("a block device: provision", made, 0, b"done\n", env=env)
+    tell_whole(checks, "a block device: its bytes", wanted)
+    is_same = str(os.stat(f"{checks.folder}/flash").st_ino) == number
+    checks.tell("a block device: it keeps its place", [] if is_same else ["it doesn't"])
+    for size in (0, 8191, 8193):
+        env = as_block_device(checks, bytes(size))
+        checks.expect(f"a block device of {size} bytes", made, 1, err=b"error: flash size\n", env=env)
+        tell_whole(checks, f"a block device of {size} bytes: nothing is written", bytes(size))
+
+
+def check_synced_block_devices(checks):
+    """Each write of a run to a block device is synced before the next one; to a plain file none is."""
+    new = new_device(checks)
+    for name, env, synced in [("a block device", as_block_device(checks, new), True), ("a plain file", {}, False)]:
+        checks.file("flash", new)
+        env = {**pretending(checks, WRITE_COUNT=f"{checks.folder}/count"), **env}
+        given = script_of(WORKED_EVENTS)
+        checks.expect(f"a run on {name}", ["run", PAIR, "flash", "-"], 0, numbered(USUAL), given=given, env=env)
+        counts = counted(checks)
+        is_right = counts == (SUM_OF_WRITES, synced * SUM_OF_WRITES)
+        checks.tell(f"a run on {name}: its writes and syncs", [] if is_right else [f"{counts}"])
+
+
+def check_failing_block_devices(checks):
+    """A block device of which a write fails holds a part of the new flash, and can be written again."""
+    images, wanted = ["one.img", "patched.img"], placed(8192, new_parts())
+    new_device(checks)
+    made = ["provision", PAIR, "flash", *images]
+    env = as_block_device(checks, bytes(8192))
+    failing = {**env, "FAILING_WRITE": "1", "LEFT": "half"}
+    checks.expect("a block device whose write fails", made, 4, err=FAULT, env=failing)
+    tell_whole(checks, "a block device whose write fails: it holds a part", wanted[:4096] + bytes(4096))
+    checks.expect("a block device whose write failed, again", made, 0, b"done\n", env=env)
+    tell_whole(checks, "a block device whose write failed, again: its bytes", wanted)
+
+
+# The replies of the worked run where a write of one of its events fails, by the event. Where there
+# are two, the write did in memory all that it was to do, or nothing. No later write does anything.
+IDLE, WAITING = [PLAIN, NO_TRIAL, PLAIN, PLAIN], [NEEDS, NO_TRIAL, NEEDS, NEEDS]
+FAILURES = {
+    1: [ACCEPT_FAILS],
+    2: [[*USUAL[:2], "cut", *3 * [NOT_UP], *IDLE]],
+    3: [[*USUAL[:3], "cut", *2 * [NOT_UP], *IDLE]],
+    4: [[*USUAL[:4], "cut", NOT_UP, *IDLE], [*USUAL[:4], "cut", NOT_UP, *WAITING]],
+    5: [[*USUAL[:5], "cut", *WAITING], [*USUAL[:5], "cut", "cut", NOT_UP, "cut", "cut"]],
+    6: [UPGRADE_FAILS],
+    7: [[*USUAL[:7], "cut", "cut", "cut"]],
+    8: [BACK_FAILS, [*USUAL[:8], "cut", PLAIN]],
+}
+
+
+def run_failing(checks, events, number, left):
+    """What a run of these events ends with where this write fails and leaves this, and how many writes were tried."""
+    env = pretending(checks, FAILING_WRITE=number, LEFT=left, WRITE_COUNT=f"{checks.folder}/count")
+    got = checks.run(["run", PAIR, "flash", "-"], given=script_of(events), env=env)
+    return got, counted(checks)[0]
+
+
+def check_failing_writes(checks):
+    """After a write of the flash file that fails none is tried any more, and the replies are those of a cut."""
+    new = new_device(checks)
+    for left in ("old", "half"):
+        faults = []
+        for number in range(1, SUM_OF_WRITES + 1):
+            checks.file("flash", new)
+            got, tried = run_failing(checks, WORKED_EVENTS, number, left)
+            wanted = [(4, numbered(it), FAULT) for it in FAILURES[event_of(number)]]
+            if got not in wanted or tried != number or len(flash_in(checks)) != 8192:
+                faults.append(f"write {number}: {tried} writes, {short(got)}")
+        checks.tell(f"a write of the flash file that fails and leaves the {left}, {number} writes", faults[:5])
+
+
+def check_left_writes(checks):
+    """What a write of an upgrade leaves that fails is what a cut leaves: the next boot ends the upgrade."""
+    new = new_device(checks)
+    first, last = sum(WRITES[:6]) + 1, sum(WRITES[:7])
+    for left in ("old", "half"):
+        faults = []
+        for number in range(first, last + 1):
+            checks.file("flash", new)
+            got, _ = run_failing(checks, f"{UPLOADED}, boot", number, left)
+            # Of the last gate the first half is what counts: the other bytes are those of an erased
+            # unit.
+            reply = BACK if (number, left) == (last, "half") else TRIED
+            then = run_of(checks, "boot")
+            if got[0] != 4 or then != (0, numbered([reply]), b""):
+                faults.append(f"write {number}: {short(got)}, and then {short(then)}")
+        checks.tell(f"an upgrade whose write fails and leaves the {left}: the next boot", faults[:5])
+
+
+CHECKS = (
+    check_block_devices,
+    check_synced_block_devices,
+    check_failing_block_devices,
+    check_failing_writes,
+    check_left_writes,
+)
