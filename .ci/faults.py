@@ -10,20 +10,38 @@ from worked import cut_at, event_of, numbered
 SCRIPT = f"{EXAMPLES}/scripts/{WORKED}.txt"
 
 
-def each_fault(checks, fault, run):
-    """Makes a run for each of its calls of this kind, which goes wrong in it: its number, and what comes of it."""
-    library, count = f"{checks.folder}/faults.so", f"{checks.folder}/count"
+def with_fault(checks, fault, at=0):
+    """The environment of a run in which the call of this number goes wrong so. It tells in the file `count` how many
+    such calls there are, and in the file `taken` how many bytes were read."""
+    library, count, taken = (f"{checks.folder}/{name}" for name in ("faults.so", "count", "taken"))
     if not os.path.exists(library):
         subprocess.run(["cc", "-O1", "-fPIC", "-shared", "-o", library, f"{ROOT}/.ci/faults.c"], check=True)
+    ours = {"LD_PRELOAD": library, "FAULT": fault, "FAULT_AT": str(at), "FAULT_COUNT": count, "FAULT_READ": taken}
+    return {**os.environ, **ours}
+
+
+def told_in(checks, name):
+    """The number that a run with a fault told in this file."""
+    return int(read(f"{checks.folder}/{name}"))
+
+
+def each_fault(checks, fault, run):
+    """Makes a run for each of its calls of this kind, which goes wrong in it: its number, and what comes of it."""
     calls = None
     at = 0
     while calls is None or at <= calls:
-        env = {**os.environ, "LD_PRELOAD": library, "FAULT": fault, "FAULT_AT": str(at), "FAULT_COUNT": count}
-        got = run(env)
+        got = run(with_fault(checks, fault, at))
         # Call 0 is none, and that run tells how many there are.
-        calls = int(read(count)) if calls is None else calls
+        calls = told_in(checks, "count") if calls is None else calls
         yield at, got
         at += 1
+
+
+# The faults after which a call has not done what it had to.
+FAILING = ("fail", "nothing")
+
+# Those that change each call that reads or writes, and nothing of what comes of a run.
+HARMLESS = ("interrupt", "trickle")
 
 
 def is_end_after(fault, got, usual):
@@ -31,31 +49,75 @@ def is_end_after(fault, got, usual):
     status, out, err = got
     if fault == "memory":
         return got == (1, b"", b"error: memory\n")
-    if fault != "fail":
+    if fault not in FAILING:
         return False
     is_told = err.startswith(b"error: cannot read ") and not out
     return status == 1 and usual[1].startswith(out) and (is_told or usual[2].startswith(err))
 
 
-def check_faults(checks):
-    """Has each opening, read, write and allocation of a run fail in turn, or each read and write move one byte."""
-    pair, full = read(table("pair")), [table("full"), report("full")]
-    flash_of(checks)
-    runs = [[], ["choose", full[0]], ["check", *full], ["check", "-", report("pair")], ["choose", "absent"]]
-    runs += [["image", f"{EXAMPLES}/images/counted.img"], ["manifest", PAIR, f"{EXAMPLES}/manifests/both.json"]]
-    runs += [["show", PAIR, "flash"], ["show", PAIR, "gone"]]
-    runs += [["make-device", "--sector", "512", "--slots", "2,2", "--vendor", "python.org", "--class", "sensor"]]
+def runs_with_faults():
+    """Runs of each command, with each kind of answer."""
+    full = [table("full"), report("full")]
+    yield from [[], ["choose", full[0]], ["check", *full], ["check", "-", report("pair")], ["choose", "absent"]]
+    yield from [["choose", table("groups")], ["check", table("neither"), report("either")]]
+    yield ["check", table("pair"), table("three")]
+    yield from [["image", f"{EXAMPLES}/images/{name}.img"] for name in ("counted", "either", "padded")]
+    yield ["manifest", PAIR, f"{EXAMPLES}/manifests/both.json"]
+    yield from [["show", PAIR, "flash"], ["show", PAIR, "gone"]]
+    yield ["make-device", "--sector", "512", "--slots", "2,2", "--vendor", "python.org", "--class", "sensor"]
     files = [f"--test=0={EXAMPLES}/images/needing.img", f"--permanent=1={EXAMPLES}/images/padded.img"]
-    runs += [["make-manifest", PAIR, "--sequence", "1", "--precursor", "flash", *files], ["codes"]]
-    runs += [["frob"], ["--help"]]
-    for words in runs:
+    yield from [["make-manifest", PAIR, "--sequence", "1", "--precursor", "flash", *files], ["codes"]]
+    yield from [["frob"], [b"\xff"], ["check", "-", "-"], ["make-image", "a", "b", "--version=x"]]
+    yield from [["--help"], ["--version"]]
+
+
+def check_faults(checks):
+    """Has each opening, read, write and allocation of a run fail in turn, or reads and writes move one byte, in turn or
+    all, or each other one interrupted."""
+    pair = read(table("pair"))
+    flash_of(checks)
+    for words in runs_with_faults():
         usual = checks.run(words, given=pair)
-        for fault in ("fail", "short", "memory"):
+        for fault in ("fail", "nothing", "short", "memory"):
             faults = []
             for at, got in each_fault(checks, fault, lambda env: checks.run(words, given=pair, env=env)):
                 if got != usual and not is_end_after(fault, got, usual):
                     faults.append(f"at call {at}: {short(got)}")
-            checks.tell(f"{fault}: {shown(words)}, {at} calls", faults[:5])
+            checks.tell(f"{fault}: {shown(map(str, words))}, {at} calls", faults[:5])
+        for fault in HARMLESS:
+            got = checks.run(words, given=pair, env=with_fault(checks, fault))
+            checks.tell(f"{fault}: {shown(map(str, words))}", [] if got == usual else [short(got)])
+
+
+def check_failed_reads(checks):
+    """A read that fails gives no answer, whatever was read before, and one that has no memory is told as such."""
+    given = read(table("pair"))
+    unread = {f"error: cannot read {name}\n".encode() for name in ("-", PAIR, report("pair"))}
+    for fault, told in (("unread", unread), ("starve", {b"error: memory\n"})):
+        for words in (["choose", "-"], ["check", "-", report("pair")], ["image", "-"], ["manifest", PAIR, "-"]):
+            ends = each_fault(checks, fault, lambda env: checks.run(words, given=given, env=env))
+            wrong = [it for it in ends if it[0] and (it[1][:2] != (1, b"") or it[1][2] not in told)]
+            faults = [f"at call {at}: {short(got)}" for at, got in wrong]
+            checks.tell(f"{fault}: {shown(words)}", faults[:5])
+
+
+def check_little_is_read(checks):
+    """Of a file that is too long no more is read than one byte past the most, and nothing of what is told later."""
+    long = checks.file("long", 2_000_000 * b" ")
+    first = checks.file("first", b"image 0 1.0.0 0 0\n")
+    of_device, of_table = (os.path.getsize(it) for it in (PAIR, f"{checks.folder}/first"))
+    for words, told, most in [
+        (["choose", long], "table line 1", 65_537),
+        (["check", first, long], "report line 1", of_table + 65_537),
+        (["manifest", long, long], "device file", 1_048_577),
+        (["manifest", PAIR, long], "long is longer than 1048576 bytes", of_device + 1_048_577),
+        (["provision", PAIR, "new", long, long], "image 0 too big", of_device + 1025),
+    ]:
+        name = f"how much is read: {shown(words)}"
+        err = f"error: {told}\n".encode()
+        checks.expect(f"{name}: what is told", words, 1, err=err, env=with_fault(checks, "none"))
+        taken = told_in(checks, "taken")
+        checks.tell(name, [] if taken == most else [f"{taken} bytes, and not {most}"])
 
 
 def is_made_after(fault, got, left, kept, made, refusal):
@@ -65,18 +127,23 @@ def is_made_after(fault, got, left, kept, made, refusal):
     if got == (0, b"done\n", b""):
         return left == made
     # The answer is the last that is written, and may fail to be.
-    if fault == "fail" and status == 1 and not err and b"done\n".startswith(out) and left == made:
+    if fault in FAILING and status == 1 and not err and b"done\n".startswith(out) and left == made:
         return True
     if fault == "memory":
         return got == (1, b"", b"error: memory\n") and left == kept
     is_told = got == refusal or (status == 1 and err.startswith(b"error: cannot read "))
-    return fault == "fail" and is_told and not out and left == kept
+    return fault in FAILING and is_told and not out and left == kept
 
 
 # The commands that make a file: their words, the file, and how they end where it can't be made.
 MAKING = [
     (["provision", PAIR, "flash", ONE, ONE], "flash", (4, b"", b"error: flash file\n")),
-    (["make-image", "made", "body", "--version=1.0.0"], "made", (1, b"", b"error: cannot write made\n")),
+    (["extract", PAIR, "flash", "0", "primary", "copied"], "copied", (1, b"", b"error: cannot write copied\n")),
+    (
+        ["make-image", "made", "body", "--version=1.0.0", "--counter=5", "--needs=1 2.0.0", "--needs-one=1 2 2 2"],
+        "made",
+        (1, b"", b"error: cannot write made\n"),
+    ),
 ]
 
 
@@ -86,9 +153,10 @@ def check_making_faults(checks):
     checks.file("body", b"ABCD")
     for words, file, refusal in MAKING:
         path = f"{checks.folder}/{file}"
+        flash_of(checks)
         checks.run(words)
         whole = read(path)
-        others = {*os.listdir(checks.folder), "count", "faults.so"} - {file}
+        others = {*os.listdir(checks.folder), "count", "taken", "faults.so"} - {file}
         for old in (None, b"old"):
             kept, made = {} if old is None else {file: old}, {file: whole}
 
@@ -100,13 +168,17 @@ def check_making_faults(checks):
                 got = checks.run(words, env=env)
                 return got, {it: read(f"{checks.folder}/{it}") for it in os.listdir(checks.folder) if it not in others}
 
-            for fault in ("fail", "short", "memory"):
+            for fault in ("fail", "nothing", "short", "memory"):
                 faults = []
                 for at, (got, left) in each_fault(checks, fault, run):
                     if not is_made_after(fault, got, left, kept, made, refusal):
                         faults.append(f"at call {at}: {short(got)}, {sorted(left)}")
                 name = "that is there" if old else "that isn't there"
                 checks.tell(f"{fault}: {words[0]} of a file {name}, {at} calls", faults[:5])
+            for fault in HARMLESS:
+                got, left = run(with_fault(checks, fault))
+                is_right = got == (0, b"done\n", b"") and left == made
+                checks.tell(f"{fault}: {words[0]} of a file {name}", [] if is_right else [short(got), *sorted(left)])
 
 
 def boots_behind(checks):
@@ -188,10 +260,42 @@ def check_run_faults(checks):
                     faults.append(f"at call {at}: {short(got)}")
             checks.tell(f"{fault}: {' '.join(words)} of a device, {at} calls", faults[:5])
             calls[words[-1], fault] = at
+        for fault in HARMLESS:
+            got = run(words, with_fault(checks, fault))
+            is_right = got == ((0, numbered(USUAL), b""), flashes[-1])
+            checks.tell(f"{fault}: {' '.join(words)} of a device", [] if is_right else [short(got[0])])
     # Of what fails, `--durable` adds the syncs alone: one for each write of the file.
     synced = calls["--durable", "fail"] - calls["run", "fail"]
     is_right = synced == SUM_OF_WRITES
     checks.tell("run --durable: its syncs", [] if is_right else [f"{synced}, and not {SUM_OF_WRITES}"])
 
 
-CHECKS = (check_faults, check_making_faults, check_run_faults)
+def check_durable_words(checks):
+    """Each write of the flash file is synced where `--durable` stands anywhere before `--`, and else none is."""
+    before = flash_of(checks)
+    checks.file("--durable", read(SCRIPT))
+    files = [PAIR, "flash", SCRIPT]
+    counts = {}
+    wanted = (0, numbered(USUAL), b"")
+    spelled = [files, ["--durable", *files], [*files, "--durable"], [PAIR, "--durable", "flash", SCRIPT]]
+    spelled += [[PAIR, "flash", "--", "--durable"], ["--durable", PAIR, "flash", "--", "--durable"]]
+    for words in spelled:
+        checks.file("flash", before)
+        got = checks.run(["run", *words], env=with_fault(checks, "fail"))
+        counts[shown(words)] = told_in(checks, "count")
+        checks.tell(f"syncs: run {shown(words)}: what is told", [] if got == wanted else [short(got)])
+    usual = counts[shown(files)]
+    for words, count in counts.items():
+        synced = SUM_OF_WRITES if words.split(" -- ")[0].count("--durable") else 0
+        checks.tell(f"syncs: run {words}", [] if count - usual == synced else [f"{count - usual}, and not {synced}"])
+    os.remove(f"{checks.folder}/--durable")
+
+
+CHECKS = (
+    check_faults,
+    check_failed_reads,
+    check_little_is_read,
+    check_making_faults,
+    check_run_faults,
+    check_durable_words,
+)

@@ -51,7 +51,7 @@ SECONDS = {
     "flash_model": 66,
     "image_header": 23,
     "machine": 45,
-    "making_commands": 78,
+    "making_commands": 150,
     "manifest": 72,
     "reading_commands": 130,
     "script": 48,

@@ -443,7 +443,8 @@ def check_kept_images(checks, body):
     os.remove(f"{checks.folder}/link")
 
 
-COMMANDS = ("choose", "check", "image", "manifest", "make-device", "make-image", "make-manifest", "provision", "show", "run")
+COMMANDS = ("choose", "check", "image", "manifest", "make-device", "make-image", "make-manifest", "provision")
+COMMANDS += ("extract", "show", "run")
 
 
 def check_words(checks):

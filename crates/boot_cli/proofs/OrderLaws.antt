@@ -14,6 +14,7 @@ use Rattle.reading_commands.specs.Inputs.{names_of}
 use Rattle.boot_cli.specs.OrderEnd.{AnswersOrder}
 use Rattle.boot_cli.specs.ProvisionEnd.{AnswersMade, AnswersProvision}
 use Rattle.boot_cli.specs.RunEnd.{AnswersRun}
+use Rattle.making_commands.proofs.CopyLaws.{AnswersCopy-kept}
 use Rattle.making_commands.proofs.NewDeviceLaws.{AnswersNewDevice-kept}
 use Rattle.making_commands.proofs.NewImageLaws.{AnswersNewImage-kept}
 use Rattle.making_commands.proofs.NewManifestEnds.{AnswersNewManifest-kept}
@@ -99,6 +100,12 @@ AnswersOrder-kept (order.Provision device flash images) input file then old mid 
   answered.0,
   answered.1,
   AnswersProvision-kept answered.0 (names_of images.items) input file (then flash.now) old mid new answered.2 kept,
+)
+AnswersOrder-kept (order.Extract device flash image side out) input file then old mid new answered kept = (
+  answered.0,
+  answered.1,
+  answered.2,
+  AnswersCopy-kept answered.0 answered.1 image side input file (then out.now) old mid new answered.3 kept,
 )
 AnswersOrder-kept (order.Show device flash) input file then old mid new answered kept = (
   answered.0,

@@ -7,6 +7,7 @@ use Rattle.reading_commands.specs.declared.source.Source.{Source}
 use Rattle.reading_commands.specs.declared.source.Source.TheVariants as source
 use Rattle.reading_commands.specs.AnswerEnd.{AnswersCheck, AnswersChoice, AnswersCodes, AnswersDescription, AnswersManifest, AnswersShow}
 use Rattle.reading_commands.specs.Input.{FileBytes, IsNamed}
+use Rattle.making_commands.specs.CopyEnd.{AnswersCopy}
 use Rattle.making_commands.specs.NewDeviceEnd.{AnswersNewDevice}
 use Rattle.making_commands.specs.NewImageEnd.{AnswersNewImage}
 use Rattle.making_commands.specs.NewManifestEnd.{AnswersNewManifest}
@@ -44,6 +45,9 @@ AnswersOrder answer (order.MakeManifest device manifest) input file then old new
 AnswersOrder answer (order.Provision device flash images) input file then old new =
     (source : Source) × IsNamed device.now source
     × AnswersProvision answer source (names_of images.items) input file (then flash.now) old new
+AnswersOrder answer (order.Extract device flash image side out) input file then old new =
+    (one other : Source) × AreNamed device.now flash.now one other
+    × AnswersCopy answer one other image side input file (then out.now) old new
 AnswersOrder answer (order.Show device flash) input file then old new =
     (one other : Source) × AreNamed device.now flash.now one other
     × AnswersShow answer one other input file old new

@@ -4,7 +4,8 @@ ghost use Rattle.boot_cli.specs.OrderEnd.{AnswersOrder};
 
 use crate::commands::{playing, provision};
 use command_line::{Order, OrderError, STANDARD_INPUT, fault_of, no_text, order};
-use making_commands::{make_device, make_image, make_manifest};
+use making_commands::extract::Copying;
+use making_commands::{extract, make_device, make_image, make_manifest};
 use reading_commands::{
     Access, Answer, Host, Refusal, Source, check, choose, codes, finish, image, manifest_file,
     refuse, show, status_after,
@@ -124,6 +125,21 @@ fn perform<'a, 'h, A: Allocator, H: Host, O: Write, E: Write>(
         } => {
             let device = Source::named(device);
             provision::perform(alloc, heap, device, flash, &images, host, out)
+        }
+        Order::Extract {
+            device,
+            flash,
+            image,
+            side,
+            out: file,
+        } => {
+            let (device, flash) = (Source::named(device), Source::named(flash));
+            let copying = Copying {
+                image,
+                side,
+                out: file,
+            };
+            extract::perform(alloc, heap, device, flash, copying, host, out)
         }
         Order::Show { device, flash } => {
             let (device, flash) = (Source::named(device), Source::named(flash));

@@ -107,6 +107,11 @@ abbrev pub provision_shape : Shape
 provision_shape = asking (codes "provision")
     (one_name (codes "DEVICE") ∷ one_name (codes "FLASH") ∷ all_names (codes "IMAGE") ∷ [])
 
+abbrev pub extract_shape : Shape
+extract_shape = asking (codes "extract")
+    (one_name (codes "DEVICE") ∷ one_name (codes "FLASH") ∷ one_name (codes "IMAGE")
+    ∷ one_name (codes "SIDE") ∷ one_name (codes "OUT") ∷ [])
+
 abbrev pub show_shape : Shape
 show_shape = asking (codes "show") (one_name (codes "DEVICE") ∷ one_name (codes "FLASH") ∷ [])
 
@@ -135,6 +140,7 @@ shape_for sub.MakeDevice = make_device_shape
 shape_for sub.MakeImage = make_image_shape
 shape_for sub.MakeManifest = make_manifest_shape
 shape_for sub.Provision = provision_shape
+shape_for sub.Extract = extract_shape
 shape_for sub.Show = show_shape
 shape_for sub.Run = run_shape
 shape_for sub.Codes = codes_shape
@@ -148,6 +154,6 @@ abbrev pub bootswap : App
 bootswap = record {
   top = record program.top { is_leaf = false };
   subs = choose_shape ∷ check_shape ∷ image_shape ∷ manifest_shape ∷ make_device_shape
-      ∷ make_image_shape ∷ make_manifest_shape ∷ provision_shape ∷ show_shape ∷ run_shape
-      ∷ codes_shape ∷ [];
+      ∷ make_image_shape ∷ make_manifest_shape ∷ provision_shape ∷ extract_shape ∷ show_shape
+      ∷ run_shape ∷ codes_shape ∷ [];
 }

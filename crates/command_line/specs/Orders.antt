@@ -9,6 +9,8 @@ use Rattle.clap.specs.declared.error.kind.ErrorKind.{ErrorKind}
 use Rattle.clap.specs.declared.error.kind.ErrorKind.TheVariants.{ArgumentConflict, InvalidValue}
 use Rattle.common.specs.Ascii.{number_below, number_of}
 use Rattle.common.specs.declared.limits.TheConstants.{MOST_IMAGES, MOST_TRIAL_BOOTS}
+use Rattle.sector_map.specs.declared.layout.Side.{Side}
+use Rattle.sector_map.specs.declared.layout.Side.TheVariants.{Primary, Secondary}
 use Rattle.version_order.specs.declared.version.Version.{Version}
 use Rattle.version_order.specs.VersionText.{version_of}
 use Rattle.command_line.specs.Commands.{bootswap}
@@ -18,7 +20,7 @@ use Rattle.command_line.specs.declared.orders.NewComponent.{NewComponent}
 use Rattle.command_line.specs.declared.orders.NewImage.{NewImage}
 use Rattle.command_line.specs.declared.orders.NewManifest.{NewManifest}
 use Rattle.command_line.specs.declared.orders.Order.{Order}
-use Rattle.command_line.specs.declared.orders.Order.TheVariants.{Choose, Check, Image, Manifest, MakeDevice, MakeImage, MakeManifest, Provision, Show, Run, Codes}
+use Rattle.command_line.specs.declared.orders.Order.TheVariants.{Choose, Check, Image, Manifest, MakeDevice, MakeImage, MakeManifest, Provision, Extract, Show, Run, Codes}
 
 -- The subcommand of an order.
 abbrev pub command_of : Order → Text
@@ -30,6 +32,7 @@ command_of (MakeDevice device) = codes "make-device"
 command_of (MakeImage image body values) = codes "make-image"
 command_of (MakeManifest device manifest) = codes "make-manifest"
 command_of (Provision device flash images) = codes "provision"
+command_of (Extract device flash image side out) = codes "extract"
 command_of (Show device flash) = codes "show"
 command_of (Run device flash script durable) = codes "run"
 command_of Codes = codes "codes"
@@ -111,19 +114,37 @@ pub record IsComponent (kind : Bool) (word : Text) (component : NewComponent) : 
 abbrev pub AreComponents : Bool → List Text → List NewComponent → Type 0
 AreComponents kind words components = AllZip (IsComponent kind) words components
 
--- The matches of `make-manifest` say this of a manifest: one to eight files, those for a test
--- before those that are to stay.
-pub record SaysManifest (rows : List Row) (manifest : NewManifest) : Type 0 where
-  pub sequence : number_at (codes "sequence") rows ≡ Some manifest.sequence
-  pub precursor : option_map (λ flash. flash.now) manifest.precursor
-      ≡ first_of (codes "precursor") rows
+-- The matches of `make-manifest` say these files: one to eight, those for a test before those that
+-- are to stay.
+pub record SaysComponents (rows : List Row) (components : List NewComponent) : Type 0 where
   pub tests : List NewComponent
   pub permanent : List NewComponent
   pub are_tests : AreComponents false (texts_at (codes "test") rows) tests
   pub are_permanent : AreComponents true (texts_at (codes "permanent") rows) permanent
-  pub components : manifest.components.items ≡ tests ++ permanent
-  pub some : 0 < length manifest.components.items
-  pub most : length manifest.components.items ≤ MOST_IMAGES
+  pub all : components ≡ tests ++ permanent
+  pub some : 0 < length components
+  pub most : length components ≤ MOST_IMAGES
+
+-- They say this of a manifest.
+pub record SaysManifest (rows : List Row) (manifest : NewManifest) : Type 0 where
+  pub sequence : number_at (codes "sequence") rows ≡ Some manifest.sequence
+  pub precursor : option_map (λ flash. flash.now) manifest.precursor
+      ≡ first_of (codes "precursor") rows
+  pub components : SaysComponents rows manifest.components.items
+
+-- The number of an image that the matches have.
+abbrev pub image_at : List Row → Option ℕ
+image_at rows = option_and_then (number_below 256) (first_of (codes "IMAGE") rows)
+
+-- The side of a slot that a word says.
+abbrev pub side_of : Text → Option Side
+side_of word =
+    if bytes_eq word (codes "primary") then Some Primary
+    else (if bytes_eq word (codes "secondary") then Some Secondary else None)
+
+-- The side of a slot that the matches have.
+abbrev pub side_at : List Row → Option Side
+side_at rows = option_and_then side_of (first_of (codes "SIDE") rows)
 
 -- The names of an order are those that the matches of its subcommand have, and so are its options.
 abbrev pub HasNames : List Row → Order → Type 0
@@ -142,6 +163,10 @@ HasNames rows (MakeManifest device manifest) =
 HasNames rows (Provision device flash images) =
     IsNamed rows (codes "DEVICE") device.now × IsNamed rows (codes "FLASH") flash.now
     × (all_of (codes "IMAGE") rows ≡ Some (map (λ image. image.now) images.items))
+HasNames rows (Extract device flash image side out) =
+    IsNamed rows (codes "DEVICE") device.now × IsNamed rows (codes "FLASH") flash.now
+    × (image_at rows ≡ Some image) × (side_at rows ≡ Some side)
+    × IsNamed rows (codes "OUT") out.now
 HasNames rows (Show device flash) =
     IsNamed rows (codes "DEVICE") device.now × IsNamed rows (codes "FLASH") flash.now
 HasNames rows (Run device flash script durable) =
@@ -183,6 +208,7 @@ names_of (MakeDevice device) = []
 names_of (MakeImage image body values) = image ∷ body ∷ []
 names_of (MakeManifest device manifest) = device ∷ files_of manifest
 names_of (Provision device flash images) = device ∷ flash ∷ images.items
+names_of (Extract device flash image side out) = device ∷ flash ∷ out ∷ []
 names_of (Show device flash) = device ∷ flash ∷ []
 names_of (Run device flash script durable) = device ∷ flash ∷ script ∷ []
 names_of Codes = []
@@ -199,6 +225,7 @@ standard_inputs names = count_by is_standard_input names
 abbrev pub writes_to_standard_input : Order → Bool
 writes_to_standard_input (MakeImage image body values) = is_standard_input image
 writes_to_standard_input (Provision device flash images) = is_standard_input flash
+writes_to_standard_input (Extract device flash image side out) = is_standard_input out
 writes_to_standard_input (Run device flash script durable) = is_standard_input flash
 writes_to_standard_input _ = false
 

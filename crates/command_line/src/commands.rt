@@ -3,7 +3,8 @@
 ghost use Rattle.std.specs.Prelude.{◌≡◌, IfOk};
 ghost use Rattle.clap.specs.Words.{app_of, new_app, shape_of};
 ghost use Rattle.command_line.specs.Commands.{bootswap, check_shape, choose_shape, codes_shape};
-ghost use Rattle.command_line.specs.Commands.{image_shape, make_device_shape, make_image_shape};
+ghost use Rattle.command_line.specs.Commands.{extract_shape, image_shape, make_device_shape};
+ghost use Rattle.command_line.specs.Commands.{make_image_shape};
 ghost use Rattle.command_line.specs.Commands.{make_manifest_shape, manifest_shape, program};
 ghost use Rattle.command_line.specs.Commands.{provision_shape, run_shape, shape_for, show_shape};
 ghost use Rattle.command_line.specs.Commands.{with_command};
@@ -29,6 +30,8 @@ pub const MAKE_IMAGE: &str = "make-image";
 pub const MAKE_MANIFEST: &str = "make-manifest";
 
 pub const PROVISION: &str = "provision";
+
+pub const EXTRACT: &str = "extract";
 
 pub const SHOW: &str = "show";
 
@@ -63,6 +66,8 @@ pub mod named {
     pub const TRIAL_BOOTS: &str = "trial-boots";
 
     pub const DURABLE: &str = "durable";
+
+    pub const SIDE: &str = "SIDE";
 
     pub const OUT: &str = "OUT";
 
@@ -104,13 +109,14 @@ pub enum Subcommand {
     MakeImage,
     MakeManifest,
     Provision,
+    Extract,
     Show,
     Run,
     Codes,
 }
 
 /// The subcommands, in the order in which help lists them.
-const SUBCOMMANDS: [Subcommand; 11] = [
+const SUBCOMMANDS: [Subcommand; 12] = [
     Subcommand::Choose,
     Subcommand::Check,
     Subcommand::Image,
@@ -119,6 +125,7 @@ const SUBCOMMANDS: [Subcommand; 11] = [
     Subcommand::MakeImage,
     Subcommand::MakeManifest,
     Subcommand::Provision,
+    Subcommand::Extract,
     Subcommand::Show,
     Subcommand::Run,
     Subcommand::Codes,
@@ -172,6 +179,7 @@ impl Subcommand {
             Subcommand::MakeImage => make_image(alloc),
             Subcommand::MakeManifest => make_manifest(alloc),
             Subcommand::Provision => provision(alloc),
+            Subcommand::Extract => extract(alloc),
             Subcommand::Show => show(alloc),
             Subcommand::Run => run(alloc),
             Subcommand::Codes => codes(alloc),
@@ -189,6 +197,7 @@ impl Subcommand {
             Subcommand::MakeImage => "bootswap make-image",
             Subcommand::MakeManifest => "bootswap make-manifest",
             Subcommand::Provision => "bootswap provision",
+            Subcommand::Extract => "bootswap extract",
             Subcommand::Show => "bootswap show",
             Subcommand::Run => "bootswap run",
             Subcommand::Codes => "bootswap codes",
@@ -295,6 +304,23 @@ fn provision<'a>(alloc: Global) -> Result<Command<'a>, AllocError>
     with_arguments(
         alloc,
         new_command(alloc, PROVISION, help::PROVISION),
+        &arguments,
+    )
+}
+
+fn extract<'a>(alloc: Global) -> Result<Command<'a>, AllocError>
+    ensures { IfOk result (λ command. shape_of command ≡ extract_shape) }
+{
+    let arguments = [
+        Argument::File(named::DEVICE, help::DEVICE_FILE),
+        Argument::File(named::FLASH, help::SHOWN_FLASH_FILE),
+        Argument::File(named::IMAGE, help::IMAGE_NUMBER),
+        Argument::File(named::SIDE, help::SLOT_SIDE),
+        Argument::File(named::OUT, help::NEW_IMAGE_FILE),
+    ];
+    with_arguments(
+        alloc,
+        new_command(alloc, EXTRACT, help::EXTRACT),
         &arguments,
     )
 }

@@ -6,7 +6,7 @@ use std::fmt;
 /// Rust's `char::escape_default` does: `\n`, `\u{1b}`, `\u{202e}`. These are the control
 /// characters, line feeds among them, and those that turn the direction of what follows. All else
 /// stays as it is.
-#[derive(Clone, Copy, Debug)]
+#[derive(Clone, Copy)]
 pub struct Escaped<'a>(pub &'a str);
 
 impl fmt::Display for Escaped<'_> {

@@ -9,13 +9,13 @@ ghost use Rattle.command_line.specs.Faults.{IsTold, IsUsage};
 ghost use Rattle.command_line.specs.Orders.{files_of, misuse_of, names_of, standard_inputs};
 ghost use Rattle.command_line.specs.Orders.{writes_to_standard_input};
 
-use crate::commands::{MAKE_DEVICE, MAKE_IMAGE, MAKE_MANIFEST, Subcommand, named};
+use crate::commands::{EXTRACT, MAKE_DEVICE, MAKE_IMAGE, MAKE_MANIFEST, Subcommand, named};
 use crate::device_words::{number_in, trial_boots_in};
 use crate::error::OrderError;
 use crate::escaped::Escaped;
 use crate::image_words::{dependencies_in, header_size_in, number_said, version_in};
 use crate::manifest_words::components_in;
-use crate::order_reading::{named_in, order};
+use crate::order_reading::{image_in_words, named_in, order};
 use crate::orders::{NewManifest, Order, STANDARD_INPUT};
 use crate::{commands, help};
 use clap::error::ErrorKind;
@@ -48,7 +48,7 @@ pub fn no_text(alloc: Global) -> OrderError
 }
 
 /// The fault of words that ask for no order, though `clap` takes them: a word of `make-device`,
-/// `make-image` or `make-manifest` isn't what it has to be, or they name no subcommand.
+/// `make-image`, `make-manifest` or `extract` isn't what it has to be, or they name no subcommand.
 pub(crate) fn no_order(alloc: Global, matches: &ArgMatches<'_>) -> OrderError
     ensures { IsUsage InvalidValue result ⊎ IsUsage MissingSubcommand result }
 {
@@ -56,6 +56,7 @@ pub(crate) fn no_order(alloc: Global, matches: &ArgMatches<'_>) -> OrderError
         Some((MAKE_DEVICE, names)) => no_number(alloc, names),
         Some((MAKE_IMAGE, names)) => no_values(alloc, names),
         Some((MAKE_MANIFEST, names)) => no_components(alloc, names),
+        Some((EXTRACT, names)) => no_slot(alloc, names),
         _ => no_subcommand(alloc),
     }
 }
@@ -154,6 +155,21 @@ fn components_fault(alloc: Global, names: &ArgMatches<'_>) -> Result<&'static st
     }
 }
 
+/// The fault of words of `extract` that say no slot.
+fn no_slot(alloc: Global, names: &ArgMatches<'_>) -> OrderError
+    ensures { IsUsage InvalidValue result }
+{
+    let text = if image_in_words(names).is_none() {
+        help::NO_IMAGE_NUMBER
+    } else {
+        help::NO_SIDE
+    };
+    match subcommand_error(alloc, Subcommand::Extract, ErrorKind::InvalidValue, text) {
+        Ok(error) => OrderError::from(error),
+        Err(error) => OrderError::from(error),
+    }
+}
+
 /// The fault of words that name no subcommand.
 fn no_subcommand(alloc: Global) -> OrderError
     ensures { IsUsage MissingSubcommand result }
@@ -188,7 +204,7 @@ pub(crate) fn misuse(alloc: Global, order: &Order<'_>) -> Result<Option<Error>, 
 /// What is told of an order that would write to standard input.
 fn written_text(order: &Order<'_>) -> &'static str {
     match order {
-        Order::MakeImage { .. } => help::IMAGE_WRITTEN,
+        Order::MakeImage { .. } | Order::Extract { .. } => help::IMAGE_WRITTEN,
         _ => help::WRITTEN,
     }
 }
@@ -204,6 +220,7 @@ fn subcommand_of(order: &Order<'_>) -> Subcommand {
         Order::MakeImage { .. } => Subcommand::MakeImage,
         Order::MakeManifest { .. } => Subcommand::MakeManifest,
         Order::Provision { .. } => Subcommand::Provision,
+        Order::Extract { .. } => Subcommand::Extract,
         Order::Show { .. } => Subcommand::Show,
         Order::Run { .. } => Subcommand::Run,
         Order::Codes => Subcommand::Codes,
@@ -231,6 +248,7 @@ fn writes_to_standard_input(order: &Order<'_>) -> bool
     match order {
         Order::Provision { flash, .. } | Order::Run { flash, .. } => is_standard_input(flash),
         Order::MakeImage { image, .. } => is_standard_input(image),
+        Order::Extract { out, .. } => is_standard_input(out),
         Order::Choose { .. }
         | Order::Check { .. }
         | Order::Image { .. }
@@ -271,6 +289,12 @@ fn reads_standard_input_twice(order: &Order<'_>) -> bool
             script,
             ..
         } => standard_inputs(&[*device, *flash, *script]) > 1,
+        Order::Extract {
+            device,
+            flash,
+            out,
+            ..
+        } => standard_inputs(&[*device, *flash, *out]) > 1,
         Order::MakeManifest { device, manifest } => inputs_of_manifest(device, manifest) > 1,
         Order::Provision {
             device,

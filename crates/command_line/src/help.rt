@@ -3,7 +3,7 @@
 use crate::codes::REFUSALS;
 
 /// What help says of a command.
-#[derive(Clone, Copy, Debug)]
+#[derive(Clone, Copy)]
 pub struct Help {
     /// What it does, in a line.
     pub about: &'static str,
@@ -16,7 +16,7 @@ pub struct Help {
 }
 
 /// What help says of an option.
-#[derive(Clone, Copy, Debug)]
+#[derive(Clone, Copy)]
 pub struct OptionHelp {
     /// What its value is called.
     pub value: &'static str,
@@ -64,6 +64,7 @@ Examples:
   bootswap make-manifest device.json --sequence 2 --test 0=a.img > manifest.json
   bootswap provision device.json flash.bin a.img b.img
   bootswap show device.json flash.bin
+  bootswap extract device.json flash.bin 0 primary running.img
   bootswap run device.json flash.bin script.txt
   bootswap choose table.txt
   bootswap choose table.txt > report.txt
@@ -243,7 +244,7 @@ Examples:
 };
 
 pub const MAKE_DEVICE: Help = Help {
-    about: "Makes the device file of a device, and tells where its parts lie",
+    about: "Makes the device file, and tells where the flash's parts lie",
     long_about: "Makes a device file from the sizes of a device's flash and the names of its
 vendor and class, and prints it on standard output. Where the parts of the flash
 lie is told on standard error. A device of two images, whose slots have two
@@ -373,10 +374,10 @@ The manifest of the file `abc` for a test of image 0 is:
     {\"component-id\":0,\"kind\":\"test\",\"size\":3,
      \"payload-digest\":\"ba7816bf8f01cfea414140de5dae2223b00361a396177a9cb410ff61f20015ad\"}]}
 
-A device takes no manifest with a lower sequence number than the last one that it
-took. With `--precursor FLASH` the files are only for devices that run the images
-that run on that flash: the manifest names the digests of those whose files may
-come. FLASH is only read.
+A device takes no manifest with a lower sequence number than the last one that
+it took. With `--precursor FLASH` the files are only for devices that run the
+images that run on that flash: the manifest names the digests of those whose
+files may come. FLASH is only read.
 
 On standard error a line `note: ..` tells of a file that the device will not
 take, since it is no intact image, or since it is longer than its slot. The
@@ -458,6 +459,43 @@ Examples:
   bootswap provision device.json flash.bin a.img - < b.img",
 };
 
+pub const EXTRACT: Help = Help {
+    about: "Copies the image in a slot of a flash into a file",
+    long_about: "Reads a device file and a flash file, and copies the intact image that a slot
+begins with into the file OUT. IMAGE is the number of the image, and SIDE is
+`primary`, the slot that the image runs from, or `secondary`, the one to which a
+new image comes. It prints `done`. So a program that has the flash can be handed
+what runs:
+  bootswap extract device.json flash.bin 0 primary running.img
+
+What it copies is the image alone, byte for byte, and nothing of what follows it
+in the slot. FLASH is only read. A file OUT that is there is replaced, once all
+is done; it is none of those that are read.
+
+Where the slot begins with no intact image it prints `refused CODE NAME`, as
+`bootswap help image` has them, and where the device's sizes make no map of its
+flash `refused map CODE NAME`.",
+    after: "Exit status: 0 done, 1 refused, 2 the words are wrong.
+Example: bootswap extract device.json flash.bin 0 primary running.img
+`bootswap extract --help` tells more.",
+    long_after: "Exit status:
+  0  OUT is made, and `done` is printed
+  1  no intact image is there, or the device's sizes are refused; or standard
+     error has a line `error: ..`: `device file` where DEVICE is none,
+     `no image 2` where the device has no image of this number, `flash size`
+     where FLASH isn't as long as the device's flash, `flash in use` where
+     another program writes to FLASH, `image is an input` where OUT is one of
+     the files that are read, `image in use` where another program works on
+     OUT, `cannot read NAME`, `cannot write NAME` where OUT could not be made or
+     replaced, or `memory`; or the answer could not be written
+  2  the words of the command are wrong
+
+Examples:
+  bootswap extract device.json flash.bin 0 primary running.img
+  bootswap extract device.json - 1 secondary requested.img < flash.bin
+  bootswap image running.img",
+};
+
 pub const SHOW: Help = Help {
     about: "Prints what stands on the flash of a device",
     long_about: "Reads a device file and a flash file, and prints what stands on the flash:
@@ -495,7 +533,7 @@ Examples:
 };
 
 pub const RUN: Help = Help {
-    about: "Runs a device on a flash file by a script, and prints its replies",
+    about: "Runs a device on a flash file by a script; prints its replies",
     long_about: "Runs a device on a flash file by a script, and prints a reply to each event.
 Each write goes to FLASH at once, so that the next run goes on from there. FLASH
 may be a block device, where each write is synced; no other program may use it.
@@ -596,6 +634,16 @@ pub const MANIFEST_FILE: &str = "The file that the manifest is read from; `-` is
 pub const NEW_FLASH_FILE: &str = "The flash file that is made";
 
 pub const IMAGE_FILES: &str = "The files of the images, in order; `-` is standard input";
+
+pub const IMAGE_NUMBER: &str = "The number of the image, from 0";
+
+pub const SLOT_SIDE: &str = "Which of its slots: `primary` or `secondary`";
+
+/// The fault of words whose number of an image is none.
+pub const NO_IMAGE_NUMBER: &str = "IMAGE is the number of an image, in digits, below 256";
+
+/// The fault of words whose side of a slot is none.
+pub const NO_SIDE: &str = "SIDE is `primary` or `secondary`";
 
 pub const SHOWN_FLASH_FILE: &str = "The flash file; `-` is standard input";
 

@@ -2,8 +2,8 @@
 
 ghost use Rattle.std.specs.Prelude.{◌≡◌, IfOk, map, option_map};
 ghost use Rattle.clap.specs.Words.{found_of, rows_of};
-ghost use Rattle.command_line.specs.Orders.{AreComponents, Finds, IsComponent, SaysManifest};
-ghost use Rattle.command_line.specs.Orders.{texts_at};
+ghost use Rattle.command_line.specs.Orders.{AreComponents, Finds, IsComponent, SaysComponents};
+ghost use Rattle.command_line.specs.Orders.{SaysManifest, texts_at};
 
 use crate::commands::named;
 use crate::device_words::number_in;
@@ -25,6 +25,25 @@ pub fn manifest_values_in<'a>(
     let Some(sequence) = number_in(names, named::SEQUENCE) else {
         return Ok(None);
     };
+    let Some(components) = all_components_in(alloc, names)? else {
+        return Ok(None);
+    };
+    Ok(Some(NewManifest {
+        sequence,
+        precursor: name_in(names, named::PRECURSOR),
+        components,
+    }))
+}
+
+/// The files that the words give, those for a test before those that are to stay; none where one of
+/// the words says no image and file, and where they are none, or more than a device has images.
+fn all_components_in<'a>(
+    alloc: Global,
+    names: &ArgMatches<'a>,
+) -> Result<Option<Vec<NewComponent<'a>>>, AllocError>
+    ensures { IfOk result (λ found. Finds (SaysComponents (rows_of (found_of names.now)))
+        (option_map (λ components. components.items) found)) }
+{
     let Some(mut components) = components_in(alloc, names, named::TEST, false)? else {
         return Ok(None);
     };
@@ -39,11 +58,7 @@ pub fn manifest_values_in<'a>(
     if count > MOST_IMAGES {
         return Ok(None);
     }
-    Ok(Some(NewManifest {
-        sequence,
-        precursor: name_in(names, named::PRECURSOR),
-        components,
-    }))
+    Ok(Some(components))
 }
 
 /// The files that the words give for this option; none where one of them says no image and file.

@@ -5,11 +5,12 @@ ghost use Rattle.clap.specs.Words.{HasKind, all_of, fault_of, first_of, found_of
 ghost use Rattle.clap.specs.Words.{rows_of, subcommand_of, subcommand_rows_of};
 ghost use Rattle.command_line.specs.Commands.{bootswap};
 ghost use Rattle.command_line.specs.Faults.{IsRefusal};
-ghost use Rattle.command_line.specs.Orders.{Asks, Finds, IsOrder, IsOrderOf, is_given, misuse_of};
+ghost use Rattle.command_line.specs.Orders.{Asks, Finds, IsOrder, IsOrderOf, image_at, is_given};
+ghost use Rattle.command_line.specs.Orders.{misuse_of, side_at, side_of};
 
 use crate::commands::{
-    CHECK, CHOOSE, CODES, IMAGE, MAKE_DEVICE, MAKE_IMAGE, MAKE_MANIFEST, MANIFEST, PROVISION, RUN,
-    SHOW, bootswap, named,
+    CHECK, CHOOSE, CODES, EXTRACT, IMAGE, MAKE_DEVICE, MAKE_IMAGE, MAKE_MANIFEST, MANIFEST,
+    PROVISION, RUN, SHOW, bootswap, named,
 };
 use crate::device_words::device_in;
 use crate::error::OrderError;
@@ -18,6 +19,8 @@ use crate::image_words::image_values_in;
 use crate::manifest_words::manifest_values_in;
 use crate::orders::Order;
 use clap::{ArgMatches, Error};
+use common::ascii::number_u8;
+use sector_map::Side;
 use std::alloc::{AllocError, Global};
 use std::convert::AsStr;
 
@@ -100,6 +103,9 @@ fn order_of<'a>(
     }
     if command == PROVISION {
         return provision_in(alloc, names);
+    }
+    if command == EXTRACT {
+        return Ok(extract_in(names));
     }
     if command == SHOW {
         return Ok(show_in(names));
@@ -207,6 +213,50 @@ fn provision_in<'a>(alloc: Global, names: &ArgMatches<'a>) -> Result<Option<Orde
         flash,
         images,
     }))
+}
+
+fn extract_in<'a>(names: &ArgMatches<'a>) -> Option<Order<'a>>
+    ensures { Finds (Asks (codes "extract") (rows_of (found_of names.now))) result }
+{
+    let device = name_in(names, named::DEVICE)?;
+    let flash = name_in(names, named::FLASH)?;
+    let image = image_in_words(names)?;
+    let side = side_in(names)?;
+    let out = name_in(names, named::OUT)?;
+    Some(Order::Extract {
+        device,
+        flash,
+        image,
+        side,
+        out,
+    })
+}
+
+/// The number of an image that the words give.
+pub(crate) fn image_in_words(names: &ArgMatches<'_>) -> Option<u8>
+    ensures { result ≡ image_at (rows_of (found_of names.now)) }
+{
+    number_u8(name_in(names, named::IMAGE)?.as_bytes())
+}
+
+/// The side of a slot that the words give.
+pub(crate) fn side_in(names: &ArgMatches<'_>) -> Option<Side>
+    ensures { result ≡ side_at (rows_of (found_of names.now)) }
+{
+    side_of(name_in(names, named::SIDE)?)
+}
+
+/// The side that a word says.
+fn side_of(word: &str) -> Option<Side>
+    ensures { result ≡ side_of word.now }
+{
+    if word == "primary" {
+        return Some(Side::Primary);
+    }
+    if word == "secondary" {
+        return Some(Side::Secondary);
+    }
+    None
 }
 
 fn show_in<'a>(names: &ArgMatches<'a>) -> Option<Order<'a>>

@@ -1,12 +1,13 @@
 //! What a command is asked to do.
 
+use sector_map::Side;
 use version_order::{Dependency, Version};
 
 /// The word that names standard input.
 pub const STANDARD_INPUT: &str = "-";
 
 /// A device of which a device file is to be made, as the words have it.
-#[derive(Debug, Drop)]
+#[derive(Drop)]
 pub struct NewDevice<'a> {
     /// The length of a sector in bytes.
     pub sector_size: u32,
@@ -22,7 +23,7 @@ pub struct NewDevice<'a> {
 }
 
 /// What an image that is to be made says of itself, as the words have it.
-#[derive(Debug, Drop)]
+#[derive(Drop)]
 pub struct NewImage {
     /// Its version.
     pub version: Version,
@@ -41,7 +42,7 @@ pub struct NewImage {
 }
 
 /// A file that may come to a device, as the words have it.
-#[derive(Clone, Copy, Debug)]
+#[derive(Clone, Copy)]
 pub struct NewComponent<'a> {
     /// The number of the image that it is for.
     pub image: u8,
@@ -52,7 +53,7 @@ pub struct NewComponent<'a> {
 }
 
 /// A manifest that is to be made, as the words have it.
-#[derive(Debug, Drop)]
+#[derive(Drop)]
 pub struct NewManifest<'a> {
     /// Its sequence number.
     pub sequence: u32,
@@ -64,7 +65,7 @@ pub struct NewManifest<'a> {
 }
 
 /// What the words ask for: a subcommand, with the names that the words give its files.
-#[derive(Debug, Drop)]
+#[derive(Drop)]
 pub enum Order<'a> {
     /// The choice over a table.
     Choose {
@@ -119,6 +120,19 @@ pub enum Order<'a> {
         flash: &'a str,
         /// The names of the images, in their order.
         images: Vec<&'a str>,
+    },
+    /// The copying of an image out of its slot.
+    Extract {
+        /// The name of the device file.
+        device: &'a str,
+        /// The name of the flash file.
+        flash: &'a str,
+        /// The number of the image.
+        image: u8,
+        /// Which of its slots.
+        side: Side,
+        /// The name of the file that is made, which isn't standard input.
+        out: &'a str,
     },
     /// What stands on a flash.
     Show {

@@ -1,3 +1,4 @@
+pub mod CopyLaws
 mod FileLaws
 pub mod NewDeviceLaws
 pub mod NewImageLaws

@@ -1,3 +1,4 @@
+pub mod CopyEnd
 pub mod NewDeviceEnd
 pub mod NewImageEnd
 pub mod NewManifestEnd

@@ -2,12 +2,13 @@
 ghost use Rattle.std.specs.Prelude.{◌≡◌, ◌≢◌, IfErr, IfOk, OnOk, map, string_bytes};
 ghost use Rattle.std.specs.List.{AllZip};
 ghost use Rattle.std.specs.Io.KnownBytes.{Appends};
-ghost use Rattle.reading_commands.specs.Input.{IsKnownAs, KeepsFiles};
+ghost use Rattle.reading_commands.specs.Input.{KeepsFiles};
 ghost use Rattle.making_commands.specs.NewImageEnd.{AnswersMade, AnswersNewImage, AreAlternatives, EndsUnmade, IsImageFor, LeavesFiles, RefusesImage, fault_text};
 
+use crate::image_file::{refuse_input, replace};
 use crate::telling::tell;
 use command_line::NewImage;
-use reading_commands::{Answer, FlashFault, Host, MOST_FILE, Refusal, Source};
+use reading_commands::{Answer, Host, MOST_FILE, Refusal, Source};
 use std::alloc::{AllocError, Allocator};
 use std::io::Write;
 use tlv::{ImageSpec, MakeError, make_image};
@@ -40,25 +41,6 @@ pub fn perform<'a, A: Allocator, H: Host, O: Write>(
     let body = source.read(heap, host, MOST_FILE)?;
     refuse_input(host, image, source)?;
     make(heap, image, asked, &body, host, out)
-}
-
-/// Refuses an image whose file is what is read here, by whatever name.
-fn refuse_input<'a, H: Host>(
-    host: &H,
-    image: &'a str,
-    source: Source<'_>,
-) -> Result<(), Refusal<'a>> {
-    let Source::File(name) = source else {
-        return Ok(());
-    };
-    if name == image {
-        return Err(Refusal::ImageIsInput);
-    }
-    match host.is_same_file(name, image) {
-        Ok(false) => Ok(()),
-        Ok(true) => Err(Refusal::ImageIsInput),
-        Err(_) => Err(Refusal::CannotReplace(Source::File(image))),
-    }
 }
 
 /// Makes the image that is asked for, with this body, and then makes or replaces its file.
@@ -125,26 +107,6 @@ fn slices_of<'g, 'h, A: Allocator>(
         slices.push(group.as_slice())?;
     }
     Ok(slices)
-}
-
-/// Makes or replaces the file of an image.
-fn replace<'a, A: Allocator, H: Host>(
-    heap: &A,
-    name: &'a str,
-    bytes: &[u8],
-    host: &mut H,
-) -> Result<(), Refusal<'a>>
-    ensures done { OnOk result (IsKnownAs (H.file host.new name.now) bytes.now) }
-    ensures failed { IfErr result (λ _. KeepsFiles (H.file host.old) (H.file host.new)) }
-{
-    match host.replace_file(heap, name, bytes) {
-        Ok(()) => Ok(()),
-        Err(FlashFault::InUse) => Err(Refusal::ImageInUse),
-        Err(FlashFault::NoMemory) => Err(Refusal::NoMemory),
-        Err(FlashFault::WrongLength | FlashFault::Failed) => {
-            Err(Refusal::CannotReplace(Source::File(name)))
-        }
-    }
 }
 
 /// Writes to `out` why there is no image.

@@ -22,6 +22,7 @@ status_of_refusal no.FlashIsInput = 1
 status_of_refusal no.ImageIsInput = 1
 status_of_refusal no.ImageInUse = 1
 status_of_refusal no.ImageCount = 1
+status_of_refusal (no.NoImage image) = 1
 status_of_refusal (no.ImageTooBig image) = 1
 status_of_refusal (no.ScriptLine line) = 1
 status_of_refusal (no.CannotRead source) = 1

@@ -20,7 +20,7 @@ const CUT: u8 = 3;
 const FLASH_FILE_FAILED: u8 = 4;
 
 /// A command wrote its answer to standard output.
-#[derive(Clone, Copy, Debug, PartialEq, Eq)]
+#[derive(Clone, Copy)]
 pub enum Answer {
     /// What was asked for is done.
     Done,

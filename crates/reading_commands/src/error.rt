@@ -40,6 +40,9 @@ pub enum Refusal<'a> {
     /// There are not as many image files as the map of the device has images.
     #[error("image count")]
     ImageCount,
+    /// The device has no image of this number.
+    #[error("no image {0}")]
+    NoImage(u8),
     /// The file for this image is longer than the slot of it.
     #[error("image {0} too big")]
     ImageTooBig(u8),

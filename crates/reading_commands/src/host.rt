@@ -10,7 +10,7 @@ use std::io;
 use std::io::Read;
 
 /// What the file of a flash is opened for.
-#[derive(Clone, Copy, Debug, PartialEq, Eq)]
+#[derive(Clone, Copy, PartialEq, Eq)]
 pub enum Access {
     /// It is read. Other programs may read it at the same time.
     Read,
@@ -24,7 +24,7 @@ pub enum Access {
 
 /// Why the file of a flash can't be had, or not be replaced. It is as it was, but for a block
 /// device of which a write failed.
-#[derive(Clone, Copy, Debug, PartialEq, Eq)]
+#[derive(Clone, Copy)]
 pub enum FlashFault {
     /// Another program uses it.
     InUse,

@@ -10,7 +10,7 @@ use certificate::{Report, Table};
 use std::alloc::Allocator;
 
 /// What a text is to be.
-#[derive(Clone, Copy, Debug)]
+#[derive(Clone, Copy)]
 pub enum Text {
     /// A table.
     Table,

@@ -1,43 +1,5 @@
-use Rattle.std.proofs.Common.{◌∙◌, ap, arith, length, length-append}
-use Rattle.command_line.proofs.ComponentLaws.{counts_agree}
 use Rattle.command_line.proofs.manifest_words.manifest_values_in.Goals as goal
 
--- As many files would be said as were found: none ..
-pub returns-then-count-eq0 : goal.returns-then-count-eq0
-returns-then-count-eq0 c = λ one says.
-    let tests = c.in-Some-2.components.items in
-    let permanent = c.in-Some-3.permanent.items in
-    let count = ap (λ all. length all) says.components
-    ∙ counts_agree _ _ says.tests says.permanent tests permanent says.are_tests says.are_permanent
-    (rw c.in-Some-2.is at c.in_ok-components.ensures) (rw c.in-Some-3.is at c.in_ok-permanent.ensures) in
-    absurd (omega (
-      arith,
-      c.if-count-eq0.true,
-      c.len-count.ensures,
-      ap (λ all. length all) c.in_ok-extend_from_slice.ensures.items,
-      ap (λ all. length all) c.deref.ensures.value,
-      length-append tests c.deref.result.now,
-      length-append tests permanent,
-      count,
-      says.some,
-    ))
-
--- .. or too many.
-pub returns-then-count-gt-MOST_IMAGES : goal.returns-then-count-gt-MOST_IMAGES
-returns-then-count-gt-MOST_IMAGES c = λ one says.
-    let tests = c.in-Some-2.components.items in
-    let permanent = c.in-Some-3.permanent.items in
-    let count = ap (λ all. length all) says.components
-    ∙ counts_agree _ _ says.tests says.permanent tests permanent says.are_tests says.are_permanent
-    (rw c.in-Some-2.is at c.in_ok-components.ensures) (rw c.in-Some-3.is at c.in_ok-permanent.ensures) in
-    absurd (omega (
-      arith,
-      c.if-count-gt-MOST_IMAGES.true,
-      c.len-count.ensures,
-      ap (λ all. length all) c.in_ok-extend_from_slice.ensures.items,
-      ap (λ all. length all) c.deref.ensures.value,
-      length-append tests c.deref.result.now,
-      length-append tests permanent,
-      count,
-      says.most,
-    ))
+-- The files that would be said of a manifest would be found.
+pub returns-in_default-2 : goal.returns-in_default-2
+returns-in_default-2 c = λ one says. (rw c.in_default-2.is at c.in_ok-components.ensures) one.components.items says.components

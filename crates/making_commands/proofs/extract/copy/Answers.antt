@@ -1,0 +1,51 @@
+use Rattle.std.proofs.Common.{◌≡◌, ◌∙◌, ◌+◌, ℕ, List, ap, arith, length, subst}
+use Rattle.std.specs.Prelude.{slice_range}
+use Rattle.flash_model.specs.Memory.{chip_of}
+use Rattle.sector_map.specs.Map.{start_of}
+use Rattle.sector_map.specs.Part.{Slot}
+use Rattle.tlv.specs.Fault.{IsFrontFault}
+use Rattle.tlv.specs.Slot.{slot_bytes}
+use Rattle.reading_commands.specs.Input.{IsKnownAs}
+use Rattle.making_commands.specs.CopyEnd.{IsImageOf}
+use Rattle.making_commands.proofs.CopyLaws.{copy_inside, copy_is}
+use Rattle.making_commands.proofs.extract.copy.Goals as goal
+
+-- The slot of the flash of these bytes begins with no image.
+pub returns-in-Err-clause-copied : goal.returns-in-Err-clause-copied
+returns-in-Err-clause-copied g c =
+    subst (λ chip. IsFrontFault (slot_bytes c.args.map.now chip c.args.copying.image c.args.copying.side) c.in-Err.fault)
+    c.flash_of-flash.ensures.chip c.in-Err.ensures.fault
+
+-- The image lies in the flash.
+pub slice_bounds-replace-end : goal.slice_bounds-replace-end
+slice_bounds-replace-end g c =
+    let inside = copy_inside c.args.map.now (chip_of c.flash_of-flash.result) c.args.copying.image c.args.copying.side
+    c.in-Ok.length c.flash_of-flash.ensures.laid_out c.requires.there c.in-Ok.ensures.fits in
+    omega (
+      arith,
+      inside,
+      c.slot_start-at.ensures,
+      ap (λ all. length all) c.bytes.ensures,
+      ap (λ chip. length chip.bytes) c.in-Ok.ensures.same,
+    )
+
+-- The file holds the image that the slot begins with.
+pub returns-clause-copied : goal.returns-clause-copied
+returns-clause-copied g c =
+    let map = c.args.map.now in
+    let image = c.args.copying.image in
+    let side = c.args.copying.side in
+    let chip = chip_of c.flash_of-flash.result in
+    let long = c.in-Ok.length in
+    let at = c.slot_start-at.result in
+    let held = g.H.Host.file c.replace.new.host c.args.copying.out.now in
+    let lent : c.bytes.result.now ≡ chip.bytes = c.bytes.ensures ∙ ap (λ one. one.bytes) c.in-Ok.ensures.same in
+    let same = ap (λ all. slice_range all at (at + long)) lent
+    ∙ ap (λ from. slice_range chip.bytes from (from + long)) c.slot_start-at.ensures
+    ∙ copy_is map chip image side long c.flash_of-flash.ensures.laid_out c.in-Ok.ensures.fits in
+    subst (λ one. (content : List ℕ) × IsImageOf (slot_bytes map one image side) content × IsKnownAs held content)
+    c.flash_of-flash.ensures.chip (
+      slice_range (slot_bytes map chip image side) 0 long,
+      c.in-Ok.ensures.image,
+      subst (λ content. IsKnownAs held content) same c.in_ok-replace.ensures.done,
+    )

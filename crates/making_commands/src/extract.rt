@@ -1,0 +1,174 @@
+//! `bootswap extract`: the image in a slot of a flash, copied into a file.
+ghost use Rattle.std.specs.Prelude.{◌≡◌, ◌≢◌, ◌<◌, ◌≤◌, IfErr, IfOk, length, slice_range, true};
+ghost use Rattle.std.specs.Prelude.{string_bytes};
+ghost use Rattle.sector_map.specs.Map.{IsLaidOut};
+ghost use Rattle.answers.specs.AnswerText.{refused_text};
+ghost use Rattle.answers.specs.FlashOf.{IsFlashOf, flash_of};
+ghost use Rattle.reading_commands.specs.Input.{KeepsFiles};
+ghost use Rattle.making_commands.specs.CopyEnd.{AnswersCopied, AnswersCopy, EndsCopy, IsImageOf};
+ghost use Rattle.making_commands.specs.CopyEnd.{LeavesBoth};
+ghost use Rattle.making_commands.specs.NewImageEnd.{EndsUnmade};
+ghost use Rattle.tlv.specs.Codes.{code_of, name_of};
+ghost use Rattle.tlv.specs.Fault.{IsFrontFault};
+ghost use Rattle.tlv.specs.Slot.{slot_bytes};
+
+use crate::image_file::{refuse_input, replace};
+use crate::telling::tell;
+use answers::flash_of;
+use flash_model::Flash;
+use reading_commands::{Access, Answer, Host, Refusal, Source, read_device, read_flash};
+use sector_map::{SectorMap, Side};
+use std::alloc::{AllocError, Allocator, Global};
+use std::io::Write;
+use std::marker::Brand;
+use std::sync::ledger::{Blank, Ledger};
+use tlv::{ImageError, SlotError, describe_slot};
+
+/// Which slot is copied, and into which file.
+#[derive(Clone, Copy)]
+pub struct Copying<'a> {
+    /// The number of the image.
+    pub image: u8,
+    /// Which of its slots.
+    pub side: Side,
+    /// The name of the file.
+    pub out: &'a str,
+}
+
+/// How copying an image ended.
+#[derive(Clone, Copy)]
+pub enum Copied {
+    /// The file holds it.
+    Done,
+    /// The slot begins with none, by the first check that fails, and no file was written.
+    Refused(ImageError),
+}
+
+/// Reads a device file and the flash of the device from `host`, and copies the intact image that a
+/// slot begins with into a file, which is made or replaced. Writes to `out` that it is done, or why
+/// there is no image. The flash stands in memory of `alloc`, and so does what the device file is as
+/// a JSON value; all else stands in memory of `heap`.
+///
+/// The file is none of those that are read. Unless the answer is `Done`, or can't be written, it is
+/// as it was.
+pub fn perform<'a, A: Allocator, H: Host, O: Write>(
+    alloc: Global,
+    heap: &A,
+    device: Source<'a>,
+    flash: Source<'a>,
+    copying: Copying<'a>,
+    host: &mut H,
+    out: &mut O,
+) -> Result<Answer, Refusal<'a>>
+    ensures answers { IfOk result (λ answer.
+        AnswersCopy answer device.entry flash.entry copying.entry.image copying.entry.side
+        (H.input host.old) (H.file host.old) (H.file host.new copying.entry.out.now)
+        (O.contents out.old) (O.contents out.new)) }
+    ensures kept { EndsUnmade result
+        → LeavesBoth device.entry flash.entry (H.file host.old) (H.file host.new) }
+{
+    let Some(of_device) = read_device(alloc, heap, device, host, out)? else {
+        return Ok(Answer::Refused);
+    };
+    let map = &of_device.map;
+    if copying.image >= map.images {
+        return Err(Refusal::NoImage(copying.image));
+    }
+    let bytes = read_flash(alloc, flash, map, Access::Read, host)?;
+    refuse_input(host, copying.out, device)?;
+    refuse_input(host, copying.out, flash)?;
+    let copied = copy::<Brand, _, _>(alloc, heap, Blank::new(2), map, bytes, copying, host)?;
+    tell_copied(heap, copied, out)
+}
+
+/// Copies the image that a slot of a flash of these bytes begins with into a file.
+fn copy<'a, L: Ledger, A: Allocator, H: Host>(
+    alloc: Global,
+    heap: &A,
+    blank: Blank,
+    map: &SectorMap,
+    bytes: Vec<u8>,
+    copying: Copying<'a>,
+    host: &mut H,
+) -> Result<Copied, Refusal<'a>>
+    requires name { blank.name ≡ L.name }
+    requires parts { blank.parts ≡ L.parts }
+    requires two { L.parts ≡ 2 }
+    requires whole { IsFlashOf map.now bytes.items }
+    requires there { copying.image < map.now.images }
+    ensures copied { IfOk result (λ copied.
+        EndsCopy copied map.now (flash_of map.now bytes.items) copying.entry.image
+        copying.entry.side (H.file host.new copying.entry.out.now)) }
+    ensures refused { IfOk result (λ copied. copied ≢ Copied.Done
+        → KeepsFiles (H.file host.old) (H.file host.new)) }
+    ensures failed { IfErr result (λ _. KeepsFiles (H.file host.old) (H.file host.new)) }
+{
+    let mut flash = flash_of::<L>(alloc, blank, map, bytes);
+    let length = match image_length(&mut flash, map, copying.image, copying.side) {
+        Ok(length) => length,
+        Err(fault) => return Ok(Copied::Refused(fault)),
+    };
+    let at = map.slot_start(copying.image, copying.side) as usize;
+    replace(heap, copying.out, &flash.bytes()[at..at + length], host)?;
+    Ok(Copied::Done)
+}
+
+/// How long the image is that a slot begins with, on a flash that has power, or the first check that
+/// fails.
+fn image_length<F: Flash>(
+    flash: &mut F,
+    map: &SectorMap,
+    image: u8,
+    side: Side,
+) -> Result<usize, ImageError>
+    requires laid_out { IsLaidOut map.now (F.chip flash.old) }
+    requires there { image < map.now.images }
+    requires on { (F.chip flash.old).is_on ≡ true }
+    ensures same { F.chip flash.new ≡ F.chip flash.old }
+    ensures image { IfOk result (λ long. IsImageOf (slot_bytes map.now (F.chip flash.old) image side)
+        (slice_range (slot_bytes map.now (F.chip flash.old) image side) 0 long)) }
+    ensures fits { IfOk result (λ long.
+        long ≤ length (slot_bytes map.now (F.chip flash.old) image side)) }
+    ensures fault { IfErr result
+        (IsFrontFault (slot_bytes map.now (F.chip flash.old) image side)) }
+{
+    match describe_slot(flash, map, image, side) {
+        Ok(description) => Ok(description.length as usize),
+        Err(SlotError::Image(fault)) => Err(fault),
+        Err(SlotError::Flash(_) | SlotError::NoMemory) => unreachable!(),
+    }
+}
+
+/// Writes to `out` what came of copying. Of an image that is copied it takes no memory to tell.
+fn tell_copied<'a, A: Allocator, O: Write>(
+    heap: &A,
+    copied: Copied,
+    out: &mut O,
+) -> Result<Answer, Refusal<'a>>
+    ensures told { IfOk result (λ answer.
+        AnswersCopied answer copied (O.contents out.old) (O.contents out.new)) }
+    ensures late { copied ≡ Copied.Done → IfErr result (λ refusal. refusal ≡ Refusal.CannotWrite) }
+{
+    match copied {
+        Copied::Done => {
+            tell(b"done\n", out)?;
+            Ok(Answer::Done)
+        }
+        Copied::Refused(fault) => {
+            let Ok(text) = fault_text(heap, fault) else {
+                return Err(Refusal::NoMemory);
+            };
+            tell(text.as_bytes(), out)?;
+            Ok(Answer::Refused)
+        }
+    }
+}
+
+/// Why there is no image, by the number and the name of the first check that fails.
+fn fault_text<A: Allocator>(heap: &A, fault: ImageError) -> Result<String<&A>, AllocError>
+    ensures { IfOk result (λ text. string_bytes text
+        ≡ refused_text (code_of fault) (name_of fault)) }
+{
+    let (code, name) = (fault.code(), fault.name());
+    format!(in heap; "refused {code} {name}\n")
+}

@@ -1,0 +1,46 @@
+//! The file of an image that a command makes: it is none of those that are read, and is replaced
+//! whole.
+ghost use Rattle.std.specs.Prelude.{IfErr, OnOk};
+ghost use Rattle.reading_commands.specs.Input.{IsKnownAs, KeepsFiles};
+
+use reading_commands::{FlashFault, Host, Refusal, Source};
+use std::alloc::Allocator;
+
+/// Refuses an image whose file is what is read here, by whatever name.
+pub fn refuse_input<'a, H: Host>(
+    host: &H,
+    image: &'a str,
+    source: Source<'_>,
+) -> Result<(), Refusal<'a>> {
+    let Source::File(name) = source else {
+        return Ok(());
+    };
+    if name == image {
+        return Err(Refusal::ImageIsInput);
+    }
+    match host.is_same_file(name, image) {
+        Ok(false) => Ok(()),
+        Ok(true) => Err(Refusal::ImageIsInput),
+        Err(_) => Err(Refusal::CannotReplace(Source::File(image))),
+    }
+}
+
+/// Makes or replaces the file of an image.
+pub fn replace<'a, A: Allocator, H: Host>(
+    heap: &A,
+    name: &'a str,
+    bytes: &[u8],
+    host: &mut H,
+) -> Result<(), Refusal<'a>>
+    ensures done { OnOk result (IsKnownAs (H.file host.new name.now) bytes.now) }
+    ensures failed { IfErr result (λ _. KeepsFiles (H.file host.old) (H.file host.new)) }
+{
+    match host.replace_file(heap, name, bytes) {
+        Ok(()) => Ok(()),
+        Err(FlashFault::InUse) => Err(Refusal::ImageInUse),
+        Err(FlashFault::NoMemory) => Err(Refusal::NoMemory),
+        Err(FlashFault::WrongLength | FlashFault::Failed) => {
+            Err(Refusal::CannotReplace(Source::File(name)))
+        }
+    }
+}
