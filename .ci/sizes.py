@@ -30,7 +30,8 @@ def check_endless(checks):
         (["make-manifest", ENDLESS, "--sequence=1", "--test=0=absent"], "device file"),
         (["make-manifest", PAIR, "--sequence=1", "--test=0=absent", "--precursor", ENDLESS], f"cannot read {ENDLESS}"),
     ]:
-        checks.expect(f"without an end: {' '.join(map(os.path.basename, words))}", words, 1, err=f"error: {told}\n".encode())
+        name = f"without an end: {' '.join(map(os.path.basename, words))}"
+        checks.expect(name, words, 1, err=f"error: {told}\n".encode())
     for words, told in [
         ([], "table line 1"),
         (["choose", "-"], "table line 1"),
@@ -53,8 +54,10 @@ def check_parts(checks):
     script = b"boot\npiece 0 %s 8 16\nboot\n"
     status, out, err = checks.run(["run", PAIR, "flash", "-"], given=script % name.encode())
     flash_of(checks)
-    checks.expect("a part of a file without an end", ["run", PAIR, "flash", "-"], status, out, err, given=script % b"/dev/zero")
-    checks.tell("a part of a file: its reply is told", [] if out.count(b"\n") > 1 and not err else [repr((status, out, err))])
+    words, given = ["run", PAIR, "flash", "-"], script % b"/dev/zero"
+    checks.expect("a part of a file without an end", words, status, out, err, given=given)
+    is_told = out.count(b"\n") > 1 and not err
+    checks.tell("a part of a file: its reply is told", [] if is_told else [repr((status, out, err))])
 
 
 def check_longest(checks):
@@ -76,7 +79,8 @@ def check_longest(checks):
         given = padded(FIRST + b"request 2.0.0+0 0\n", size)
         checks.expect(f"a table of {size} bytes", ["choose", "-"], 1, err=b"error: table line 3\n", given=given)
         given = padded(b"run 0 1.0.0+0\n", size)
-        checks.expect(f"a report of {size} bytes", ["check", table("pair"), "-"], 1, err=b"error: report line 2\n", given=given)
+        words = ["check", table("pair"), "-"]
+        checks.expect(f"a report of {size} bytes", words, 1, err=b"error: report line 2\n", given=given)
     line, longer = b"withdraw 0\n", b"withdraw 10\n"
     lines = MOST_SCRIPT // len(line)
     # The line that goes past the most: by some of its bytes, or by its line feed alone.

@@ -141,7 +141,8 @@ def asked(image, major):
 
 
 def fullest(number, major):
-    """An image that needs as much as one may: what runs needs the others as they run, what comes one of them as it comes."""
+    """An image that needs as much as one may: what runs needs the others as they run, what comes one of them as it
+    comes."""
     dependencies = [(0x40, asked(it % 8, 1)) for it in range(16)]
     absent = [asked(it, major) for it in (200, 201, 202)]
     groups = [(0xA0, b"".join([*absent, asked((number + it + 1) % 8, major)])) for it in range(4)]
