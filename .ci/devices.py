@@ -218,7 +218,8 @@ def check_inputs(checks):
         for first, second in [*((name, it) for it in names), *((it, name) for it in names), (names[3], names[4])]:
             given = {"device": [[first, second, ONE, ONE]]}.get(name)
             for words in given or [[PAIR, second, first, ONE], [PAIR, second, ONE, first]]:
-                expect_kept(checks, f"provision: an input as the flash: {shown(words)}", words, 1, err=told)
+                named = " ".join(words).replace(checks.folder, "FOLDER").replace(EXAMPLES, "EXAMPLES")
+                expect_kept(checks, f"provision: an input as the flash: {named}", words, 1, err=told)
     words = [PAIR, "image", "image", "absent"]
     expect_kept(checks, "provision: an input as the flash, and one that isn't there", words, 1, err=ABSENT)
     words = [PAIR, "image", "image", "other"]

@@ -63,7 +63,7 @@ def runs_with_faults():
     yield ["check", table("pair"), table("three")]
     yield from [["image", f"{EXAMPLES}/images/{name}.img"] for name in ("counted", "either", "padded")]
     yield ["manifest", PAIR, f"{EXAMPLES}/manifests/both.json"]
-    yield from [["show", PAIR, "flash"], ["show", PAIR, "gone"]]
+    yield from [["show", PAIR, "flash"], ["show", PAIR, "gone"], ["slots", PAIR, "flash"], ["slots", PAIR, "gone"]]
     yield ["make-device", "--sector", "512", "--slots", "2,2", "--vendor", "python.org", "--class", "sensor"]
     files = [f"--test=0={EXAMPLES}/images/needing.img", f"--permanent=1={EXAMPLES}/images/padded.img"]
     yield from [["make-manifest", PAIR, "--sequence", "1", "--precursor", "flash", *files], ["codes"]]

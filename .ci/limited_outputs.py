@@ -4,6 +4,7 @@ import itertools
 import os
 
 from checking import PAIR, read, short
+from slots import BOTH_RUN, FIRST, SECOND
 from stories import flash_in, new_device
 from worked import PLAIN, numbered
 
@@ -30,6 +31,7 @@ COMMANDS = [
         b"error: flash file\n",
     ),
     ("show", ["show", PAIR, "flash"], "boot", True, NEW, b""),
+    ("slots", ["slots", PAIR, "flash"], "boot", True, NEW + FIRST + SECOND + BOTH_RUN, b""),
     ("provision", ["provision", PAIR, "flash", "one.img", "one.img"], "boot", True, b"done\n", b""),
     (
         "provision of a damaged image",

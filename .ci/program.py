@@ -46,6 +46,7 @@ SECONDS = {
     "chooser": 68,
     "command_line": 225,
     "common": 19,
+    "decision": 25,
     "events": 16,
     "file_flash": 31,
     "flash_model": 66,

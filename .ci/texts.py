@@ -448,7 +448,7 @@ def check_kept_images(checks, body):
 
 
 COMMANDS = ("choose", "check", "image", "manifest", "make-device", "make-image", "make-manifest", "provision")
-COMMANDS += ("extract", "show", "run")
+COMMANDS += ("extract", "show", "slots", "run", "codes")
 
 
 def check_words(checks):

@@ -32,6 +32,10 @@ flash 8192
 
 NO_IMAGE = b"note: --abc is no intact image: 1 Short\n"
 
+IN_SLOT = b"slot %d primary\n%sslot %d secondary\nerased\nrequest %d none\n"
+IN_SLOTS = b"".join(IN_SLOT % (it, read(f"{EXAMPLES}/descriptions/one.txt"), it, it) for it in (0, 1))
+IN_SLOTS += b"run 0 1.0.0+0\nrun 1 1.0.0+0\n"
+
 AT_REST = b"state steady\nset -\nsequence 0\nfloor 0 0\nfloor 1 0\nswap 0 none\nswap 1 none\n"
 
 
@@ -79,6 +83,11 @@ def spellings_on_devices():
         ["show", "--", PAIR, "flash"],
         ["show", "--", "--device", "--flash"],
     ], AT_REST, b""
+    yield [
+        ["slots", PAIR, "flash"],
+        ["slots", "--", PAIR, "flash"],
+        ["slots", "--", "--device", "--flash"],
+    ], AT_REST + IN_SLOTS, b""
     yield [
         ["run", PAIR, "flash", "boots"],
         ["run", "--durable", PAIR, "flash", "boots"],
@@ -174,6 +183,11 @@ USAGES = {
             "show --durable a b"
         ],
         ONE_FILE: ["show - -"],
+    },
+    "slots <DEVICE> <FLASH>": {
+        f"{MISSING}\n  <FLASH>": ["slots a"],
+        "unexpected argument 'c' found": ["slots a b c"],
+        ONE_FILE: ["slots - -"],
     },
     "run <DEVICE> <FLASH> <SCRIPT>": {
         f"{MISSING}\n  <FLASH>\n  <SCRIPT>": ["run a"],

@@ -1,3 +1,4 @@
 pub mod DeviceLaws
 pub mod ReplyLaws
+mod SlotLaws
 mod TextLaws

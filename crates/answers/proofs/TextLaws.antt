@@ -10,6 +10,11 @@ range_with_len-more a (suc n) =
     let same : (a + 1) + n ≡ a + suc n = omega arith in
     ap (λ ks. a ∷ ks) (range_with_len-more (a + 1) n ∙ ap (λ k. range_with_len (a + 1) n ++ k ∷ []) same)
 
+pub range-more : (n : ℕ) → range_with_len 0 (n + 1) ≡ range_with_len 0 n ++ n ∷ []
+range-more n =
+    ap (λ k. range_with_len 0 k) (add-one n) ∙ range_with_len-more 0 n
+    ∙ ap (λ k. range_with_len 0 n ++ k ∷ []) (zero-add n)
+
 -- what is said of one number more
 pub flat_map-range_more : (said : ℕ → List ℕ) (n : ℕ)
     → flat_map said (range_with_len 0 (n + 1)) ≡ flat_map said (range_with_len 0 n) ++ said n

@@ -9,4 +9,7 @@ pub mod ManifestEnd
 pub mod ManifestText
 pub mod ReplyText
 pub mod ShowEnd
+pub mod SlotsEnd
+pub mod SlotsFound
+pub mod SlotsText
 pub mod StateText

@@ -48,7 +48,7 @@ pub fn describe_over<A: Allocator, W: Write>(alloc: &A, bytes: &[u8], out: &mut 
 }
 
 /// What an image says of itself.
-fn description_text<'a, A: Allocator>(
+pub(crate) fn description_text<'a, A: Allocator>(
     alloc: &'a A,
     description: &Desc,
 ) -> Result<String<&'a A>, AllocError>

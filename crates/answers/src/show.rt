@@ -80,7 +80,7 @@ fn show_flash<A: Allocator, F: Flash, W: Write>(
 }
 
 /// The state that the log has, on a flash that has power.
-fn state_on<F: Flash>(flash: &mut F, map: &SectorMap) -> Option<State>
+pub(crate) fn state_on<F: Flash>(flash: &mut F, map: &SectorMap) -> Option<State>
     requires laid_out { IsLaidOut map.now (F.chip flash.old) }
     requires on { (F.chip flash.old).is_on ≡ true }
     ensures same { F.chip flash.new ≡ F.chip flash.old }
@@ -94,7 +94,7 @@ fn state_on<F: Flash>(flash: &mut F, map: &SectorMap) -> Option<State>
 }
 
 /// What is printed of a flash that has power, and whose log has this state, or none.
-fn stand_text<'a, A: Allocator, F: Flash>(
+pub(crate) fn stand_text<'a, A: Allocator, F: Flash>(
     heap: &'a A,
     flash: &mut F,
     map: &SectorMap,

@@ -18,7 +18,7 @@ use Rattle.making_commands.proofs.CopyLaws.{AnswersCopy-kept}
 use Rattle.making_commands.proofs.NewDeviceLaws.{AnswersNewDevice-kept}
 use Rattle.making_commands.proofs.NewImageLaws.{AnswersNewImage-kept}
 use Rattle.making_commands.proofs.NewManifestEnds.{AnswersNewManifest-kept}
-use Rattle.reading_commands.proofs.AnswerLaws.{AnswersCheck-kept, AnswersChoice-kept, AnswersDescription-kept, AnswersManifest-kept, AnswersShow-kept}
+use Rattle.reading_commands.proofs.AnswerLaws.{AnswersCheck-kept, AnswersChoice-kept, AnswersDescription-kept, AnswersManifest-kept, AnswersShow-kept, AnswersSlots-kept}
 
 pub AnswersMade-kept : (made : Made) (old mid new : Option (List ℕ))
     → AnswersMade Done made old mid → Keeps mid new → AnswersMade Done made old new
@@ -112,6 +112,12 @@ AnswersOrder-kept (order.Show device flash) input file then old mid new answered
   answered.1,
   answered.2,
   AnswersShow-kept answered.0 answered.1 input file old mid new answered.3 kept,
+)
+AnswersOrder-kept (order.Slots device flash) input file then old mid new answered kept = (
+  answered.0,
+  answered.1,
+  answered.2,
+  AnswersSlots-kept answered.0 answered.1 input file old mid new answered.3 kept,
 )
 AnswersOrder-kept (order.Run device flash script durable) input file then old mid new answered kept = (
   answered.0,

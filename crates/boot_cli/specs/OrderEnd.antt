@@ -5,7 +5,7 @@ use Rattle.command_line.specs.declared.orders.Order.TheVariants as order
 use Rattle.reading_commands.specs.declared.answer.Answer.{Answer}
 use Rattle.reading_commands.specs.declared.source.Source.{Source}
 use Rattle.reading_commands.specs.declared.source.Source.TheVariants as source
-use Rattle.reading_commands.specs.AnswerEnd.{AnswersCheck, AnswersChoice, AnswersCodes, AnswersDescription, AnswersManifest, AnswersShow}
+use Rattle.reading_commands.specs.AnswerEnd.{AnswersCheck, AnswersChoice, AnswersCodes, AnswersDescription, AnswersManifest, AnswersShow, AnswersSlots}
 use Rattle.reading_commands.specs.Input.{FileBytes, IsNamed}
 use Rattle.making_commands.specs.CopyEnd.{AnswersCopy}
 use Rattle.making_commands.specs.NewDeviceEnd.{AnswersNewDevice}
@@ -51,6 +51,9 @@ AnswersOrder answer (order.Extract device flash image side out) input file then 
 AnswersOrder answer (order.Show device flash) input file then old new =
     (one other : Source) × AreNamed device.now flash.now one other
     × AnswersShow answer one other input file old new
+AnswersOrder answer (order.Slots device flash) input file then old new =
+    (one other : Source) × AreNamed device.now flash.now one other
+    × AnswersSlots answer one other input file old new
 AnswersOrder answer (order.Run device flash script durable) input file then old new =
     (one other : Source) × AreNamed device.now script.now one other
     × AnswersRun answer one (source.File flash) other input file old new

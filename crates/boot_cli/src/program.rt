@@ -8,7 +8,7 @@ use making_commands::extract::Copying;
 use making_commands::{extract, make_device, make_image, make_manifest};
 use reading_commands::{
     Access, Answer, Host, Refusal, Source, check, choose, codes, finish, image, manifest_file,
-    refuse, show, status_after,
+    refuse, show, slots, status_after,
 };
 use std::alloc::{Allocator, Global};
 use std::convert::AsStr;
@@ -144,6 +144,10 @@ fn perform<'a, 'h, A: Allocator, H: Host, O: Write, E: Write>(
         Order::Show { device, flash } => {
             let (device, flash) = (Source::named(device), Source::named(flash));
             show::perform(alloc, heap, device, flash, host, out)
+        }
+        Order::Slots { device, flash } => {
+            let (device, flash) = (Source::named(device), Source::named(flash));
+            slots::perform(alloc, heap, device, flash, host, out)
         }
         Order::Run {
             device,

@@ -14,7 +14,7 @@ use Rattle.upload.proofs.Views.{view_kept}
 use Rattle.machine.specs.Prepared.{IsRoomFor, IsRoomForBoth}
 use Rattle.machine.proofs.Preparing.{prepared, prepared_kept}
 use Rattle.boot_core.specs.SwapSize.{IsReady, IsSwapSize, IsUsed}
-use Rattle.boot_core.proofs.Described.{intact_long}
+use Rattle.decision.proofs.Described.{intact_long}
 use Rattle.boot_core.proofs.Masks.{members_more}
 
 -- what a swap moves depends on the slots alone

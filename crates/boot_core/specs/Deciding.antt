@@ -10,30 +10,14 @@ use Rattle.upload.specs.Device.{DeviceState}
 use Rattle.upload.specs.View.{view}
 use Rattle.machine.specs.Boots.{IsDecision, AsksForGood}
 use Rattle.machine.specs.Passing.{reply_of}
-use Rattle.machine.specs.Reading.{CanRead, IsFoundAgain, HasImages, IsAsking, IsFinding}
+use Rattle.machine.specs.Reading.{CanRead, IsFoundAgain, HasImages, IsAsking}
 use Rattle.machine.specs.Wear.{IsSetFound, IsSetOf}
 use Rattle.machine.specs.declared.finding.Finding.{Finding}
 use Rattle.machine.specs.declared.reply.Reply.{Reply}
 use Rattle.boot_core.specs.Answers.{IsBootReply}
-use Rattle.boot_core.specs.Found.{HasTable, IsFindingAt, IsToldAgain}
+use Rattle.decision.specs.Found.{HasTable}
+use Rattle.boot_core.specs.Found.{IsToldAgain}
 use Rattle.boot_core.specs.Wear.{IsSetMoved, TakesNothing}
-
--- A call finds the decision of a device where the slots of the images of a mask are swapped, with
--- these floors.
-pub record FindsDecision (map : SectorMap) (mask : ℕ) (floors : List ℕ) (old new : Chip)
-    (result : Result Finding FlashError) : Type 0 where
-  -- The flash is as it was,
-  pub same : new ≡ old
-  -- what is found is what the device's state says,
-  pub ok : IfOk result (λ finding. (s : DeviceState) → CanRead (view map old) s mask floors
-      → IsFinding s finding)
-  -- only images of the map are taken,
-  pub whole : IfOk result (HasImages map.images)
-  -- its table has a row for each image,
-  pub rows : IfOk result (HasTable map.images)
-  -- and on any flash there is one exactly where all rows can be read.
-  pub front : IfOk result (IsFindingAt (view map old) mask)
-  pub ends : Ends result old new
 
 -- A call finds the decision of a record again, where the slots of its set are swapped.
 pub record FindsAgain (map : SectorMap) (mask : ℕ) (floors : List ℕ) (old new : Chip)

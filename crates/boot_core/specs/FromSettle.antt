@@ -26,7 +26,8 @@ use Rattle.machine.specs.Wear.{IsSettling, members, IsSetFound, IsSetOf}
 use Rattle.machine.specs.declared.finding.Finding.{Finding}
 use Rattle.machine.specs.declared.reply.Reply.{Reply}
 use Rattle.boot_core.specs.BootEnds.{BootEnds}
-use Rattle.boot_core.specs.Found.{HasTable, IsKeptFor, IsToldAgain}
+use Rattle.decision.specs.Found.{HasTable}
+use Rattle.boot_core.specs.Found.{IsKeptFor, IsToldAgain}
 
 -- In Settle or BackSettle: a call settles the trailers of an image where it is in the mask.
 pub record SettlesMember (map : SectorMap) (mask image : ℕ) (settling : Settling)

@@ -1,5 +1,3 @@
-pub mod Telling
-pub mod Rows
 pub mod Deciding
 pub mod Confirming
 pub mod Preparing

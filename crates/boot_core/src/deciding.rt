@@ -1,21 +1,21 @@
-//! The decision of a boot: what is found of the table that was read.
+//! What follows from the decision of a boot: the set that is taken, the floors then, the reply; and
+//! the decision of a record, found again.
 
 ghost use Rattle.std.specs.Prelude.{◌<◌, ◌≤◌, ◌≡◌, ℕ, ◌^◌, length};
-ghost use Rattle.boot_core.specs.Deciding.{AnswersFinding, AreForGoodIn, FindsAgain, FindsDecision, IsForGoodIn};
-ghost use Rattle.boot_core.specs.Telling.{Tells};
+ghost use Rattle.boot_core.specs.Deciding.{AnswersFinding, AreForGoodIn, FindsAgain, IsForGoodIn};
+ghost use Rattle.decision.specs.Telling.{Tells};
 ghost use Rattle.certificate.specs.Combination.{entry_in};
 ghost use Rattle.certificate.specs.Rightness.{taken_in};
 ghost use Rattle.machine.specs.Reading.{AreRaisedBy};
 ghost use Rattle.sector_map.specs.Map.{HasImage, IsLaidOut};
 ghost use Rattle.sector_map.specs.Part.{is_member};
 
-use crate::device_table::read_table;
 use arrayvec::ArrayVec;
-use certificate::{Image, Report, Request, Table, is_valid};
-use chooser::choose;
+use certificate::{Image, Report, Request, Table};
 use common::limits::MOST_IMAGES;
+use decision::find;
 use flash_model::{Flash, FlashError};
-use machine::{Fault, Finding, Reading, Reply};
+use machine::{Fault, Finding, Reply};
 use sector_map::{SectorMap, is_member, mask_of};
 use trailer::{Kind, standing};
 
@@ -32,32 +32,6 @@ pub(crate) fn taken_mask(report: &Report) -> u8
         members.push(image.is_taken);
     }
     mask_of(&members)
-}
-
-/// The decision of a device where the slots of the images of a mask are swapped, those of none at
-/// rest, with these floors.
-///
-/// # Errors
-/// `Off` where the flash was off. Nothing changes in any case.
-pub(crate) fn find<F: Flash>(
-    flash: &mut F,
-    map: &SectorMap,
-    mask: u8,
-    floors: &[u32; MOST_IMAGES],
-) -> Result<Finding, FlashError>
-    requires laid_out { IsLaidOut map.now (F.chip flash.old) }
-    ensures { FindsDecision map.now mask floors.now (F.chip flash.old) (F.chip flash.new) result }
-{
-    match read_table(flash, map, mask, floors)? {
-        Reading::DamagedAt(image) => Ok(Finding::Damaged(image)),
-        Reading::Read(table) => {
-            if !is_valid(&table) {
-                return Ok(Finding::Invalid);
-            }
-            let report = choose(&table);
-            Ok(Finding::Decided { table, report })
-        }
-    }
 }
 
 /// The decision of a record, found again where the slots of its set are swapped, with these floors.

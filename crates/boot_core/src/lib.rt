@@ -14,7 +14,6 @@ mod boots;
 mod confirming;
 mod deciding;
 mod device;
-mod device_table;
 mod intake;
 mod preparing;
 mod provisioning;

@@ -8,13 +8,13 @@ ghost use Rattle.boot_core.specs.Provisioned.{AreCounters, IsBegunAfresh, IsRead
 ghost use Rattle.boot_core.specs.Provisioned.{IsRunningRow, provided};
 ghost use Rattle.boot_core.specs.Provisions.{AreClearedIn, IsClearedIn, IsRowIn};
 ghost use Rattle.boot_core.specs.Provisions.{Judges, Leaves, MakesDevice, Provisions};
-ghost use Rattle.boot_core.specs.Telling.{TellsUnlessOff};
+ghost use Rattle.decision.specs.Telling.{TellsUnlessOff};
 
 use crate::deciding::raised_floors;
-use crate::device_table::entry_of;
 use arrayvec::ArrayVec;
 use certificate::{Image, Request, Table, is_valid};
 use common::limits::MOST_IMAGES;
+use decision::entry_of;
 use flash_model::{Flash, FlashError};
 use machine::{Fault, Reading};
 use sector_map::{SectorMap, Side};

@@ -7,9 +7,10 @@ ghost use Rattle.common.specs.declared.limits.TheConstants.{MOST_BOOTS_LEFT};
 ghost use Rattle.boot_core.specs.FromSteady.{BeginsSwap, BootsFromSteady, Upgrades};
 ghost use Rattle.boot_core.specs.Recorded.{CanTake, HasRecord};
 
-use crate::deciding::{asks_for_good, find, reply_to, taken_mask};
+use crate::deciding::{asks_for_good, reply_to, taken_mask};
 use crate::preparing::prepare_set;
 use crate::swap::finish_swap;
+use decision::find;
 use flash_model::{Flash, FlashError};
 use machine::{Fault, Finding, Reply};
 use sector_map::{SectorMap, Side};

@@ -7,16 +7,16 @@ ghost use Rattle.std.specs.Prelude.{◌<◌, ◌≤◌, ◌≡◌, ℕ, slice_in
 ghost use Rattle.common.specs.declared.limits.TheConstants.{MOST_BOOTS_LEFT};
 ghost use Rattle.boot_core.specs.FromTrial.{AreConfirmedIn, BeginsBack, BootsAgain, BootsBack, BootsConfirmed, BootsFromTrial, DecidesTrial, IsAnyDamagedIn, IsConfirmedIn, IsDamagedIn, IsFloorIn, RaisesFloors, RecordsOver};
 ghost use Rattle.boot_core.specs.Recorded.{HasRecord, HasRecordOf};
-ghost use Rattle.boot_core.specs.Telling.{Tells};
+ghost use Rattle.decision.specs.Telling.{Tells};
 ghost use Rattle.sector_map.specs.Map.{HasImage, IsLaidOut};
 ghost use Rattle.set_log.specs.Log.{state_of};
 ghost use Rattle.set_log.specs.declared.state.Kind.{Kind};
 
 use crate::back::boot_from_back;
-use crate::device_table::read_slot;
 use crate::preparing::prepare_set;
 use crate::steady::boot_from_steady;
 use common::limits::MOST_IMAGES;
+use decision::read_slot;
 use flash_model::{Flash, FlashError};
 use machine::{Passage, Reply};
 use sector_map::{SectorMap, Side, is_member};

@@ -5,7 +5,7 @@ use Rattle.command_line.specs.Orders.{AreComponents, Asks, SaysManifest}
 use Rattle.command_line.specs.declared.orders.NewComponent.{NewComponent}
 use Rattle.command_line.specs.declared.orders.NewManifest.{NewManifest}
 use Rattle.command_line.specs.declared.orders.Order.{Order}
-use Rattle.command_line.specs.declared.orders.Order.TheVariants.{Choose, Check, Image, Manifest, MakeDevice, MakeImage, MakeManifest, Provision, Extract, Show, Run, Codes}
+use Rattle.command_line.specs.declared.orders.Order.TheVariants.{Choose, Check, Image, Manifest, MakeDevice, MakeImage, MakeManifest, Provision, Extract, Show, Slots, Run, Codes}
 
 -- one file a word
 same_count : (kind : Bool) (words : List Text) (some others : List NewComponent)
@@ -41,5 +41,6 @@ none_asked rows none (MakeImage image body values) asks = search rules
 none_asked rows none (Provision device flash images) asks = search rules
 none_asked rows none (Extract device flash image side out) asks = search rules
 none_asked rows none (Show device flash) asks = search rules
+none_asked rows none (Slots device flash) asks = search rules
 none_asked rows none (Run device flash script durable) asks = search rules
 none_asked rows none Codes asks = search rules

@@ -115,6 +115,9 @@ extract_shape = asking (codes "extract")
 abbrev pub show_shape : Shape
 show_shape = asking (codes "show") (one_name (codes "DEVICE") ∷ one_name (codes "FLASH") ∷ [])
 
+abbrev pub slots_shape : Shape
+slots_shape = asking (codes "slots") (one_name (codes "DEVICE") ∷ one_name (codes "FLASH") ∷ [])
+
 abbrev pub run_shape : Shape
 run_shape = asking (codes "run")
     (one_name (codes "DEVICE") ∷ one_name (codes "FLASH") ∷ one_name (codes "SCRIPT")
@@ -142,6 +145,7 @@ shape_for sub.MakeManifest = make_manifest_shape
 shape_for sub.Provision = provision_shape
 shape_for sub.Extract = extract_shape
 shape_for sub.Show = show_shape
+shape_for sub.Slots = slots_shape
 shape_for sub.Run = run_shape
 shape_for sub.Codes = codes_shape
 
@@ -155,5 +159,5 @@ bootswap = record {
   top = record program.top { is_leaf = false };
   subs = choose_shape ∷ check_shape ∷ image_shape ∷ manifest_shape ∷ make_device_shape
       ∷ make_image_shape ∷ make_manifest_shape ∷ provision_shape ∷ extract_shape ∷ show_shape
-      ∷ run_shape ∷ codes_shape ∷ [];
+      ∷ slots_shape ∷ run_shape ∷ codes_shape ∷ [];
 }

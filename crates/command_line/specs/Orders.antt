@@ -20,7 +20,7 @@ use Rattle.command_line.specs.declared.orders.NewComponent.{NewComponent}
 use Rattle.command_line.specs.declared.orders.NewImage.{NewImage}
 use Rattle.command_line.specs.declared.orders.NewManifest.{NewManifest}
 use Rattle.command_line.specs.declared.orders.Order.{Order}
-use Rattle.command_line.specs.declared.orders.Order.TheVariants.{Choose, Check, Image, Manifest, MakeDevice, MakeImage, MakeManifest, Provision, Extract, Show, Run, Codes}
+use Rattle.command_line.specs.declared.orders.Order.TheVariants.{Choose, Check, Image, Manifest, MakeDevice, MakeImage, MakeManifest, Provision, Extract, Show, Slots, Run, Codes}
 
 -- The subcommand of an order.
 abbrev pub command_of : Order → Text
@@ -34,6 +34,7 @@ command_of (MakeManifest device manifest) = codes "make-manifest"
 command_of (Provision device flash images) = codes "provision"
 command_of (Extract device flash image side out) = codes "extract"
 command_of (Show device flash) = codes "show"
+command_of (Slots device flash) = codes "slots"
 command_of (Run device flash script durable) = codes "run"
 command_of Codes = codes "codes"
 
@@ -169,6 +170,8 @@ HasNames rows (Extract device flash image side out) =
     × IsNamed rows (codes "OUT") out.now
 HasNames rows (Show device flash) =
     IsNamed rows (codes "DEVICE") device.now × IsNamed rows (codes "FLASH") flash.now
+HasNames rows (Slots device flash) =
+    IsNamed rows (codes "DEVICE") device.now × IsNamed rows (codes "FLASH") flash.now
 HasNames rows (Run device flash script durable) =
     IsNamed rows (codes "DEVICE") device.now × IsNamed rows (codes "FLASH") flash.now
     × IsNamed rows (codes "SCRIPT") script.now × (durable ≡ is_given (codes "durable") rows)
@@ -210,6 +213,7 @@ names_of (MakeManifest device manifest) = device ∷ files_of manifest
 names_of (Provision device flash images) = device ∷ flash ∷ images.items
 names_of (Extract device flash image side out) = device ∷ flash ∷ out ∷ []
 names_of (Show device flash) = device ∷ flash ∷ []
+names_of (Slots device flash) = device ∷ flash ∷ []
 names_of (Run device flash script durable) = device ∷ flash ∷ script ∷ []
 names_of Codes = []
 

@@ -5,7 +5,7 @@ ghost use Rattle.clap.specs.Words.{app_of, rule_of};
 ghost use Rattle.command_line.specs.Commands.{all_names, also_named, one_flag, one_option};
 ghost use Rattle.command_line.specs.Commands.{rule_for, with_argument, with_arguments};
 
-use crate::help::OptionHelp;
+use crate::argument_help::OptionHelp;
 use clap::{Arg, ArgAction, Command};
 use std::alloc::{AllocError, Global};
 

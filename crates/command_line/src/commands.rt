@@ -6,12 +6,12 @@ ghost use Rattle.command_line.specs.Commands.{bootswap, check_shape, choose_shap
 ghost use Rattle.command_line.specs.Commands.{extract_shape, image_shape, make_device_shape};
 ghost use Rattle.command_line.specs.Commands.{make_image_shape};
 ghost use Rattle.command_line.specs.Commands.{make_manifest_shape, manifest_shape, program};
-ghost use Rattle.command_line.specs.Commands.{provision_shape, run_shape, shape_for, show_shape};
+ghost use Rattle.command_line.specs.Commands.{provision_shape, run_shape, shape_for, show_shape, slots_shape};
 ghost use Rattle.command_line.specs.Commands.{with_command};
 
 use crate::arguments::{Argument, with_arguments};
-use crate::help;
 use crate::help::Help;
+use crate::{argument_help, help};
 use clap::Command;
 use std::alloc::{AllocError, Global};
 
@@ -34,6 +34,8 @@ pub const PROVISION: &str = "provision";
 pub const EXTRACT: &str = "extract";
 
 pub const SHOW: &str = "show";
+
+pub const SLOTS: &str = "slots";
 
 pub const RUN: &str = "run";
 
@@ -111,12 +113,13 @@ pub enum Subcommand {
     Provision,
     Extract,
     Show,
+    Slots,
     Run,
     Codes,
 }
 
 /// The subcommands, in the order in which help lists them.
-const SUBCOMMANDS: [Subcommand; 12] = [
+const SUBCOMMANDS: [Subcommand; 13] = [
     Subcommand::Choose,
     Subcommand::Check,
     Subcommand::Image,
@@ -127,6 +130,7 @@ const SUBCOMMANDS: [Subcommand; 12] = [
     Subcommand::Provision,
     Subcommand::Extract,
     Subcommand::Show,
+    Subcommand::Slots,
     Subcommand::Run,
     Subcommand::Codes,
 ];
@@ -181,6 +185,7 @@ impl Subcommand {
             Subcommand::Provision => provision(alloc),
             Subcommand::Extract => extract(alloc),
             Subcommand::Show => show(alloc),
+            Subcommand::Slots => slots(alloc),
             Subcommand::Run => run(alloc),
             Subcommand::Codes => codes(alloc),
         }
@@ -199,6 +204,7 @@ impl Subcommand {
             Subcommand::Provision => "bootswap provision",
             Subcommand::Extract => "bootswap extract",
             Subcommand::Show => "bootswap show",
+            Subcommand::Slots => "bootswap slots",
             Subcommand::Run => "bootswap run",
             Subcommand::Codes => "bootswap codes",
         }
@@ -208,7 +214,7 @@ impl Subcommand {
 fn choose<'a>(alloc: Global) -> Result<Command<'a>, AllocError>
     ensures { IfOk result (λ command. shape_of command ≡ choose_shape) }
 {
-    let arguments = [Argument::File(named::TABLE, help::TABLE_FILE)];
+    let arguments = [Argument::File(named::TABLE, argument_help::TABLE_FILE)];
     with_arguments(alloc, new_command(alloc, CHOOSE, help::CHOOSE), &arguments)
 }
 
@@ -216,8 +222,8 @@ fn check<'a>(alloc: Global) -> Result<Command<'a>, AllocError>
     ensures { IfOk result (λ command. shape_of command ≡ check_shape) }
 {
     let arguments = [
-        Argument::File(named::TABLE, help::TABLE_FILE),
-        Argument::File(named::REPORT, help::REPORT_FILE),
+        Argument::File(named::TABLE, argument_help::TABLE_FILE),
+        Argument::File(named::REPORT, argument_help::REPORT_FILE),
     ];
     with_arguments(alloc, new_command(alloc, CHECK, help::CHECK), &arguments)
 }
@@ -225,7 +231,7 @@ fn check<'a>(alloc: Global) -> Result<Command<'a>, AllocError>
 fn image<'a>(alloc: Global) -> Result<Command<'a>, AllocError>
     ensures { IfOk result (λ command. shape_of command ≡ image_shape) }
 {
-    let arguments = [Argument::File(named::FILE, help::IMAGE_FILE)];
+    let arguments = [Argument::File(named::FILE, argument_help::IMAGE_FILE)];
     with_arguments(alloc, new_command(alloc, IMAGE, help::IMAGE), &arguments)
 }
 
@@ -233,8 +239,8 @@ fn manifest<'a>(alloc: Global) -> Result<Command<'a>, AllocError>
     ensures { IfOk result (λ command. shape_of command ≡ manifest_shape) }
 {
     let arguments = [
-        Argument::File(named::DEVICE, help::DEVICE_FILE),
-        Argument::File(named::FILE, help::MANIFEST_FILE),
+        Argument::File(named::DEVICE, argument_help::DEVICE_FILE),
+        Argument::File(named::FILE, argument_help::MANIFEST_FILE),
     ];
     with_arguments(
         alloc,
@@ -247,48 +253,60 @@ fn make_device<'a>(alloc: Global) -> Result<Command<'a>, AllocError>
     ensures { IfOk result (λ command. shape_of command ≡ make_device_shape) }
 {
     let arguments = [
-        Argument::Required(named::SECTOR, help::SECTOR),
-        Argument::Required(named::SLOTS, help::SLOTS),
-        Argument::Required(named::VENDOR, help::VENDOR),
-        Argument::Required(named::CLASS, help::CLASS),
-        Argument::Optional(named::TRIAL_BOOTS, help::TRIAL_BOOTS),
+        Argument::Required(named::SECTOR, argument_help::SECTOR),
+        Argument::Required(named::SLOTS, argument_help::SLOTS),
+        Argument::Required(named::VENDOR, argument_help::VENDOR),
+        Argument::Required(named::CLASS, argument_help::CLASS),
+        Argument::Optional(named::TRIAL_BOOTS, argument_help::TRIAL_BOOTS),
     ];
     let command = new_command(alloc, MAKE_DEVICE, help::MAKE_DEVICE);
-    with_arguments(alloc, command.override_usage(help::USAGE), &arguments)
+    with_arguments(
+        alloc,
+        command.override_usage(argument_help::USAGE),
+        &arguments,
+    )
 }
 
 fn make_image<'a>(alloc: Global) -> Result<Command<'a>, AllocError>
     ensures { IfOk result (λ command. shape_of command ≡ make_image_shape) }
 {
     let arguments = [
-        Argument::File(named::OUT, help::NEW_IMAGE_FILE),
-        Argument::File(named::BODY, help::BODY_FILE),
-        Argument::Required(named::VERSION, help::VERSION),
-        Argument::Aliased(named::COUNTER, named::SECURITY_COUNTER, help::COUNTER),
-        Argument::Repeated(named::NEEDS, help::NEEDS),
-        Argument::Repeated(named::NEEDS_ONE, help::NEEDS_ONE),
-        Argument::Optional(named::HEADER_SIZE, help::HEADER_SIZE),
-        Argument::Optional(named::LOAD_ADDRESS, help::LOAD_ADDRESS),
-        Argument::Optional(named::FLAGS, help::FLAGS),
+        Argument::File(named::OUT, argument_help::NEW_IMAGE_FILE),
+        Argument::File(named::BODY, argument_help::BODY_FILE),
+        Argument::Required(named::VERSION, argument_help::VERSION),
+        Argument::Aliased(
+            named::COUNTER,
+            named::SECURITY_COUNTER,
+            argument_help::COUNTER,
+        ),
+        Argument::Repeated(named::NEEDS, argument_help::NEEDS),
+        Argument::Repeated(named::NEEDS_ONE, argument_help::NEEDS_ONE),
+        Argument::Optional(named::HEADER_SIZE, argument_help::HEADER_SIZE),
+        Argument::Optional(named::LOAD_ADDRESS, argument_help::LOAD_ADDRESS),
+        Argument::Optional(named::FLAGS, argument_help::FLAGS),
     ];
     let command = new_command(alloc, MAKE_IMAGE, help::MAKE_IMAGE);
-    with_arguments(alloc, command.override_usage(help::IMAGE_USAGE), &arguments)
+    with_arguments(
+        alloc,
+        command.override_usage(argument_help::IMAGE_USAGE),
+        &arguments,
+    )
 }
 
 fn make_manifest<'a>(alloc: Global) -> Result<Command<'a>, AllocError>
     ensures { IfOk result (λ command. shape_of command ≡ make_manifest_shape) }
 {
     let arguments = [
-        Argument::File(named::DEVICE, help::DEVICE_FILE),
-        Argument::Required(named::SEQUENCE, help::SEQUENCE),
-        Argument::Optional(named::PRECURSOR, help::PRECURSOR),
-        Argument::Repeated(named::TEST, help::TEST),
-        Argument::Repeated(named::PERMANENT, help::PERMANENT),
+        Argument::File(named::DEVICE, argument_help::DEVICE_FILE),
+        Argument::Required(named::SEQUENCE, argument_help::SEQUENCE),
+        Argument::Optional(named::PRECURSOR, argument_help::PRECURSOR),
+        Argument::Repeated(named::TEST, argument_help::TEST),
+        Argument::Repeated(named::PERMANENT, argument_help::PERMANENT),
     ];
     let command = new_command(alloc, MAKE_MANIFEST, help::MAKE_MANIFEST);
     with_arguments(
         alloc,
-        command.override_usage(help::MANIFEST_USAGE),
+        command.override_usage(argument_help::MANIFEST_USAGE),
         &arguments,
     )
 }
@@ -297,9 +315,9 @@ fn provision<'a>(alloc: Global) -> Result<Command<'a>, AllocError>
     ensures { IfOk result (λ command. shape_of command ≡ provision_shape) }
 {
     let arguments = [
-        Argument::File(named::DEVICE, help::DEVICE_FILE),
-        Argument::File(named::FLASH, help::NEW_FLASH_FILE),
-        Argument::Files(named::IMAGE, help::IMAGE_FILES),
+        Argument::File(named::DEVICE, argument_help::DEVICE_FILE),
+        Argument::File(named::FLASH, argument_help::NEW_FLASH_FILE),
+        Argument::Files(named::IMAGE, argument_help::IMAGE_FILES),
     ];
     with_arguments(
         alloc,
@@ -312,11 +330,11 @@ fn extract<'a>(alloc: Global) -> Result<Command<'a>, AllocError>
     ensures { IfOk result (λ command. shape_of command ≡ extract_shape) }
 {
     let arguments = [
-        Argument::File(named::DEVICE, help::DEVICE_FILE),
-        Argument::File(named::FLASH, help::SHOWN_FLASH_FILE),
-        Argument::File(named::IMAGE, help::IMAGE_NUMBER),
-        Argument::File(named::SIDE, help::SLOT_SIDE),
-        Argument::File(named::OUT, help::NEW_IMAGE_FILE),
+        Argument::File(named::DEVICE, argument_help::DEVICE_FILE),
+        Argument::File(named::FLASH, argument_help::SHOWN_FLASH_FILE),
+        Argument::File(named::IMAGE, argument_help::IMAGE_NUMBER),
+        Argument::File(named::SIDE, argument_help::SLOT_SIDE),
+        Argument::File(named::OUT, argument_help::NEW_IMAGE_FILE),
     ];
     with_arguments(
         alloc,
@@ -329,23 +347,37 @@ fn show<'a>(alloc: Global) -> Result<Command<'a>, AllocError>
     ensures { IfOk result (λ command. shape_of command ≡ show_shape) }
 {
     let arguments = [
-        Argument::File(named::DEVICE, help::DEVICE_FILE),
-        Argument::File(named::FLASH, help::SHOWN_FLASH_FILE),
+        Argument::File(named::DEVICE, argument_help::DEVICE_FILE),
+        Argument::File(named::FLASH, argument_help::SHOWN_FLASH_FILE),
     ];
     with_arguments(alloc, new_command(alloc, SHOW, help::SHOW), &arguments)
+}
+
+fn slots<'a>(alloc: Global) -> Result<Command<'a>, AllocError>
+    ensures { IfOk result (λ command. shape_of command ≡ slots_shape) }
+{
+    let arguments = [
+        Argument::File(named::DEVICE, argument_help::DEVICE_FILE),
+        Argument::File(named::FLASH, argument_help::SHOWN_FLASH_FILE),
+    ];
+    with_arguments(alloc, new_command(alloc, SLOTS, help::SLOTS), &arguments)
 }
 
 fn run<'a>(alloc: Global) -> Result<Command<'a>, AllocError>
     ensures { IfOk result (λ command. shape_of command ≡ run_shape) }
 {
     let arguments = [
-        Argument::File(named::DEVICE, help::DEVICE_FILE),
-        Argument::File(named::FLASH, help::FLASH_FILE),
-        Argument::File(named::SCRIPT, help::SCRIPT_FILE),
-        Argument::Flag(named::DURABLE, help::DURABLE),
+        Argument::File(named::DEVICE, argument_help::DEVICE_FILE),
+        Argument::File(named::FLASH, argument_help::FLASH_FILE),
+        Argument::File(named::SCRIPT, argument_help::SCRIPT_FILE),
+        Argument::Flag(named::DURABLE, argument_help::DURABLE),
     ];
     let command = new_command(alloc, RUN, help::RUN);
-    with_arguments(alloc, command.override_usage(help::RUN_USAGE), &arguments)
+    with_arguments(
+        alloc,
+        command.override_usage(argument_help::RUN_USAGE),
+        &arguments,
+    )
 }
 
 fn codes<'a>(alloc: Global) -> Result<Command<'a>, AllocError>

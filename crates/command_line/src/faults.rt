@@ -17,7 +17,7 @@ use crate::image_words::{dependencies_in, header_size_in, number_said, version_i
 use crate::manifest_words::components_in;
 use crate::order_reading::{image_in_words, named_in, order};
 use crate::orders::{NewManifest, Order, STANDARD_INPUT};
-use crate::{commands, help};
+use crate::{commands, fault_texts};
 use clap::error::ErrorKind;
 use clap::{ArgMatches, Error};
 use std::alloc::{AllocError, Global};
@@ -41,7 +41,7 @@ pub fn fault_of<S: AsStr>(alloc: Global, words: &[S], fault: Error) -> OrderErro
 pub fn no_text(alloc: Global) -> OrderError
     ensures { IsUsage InvalidValue result }
 {
-    match program_error(alloc, ErrorKind::InvalidValue, help::NO_TEXT) {
+    match program_error(alloc, ErrorKind::InvalidValue, fault_texts::NO_TEXT) {
         Ok(error) => OrderError::from(error),
         Err(error) => OrderError::from(error),
     }
@@ -66,11 +66,11 @@ fn no_number(alloc: Global, names: &ArgMatches<'_>) -> OrderError
     ensures { IsUsage InvalidValue result }
 {
     let text = if number_in(names, named::SECTOR).is_none() {
-        help::NO_SECTOR
+        fault_texts::NO_SECTOR
     } else if trial_boots_in(names).is_none() {
-        help::NO_TRIAL_BOOTS
+        fault_texts::NO_TRIAL_BOOTS
     } else {
-        help::NO_SLOTS
+        fault_texts::NO_SLOTS
     };
     match subcommand_error(alloc, Subcommand::MakeDevice, ErrorKind::InvalidValue, text) {
         Ok(error) => OrderError::from(error),
@@ -98,23 +98,23 @@ fn values_error(alloc: Global, names: &ArgMatches<'_>) -> Result<Error, AllocErr
 /// What is told of words of `make-image` of which one can't be read.
 fn values_fault(alloc: Global, names: &ArgMatches<'_>) -> Result<&'static str, AllocError> {
     if version_in(names).is_none() {
-        return Ok(help::NO_VERSION);
+        return Ok(fault_texts::NO_VERSION);
     }
     if number_said(names, named::COUNTER).is_none() {
-        return Ok(help::NO_COUNTER);
+        return Ok(fault_texts::NO_COUNTER);
     }
     if header_size_in(names).is_none() {
-        return Ok(help::NO_HEADER_SIZE);
+        return Ok(fault_texts::NO_HEADER_SIZE);
     }
     if number_said(names, named::LOAD_ADDRESS).is_none() {
-        return Ok(help::NO_LOAD_ADDRESS);
+        return Ok(fault_texts::NO_LOAD_ADDRESS);
     }
     if number_said(names, named::FLAGS).is_none() {
-        return Ok(help::NO_FLAGS);
+        return Ok(fault_texts::NO_FLAGS);
     }
     match dependencies_in(alloc, names)? {
-        None => Ok(help::NO_NEEDS),
-        Some(_) => Ok(help::NO_NEEDS_ONE),
+        None => Ok(fault_texts::NO_NEEDS),
+        Some(_) => Ok(fault_texts::NO_NEEDS_ONE),
     }
 }
 
@@ -144,14 +144,14 @@ fn components_error(alloc: Global, names: &ArgMatches<'_>) -> Result<Error, Allo
 /// What is told of words of `make-manifest` that say no manifest.
 fn components_fault(alloc: Global, names: &ArgMatches<'_>) -> Result<&'static str, AllocError> {
     if number_in(names, named::SEQUENCE).is_none() {
-        return Ok(help::NO_SEQUENCE);
+        return Ok(fault_texts::NO_SEQUENCE);
     }
     if components_in(alloc, names, named::TEST, false)?.is_none() {
-        return Ok(help::NO_TEST);
+        return Ok(fault_texts::NO_TEST);
     }
     match components_in(alloc, names, named::PERMANENT, true)? {
-        None => Ok(help::NO_PERMANENT),
-        Some(_) => Ok(help::NO_COMPONENTS),
+        None => Ok(fault_texts::NO_PERMANENT),
+        Some(_) => Ok(fault_texts::NO_COMPONENTS),
     }
 }
 
@@ -160,9 +160,9 @@ fn no_slot(alloc: Global, names: &ArgMatches<'_>) -> OrderError
     ensures { IsUsage InvalidValue result }
 {
     let text = if image_in_words(names).is_none() {
-        help::NO_IMAGE_NUMBER
+        fault_texts::NO_IMAGE_NUMBER
     } else {
-        help::NO_SIDE
+        fault_texts::NO_SIDE
     };
     match subcommand_error(alloc, Subcommand::Extract, ErrorKind::InvalidValue, text) {
         Ok(error) => OrderError::from(error),
@@ -174,7 +174,7 @@ fn no_slot(alloc: Global, names: &ArgMatches<'_>) -> OrderError
 fn no_subcommand(alloc: Global) -> OrderError
     ensures { IsUsage MissingSubcommand result }
 {
-    match program_error(alloc, ErrorKind::MissingSubcommand, help::NO_ORDER) {
+    match program_error(alloc, ErrorKind::MissingSubcommand, fault_texts::NO_ORDER) {
         Ok(error) => OrderError::from(error),
         Err(error) => OrderError::from(error),
     }
@@ -193,7 +193,7 @@ pub(crate) fn misuse(alloc: Global, order: &Order<'_>) -> Result<Option<Error>, 
     let (kind, text) = if writes_to_standard_input(order) {
         (ErrorKind::InvalidValue, written_text(order))
     } else if reads_standard_input_twice(order) {
-        (ErrorKind::ArgumentConflict, help::TWICE)
+        (ErrorKind::ArgumentConflict, fault_texts::TWICE)
     } else {
         return Ok(None);
     };
@@ -204,8 +204,8 @@ pub(crate) fn misuse(alloc: Global, order: &Order<'_>) -> Result<Option<Error>, 
 /// What is told of an order that would write to standard input.
 fn written_text(order: &Order<'_>) -> &'static str {
     match order {
-        Order::MakeImage { .. } | Order::Extract { .. } => help::IMAGE_WRITTEN,
-        _ => help::WRITTEN,
+        Order::MakeImage { .. } | Order::Extract { .. } => fault_texts::IMAGE_WRITTEN,
+        _ => fault_texts::WRITTEN,
     }
 }
 
@@ -222,6 +222,7 @@ fn subcommand_of(order: &Order<'_>) -> Subcommand {
         Order::Provision { .. } => Subcommand::Provision,
         Order::Extract { .. } => Subcommand::Extract,
         Order::Show { .. } => Subcommand::Show,
+        Order::Slots { .. } => Subcommand::Slots,
         Order::Run { .. } => Subcommand::Run,
         Order::Codes => Subcommand::Codes,
     }
@@ -256,6 +257,7 @@ fn writes_to_standard_input(order: &Order<'_>) -> bool
         | Order::MakeDevice { .. }
         | Order::MakeManifest { .. }
         | Order::Show { .. }
+        | Order::Slots { .. }
         | Order::Codes => false,
     }
 }
@@ -267,44 +269,49 @@ fn reads_standard_input_twice(order: &Order<'_>) -> bool
         Order::Choose { .. } | Order::Image { .. } | Order::MakeDevice { .. } | Order::Codes =>
             false,
         Order::Check {
-            table: first,
-            report: second,
+            table: a,
+            report: b,
         }
-        | Order::Manifest {
-            device: first,
-            file: second,
-        }
+        | Order::Manifest { device: a, file: b }
         | Order::MakeImage {
-            image: first,
-            body: second,
+            image: a,
+            body: b,
             ..
         }
         | Order::Show {
-            device: first,
-            flash: second,
-        } => is_standard_input(first) && is_standard_input(second),
+            device: a,
+            flash: b,
+        }
+        | Order::Slots {
+            device: a,
+            flash: b,
+        } => is_standard_input(a) && is_standard_input(b),
         Order::Run {
             device,
             flash,
-            script,
+            script: last,
             ..
-        } => standard_inputs(&[*device, *flash, *script]) > 1,
-        Order::Extract {
+        }
+        | Order::Extract {
             device,
             flash,
-            out,
+            out: last,
             ..
-        } => standard_inputs(&[*device, *flash, *out]) > 1,
+        } => standard_inputs(&[*device, *flash, *last]) > 1,
         Order::MakeManifest { device, manifest } => inputs_of_manifest(device, manifest) > 1,
         Order::Provision {
             device,
             flash,
             images,
-        } => {
-            let others = standard_inputs(&[*device, *flash]);
-            others.saturating_add(standard_inputs(images.as_slice())) > 1
-        }
+        } => inputs_of_provision(device, flash, images.as_slice()) > 1,
     }
+}
+
+/// How many of the files that a flash is made of are standard input, and of the flash itself.
+fn inputs_of_provision(device: &str, flash: &str, images: &[&str]) -> usize
+    ensures { result ≡ standard_inputs (device.entry ∷ flash.entry ∷ images.now) }
+{
+    standard_inputs(&[device, flash]).saturating_add(standard_inputs(images))
 }
 
 /// How many of the files that a manifest is made of are standard input.

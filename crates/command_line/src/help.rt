@@ -15,15 +15,6 @@ pub struct Help {
     pub long_after: &'static str,
 }
 
-/// What help says of an option.
-#[derive(Clone, Copy)]
-pub struct OptionHelp {
-    /// What its value is called.
-    pub value: &'static str,
-    /// What it says.
-    pub text: &'static str,
-}
-
 pub const PROGRAM: Help = Help {
     about: "Runs a device's bootloader on a file, and decides which images run together",
     long_about: "A bootloader core in the manner of MCUboot, on files: it provisions, shows and
@@ -295,10 +286,6 @@ Examples:
   bootswap provision device.json flash.bin a.img",
 };
 
-/// The usage of `make-device`, which would be too long for a line.
-pub const USAGE: &str = "bootswap make-device --sector <BYTES> --slots <N,N,..>
-           --vendor <DOMAIN> --class <NAME> [--trial-boots <N>]";
-
 pub const MAKE_IMAGE: Help = Help {
     about: "Makes an image of MCUboot's format out of its body",
     long_about: "Reads the body of an image from BODY, and makes the image in the file OUT:
@@ -350,11 +337,6 @@ Examples:
   bootswap image a.img",
 };
 
-/// The usage of `make-image`, which would be too long for a line.
-pub const IMAGE_USAGE: &str = "bootswap make-image <OUT> <BODY> --version <VERSION> [--counter <N>]
-           [--needs <'J VERSION'>].. [--needs-one <'J VERSION ..'>]..
-           [--header-size <BYTES>] [--load-address <N>] [--flags <N>]";
-
 pub const MAKE_MANIFEST: Help = Help {
     about: "Makes a manifest, of the files that may come to a device",
     long_about: "Reads a device file and the files that may come to the device, and prints the
@@ -405,11 +387,6 @@ Examples:
       --permanent 0=a.img --permanent 1=b.img > manifest.json
   bootswap manifest device.json manifest.json",
 };
-
-/// The usage of `make-manifest`, which would be too long for a line.
-pub const MANIFEST_USAGE: &str =
-    "bootswap make-manifest <DEVICE> --sequence <N> [--precursor <FLASH>]
-           [--test <I=FILE>].. [--permanent <I=FILE>]..";
 
 pub const PROVISION: Help = Help {
     about: "Makes the flash file of a device, an image for each slot pair",
@@ -532,6 +509,45 @@ Examples:
   bootswap show device.json - < flash.bin",
 };
 
+pub const SLOTS: Help = Help {
+    about: "Prints what the slots hold, and what a boot would take",
+    long_about: "Reads a device file and a flash file, and prints first what `show` prints, then
+what stands in the slots, image by image:
+  slot 0 primary     the slot that image 0 runs from. What it begins with is
+                     below, as `bootswap help image` has it; or
+  erased             nothing: all its bytes are 0xFF; or
+  damaged 1 BadMagic no intact image: the first check that fails
+  slot 0 secondary   the slot to which a new image comes
+  request 0 test     what is requested for image 0: `test`, `permanent`, `none`
+  moved 0 4 of 12    how many steps of an open swap are done of how many: three
+                     for each sector that it moves
+
+At last it prints what the next boot would decide, where `state` is `steady`:
+the report that `bootswap help choose` tells of, which says what would run, what
+would be taken, and why each other request would be refused; or the refusal of
+the boot, such as `refused boot 5 RunningDamaged 0`. In any other state the next
+boot goes on with what was begun, as `state`, `set` and `left` tell.
+
+Nothing is changed. Of a flash that was never provisioned it prints
+`refused boot 4 NotProvisioned`, and where the device's sizes make no map of its
+flash `refused map CODE NAME`.",
+    after: "Exit status: 0 done, 1 refused, 2 the words are wrong.
+Example: bootswap slots device.json flash.bin
+`bootswap slots --help` tells what is printed.",
+    long_after: "Exit status:
+  0  what stands in the slots is printed
+  1  the same, but the next boot would be refused, as the last line says; or the
+     device's sizes are refused; or standard error has a line `error: ..`:
+     `device file` where DEVICE is none, `flash size` where FLASH isn't as long
+     as the device's flash, `flash in use` where another program writes to
+     FLASH, `cannot read NAME`, or `memory`; or the answer could not be written
+  2  the words of the command are wrong
+
+Examples:
+  bootswap slots device.json flash.bin
+  bootswap slots device.json - < flash.bin",
+};
+
 pub const RUN: Help = Help {
     about: "Runs a device on a flash file by a script; prints its replies",
     long_about: "Runs a device on a flash file by a script, and prints a reply to each event.
@@ -617,184 +633,3 @@ Examples:
   bootswap codes
   bootswap codes | grep BadDigest",
 };
-
-/// The usage of `run`: its option stands under the names, as `--help` does.
-pub const RUN_USAGE: &str = "bootswap run <DEVICE> <FLASH> <SCRIPT>";
-
-pub const TABLE_FILE: &str = "The file that the table is read from; `-` is standard input";
-
-pub const REPORT_FILE: &str = "The file that the report is read from; `-` is standard input";
-
-pub const IMAGE_FILE: &str = "The file that the image is read from; `-` is standard input";
-
-pub const DEVICE_FILE: &str = "The device file; `-` is standard input";
-
-pub const MANIFEST_FILE: &str = "The file that the manifest is read from; `-` is standard input";
-
-pub const NEW_FLASH_FILE: &str = "The flash file that is made";
-
-pub const IMAGE_FILES: &str = "The files of the images, in order; `-` is standard input";
-
-pub const IMAGE_NUMBER: &str = "The number of the image, from 0";
-
-pub const SLOT_SIDE: &str = "Which of its slots: `primary` or `secondary`";
-
-/// The fault of words whose number of an image is none.
-pub const NO_IMAGE_NUMBER: &str = "IMAGE is the number of an image, in digits, below 256";
-
-/// The fault of words whose side of a slot is none.
-pub const NO_SIDE: &str = "SIDE is `primary` or `secondary`";
-
-pub const SHOWN_FLASH_FILE: &str = "The flash file; `-` is standard input";
-
-pub const FLASH_FILE: &str = "The flash file, which is written to";
-
-pub const SCRIPT_FILE: &str = "The file that the script is read from; `-` is standard input";
-
-pub const DURABLE: &str = "Sync each write of a plain file to the disk before the next";
-
-pub const SECTOR: OptionHelp = OptionHelp {
-    value: "BYTES",
-    text: "The bytes of a sector",
-};
-
-pub const SLOTS: OptionHelp = OptionHelp {
-    value: "N,N,..",
-    text: "The sectors of each image's slots, image after image",
-};
-
-pub const VENDOR: OptionHelp = OptionHelp {
-    value: "DOMAIN",
-    text: "The domain name of who makes the device",
-};
-
-pub const CLASS: OptionHelp = OptionHelp {
-    value: "NAME",
-    text: "The name of its class of devices",
-};
-
-pub const TRIAL_BOOTS: OptionHelp = OptionHelp {
-    value: "N",
-    text: "The boots of a trial, 1 to 7; without it there is one",
-};
-
-pub const NEW_IMAGE_FILE: &str = "The image file that is made";
-
-pub const BODY_FILE: &str = "The file that the body is read from; `-` is standard input";
-
-pub const VERSION: OptionHelp = OptionHelp {
-    value: "VERSION",
-    text: "The version of the image, such as 1.4.2+7",
-};
-
-pub const COUNTER: OptionHelp = OptionHelp {
-    value: "N",
-    text: "Security counter",
-};
-
-pub const NEEDS: OptionHelp = OptionHelp {
-    value: "J VERSION",
-    text: "It needs image J, with at least that version",
-};
-
-pub const NEEDS_ONE: OptionHelp = OptionHelp {
-    value: "J VERSION ..",
-    text: "It needs one of these, each with a version",
-};
-
-pub const HEADER_SIZE: OptionHelp = OptionHelp {
-    value: "BYTES",
-    text: "The bytes of the header; without it 32",
-};
-
-pub const LOAD_ADDRESS: OptionHelp = OptionHelp {
-    value: "N",
-    text: "Where it is to be loaded; without it 0",
-};
-
-pub const FLAGS: OptionHelp = OptionHelp {
-    value: "N",
-    text: "The flags of the header; without it 0",
-};
-
-pub const SEQUENCE: OptionHelp = OptionHelp {
-    value: "N",
-    text: "The sequence number of the manifest",
-};
-
-pub const PRECURSOR: OptionHelp = OptionHelp {
-    value: "FLASH",
-    text: "The files follow the images that run on this flash",
-};
-
-pub const TEST: OptionHelp = OptionHelp {
-    value: "I=FILE",
-    text: "FILE may come for image I, for a test",
-};
-
-pub const PERMANENT: OptionHelp = OptionHelp {
-    value: "I=FILE",
-    text: "FILE may come for image I, to stay",
-};
-
-/// The fault of words whose sequence number is none.
-pub const NO_SEQUENCE: &str = "`--sequence` is a number, in digits, below 4294967296";
-
-/// The fault of words whose file for a test is none.
-pub const NO_TEST: &str = "`--test` is the number of an image and its file: 0=a.img";
-
-/// The fault of words whose file that is to stay is none.
-pub const NO_PERMANENT: &str = "`--permanent` is the number of an image and its file: 0=a.img";
-
-/// The fault of words that say no file, or more files than a device has images.
-pub const NO_COMPONENTS: &str =
-    "give one to eight files that may come, by `--test I=FILE` or `--permanent I=FILE`";
-
-/// The fault of words whose version is none.
-pub const NO_VERSION: &str = "`--version` is `major.minor.revision+build`, such as 1.4.2+7; last \
-     parts may be left out";
-
-/// The fault of words whose security counter is no number.
-pub const NO_COUNTER: &str = "`--counter` is a number, in digits, below 4294967296";
-
-/// The fault of words whose length of the header is none.
-pub const NO_HEADER_SIZE: &str = "`--header-size` is a number of bytes, in digits, below 65536";
-
-/// The fault of words whose load address is no number.
-pub const NO_LOAD_ADDRESS: &str = "`--load-address` is a number, in digits, below 4294967296";
-
-/// The fault of words whose flags are no number.
-pub const NO_FLAGS: &str = "`--flags` is a number, in digits, below 4294967296";
-
-/// The fault of words whose dependency is none.
-pub const NO_NEEDS: &str =
-    "`--needs` is the number of an image and a version, in one word: '1 2.0.0'";
-
-/// The fault of words whose group is none.
-pub const NO_NEEDS_ONE: &str =
-    "`--needs-one` is numbers of images, each with a version, in one word: '1 2.0.0 2 2.0.0'";
-
-/// The fault of words whose sector is no number.
-pub const NO_SECTOR: &str = "`--sector` is a number of bytes, in digits, below 4294967296";
-
-/// The fault of words whose slots are no numbers.
-pub const NO_SLOTS: &str =
-    "`--slots` are numbers of sectors, one for each image, parted by commas: 2,2";
-
-/// The fault of words whose boots of a trial are no number of boots.
-pub const NO_TRIAL_BOOTS: &str = "`--trial-boots` is a number from 1 to 7";
-
-/// The fault of words that are no text.
-pub const NO_TEXT: &str = "invalid UTF-8 was detected in one or more arguments";
-
-/// The fault of an order that names standard input twice.
-pub const TWICE: &str = "standard input, `-`, can be read for one file only";
-
-/// The fault of an order that writes to standard input.
-pub const WRITTEN: &str = "the flash file is written to, so it can't be standard input, `-`";
-
-/// The fault of an order that makes an image on standard input.
-pub const IMAGE_WRITTEN: &str = "the image file is made, so it can't be standard input, `-`";
-
-/// The fault of words that ask for no order.
-pub const NO_ORDER: &str = "a subcommand is required but one was not provided";

@@ -8,12 +8,14 @@
 //! to make texts. The program alone may call it.
 #![tactic(auto)]
 
+mod argument_help;
 mod arguments;
 mod codes;
 mod commands;
 mod device_words;
 mod error;
 mod escaped;
+mod fault_texts;
 mod faults;
 mod help;
 mod image_words;

@@ -10,7 +10,7 @@ ghost use Rattle.command_line.specs.Orders.{misuse_of, side_at, side_of};
 
 use crate::commands::{
     CHECK, CHOOSE, CODES, EXTRACT, IMAGE, MAKE_DEVICE, MAKE_IMAGE, MAKE_MANIFEST, MANIFEST,
-    PROVISION, RUN, SHOW, bootswap, named,
+    PROVISION, RUN, SHOW, SLOTS, bootswap, named,
 };
 use crate::device_words::device_in;
 use crate::error::OrderError;
@@ -109,6 +109,9 @@ fn order_of<'a>(
     }
     if command == SHOW {
         return Ok(show_in(names));
+    }
+    if command == SLOTS {
+        return Ok(slots_in(names));
     }
     if command == RUN {
         return Ok(run_in(names));
@@ -265,6 +268,14 @@ fn show_in<'a>(names: &ArgMatches<'a>) -> Option<Order<'a>>
     let device = name_in(names, named::DEVICE)?;
     let flash = name_in(names, named::FLASH)?;
     Some(Order::Show { device, flash })
+}
+
+fn slots_in<'a>(names: &ArgMatches<'a>) -> Option<Order<'a>>
+    ensures { Finds (Asks (codes "slots") (rows_of (found_of names.now))) result }
+{
+    let device = name_in(names, named::DEVICE)?;
+    let flash = name_in(names, named::FLASH)?;
+    Some(Order::Slots { device, flash })
 }
 
 fn run_in<'a>(names: &ArgMatches<'a>) -> Option<Order<'a>>

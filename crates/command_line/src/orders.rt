@@ -141,6 +141,13 @@ pub enum Order<'a> {
         /// The name of the flash file.
         flash: &'a str,
     },
+    /// What stands in the slots of a flash, and what the next boot would decide.
+    Slots {
+        /// The name of the device file.
+        device: &'a str,
+        /// The name of the flash file.
+        flash: &'a str,
+    },
     /// The run of a device by a script.
     Run {
         /// The name of the device file.

@@ -17,7 +17,7 @@ All-from_AllByRecursion-map P f (x ∷ xs) each zero d within = each.0
 All-from_AllByRecursion-map P f (x ∷ xs) each (suc k) d within = All-from_AllByRecursion-map P f xs each.1 k d (omega arith)
 
 -- what holds of each pair, and of one more
-AllZip-push : {A B : Type 0} (R : A → B → Type 0) (xs : List A) (ys : List B) (x : A) (y : B) → AllZip R xs ys → R x y → AllZip R (xs ++ x ∷ []) (ys ++ y ∷ [])
+pub AllZip-push : {A B : Type 0} (R : A → B → Type 0) (xs : List A) (ys : List B) (x : A) (y : B) → AllZip R xs ys → R x y → AllZip R (xs ++ x ∷ []) (ys ++ y ∷ [])
 AllZip-push R [] [] x y each holds = (holds, tt)
 AllZip-push R [] (z ∷ ys) x y each holds = absurd each
 AllZip-push R (z ∷ xs) [] x y each holds = absurd each

@@ -11,6 +11,7 @@ use Rattle.std.specs.Option.{option_eq}
 use Rattle.std.specs.List.{AllZip}
 use Rattle.std.specs.Prelude.{Any}
 use Rattle.std.proofs.Math.Seq.{take-suc}
+use Rattle.common.proofs.Mapped.{AllZip-push}
 use Rattle.flash_model.specs.Chip.{Chip}
 use Rattle.manifest.specs.declared.manifest.Component.{Component}
 use Rattle.sector_map.specs.declared.layout.SectorMap.{SectorMap}
@@ -69,20 +70,12 @@ same_components (x ∷ xs) (y ∷ ys) same =
 pub nothing : NewComponent
 nothing = record { image = 0; permanent = false; file = record { ref_ptr = (0, 0); now = [] } }
 
--- two lists with one more each
-pub zip_push : {A B : Type 0} (R : A → B → Type 0) (xs : List A) (ys : List B) (x : A) (y : B)
-    → AllZip R xs ys → R x y → AllZip R (xs ++ x ∷ []) (ys ++ y ∷ [])
-zip_push R [] [] x y each holds = (holds, tt)
-zip_push R [] (z ∷ ys) x y each holds = absurd each
-zip_push R (z ∷ xs) [] x y each holds = absurd each
-zip_push R (w ∷ xs) (z ∷ ys) x y each holds = (each.0, zip_push R xs ys x y each.1 holds)
-
 -- a place more
 pub zip_more : {A B : Type 0} (R : A → B → Type 0) (xs : List A) (ys : List B) (place : ℕ) (d : A) (y : B)
     → place < length xs → AllZip R (take place xs) ys → R (get_or xs place d) y
     → AllZip R (take (place + 1) xs) (ys ++ y ∷ [])
 zip_more R xs ys place d y within each holds =
-    rw (add-one, take-suc xs place d within) (zip_push R (take place xs) ys (get_or xs place d) y each holds)
+    rw (add-one, take-suc xs place d within) (AllZip-push R (take place xs) ys (get_or xs place d) y each holds)
 
 -- the file at a place is for its image
 pub any_at : (asked : List NewComponent) (place : ℕ) (d : NewComponent) → place < length asked
@@ -94,7 +87,7 @@ any_at asked place d within =
 pub none_read : (map : SectorMap) (asked : NewManifest) (input : Option (List ℕ)) (files : FileBytes)
     (found : Precursors) → asked.precursor ≡ None → FindsNone asked.components.items found
     → ReadsPrecursors map asked input files input files found
-none_read map asked input files (Are precursors) lacks none = record {
+none_read map asked input files (Are running) lacks none = record {
   flash = None;
   sources = [];
   contents = [];
@@ -112,7 +105,7 @@ pub flash_read : (map : SectorMap) (asked : NewManifest) (name : Bor (List ℕ))
     → Gives source input files bytes → KeepsOthers source input files new_input new_files
     → IsFlashOf map bytes → FindsPrecursors map (flash_of map bytes) asked.components.items found
     → ReadsPrecursors map asked input files new_input new_files found
-flash_read map asked name source bytes input files new_input new_files (Are precursors) some named gives kept whole finds =
+flash_read map asked name source bytes input files new_input new_files (Are running) some named gives kept whole finds =
     record {
       flash = Some (flash_of map bytes);
       sources = source ∷ [];
@@ -182,13 +175,13 @@ AreRead-more asked follow count old_input old_files input files new_input new_fi
     record {
       sources = before.sources ++ source ∷ [];
       contents = before.contents ++ content ∷ [];
-      named = rw (next, map-append) (zip_push IsNamed (file_names (take count asked)) before.sources one.file.now source
+      named = rw (next, map-append) (AllZip-push IsNamed (file_names (take count asked)) before.sources one.file.now source
           before.named reads.named);
       given = λ rest more given. simp append_assoc (before.given (source ∷ rest) (content ∷ more)
           (GiveEach-read source rest input new_input files new_files content more reads.given reads.kept given));
-      kinds = rw next (zip_push IsOfKind (take count asked) components one component before.kinds reads.kind);
+      kinds = rw next (AllZip-push IsOfKind (take count asked) components one component before.kinds reads.kind);
       precursors = rw (later, map-append, before.precursors, reads.precursor) refl;
-      come = zip_push LetsCome before.contents components content component before.come reads.come;
+      come = AllZip-push LetsCome before.contents components content component before.come reads.come;
     }
 
 -- all were read

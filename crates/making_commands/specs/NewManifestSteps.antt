@@ -41,15 +41,15 @@ ArePrecursors map flash asked precursors =
 
 -- What is found of the images that files are for.
 abbrev pub FindsPrecursors : SectorMap → Chip → List NewComponent → Precursors → Type 0
-FindsPrecursors map chip asked (Are precursors) =
-    ArePrecursors map (Some chip) asked precursors.items
+FindsPrecursors map chip asked (Are running) =
+    ArePrecursors map (Some chip) asked running.digests.items
 FindsPrecursors map chip asked (DamagedAt image) =
     Any (λ component. component.image ≡ image) asked × IsDamaged map chip image
 
 -- No image has to run.
 abbrev pub FindsNone : List NewComponent → Precursors → Type 0
-FindsNone asked (Are precursors) =
-    AllZip (λ component precursor. precursor ≡ None) asked precursors.items
+FindsNone asked (Are running) =
+    AllZip (λ component precursor. precursor ≡ None) asked running.digests.items
 FindsNone asked (DamagedAt image) = ⊥
 
 -- The flash was read where one is asked for, before what is read after it, and these images have to
@@ -80,8 +80,8 @@ pub record ReadsDamaged (map : SectorMap) (asked : NewManifest) (input : Option 
 
 abbrev pub ReadsPrecursors : SectorMap → NewManifest → Option (List ℕ) → FileBytes
     → Option (List ℕ) → FileBytes → Precursors → Type 0
-ReadsPrecursors map asked input files new_input new_files (Are precursors) =
-    ReadsFlash map asked input files new_input new_files precursors.items
+ReadsPrecursors map asked input files new_input new_files (Are running) =
+    ReadsFlash map asked input files new_input new_files running.digests.items
 ReadsPrecursors map asked input files new_input new_files (DamagedAt image) =
     ReadsDamaged map asked input files image
 

@@ -17,5 +17,6 @@ pub mod make_manifest;
 mod manifest_json;
 mod map_text;
 mod new_components;
+mod next_boot;
 mod precursors;
 mod telling;

@@ -12,7 +12,8 @@ ghost use Rattle.manifest.specs.Codes.{code_of, name_of};
 
 use crate::manifest_json::manifest_json;
 use crate::new_components::read_components;
-use crate::precursors::{Precursors, read_precursors};
+use crate::next_boot::write_refusals;
+use crate::precursors::{Precursors, Running, read_precursors};
 use crate::telling::tell;
 use answers::{DeviceFile, refused_fault_text};
 use command_line::{NewComponent, NewManifest};
@@ -51,8 +52,8 @@ pub fn perform<'a, A: Allocator, H: Host, O: Write, E: Write>(
         return Ok(Answer::Refused);
     }
     match read_precursors(alloc, &of_device.map, asked, host)? {
-        Precursors::Are(precursors) => {
-            write_manifest(alloc, heap, &of_device, asked, &precursors, host, out, err)?;
+        Precursors::Are(running) => {
+            write_manifest(alloc, heap, &of_device, asked, running, host, out, err)?;
             Ok(Answer::Done)
         }
         Precursors::DamagedAt(image) => {
@@ -96,32 +97,36 @@ fn repeats(asked: &[NewComponent<'_>]) -> bool
 }
 
 /// Whether one of these files is for this image.
-fn is_named(asked: &[NewComponent<'_>], image: u8) -> bool
+pub(crate) fn is_named(asked: &[NewComponent<'_>], image: u8) -> bool
     ensures { IsTrue result ↔ Any (λ component. component.image ≡ image) asked.now }
 {
     asked.iter().any(|component| component.image == image)
 }
 
 /// Reads the files that may come, and writes to `out` the manifest that lets them come where these
-/// images run, and to `err` which of them the device will not take.
+/// images run, and to `err` which of them the device, or its next boot, will not take.
 fn write_manifest<'a, A: Allocator, H: Host, O: Write, E: Write>(
     alloc: Global,
     heap: &A,
     device: &DeviceFile,
     asked: &NewManifest<'a>,
-    precursors: &[Option<[u8; 32]>],
+    running: Running,
     host: &mut H,
     out: &mut O,
     err: &mut E,
 ) -> Result<(), Refusal<'a>>
-    requires same { length precursors.now ≡ length asked.now.components.items }
+    requires same { length running.digests.items ≡ length asked.now.components.items }
     requires there { HaveImages device.now.map.images asked.now.components.items }
-    ensures { OnOk result (Writes device.now asked.now precursors.now
+    ensures { OnOk result (Writes device.now asked.now running.digests.items
         (H.input host.old) (H.file host.old) (O.contents out.old) (O.contents out.new)) }
 {
     let mut notes = String::new(heap);
-    let asked_for = asked.components.as_slice();
-    let components = read_components(heap, &device.map, asked_for, precursors, host, &mut notes)?;
+    let Running { digests, mut table } = running;
+    let (map, files, follow) = (&device.map, asked.components.as_slice(), digests.as_slice());
+    let components = read_components(heap, map, files, follow, host, &mut table, &mut notes)?;
+    if write_refusals(&mut notes, files, &table).is_err() {
+        return Err(Refusal::NoMemory);
+    }
     let manifest = Manifest {
         sequence: asked.sequence,
         components,

@@ -3,24 +3,27 @@ ghost use Rattle.std.specs.Prelude.{◌≡◌, ◌<◌, IfOk, length};
 ghost use Rattle.making_commands.specs.NewManifestEnd.{HaveImages};
 ghost use Rattle.making_commands.specs.NewManifestSteps.{ReadsComponent, ReadsComponents};
 
+use crate::next_boot::request;
 use arrayvec::ArrayVec;
+use certificate::Table;
 use command_line::NewComponent;
 use manifest::{Component, MOST_COMPONENTS};
 use reading_commands::{Host, MOST_FILE, Refusal, Source};
 use sector_map::SectorMap;
 use sha2::{Digest, Sha256};
 use std::alloc::{AllocError, Allocator};
-use tlv::describe;
+use tlv::{Desc, ImageError, describe};
 
 /// The components of a manifest for these files, which are read from `host` one after the other
 /// into memory of `heap`, where these images have to run. Adds to `notes` which files a device with
-/// this map will not take.
+/// this map will not take, and requests them in `table`, where there is one.
 pub fn read_components<'a, A: Allocator, H: Host>(
     heap: &A,
     map: &SectorMap,
     asked: &[NewComponent<'a>],
     precursors: &[Option<[u8; 32]>],
     host: &mut H,
+    table: &mut Option<Table>,
     notes: &mut String<&A>,
 ) -> Result<ArrayVec<Component, MOST_COMPONENTS>, Refusal<'a>>
     requires same { length precursors.now ≡ length asked.now }
@@ -31,7 +34,7 @@ pub fn read_components<'a, A: Allocator, H: Host>(
     let mut components = ArrayVec::new();
     for place in 0..asked.len() {
         let (asked, precursor) = (&asked[place], precursors[place]);
-        let component = read_component(heap, map, asked, precursor, host, notes)?;
+        let component = read_component(heap, map, asked, precursor, host, table, notes)?;
         if components.is_full() {
             return Err(Refusal::Manifest);
         }
@@ -47,6 +50,7 @@ fn read_component<'a, A: Allocator, H: Host>(
     asked: &NewComponent<'a>,
     precursor: Option<[u8; 32]>,
     host: &mut H,
+    table: &mut Option<Table>,
     notes: &mut String<&A>,
 ) -> Result<Component, Refusal<'a>>
     requires { asked.now.image < map.now.images }
@@ -58,9 +62,11 @@ fn read_component<'a, A: Allocator, H: Host>(
     let Ok(size) = u32::try_from(file.len()) else {
         return Err(Refusal::TooLong(source, MOST_FILE));
     };
-    if write_notes(notes, map, asked.image, source, &file).is_err() {
+    let described = describe(&file);
+    if write_notes(notes, map, asked.image, source, &file, &described).is_err() {
         return Err(Refusal::NoMemory);
     }
+    request(table, asked.image, described);
     Ok(Component {
         image: asked.image,
         permanent: asked.permanent,
@@ -78,10 +84,11 @@ fn write_notes<A: Allocator>(
     image: u8,
     source: Source<'_>,
     file: &[u8],
+    described: &Result<Desc, ImageError>,
 ) -> Result<(), AllocError>
     requires { image < map.now.images }
 {
-    if let Err(fault) = describe(file) {
+    if let Err(fault) = described {
         let (code, name) = (fault.code(), fault.name());
         writeln!(notes, "note: {source} is no intact image: {code} {name}")?;
     }

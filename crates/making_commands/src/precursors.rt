@@ -6,8 +6,10 @@ ghost use Rattle.making_commands.specs.NewManifestEnd.{HaveImages};
 ghost use Rattle.making_commands.specs.NewManifestSteps.{FindsNone, FindsPrecursor};
 ghost use Rattle.making_commands.specs.NewManifestSteps.{FindsPrecursors, ReadsPrecursors};
 
+use crate::next_boot::table_on;
 use answers::flash_of;
 use arrayvec::ArrayVec;
+use certificate::Table;
 use command_line::{NewComponent, NewManifest};
 use flash_model::Flash;
 use manifest::MOST_COMPONENTS;
@@ -18,11 +20,20 @@ use std::marker::Brand;
 use std::sync::ledger::{Blank, Ledger};
 use tlv::describe_slot;
 
+/// The images that run where the files of a manifest may come.
+#[derive(Drop)]
+pub struct Running {
+    /// For each file the digest of the image that has to run; none where any may run.
+    pub digests: ArrayVec<Option<[u8; 32]>, MOST_COMPONENTS>,
+    /// What runs and what is requested, where a flash says it: for notes alone.
+    pub table: Option<Table>,
+}
+
 /// The images that have to run where the files of a manifest may come.
 #[derive(Drop)]
 pub enum Precursors {
-    /// For each file the digest of the image that has to run; none where any may run.
-    Are(ArrayVec<Option<[u8; 32]>, MOST_COMPONENTS>),
+    /// These, for each file.
+    Are(Running),
     /// The image of this number that runs isn't intact, and a file is for it.
     DamagedAt(u8),
 }
@@ -56,14 +67,15 @@ pub fn read_precursors<'a, H: Host>(
 fn any_precursors<'a>(asked: &[NewComponent<'_>]) -> Result<Precursors, Refusal<'a>>
     ensures { IfOk result (FindsNone asked.now) }
 {
-    let mut precursors = ArrayVec::new();
+    let mut digests = ArrayVec::new();
     for _ in asked {
-        if precursors.is_full() {
+        if digests.is_full() {
             return Err(Refusal::Manifest);
         }
-        precursors.push(None);
+        digests.push(None);
     }
-    Ok(Precursors::Are(precursors))
+    let table = None;
+    Ok(Precursors::Are(Running { digests, table }))
 }
 
 /// The images that run on a flash of these bytes, for each of these files.
@@ -96,17 +108,18 @@ fn precursors_on<'a, F: Flash>(
     requires on { (F.chip flash.old).is_on ≡ true }
     ensures { IfOk result (FindsPrecursors map.now (F.chip flash.old) asked.now) }
 {
-    let mut precursors = ArrayVec::new();
+    let table = table_on(flash, map);
+    let mut digests = ArrayVec::new();
     for component in asked {
         let Some(digest) = running_digest(flash, map, component.image) else {
             return Ok(Precursors::DamagedAt(component.image));
         };
-        if precursors.is_full() {
+        if digests.is_full() {
             return Err(Refusal::Manifest);
         }
-        precursors.push(Some(digest));
+        digests.push(Some(digest));
     }
-    Ok(Precursors::Are(precursors))
+    Ok(Precursors::Are(Running { digests, table }))
 }
 
 /// The digest of the image of this number that runs, on a flash that has power; none where it isn't

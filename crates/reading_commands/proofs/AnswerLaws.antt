@@ -7,7 +7,7 @@ use Rattle.answers.specs.declared.image.DescribeEnd.{DescribeEnd}
 use Rattle.answers.specs.declared.manifest_file.ManifestEnd.{ManifestEnd}
 use Rattle.reading_commands.specs.declared.source.Source.{Source}
 use Rattle.reading_commands.specs.declared.source.Source.TheVariants.{StandardInput, File}
-use Rattle.reading_commands.specs.AnswerEnd.{AnswersCheck, AnswersChoice, AnswersDescription, AnswersManifest, AnswersShow}
+use Rattle.reading_commands.specs.AnswerEnd.{AnswersCheck, AnswersChoice, AnswersDescription, AnswersManifest, AnswersShow, AnswersSlots}
 use Rattle.answers.specs.DescribeEnd.{Tells}
 use Rattle.answers.specs.ManifestEnd.{TellsManifest}
 use Rattle.manifest.specs.declared.identity.Identity.{Identity}
@@ -65,6 +65,21 @@ AnswersShow-kept device flash input file old mid new answered kept =
       answered.4,
       answered.5,
       (shown.0, Appends-kept old mid new _ shown.1 kept),
+    )
+
+pub AnswersSlots-kept : (device flash : Source) (input : Option (List ℕ)) (file : FileBytes)
+    (old mid new : Option (List ℕ))
+    → AnswersSlots Done device flash input file old mid → Keeps mid new
+    → AnswersSlots Done device flash input file old new
+AnswersSlots-kept device flash input file old mid new answered kept =
+    let listed = answered.6 in (
+      answered.0,
+      answered.1,
+      answered.2,
+      answered.3,
+      answered.4,
+      answered.5,
+      (listed.0, listed.1, Appends-kept old mid new _ listed.2 kept),
     )
 
 -- known bytes that were kept are those that were known before

@@ -11,6 +11,8 @@ use Rattle.answers.specs.declared.manifest_file.ManifestEnd.{ManifestEnd}
 use Rattle.answers.specs.declared.manifest_file.ManifestEnd.TheVariants as manifest
 use Rattle.answers.specs.declared.show.ShowEnd.{ShowEnd}
 use Rattle.answers.specs.declared.show.ShowEnd.TheVariants as show
+use Rattle.answers.specs.declared.slots.SlotsEnd.{SlotsEnd}
+use Rattle.answers.specs.declared.slots.SlotsEnd.TheVariants as slots
 use Rattle.answers.specs.declared.device.DeviceFile.{DeviceFile}
 use Rattle.reading_commands.specs.declared.source.Source.{Source}
 use Rattle.std.specs.Io.KnownBytes.{Appends}
@@ -24,6 +26,7 @@ use Rattle.answers.specs.FlashOf.{IsFlashOf, flash_of}
 use Rattle.reading_commands.specs.Input.{FileBytes, Gives, GiveBoth}
 use Rattle.answers.specs.ManifestEnd.{TellsManifest}
 use Rattle.answers.specs.ShowEnd.{Shows}
+use Rattle.answers.specs.SlotsEnd.{Lists}
 
 -- `choose` read the bytes of a table, and wrote the right report.
 abbrev pub AnswersChoice : Answer → Source → Option (List ℕ) → FileBytes
@@ -101,6 +104,26 @@ AnswersShow Refused device flash input files old new =
     ShowsDevice show.Refused device flash input files old new
     ⊎ RefusesMap device input files old new
 AnswersShow Cut device flash input files old new = ⊥
+
+-- `slots` read the bytes of a device file and those of its flash, and wrote what stands in its
+-- slots, and what the next boot would decide ..
+abbrev pub ListsDevice : SlotsEnd → Source → Source → Option (List ℕ) → FileBytes
+    → Option (List ℕ) → Option (List ℕ) → Type 0
+ListsDevice end device flash input files old new =
+    (device_bytes : List ℕ) × (bytes : List ℕ) × (of_device : DeviceFile)
+    × GiveBoth device flash input files device_bytes bytes × IsDeviceFile device_bytes of_device
+    × IsFlashOf of_device.map bytes
+    × Lists end of_device.map (flash_of of_device.map bytes) old new
+
+-- .. or why the sizes of the device file make no map, and then the flash doesn't count.
+abbrev pub AnswersSlots : Answer → Source → Source → Option (List ℕ) → FileBytes
+    → Option (List ℕ) → Option (List ℕ) → Type 0
+AnswersSlots Done device flash input files old new =
+    ListsDevice slots.Done device flash input files old new
+AnswersSlots Refused device flash input files old new =
+    ListsDevice slots.Refused device flash input files old new
+    ⊎ RefusesMap device input files old new
+AnswersSlots Cut device flash input files old new = ⊥
 
 -- `codes` wrote the list of all codes and names.
 abbrev pub AnswersCodes : Answer → Option (List ℕ) → Option (List ℕ) → Type 0

@@ -1,6 +1,6 @@
 //! The commands of `bootswap` that write no flash: which of the images that a device is asked to
 //! boot may run together, decided from a table; what an image says of itself; what a manifest says
-//! to a device; and what stands on the flash of one. And what every command shares: where its input
+//! to a device; and what stands on the flash of one and in its slots. And what every command shares: where its input
 //! comes from, its answer or refusal, and its exit status.
 //!
 //! Promises: a command answers `Done` only where what was asked for was done, for what the files
@@ -20,6 +20,7 @@ pub mod image;
 mod limits;
 pub mod manifest_file;
 pub mod show;
+pub mod slots;
 mod source;
 mod table_input;
 

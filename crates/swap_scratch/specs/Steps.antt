@@ -8,6 +8,7 @@ use Rattle.sector_map.specs.Map.{Keeps, slot_sectors}
 use Rattle.sector_map.specs.Part.{swap_one}
 use Rattle.trailer.specs.Status.{status_count_of}
 use Rattle.swap_scratch.specs.Used.{used_of, steps_of}
+use Rattle.swap_scratch.specs.declared.progress.Progress.{Progress}
 use Rattle.swap_scratch.specs.Place.{sectors_of_swap, moved_of, IsPartway, IsImagePlace, KeepsBehind, KeepsRest}
 use Rattle.swap_scratch.specs.Swap.{IsAllCounted}
 
@@ -21,6 +22,16 @@ pub record ReadsUsed (map : SectorMap) (image : ℕ) (side : Side) (old new : Ch
   -- and no more than the slot has.
   pub few : IfOk result (λ used. used ≤ slot_sectors map image)
   pub erases : OnOk result (new.erases ≡ old.erases)
+  pub ends : Ends result old new
+
+-- A call reads how far the swap of an image has come that its trailer of a side counts.
+pub record ReadsProgress (map : SectorMap) (image : ℕ) (side : Side) (old new : Chip)
+    (result : Result Progress FlashError) : Type 0 where
+  -- Nothing changes,
+  pub same : new ≡ old
+  -- and both numbers are exact.
+  pub ok : IfOk result (λ progress. (progress.taken ≡ status_count_of map old image side)
+      × (progress.steps ≡ steps_of map old side image))
   pub ends : Ends result old new
 
 -- The swap of so many sectors of each slot of an image has a step after so many.

@@ -4,7 +4,7 @@ use Rattle.machine.specs.Boots.{IsReported}
 use Rattle.machine.specs.Reading.{HasImages, IsFinding}
 use Rattle.machine.proofs.Unique.{one_greatest, one_table}
 use Rattle.machine.proofs.FoundAgain.{chosen_again, found_again, none_damaged, valid_again}
-use Rattle.boot_core.specs.Found.{HasTable, IsFindingAt}
+use Rattle.decision.specs.Found.{HasTable, IsFindingAt}
 use Rattle.boot_core.proofs.Masks.{set_found}
 use Rattle.boot_core.proofs.deciding.find_again.Goals as goal
 

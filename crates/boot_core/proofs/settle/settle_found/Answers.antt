@@ -1,6 +1,6 @@
 use Rattle.std.proofs.Common.{rules, ◌≤◌, refl, subst, sym}
 use Rattle.machine.proofs.Resuming.{never_found, settle_reports, settle_stands}
-use Rattle.boot_core.specs.Found.{HasTable}
+use Rattle.decision.specs.Found.{HasTable}
 use Rattle.boot_core.proofs.settle.settle_found.Goals as goal
 
 pub settle_and_record-requires-clause-rest : goal.settle_and_record-requires-clause-rest

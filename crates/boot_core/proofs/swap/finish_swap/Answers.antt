@@ -8,7 +8,7 @@ use Rattle.set_log.specs.Log.{state_of}
 use Rattle.upload.specs.View.{view}
 use Rattle.machine.specs.Reading.{CanRead, IsFoundAgain}
 use Rattle.machine.specs.Wear.{IsSetFound}
-use Rattle.boot_core.specs.Found.{HasTable}
+use Rattle.decision.specs.Found.{HasTable}
 use Rattle.boot_core.proofs.Readable.{can_read_before, decided_alone, decided_told, told_here}
 use Rattle.machine.proofs.Resuming.{never_swapped, swap_finishes, swap_records, swap_settles}
 use Rattle.boot_core.proofs.Records.{stands_within}

@@ -1,8 +1,6 @@
 use Rattle.std.proofs.Common.{◌≡◌, ◌∙◌, ◌+◌, ℕ, List, ap, arith, length, subst}
 use Rattle.std.specs.Prelude.{slice_range}
 use Rattle.flash_model.specs.Memory.{chip_of}
-use Rattle.sector_map.specs.Map.{start_of}
-use Rattle.sector_map.specs.Part.{Slot}
 use Rattle.tlv.specs.Fault.{IsFrontFault}
 use Rattle.tlv.specs.Slot.{slot_bytes}
 use Rattle.reading_commands.specs.Input.{IsKnownAs}

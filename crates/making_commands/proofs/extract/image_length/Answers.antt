@@ -1,4 +1,3 @@
-use Rattle.tlv.specs.Slot.{slot_bytes}
 use Rattle.making_commands.proofs.CopyLaws.{image_fits, image_front}
 use Rattle.making_commands.proofs.extract.image_length.Goals as goal
 

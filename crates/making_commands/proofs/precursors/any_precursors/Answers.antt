@@ -5,5 +5,5 @@ use Rattle.making_commands.proofs.precursors.any_precursors.Goals as goal
 -- One more without an image that has to run.
 pub loop-preserved : goal.loop-preserved
 loop-preserved c =
-    rw c.push.ensures.items (zip_more (λ component precursor. precursor ≡ None) c.args.asked.now c.loop.precursors.items c.loop.index nothing None
+    rw c.push.ensures.items (zip_more (λ component precursor. precursor ≡ None) c.args.asked.now c.loop.digests.items c.loop.index nothing None
     c.loop-test.true c.loop.invariant refl)

@@ -5,4 +5,4 @@ use Rattle.making_commands.proofs.precursors.any_precursors.Given as goal
 -- so far no image has to run
 abbrev pub invariant-loop : goal.invariant-loop
 invariant-loop l =
-    AllZip (λ component precursor. precursor ≡ None) (take l.index l.asked) l.precursors.items
+    AllZip (λ component precursor. precursor ≡ None) (take l.index l.asked) l.digests.items

@@ -22,7 +22,7 @@ loop-component-preserved g c =
     let runs = rw c.loop-component.invariant.0 at rw c.in-Some.is at c.running_digest.ensures.found in (
       c.running_digest.ensures.same ∙ c.loop-component.invariant.0,
       rw c.push.ensures.items (zip_more (λ component precursor. IsPrecursor c.args.map.now (Some chip) component.image precursor)
-          asked c.loop-component.precursors.items place nothing (Some c.in-Some.digest) within c.loop-component.invariant.1
+          asked c.loop-component.digests.items place nothing (Some c.in-Some.digest) within c.loop-component.invariant.1
           (subst (λ (x : NewComponent). IsPrecursor c.args.map.now (Some chip) x.image (Some c.in-Some.digest))
           (get_or_default asked place _ nothing within) runs)),
     )

@@ -6,4 +6,4 @@ use Rattle.making_commands.proofs.precursors.precursors_on.Given as goal
 abbrev pub invariant-loop-component : goal.invariant-loop-component
 invariant-loop-component g l =
     (g.F.Flash.chip l.flash ≡ g.F.Flash.chip l.fn.flash)
-    × ArePrecursors l.map (Some (g.F.Flash.chip l.fn.flash)) (take l.component-index l.asked) l.precursors.items
+    × ArePrecursors l.map (Some (g.F.Flash.chip l.fn.flash)) (take l.component-index l.asked) l.digests.items

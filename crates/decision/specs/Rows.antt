@@ -16,7 +16,7 @@ use Rattle.upload.specs.View.{view}
 use Rattle.machine.specs.Boots.{IsRequestOf}
 use Rattle.machine.specs.Reading.{CanRead, CanReadAt, HasRows, IsReadOf, IsReading, IsRowRead}
 use Rattle.machine.specs.declared.finding.Reading.{Reading}
-use Rattle.boot_core.specs.Found.{IsEntryAt, IsReadingAt, IsRowAt}
+use Rattle.decision.specs.Found.{IsEntryAt, IsReadingAt, IsRowAt}
 
 -- A call reads what a decision knows of the image that a slot begins with.
 pub record ReadsSlot (map : SectorMap) (image : ℕ) (side : Side) (old new : Chip)

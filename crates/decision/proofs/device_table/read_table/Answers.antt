@@ -2,10 +2,10 @@ use Rattle.std.proofs.Common.{rules, ◌≡◌, sym, subst, ap, ◌<◌, arith, 
 use Rattle.sector_map.specs.Map.{IsLaidOut}
 use Rattle.upload.specs.View.{view}
 use Rattle.machine.specs.Reading.{AreRowsOf}
-use Rattle.boot_core.specs.Found.{AreReadable}
+use Rattle.decision.specs.Found.{AreReadable}
 use Rattle.machine.proofs.Rows.{lowest_damaged, row_none, row_some, rows_more, rows_none, whole_table}
-use Rattle.boot_core.proofs.Readable.{lowest_at, readable_more, readable_none}
-use Rattle.boot_core.proofs.device_table.read_table.Goals as goal
+use Rattle.decision.proofs.Readable.{lowest_at, readable_more, readable_none}
+use Rattle.decision.proofs.device_table.read_table.Goals as goal
 
 pub loop-image-init : goal.loop-image-init
 loop-image-init g c = record {

@@ -3,8 +3,8 @@ use Rattle.sector_map.specs.Map.{IsLaidOut}
 use Rattle.upload.specs.Device.{DeviceState}
 use Rattle.upload.specs.View.{view}
 use Rattle.machine.specs.Reading.{AreRowsOf, CanRead}
-use Rattle.boot_core.specs.Found.{AreReadable}
-use Rattle.boot_core.proofs.device_table.read_table.Given as goal
+use Rattle.decision.specs.Found.{AreReadable}
+use Rattle.decision.proofs.device_table.read_table.Given as goal
 
 abbrev pub invariant-loop-image : goal.invariant-loop-image
 invariant-loop-image g l = record {

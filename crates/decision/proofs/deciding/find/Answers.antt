@@ -3,9 +3,9 @@ use Rattle.certificate.specs.Combination.{IsValid, running_set}
 use Rattle.upload.specs.View.{view}
 use Rattle.machine.specs.Reading.{HasRows, IsReading}
 use Rattle.machine.proofs.Steadying.{taken_below}
-use Rattle.boot_core.specs.Found.{IsReadingAt}
-use Rattle.boot_core.proofs.Readable.{read_here}
-use Rattle.boot_core.proofs.deciding.find.Goals as goal
+use Rattle.decision.specs.Found.{IsReadingAt}
+use Rattle.decision.proofs.Readable.{read_here}
+use Rattle.decision.proofs.deciding.find.Goals as goal
 
 pub returns-then-not-is_valid : goal.returns-then-not-is_valid
 returns-then-not-is_valid g c = record {

@@ -3,8 +3,8 @@
 ghost use Rattle.std.specs.Prelude.{◌≡◌, true, false};
 ghost use Rattle.sector_map.specs.Map.{HasImage, IsLaidOut};
 ghost use Rattle.machine.specs.States.{entry_of};
-ghost use Rattle.boot_core.specs.Rows.{IsRequestIn, ReadsRow, ReadsSlot, ReadsTable};
-ghost use Rattle.boot_core.specs.Telling.{Tells};
+ghost use Rattle.decision.specs.Rows.{IsRequestIn, ReadsRow, ReadsSlot, ReadsTable};
+ghost use Rattle.decision.specs.Telling.{Tells};
 
 use arrayvec::ArrayVec;
 use certificate::{Entry, Image, Request, Table};
@@ -16,7 +16,7 @@ use tlv::{Desc, SlotError, describe_slot};
 use trailer::standing;
 
 /// What a decision knows of an image, by its description.
-pub(crate) fn entry_of(description: Desc) -> Entry
+pub fn entry_of(description: Desc) -> Entry
     ensures { result ≡ entry_of description }
 {
     Entry {
@@ -28,7 +28,7 @@ pub(crate) fn entry_of(description: Desc) -> Entry
 }
 
 /// What a decision knows of the image that a slot begins with, if it begins with an intact one.
-pub(crate) fn read_slot<F: Flash>(
+pub fn read_slot<F: Flash>(
     flash: &mut F,
     map: &SectorMap,
     image: u8,
@@ -130,7 +130,7 @@ fn read_row<F: Flash>(
 ///
 /// # Errors
 /// `Off` where the flash was off. Nothing changes in any case.
-pub(crate) fn read_table<F: Flash>(
+pub fn read_table<F: Flash>(
     flash: &mut F,
     map: &SectorMap,
     mask: u8,

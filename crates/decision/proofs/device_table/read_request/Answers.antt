@@ -1,6 +1,6 @@
 use Rattle.std.proofs.Common.{rules}
 use Rattle.machine.proofs.Rows.{damaged_request, intact_request}
-use Rattle.boot_core.proofs.device_table.read_request.Goals as goal
+use Rattle.decision.proofs.device_table.read_request.Goals as goal
 
 pub returns-in-None-2 : goal.returns-in-None-2
 returns-in-None-2 g c = record {

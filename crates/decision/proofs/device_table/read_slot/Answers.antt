@@ -2,8 +2,8 @@ use Rattle.std.proofs.Common.{rules, sym, subst}
 use Rattle.tlv.specs.Slot.{slot_bytes}
 use Rattle.machine.specs.Boots.{IsEntryOf}
 use Rattle.machine.proofs.Rows.{read_some}
-use Rattle.boot_core.proofs.Described.{described_front, described_held, fault_front, fault_held}
-use Rattle.boot_core.proofs.device_table.read_slot.Goals as goal
+use Rattle.decision.proofs.Described.{described_front, described_held, fault_front, fault_held}
+use Rattle.decision.proofs.device_table.read_slot.Goals as goal
 
 pub returns-in-Ok : goal.returns-in-Ok
 returns-in-Ok g c = record {

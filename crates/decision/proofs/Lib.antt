@@ -1,0 +1,2 @@
+pub mod Described
+mod Readable

@@ -1,0 +1,4 @@
+pub mod Telling
+pub mod Found
+pub mod Rows
+pub mod Deciding

@@ -1,0 +1,74 @@
+//! What a boot would decide of the files that a manifest lets come: for its notes alone.
+
+ghost use Rattle.std.specs.Prelude.{◌≡◌};
+ghost use Rattle.sector_map.specs.Map.{IsLaidOut};
+
+use crate::make_manifest::is_named;
+use certificate::{Reason, Request, Table, is_valid};
+use chooser::choose;
+use command_line::NewComponent;
+use decision::{entry_of, read_table};
+use flash_model::Flash;
+use machine::Reading;
+use sector_map::SectorMap;
+use set_log::{Kind, read_state};
+use std::alloc::{AllocError, Allocator};
+use tlv::{Desc, ImageError};
+
+/// The table of what runs and what is requested on a flash, where the device is at rest and all of
+/// that can be read.
+pub fn table_on<F: Flash>(flash: &mut F, map: &SectorMap) -> Option<Table>
+    requires { IsLaidOut map.now (F.chip flash.old) }
+    ensures { F.chip flash.new ≡ F.chip flash.old }
+{
+    let state = read_state(flash, map).ok()?;
+    if state.kind != Kind::Steady {
+        return None;
+    }
+    match read_table(flash, map, 0, &state.floors) {
+        Ok(Reading::Read(table)) => Some(table),
+        _ => None,
+    }
+}
+
+/// Requests for an image of a table, if there is one, what a file says of itself.
+pub fn request(table: &mut Option<Table>, image: u8, file: Result<Desc, ImageError>) {
+    let request = match file {
+        Ok(description) => Request::Entry(entry_of(description)),
+        Err(_) => Request::Damaged,
+    };
+    let Some(table) = table else {
+        return;
+    };
+    if let Some(row) = table.images.get_mut(usize::from(image)) {
+        row.request = request;
+    }
+}
+
+/// Adds to notes which of the images that are asked for a boot by this table would refuse, a line
+/// for each, with the reason.
+pub fn write_refusals<A: Allocator>(
+    notes: &mut String<&A>,
+    asked: &[NewComponent<'_>],
+    table: &Option<Table>,
+) -> Result<(), AllocError> {
+    let Some(table) = table else {
+        return Ok(());
+    };
+    if !is_valid(table) {
+        return Ok(());
+    }
+    let report = choose(table);
+    for refusal in report.refusals.as_slice() {
+        if is_told(asked, refusal.image, &refusal.reason) {
+            let (image, reason) = (refusal.image, &refusal.reason);
+            writeln!(notes, "note: a boot would refuse image {image}: {reason}")?;
+        }
+    }
+    Ok(())
+}
+
+/// Whether a refusal is told: it is of an image that is asked for, and of a file that is an image.
+fn is_told(asked: &[NewComponent<'_>], image: u8, reason: &Reason) -> bool {
+    is_named(asked, image) && !matches!(reason, Reason::Damaged)
+}
