@@ -68,7 +68,8 @@ def check_documents(checks):
     for number, (command, wanted) in enumerate(commands_of("docs/TUTORIAL.md"), 1):
         commands.append((f"docs/TUTORIAL.md, command {number}", command, wanted))
     for name, command, wanted in commands:
-        ran = subprocess.run(["bash", "-c", command], cwd=checks.folder, capture_output=True, timeout=LIMIT)
+        both = {"stdout": subprocess.PIPE, "stderr": subprocess.STDOUT}
+        ran = subprocess.run(["bash", "-c", command], cwd=checks.folder, timeout=LIMIT, **both)
         got = ran.stdout.decode()
         checks.tell(name, [] if got == wanted else [command, f"{short(got)}, and not {short(wanted)}"])
     with tempfile.TemporaryDirectory() as made:

@@ -5,8 +5,9 @@ import hashlib
 import json
 import os
 
-from builders import ABC, CLASS, VENDOR, component, device, image, manifest
+from builders import ABC, CLASS, VENDOR, component, device, image, manifest, version
 from checking import EXAMPLES, ONE, PAIR, flash_of, read, short
+from stories import IMAGES, UPLOADED, flash_in, new_device, run_of
 
 NEEDING, PARTNER = f"{EXAMPLES}/images/needing.img", f"{EXAMPLES}/images/partner.img"
 
@@ -36,6 +37,10 @@ OF_ABC = f"""{{"manifest-version":1,"sequence-number":7,
 """.encode()
 
 NO_IMAGE = b"note: abc is no intact image: 1 Short\n"
+
+# Events that request the first image, and that raise its floor to 5.
+FIRST_COMES = "boot, accept first.json, piece 0 needing.img, finish 0"
+FLOOR_RAISED = "boot, accept patched.json, piece 0 patched.img, finish 0, boot"
 
 
 def expect_value(checks, name, words, value, err=b"", **how):
@@ -156,6 +161,44 @@ def check_refused_manifests(checks):
     os.remove(f"{checks.folder}/changed\n")
 
 
+def refused_note(number, reason):
+    """What is noted of an image that the next boot of the flash would refuse."""
+    return f"note: a boot would refuse image {number}: {reason}\n".encode()
+
+
+# Requests on the flash of a device, files that may come to it, and what is noted of them.
+NEXT_BOOTS = [
+    ("it needs another that doesn't come", "", ["--test=0=needing.img"], refused_note(0, "needs 1 2.0.0+0")),
+    ("both come", "", ["--test=0=needing.img", "--permanent=1=partner.img"], b""),
+    ("the other one needs it, and runs on", "", ["--test=1=partner.img"], refused_note(1, "needs 0 2.0.0+0")),
+    ("the other one is requested already", f"{FIRST_COMES}, accept second.json", ["--test=1=partner.img"], b""),
+    ("it takes the place of what is requested", FIRST_COMES, ["--test=0=one.img"], b""),
+    ("an older one", "", ["--test=0=older.img"], refused_note(0, "older")),
+    ("a counter below the floor", FLOOR_RAISED, ["--test=0=stale.img"], refused_note(0, "counter")),
+    ("a damaged file", "", ["--test=0=abc"], NO_IMAGE),
+    ("both on a trial", f"{UPLOADED}, boot", ["--test=0=older.img"], b""),
+]
+
+
+def check_next_boots(checks):
+    """With a flash, what its next boot would refuse of the files is noted, and why; without one nothing is."""
+    for name, events, options, note in NEXT_BOOTS:
+        new_device(checks)
+        checks.file("older.img", image([], own=version(0, 9)))
+        status = run_of(checks, events)[0] if events else 0
+        got = checks.run(asked(*options, "--precursor=flash", sequence=9))
+        alone = checks.run(asked(*options, sequence=9))[2]
+        wanted = (0, 0, note, NO_IMAGE if note == NO_IMAGE else b"")
+        found = (status, got[0], got[2], alone)
+        faults = [] if found == wanted else [f"{short(found)}, and not {short(wanted)}"]
+        checks.tell(f"make-manifest: the next boot: {name}", faults)
+    new_device(checks)
+    checks.file("flash", IMAGES["needing.img"] + flash_in(checks)[96:])
+    status, _, err = checks.run(asked("--test=1=needing.img", "--precursor=flash"))
+    faults = [] if (status, err) == (0, b"") else [f"{status} {short(err)}"]
+    checks.tell("make-manifest: the next boot: what runs doesn't fit", faults)
+
+
 USAGE = """
 
 Usage: bootswap make-manifest <DEVICE> --sequence <N> [--precursor <FLASH>]
@@ -194,4 +237,4 @@ def check_unreadable_manifests(checks):
     checks.expect("make-manifest: the device and a file as -", asked("--test=0=-", of="-"), 2, b"", err)
 
 
-CHECKS = (check_new_manifests, check_precursors, check_refused_manifests, check_unreadable_manifests)
+CHECKS = (check_new_manifests, check_precursors, check_refused_manifests, check_next_boots, check_unreadable_manifests)
