@@ -270,6 +270,51 @@ def check_run_faults(checks):
     checks.tell("run --durable: its syncs", [] if is_right else [f"{synced}, and not {SUM_OF_WRITES}"])
 
 
+# Runs that end with a refusal, with a cut and with no run at all, and how each ends.
+TRIAL = f"{EXAMPLES}/manifests/trial.json"
+OTHER_ENDS = [
+    ("a refusal", "boot, confirm 0", (1, numbered([PLAIN, NO_TRIAL]), b"")),
+    ("a cut", f"cut 1 keep, boot, accept {TRIAL}", (3, numbered([PLAIN, "cut"]), b"")),
+    ("a line that says nothing", "boot, frob", (1, b"", b"error: script line 2\n")),
+    ("a part that the file doesn't have", f"boot, piece 0 {ONE} 0 77", (1, b"", b"error: script line 2\n")),
+]
+
+
+def is_other_end_after(fault, got, usual):
+    """Whether a run that usually ends so may end so after a fault: it told its replies so far, and then the fault."""
+    status, out, err = got
+    lines = usual[1].splitlines(keepends=True)
+    is_beginning = out in [b"".join(lines[:count]) for count in range(len(lines) + 1)]
+    if fault == "memory":
+        # A manifest for which there is no memory is refused by the device, which goes on.
+        is_refused = usual[0] == 3 and out.startswith(numbered([PLAIN])) and out.endswith(b" NoMemory\n")
+        return got == (1, out, b"error: memory\n") and is_beginning or got == (1, out, b"") and is_refused
+    if fault != "fail":
+        return False
+    is_untold = status == 1 and usual[1].startswith(out) and usual[2].startswith(err)
+    is_unread = status == 1 and err.startswith(b"error: cannot read ") and not out
+    is_unwritten = usual[0] == 3 and got == (4, usual[1], b"error: flash file\n")
+    return is_untold or is_unread or is_unwritten
+
+
+def check_other_ends(checks):
+    """The same of runs that end otherwise: the flash file is one from which the device boots."""
+    before = flash_of(checks)
+    for name, events, usual in OTHER_ENDS:
+        checks.file("script", "".join(f"{event}\n" for event in events.split(", ")).encode())
+
+        def run(env=os.environ):
+            checks.file("flash", before)
+            return checks.run(["run", PAIR, "flash", "script"], env=env)
+
+        for fault in ("fail", "short", "memory"):
+            faults = []
+            for at, got in each_fault(checks, fault, run):
+                if got != usual and not is_other_end_after(fault, got, usual) or not boots_behind(checks):
+                    faults.append(f"at call {at}: {short(got)}")
+            checks.tell(f"{fault}: a run that ends with {name}, {at} calls", faults[:5])
+
+
 def check_durable_words(checks):
     """Each write of the flash file is synced where `--durable` stands anywhere before `--`, and else none is."""
     before = flash_of(checks)
@@ -297,5 +342,6 @@ CHECKS = (
     check_little_is_read,
     check_making_faults,
     check_run_faults,
+    check_other_ends,
     check_durable_words,
 )
