@@ -6,7 +6,7 @@ use certificate::{Report, Table, check};
 use std::io::Write;
 
 /// How a check ended.
-#[derive(Clone, Copy, Debug, PartialEq, Eq)]
+#[derive(Clone, Copy)]
 pub enum CheckEnd {
     /// The report is right for the table, and `yes` is written.
     Yes,

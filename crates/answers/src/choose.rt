@@ -10,7 +10,7 @@ use std::alloc::Allocator;
 use std::io::{Read, Write};
 
 /// How a choice ended.
-#[derive(Clone, Copy, Debug, PartialEq, Eq)]
+#[derive(Clone, Copy)]
 pub enum ChooseEnd {
     /// The report is written.
     Done,

@@ -3,7 +3,8 @@
 ghost use Rattle.std.specs.Prelude.{◌≡◌, ◌↔◌, ℕ, List, IfErr, IfNone, IfOk, IfSome, IsTrue, map};
 ghost use Rattle.std.specs.List.{AllZip};
 ghost use Rattle.serde_json.specs.View.{view};
-ghost use Rattle.answers.specs.DeviceFile.{HasDeviceKeys, IsDeviceFault, IsDeviceFile, IsNumber, IsReadingFault, IsTrialBoots, Spells};
+ghost use Rattle.answers.specs.DeviceFile.{HasDeviceKeys, IsDeviceFault, IsDeviceFile, IsNumber};
+ghost use Rattle.answers.specs.DeviceFile.{IsReadingFault, IsTrialBoots, Spells};
 ghost use Rattle.answers.specs.declared.device.DeviceFields.{DeviceFields};
 
 use common::limits::MOST_TRIAL_BOOTS;
@@ -46,7 +47,7 @@ pub struct DeviceFields {
 }
 
 /// What a device is.
-#[derive(Clone, Copy, Debug, PartialEq, Eq)]
+#[derive(Clone, Copy)]
 pub struct DeviceFile {
     /// Where the parts of its flash lie.
     pub map: SectorMap,
@@ -57,7 +58,7 @@ pub struct DeviceFile {
 }
 
 /// Why bytes are no device file.
-#[derive(Clone, Copy, Debug, PartialEq, Eq, Error)]
+#[derive(Clone, Copy, Debug, Error)]
 pub enum DeviceFault {
     /// They aren't the JSON text of an object with exactly the keys of a device file and with what
     /// has to stand there.

@@ -3,7 +3,7 @@
 use thiserror::Error;
 
 /// Why a reader was not read to its end.
-#[derive(Clone, Copy, Debug, PartialEq, Eq, Error)]
+#[derive(Clone, Copy, Debug, Error)]
 pub enum ReadError {
     /// There is no memory for what it gives.
     #[error("memory")]

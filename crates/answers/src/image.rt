@@ -16,7 +16,7 @@ use tlv::{Desc, ImageError, describe};
 use version_order::{Dependency, Group};
 
 /// How a description ended.
-#[derive(Clone, Copy, Debug, PartialEq, Eq)]
+#[derive(Clone, Copy)]
 pub enum DescribeEnd {
     /// The bytes are an intact image, and what it says of itself is written.
     Done,

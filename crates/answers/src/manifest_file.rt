@@ -1,7 +1,8 @@
 //! `bootswap manifest`: what a manifest says to a device, or why it is none for it.
 ghost use Rattle.std.specs.Prelude.{◌≡◌, ◌≢◌, ◌∷◌, ◌++◌, [], IfOk, string_bytes};
 ghost use Rattle.answers.specs.ManifestEnd.{TellsManifest};
-ghost use Rattle.answers.specs.ManifestText.{component_text, manifest_text, precursor_text, refusal_text};
+ghost use Rattle.answers.specs.ManifestText.{component_text, manifest_text, precursor_text};
+ghost use Rattle.answers.specs.ManifestText.{refusal_text};
 ghost use Rattle.manifest.specs.Component.{kind_text};
 
 use crate::refusals::refused_text;
@@ -11,7 +12,7 @@ use std::alloc::{AllocError, Allocator, Global};
 use std::io::Write;
 
 /// How reading a manifest ended.
-#[derive(Clone, Copy, Debug, PartialEq, Eq)]
+#[derive(Clone, Copy)]
 pub enum ManifestEnd {
     /// The bytes are a manifest for the device, and what it says is written.
     Done,

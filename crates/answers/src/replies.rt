@@ -2,7 +2,8 @@
 ghost use Rattle.std.specs.Fmt.{WritesOnOk};
 ghost use Rattle.std.specs.Prelude.{◌≡◌, IfOk, Some, decimal, string_bytes};
 ghost use Rattle.common.specs.Lines.{◌␣◌};
-ghost use Rattle.answers.specs.ReplyText.{decision_text, fault_text, group_text, is_some_taken, refused_fault_text, reply_text, set_text, upload_text};
+ghost use Rattle.answers.specs.ReplyText.{decision_text, fault_text, group_text, is_some_taken};
+ghost use Rattle.answers.specs.ReplyText.{refused_fault_text, reply_text, set_text, upload_text};
 
 use certificate::{Report, ReportedImage};
 use common::limits::MOST_IMAGES;

@@ -1,12 +1,14 @@
 //! `bootswap show`: what stands on the flash of a device.
-ghost use Rattle.std.specs.Prelude.{◌≡◌, ◌<◌, ◌≤◌, ◌++◌, IfOk, Some, true, length, slice_index, string_bytes};
+ghost use Rattle.std.specs.Prelude.{◌≡◌, ◌<◌, ◌≤◌, ◌++◌, IfOk, Some, true, length, slice_index};
+ghost use Rattle.std.specs.Prelude.{string_bytes};
 ghost use Rattle.flash_model.specs.Chip.{Chip};
 ghost use Rattle.sector_map.specs.Map.{IsLaidOut};
 ghost use Rattle.set_log.specs.Log.{state_of};
 ghost use Rattle.trailer.specs.Fields.{fields_at, trailer_of};
 ghost use Rattle.answers.specs.FlashOf.{IsFlashOf, flash_of};
 ghost use Rattle.answers.specs.ShowEnd.{Shows, stand_text, swap_type_in};
-ghost use Rattle.answers.specs.StateText.{floor_lines, images_text, kind_text, left_text, swap_lines, swap_type_text};
+ghost use Rattle.answers.specs.StateText.{floor_lines, images_text, kind_text, left_text};
+ghost use Rattle.answers.specs.StateText.{swap_lines, swap_type_text};
 
 use crate::flash::flash_of;
 use crate::replies::{Members, refused_fault_text};
@@ -22,7 +24,7 @@ use std::sync::ledger::{Blank, Ledger};
 use trailer::{SwapType, Trailer, read_trailer, swap_type};
 
 /// How showing a flash ended.
-#[derive(Clone, Copy, Debug, PartialEq, Eq)]
+#[derive(Clone, Copy)]
 pub enum ShowEnd {
     /// The log has a state, and what stands is written.
     Done,

@@ -3,7 +3,9 @@ ghost use Rattle.std.specs.Prelude.{◌<◌, ◌≡◌, ◌↔◌, IsTrue, true}
 ghost use Rattle.flash_model.specs.Chip.{Chip};
 ghost use Rattle.sector_map.specs.Map.{IsLaidOut};
 ghost use Rattle.trailer.specs.Standing.{standing_of};
-ghost use Rattle.answers.specs.SlotsFound.{AreFound, AreSlotsOf, AreSlotsUpTo, IsContent, IsDecisionOf, IsErasedSlot, counting_side, moved_in, progress_of, progress_on};
+ghost use Rattle.answers.specs.SlotsFound.{AreFound, AreSlotsOf, AreSlotsUpTo, IsContent};
+ghost use Rattle.answers.specs.SlotsFound.{IsDecisionOf, IsErasedSlot, counting_side, moved_in};
+ghost use Rattle.answers.specs.SlotsFound.{progress_of, progress_on};
 
 use arrayvec::ArrayVec;
 use common::limits::MOST_IMAGES;

@@ -1,7 +1,8 @@
 //! What is printed of the slots of a device. `slots` alone calls it.
 ghost use Rattle.std.specs.List.{flat_map};
 ghost use Rattle.std.specs.Prelude.{◌≡◌, ◌++◌, IfOk, Some, string_bytes};
-ghost use Rattle.answers.specs.SlotsText.{content_text, decision_text, found_text, image_text, moved_text, request_text};
+ghost use Rattle.answers.specs.SlotsText.{content_text, decision_text, found_text, image_text};
+ghost use Rattle.answers.specs.SlotsText.{moved_text, request_text};
 
 use crate::image::description_text;
 use crate::replies::refused_fault_text;

@@ -1,15 +1,16 @@
 -- Bytes of which a range was replaced, and ranges that a cut left.
-use Rattle.std.proofs.Common.{◌≡◌, ◌*◌, ℕ, ◌+◌, ◌-◌, ◌%◌, ◌<◌, ◌≤◌, List, [], ◌∷◌, ◌++◌, length, take, drop}
+use Rattle.std.proofs.Common.{◌≡◌, ◌*◌, ℕ, ◌+◌, ◌-◌, ◌/◌, ◌%◌, ◌<◌, ◌≤◌, List, [], ◌∷◌, ◌++◌, length, take, drop}
 use Rattle.std.proofs.Common.{slice_index, slice_range, replicate, refl, sym, ◌∙◌, ap, arith}
 use Rattle.std.proofs.lemmas.List.{ext_get_or, get_or-drop, get_or-take, get_or_append_left, get_or-append_right}
 use Rattle.std.proofs.lemmas.List.{length-append, length-take, length-drop, length-replicate, take_at}
+use Rattle.std.proofs.lemmas.List.{append_assoc, drop-append-le, drop-drop, take-append-drop, take-replicate}
 use Rattle.std.proofs.lemmas.List.FromFn.{get_or-map-range_with_len, length-map-range_with_len}
 use Rattle.flash_model.specs.declared.torn.Torn.{Torn}
-use Rattle.flash_model.specs.declared.torn.Torn.TheVariants.{Keep, Done, Bytes}
+use Rattle.flash_model.specs.declared.torn.Torn.TheVariants.{Keep, Done, Half, Bytes}
 use Rattle.flash_model.specs.Chip.{Chip, SameOutside}
 use Rattle.flash_model.proofs.Frame.{product_le}
 use Rattle.flash_model.proofs.Ranges.{length_range}
-use Rattle.flash_model.specs.Torn.{repeated, with_pattern, torn_bytes, torn_at, replaced}
+use Rattle.flash_model.specs.Torn.{half_done, repeated, replaced, torn_at, torn_bytes, with_pattern}
 
 -- No bytes are put over what was there.
 pub with_pattern_none : (pattern old : List ℕ) → length pattern ≡ 0 → old ≡ with_pattern pattern old
@@ -34,11 +35,17 @@ length-with_pattern [] old = refl
 length-with_pattern (b ∷ bs) old =
     length-map-range_with_len (λ i. slice_index (b ∷ bs) (i % length (b ∷ bs))) 0 (length old)
 
+-- Half of a write leaves as many bytes as there were.
+length-half_done : (old done : List ℕ) → length old ≡ length done
+    → length (half_done old done) ≡ length done
+length-half_done old done same = simp (length-append, length-take, length-drop) (omega (arith, same))
+
 -- A cut leaves as many bytes as there were.
 pub length-torn_bytes : (torn : Torn) (old done : List ℕ) → length old ≡ length done
     → length (torn_bytes torn old done) ≡ length done
 length-torn_bytes Keep old done same = same
 length-torn_bytes Done old done same = refl
+length-torn_bytes Half old done same = length-half_done old done same
 length-torn_bytes (Bytes pattern) old done same = length-with_pattern pattern.items old ∙ same
 
 pub length-replaced : (at : ℕ) (range bytes : List ℕ) → at + length range ≤ length bytes
@@ -121,3 +128,51 @@ items_after_torn_blank torn len at n old new is inside all =
     let blank : List ℕ = replicate n 255 in
     items_after len old new (torn_at at blank torn old) (torn_blank torn at n old new is)
     (length-torn_at torn at blank old inside) all
+
+-- ---- a half of a write
+
+-- The front of a range is written as the whole of it is whose rest is what was there.
+front_put : (at n : ℕ) (range bytes : List ℕ) → n ≤ length range → at + length range ≤ length bytes
+    → replaced at (take n range) bytes
+    ≡ replaced at (take n range ++ drop n (slice_range bytes at (at + length range))) bytes
+front_put at n range bytes front inside =
+    let m : ℕ = length range in
+    let behind : List ℕ = drop at bytes in
+    let whole : slice_range bytes at (at + m) ≡ take m behind = ap (λ k. take k behind) (omega arith) in
+    let written : List ℕ = take n range ++ drop n (slice_range bytes at (at + m)) in
+    let long : length (take n range) ≡ n = length-take n range ∙ omega arith in
+    let range_long : length (slice_range bytes at (at + m)) ≡ m
+        = length_range bytes at (at + m) ∙ omega arith in
+    let written_long : length written ≡ m =
+        simp (length-append, length-drop) (omega (arith, long, range_long)) in
+    let parted : drop n (take m behind) ++ drop m behind ≡ drop n behind =
+        sym (drop-append-le n (take m behind) (drop m behind) (omega (arith, length-take m behind, length-drop at bytes)))
+        ∙ ap (λ all. drop n all) (take-append-drop m behind) in
+    let rest : drop n (slice_range bytes at (at + m)) ++ drop (at + length written) bytes
+        ≡ drop (at + length (take n range)) bytes =
+        ap (λ all. drop n all ++ drop (at + length written) bytes) whole
+        ∙ ap (λ k. drop n (take m behind) ++ drop (at + k) bytes) written_long
+        ∙ ap (λ all. drop n (take m behind) ++ all) (sym (drop-drop m at bytes))
+        ∙ parted ∙ drop-drop n at bytes ∙ ap (λ k. drop (at + k) bytes) (sym long) in
+    ap (λ all. take at bytes ++ (take n range ++ all)) (sym rest)
+    ∙ ap (λ all. take at bytes ++ all)
+    (sym (append_assoc (take n range) (drop n (slice_range bytes at (at + m))) (drop (at + length written) bytes)))
+
+-- The first half of these bytes is put at their place.
+pub half_put : (at : ℕ) (range bytes new : List ℕ) → at + length range ≤ length bytes
+    → new ≡ replaced at (take (length range / 2) range) bytes → new ≡ torn_at at range Half bytes
+half_put at range bytes new inside is =
+    is ∙ front_put at (length range / 2) range bytes (omega arith) inside
+
+-- The first half of so many bytes is erased.
+pub half_blank : (at n : ℕ) (bytes new : List ℕ) → at + n ≤ length bytes
+    → new ≡ replaced at (replicate (n / 2) 255) bytes
+    → new ≡ replaced at (half_done (slice_range bytes at (at + n)) (replicate n 255)) bytes
+half_blank at n bytes new inside is =
+    let blank : List ℕ = replicate n 255 in
+    let long : length blank ≡ n = length-replicate {A = ℕ} n 255 in
+    let half : replicate (n / 2) 255 ≡ take (length blank / 2) blank =
+        sym (take-replicate (n / 2) n 255 (omega arith)) ∙ ap (λ m. take (m / 2) blank) (sym long) in
+    is ∙ ap (λ front. replaced at front bytes) half
+    ∙ front_put at (length blank / 2) blank bytes (omega arith) (omega (arith, long, inside))
+    ∙ ap (λ m. replaced at (half_done (slice_range bytes at (at + m)) blank) bytes) long

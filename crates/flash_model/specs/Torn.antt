@@ -1,10 +1,10 @@
 -- What a cut leaves of a range that was being written, and which writes are to be cut.
-use Rattle.std.specs.Prelude.{ℕ, ◌+◌, ◌%◌, ◌==◌, List, [], ◌∷◌, ◌++◌, length, take, drop, map}
+use Rattle.std.specs.Prelude.{ℕ, ◌+◌, ◌/◌, ◌%◌, ◌==◌, List, [], ◌∷◌, ◌++◌, length, take, drop, map}
 use Rattle.std.specs.Prelude.{Option, option_map, slice_index, slice_range, find}
 use Rattle.std.specs.List.{range_with_len}
 use Rattle.flash_model.specs.declared.torn.Armed.{Armed}
 use Rattle.flash_model.specs.declared.torn.Torn.{Torn}
-use Rattle.flash_model.specs.declared.torn.Torn.TheVariants.{Keep, Done, Bytes}
+use Rattle.flash_model.specs.declared.torn.Torn.TheVariants.{Keep, Done, Half, Bytes}
 
 -- So many bytes of a pattern that is repeated: each is the byte of the pattern at its place,
 -- counted in lengths of the pattern.
@@ -16,10 +16,16 @@ abbrev pub with_pattern : List ℕ → List ℕ → List ℕ
 with_pattern [] old = old
 with_pattern (b ∷ bs) old = repeated (b ∷ bs) (length old)
 
+-- A range of which half is written: the first half of the bytes that it was to have, and behind them
+-- those that it had.
+abbrev pub half_done : List ℕ → List ℕ → List ℕ
+half_done old done = take (length done / 2) done ++ drop (length done / 2) old
+
 -- What a cut leaves in a range, of the bytes that it had and those that it was to have.
 abbrev pub torn_bytes : Torn → List ℕ → List ℕ → List ℕ
 torn_bytes Keep old done = old
 torn_bytes Done old done = done
+torn_bytes Half old done = half_done old done
 torn_bytes (Bytes pattern) old done = with_pattern pattern.items old
 
 -- All bytes, with others from an address on in the place of those that were there.

@@ -1,6 +1,7 @@
 //! What a driver of a flash has to do.
 
-ghost use Rattle.std.specs.Prelude.{◌≡◌, ◌^◌, ◌+◌, ◌*◌, ◌%◌, ◌<◌, ◌≤◌, ℕ, length, slice_index, true};
+ghost use Rattle.std.specs.Prelude.{◌≡◌, ◌^◌, ◌+◌, ◌*◌, ◌%◌, ◌<◌, ◌≤◌, ℕ, length, slice_index};
+ghost use Rattle.std.specs.Prelude.{true};
 ghost use Rattle.flash_model.specs.Chip.{Chip, size_of, IsErased};
 ghost use Rattle.flash_model.specs.Calls.{Erases, Programs, ReadsBytes};
 

@@ -1,6 +1,7 @@
 //! A flash in memory, of which any write can be cut.
 
-ghost use Rattle.std.specs.Prelude.{◌≡◌, ◌+◌, ◌-◌, ◌*◌, ◌/◌, ◌%◌, ◌^◌, ◌<◌, [], ℕ, All, length, min, replicate, slice_index, vec_len, IfOk};
+ghost use Rattle.std.specs.Prelude.{◌≡◌, ◌+◌, ◌-◌, ◌*◌, ◌/◌, ◌%◌, ◌^◌, ◌<◌, [], ℕ, All, length};
+ghost use Rattle.std.specs.Prelude.{min, replicate, slice_index, vec_len, IfOk};
 
 use crate::error::FlashError;
 use crate::flash::Flash;

@@ -1,7 +1,9 @@
 //! Ranges of bytes in memory, written whole or torn.
 
-ghost use Rattle.std.specs.Prelude.{ℕ, ◌≡◌, ◌+◌, ◌<◌, ◌≤◌, length, replicate, slice_index, slice_range};
-ghost use Rattle.flash_model.specs.Torn.{replaced, torn_at, torn_bytes, with_pattern};
+ghost use Rattle.std.specs.Prelude.{ℕ, ◌≡◌, ◌+◌, ◌<◌, ◌≤◌, length, replicate, slice_index};
+ghost use Rattle.std.specs.Prelude.{slice_range};
+ghost use Rattle.flash_model.specs.Torn.{half_done, replaced, torn_at, torn_bytes, with_pattern};
+ghost use Rattle.flash_model.specs.declared.torn.Torn.TheVariants as Torn;
 
 use crate::torn::Torn;
 
@@ -46,6 +48,27 @@ fn put_pattern(all: &mut [u8], at: usize, n: usize, pattern: &[u8])
     repeat(&mut all[at..at + n], pattern);
 }
 
+/// Puts the first half of these bytes at their place.
+#[tactic(auto, using(crate::proofs::TornBytes::half_put))]
+fn put_half(all: &mut [u8], at: usize, bytes: &[u8])
+    requires { at + length bytes.now ≤ length all.old }
+    ensures bytes { all.new ≡ torn_at at bytes.now Torn.Half all.old }
+    ensures are_bytes { (k : ℕ) → slice_index all.new k < 256 }
+{
+    put(all, at, &bytes[..bytes.len() / 2]);
+}
+
+/// Erases the first half of so many bytes.
+#[tactic(auto, using(crate::proofs::TornBytes::half_blank))]
+fn blank_half(all: &mut [u8], at: usize, n: usize)
+    requires { at + n ≤ length all.old }
+    ensures bytes { let old = slice_range all.old at (at + n) in
+        all.new ≡ replaced at (half_done old (replicate n 0xff)) all.old }
+    ensures are_bytes { (k : ℕ) → slice_index all.new k < 256 }
+{
+    blank(all, at, n / 2);
+}
+
 /// Leaves of a program of these bytes what a cut leaves.
 pub(crate) fn tear_program(all: &mut [u8], at: usize, bytes: &[u8], torn: &Torn)
     requires { at + length bytes.now ≤ length all.old }
@@ -55,6 +78,7 @@ pub(crate) fn tear_program(all: &mut [u8], at: usize, bytes: &[u8], torn: &Torn)
     match torn {
         Torn::Keep => {}
         Torn::Done => put(all, at, bytes),
+        Torn::Half => put_half(all, at, bytes),
         Torn::Bytes(pattern) => put_pattern(all, at, bytes.len(), pattern),
     }
 }
@@ -69,6 +93,7 @@ pub(crate) fn tear_erase(all: &mut [u8], at: usize, n: usize, torn: &Torn)
     match torn {
         Torn::Keep => {}
         Torn::Done => blank(all, at, n),
+        Torn::Half => blank_half(all, at, n),
         Torn::Bytes(pattern) => put_pattern(all, at, n, pattern),
     }
 }
