@@ -142,18 +142,18 @@ front_put at n range bytes front inside =
     let written : List ℕ = take n range ++ drop n (slice_range bytes at (at + m)) in
     let long : length (take n range) ≡ n = length-take n range ∙ omega arith in
     let range_long : length (slice_range bytes at (at + m)) ≡ m
-        = length_range bytes at (at + m) ∙ omega arith in
+    = length_range bytes at (at + m) ∙ omega arith in
     let written_long : length written ≡ m =
-        simp (length-append, length-drop) (omega (arith, long, range_long)) in
+    simp (length-append, length-drop) (omega (arith, long, range_long)) in
     let parted : drop n (take m behind) ++ drop m behind ≡ drop n behind =
-        sym (drop-append-le n (take m behind) (drop m behind) (omega (arith, length-take m behind, length-drop at bytes)))
-        ∙ ap (λ all. drop n all) (take-append-drop m behind) in
+    sym (drop-append-le n (take m behind) (drop m behind) (omega (arith, length-take m behind, length-drop at bytes)))
+    ∙ ap (λ all. drop n all) (take-append-drop m behind) in
     let rest : drop n (slice_range bytes at (at + m)) ++ drop (at + length written) bytes
-        ≡ drop (at + length (take n range)) bytes =
-        ap (λ all. drop n all ++ drop (at + length written) bytes) whole
-        ∙ ap (λ k. drop n (take m behind) ++ drop (at + k) bytes) written_long
-        ∙ ap (λ all. drop n (take m behind) ++ all) (sym (drop-drop m at bytes))
-        ∙ parted ∙ drop-drop n at bytes ∙ ap (λ k. drop (at + k) bytes) (sym long) in
+    ≡ drop (at + length (take n range)) bytes =
+    ap (λ all. drop n all ++ drop (at + length written) bytes) whole
+    ∙ ap (λ k. drop n (take m behind) ++ drop (at + k) bytes) written_long
+    ∙ ap (λ all. drop n (take m behind) ++ all) (sym (drop-drop m at bytes))
+    ∙ parted ∙ drop-drop n at bytes ∙ ap (λ k. drop (at + k) bytes) (sym long) in
     ap (λ all. take at bytes ++ (take n range ++ all)) (sym rest)
     ∙ ap (λ all. take at bytes ++ all)
     (sym (append_assoc (take n range) (drop n (slice_range bytes at (at + m))) (drop (at + length written) bytes)))
@@ -172,7 +172,7 @@ half_blank at n bytes new inside is =
     let blank : List ℕ = replicate n 255 in
     let long : length blank ≡ n = length-replicate {A = ℕ} n 255 in
     let half : replicate (n / 2) 255 ≡ take (length blank / 2) blank =
-        sym (take-replicate (n / 2) n 255 (omega arith)) ∙ ap (λ m. take (m / 2) blank) (sym long) in
+    sym (take-replicate (n / 2) n 255 (omega arith)) ∙ ap (λ m. take (m / 2) blank) (sym long) in
     is ∙ ap (λ front. replaced at front bytes) half
     ∙ front_put at (length blank / 2) blank bytes (omega arith) (omega (arith, long, inside))
     ∙ ap (λ m. replaced at (half_done (slice_range bytes at (at + m)) blank) bytes) long
