@@ -2,8 +2,9 @@
 //! told by how many bytes before the end of the sector it begins. From the sector's first byte on
 //! stand the status units.
 
-/// The magic (`BOOT_MAGIC`), which is written as one unit of 16 bytes.
-pub(crate) const MAGIC: [u8; 16] = [
+/// The magic (`BOOT_MAGIC` of MCUboot's image trailer: MCUboot design document, "Image Trailer"),
+/// which is written as one unit of 16 bytes.
+pub const MAGIC: [u8; 16] = [
     0x77, 0xc2, 0x95, 0xf3, 0x60, 0xd2, 0xef, 0x7f, 0x35, 0x52, 0x50, 0x0f, 0x2c, 0xb6, 0x79, 0x80,
 ];
 

@@ -23,6 +23,7 @@ mod units;
 mod withdrawing;
 
 pub use clearing::clear;
+pub use format::MAGIC;
 pub use kinds::{Kind, Magic, Settling, SwapType, Trailer};
 pub use requesting::{request, set_ok};
 pub use settling::settle;
