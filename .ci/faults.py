@@ -67,6 +67,7 @@ def runs_with_faults():
     yield ["make-device", "--sector", "512", "--slots", "2,2", "--vendor", "python.org", "--class", "sensor"]
     files = [f"--test=0={EXAMPLES}/images/needing.img", f"--permanent=1={EXAMPLES}/images/padded.img"]
     yield from [["make-manifest", PAIR, "--sequence", "1", "--precursor", "flash", *files], ["codes"]]
+    yield from [["sweep", "--sample=1", PAIR, SCRIPT, ONE, ONE], ["sweep", PAIR, SCRIPT, ONE, "gone"]]
     yield from [["frob"], [b"\xff"], ["check", "-", "-"], ["make-image", "a", "b", "--version=x"]]
     yield from [["--help"], ["--version"]]
 

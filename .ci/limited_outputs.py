@@ -32,6 +32,14 @@ COMMANDS = [
     ),
     ("show", ["show", PAIR, "flash"], "boot", True, NEW, b""),
     ("slots", ["slots", PAIR, "flash"], "boot", True, NEW + FIRST + SECOND + BOTH_RUN, b""),
+    (
+        "sweep",
+        ["sweep", PAIR, "script", "one.img", "one.img"],
+        "boot",
+        True,
+        b"1 boot\nruns 1\nend 1 uncut\nrun 0 1.0.0+0\nrun 1 1.0.0+0\n",
+        b"",
+    ),
     ("provision", ["provision", PAIR, "flash", "one.img", "one.img"], "boot", True, b"done\n", b""),
     (
         "provision of a damaged image",

@@ -59,6 +59,7 @@ SECONDS = {
     "sector_map": 30,
     "set_log": 55,
     "swap_scratch": 35,
+    "sweep": 90,
     "tlv": 179,
     "trailer": 118,
     "upload": 110,

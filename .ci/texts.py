@@ -448,7 +448,7 @@ def check_kept_images(checks, body):
 
 
 COMMANDS = ("choose", "check", "image", "manifest", "make-device", "make-image", "make-manifest", "provision")
-COMMANDS += ("extract", "show", "slots", "run", "codes")
+COMMANDS += ("extract", "show", "slots", "run", "sweep", "codes")
 
 
 def check_words(checks):
@@ -467,6 +467,8 @@ def check_words(checks):
     wrong += [asked(512, [2, ""], "v", "c"), asked(512, ["2 2"], "v", "c"), asked(512, [2], "v", "c", 0)]
     wrong += [["make-image"], ["make-image", "a", "b"], ["make-image", "-", "b", "--version=1"]]
     wrong += [["make-image", "a", "b", "--version=x"], ["make-image", "a", "b", "--version=1", "--needs=1"]]
+    wrong += [["sweep"], ["sweep", "a", "b"], ["sweep", "-", "-", "a"], ["sweep", "a", "b", "c", "--svg=-"]]
+    wrong += [["sweep", "a", "b", "c", "--sample=x"], ["sweep", "a", "b", "c", "--seed=-1"]]
     wrong += [["make-manifest"], ["make-manifest", "a"], ["make-manifest", "a", "--sequence=1"]]
     wrong += [["make-manifest", "--sequence=1", "--test=0=b"], ["make-manifest", "-", "--sequence=1", "--test=0=-"]]
     wrong += [asked(512, [2], "v", "c", 8), asked(512, [2], "v", "c", 1, 1), asked(512, [2], "v", "c")[:-2]]

@@ -11,6 +11,9 @@ MANIFEST = f"{EXAMPLES}/manifests/abc.json"
 # What is said to a device that has just been given power, and what it says.
 BOOT, BOOTED = b"boot\n", b"1 plain\nrun 0 1.0.0+0\nrun 1 1.0.0+0\n"
 
+# What a sweep of that says, which writes nothing that could be cut.
+SWEPT = b"1 boot\nruns 1\nend 1 uncut\nrun 0 1.0.0+0\nrun 1 1.0.0+0\n"
+
 OF_SENSOR = f"""{{"sector":512,"sectors":[2,2],
  "vendor-id":"{VENDOR}",
  "class-id":"9ed1b5d5-f629-5008-93c6-1958ba5b9953"}}
@@ -97,6 +100,12 @@ def spellings_on_devices():
         ["run", "--durable", PAIR, "flash", "--", "--durable"],
         ["run", "--durable", "--", "--device", "--flash", "--durable"],
     ], BOOTED, b""
+    yield [
+        ["sweep", PAIR, "boots", ONE, ONE],
+        ["sweep", "--twice", PAIR, "boots", "--sample=5", ONE, "--seed", "7", ONE],
+        ["sweep", PAIR, "boots", "--", ONE, "--image"],
+        ["sweep", "--seed=1", "--", "--device", "--durable", "--image", "--image"],
+    ], SWEPT, b""
 
 
 def check_spellings(checks):
@@ -196,6 +205,19 @@ USAGES = {
         "unexpected value 'true' for '--durable' found; no more were expected": ["run --durable=true a b c"],
         ONE_FILE: ["run - f -"],
         IS_WRITTEN: ["run d - s", "run - - s"],
+    },
+    """sweep <DEVICE> <SCRIPT> <IMAGE>... [--twice] [--sample <N>]
+           [--seed <N>] [--svg <FILE>]""": {
+        f"{MISSING}\n  <IMAGE>...": ["sweep a b"],
+        "the argument '--twice' cannot be used multiple times": ["sweep --twice --twice a b c"],
+        "the argument '--sample <N>' cannot be used multiple times": ["sweep a b c --sample=1 --sample=1"],
+        "`--sample` is a number, in digits, below 4294967296": [
+            "sweep a b c --sample=x",
+            "sweep a b c --sample=4294967296",
+        ],
+        "`--seed` is a number, in digits, below 4294967296": ["sweep a b c --seed=", "sweep a b c --seed=1.5"],
+        ONE_FILE: ["sweep - - a", "sweep - b -", "sweep a b - -"],
+        "the picture is made, so it can't be standard input, `-`": ["sweep a b c --svg=-", "sweep - - c --svg -"],
     },
     "codes": {"unexpected argument 'a' found": ["codes a"]},
     """make-image <OUT> <BODY> --version <VERSION> [--counter <N>]

@@ -1,4 +1,4 @@
 pub mod DeviceLaws
 pub mod ReplyLaws
 mod SlotLaws
-mod TextLaws
+pub mod TextLaws

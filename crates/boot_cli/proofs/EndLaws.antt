@@ -1,5 +1,5 @@
 -- What was answered, by what was read in turn and written.
-use Rattle.std.proofs.Common.{◌≡◌, ℕ, List, [], ◌∷◌, Option, Result, Ok, Err, IfErr, IfOk, ap, arith, inl, refl, subst}
+use Rattle.std.proofs.Common.{◌≡◌, ◌≤◌, ℕ, List, [], ◌∷◌, Option, Result, Ok, Err, IfErr, IfOk, ap, arith, inl, refl, subst}
 use Rattle.std.specs.Borrow.{Bor}
 use Rattle.reading_commands.specs.declared.answer.Answer.{Answer}
 use Rattle.reading_commands.specs.declared.answer.Answer.TheVariants.{Done, Refused, Cut}
@@ -18,6 +18,7 @@ use Rattle.reading_commands.specs.DeviceInput.{GivesDevice}
 use Rattle.reading_commands.specs.Input.{FileBytes, Gives, KeepsFiles, KeepsOthers}
 use Rattle.boot_cli.specs.ProvisionEnd.{AnswersMade, AnswersProvision, EndsBefore, EndsMade, MakesDevice, ReadsImages}
 use Rattle.boot_cli.specs.RunEnd.{AnswersRun, Plays, RunsDevice}
+use Rattle.boot_cli.specs.SweepEnd.{AnswersSweep, SweepsDevice}
 use Rattle.boot_cli.specs.Script.{IsScript, Known, StaysKnown, known_after}
 use Rattle.reading_commands.specs.Status.{status_of_answer}
 use Rattle.reading_commands.proofs.InputLaws.{GiveEach-one, GiveEach-read}
@@ -136,4 +137,36 @@ AnswersRun-read answer device flash script input second_input third_input fourth
       script = says (known_after script second)
           (StaysKnown-read script second third_input fourth_input third_file fourth_file still script_kept);
       plays = subst (λ o. Plays answer of_device bytes cuts came o new) same plays;
+    })
+
+AnswersSweep-swept : (answer : Answer) (device script : Source) (input : Option (List ℕ)) (file : FileBytes)
+    (old new : Option (List ℕ)) → status_of_answer answer ≤ 1 → SweepsDevice device script input file
+    → AnswersSweep answer device script input file old new
+AnswersSweep-swept Done device script input file old new low sweeps = sweeps
+AnswersSweep-swept Refused device script input file old new low sweeps = inl sweeps
+AnswersSweep-swept Cut device script input file old new low sweeps = absurd (omega (arith, low))
+
+-- a device file was read, and then a script with the files that it names
+pub AnswersSweep-read : (answer : Answer) (device script : Source) (input second_input third_input : Option (List ℕ))
+    (file second_file third_file : FileBytes) (old new : Option (List ℕ)) (text : List ℕ)
+    (came : List (Event (List ℕ))) (of_device : DeviceFile)
+    → GivesDevice device input file of_device → KeepsOthers device input file second_input second_file
+    → Gives script second_input second_file text → KeepsOthers script second_input second_file third_input third_file
+    → ((known : Known) → StaysKnown known third_input third_file → IsScript text known [] came)
+    → status_of_answer answer ≤ 1 → AnswersSweep answer device script input file old new
+AnswersSweep-read answer device script input second_input third_input file second_file third_file old new text came
+    of_device given kept script_given script_kept says low =
+    let first : Known = record { input = input; files = file } in
+    let second = known_after device first in
+    let stays = StaysKnown-read device first input second_input file second_file (StaysKnown-itself input file) kept in
+    AnswersSweep-swept answer device script input file old new low (record {
+      device_bytes = given.0;
+      of_device = of_device;
+      text = text;
+      came = came;
+      given = GiveEach-read device (script ∷ []) input second_input file second_file given.0 (text ∷ []) given.1 kept
+          (GiveEach-one script second_input second_file text script_given);
+      is_device = given.2;
+      says = says (known_after script second)
+          (StaysKnown-read script second second_input third_input second_file third_file stays script_kept);
     })

@@ -125,5 +125,7 @@ AnswersOrder-kept (order.Run device flash script durable) input file then old mi
   answered.2,
   AnswersRun-kept answered.0 (source.File flash) answered.1 input file old mid new answered.3 kept,
 )
+AnswersOrder-kept (order.Sweep device script images choices) input file then old mid new answered kept =
+    (answered.0, answered.1, answered.2, answered.3)
 AnswersOrder-kept order.Codes input file then old mid new answered kept =
     Appends-kept old mid new _ answered kept

@@ -25,7 +25,8 @@ use Rattle.answers.specs.declared.device.DeviceFile.{DeviceFile}
 use Rattle.answers.specs.ReplyText.{replies_text, reply_text}
 use Rattle.answers.proofs.ReplyLaws.{replies_text-push}
 use Rattle.boot_cli.specs.Loading.{came_in, came_of}
-use Rattle.boot_cli.specs.RunEnd.{IsMadeOf, Plays, TellsFirst, answer_after, answer_of, armed_chip, setup_of}
+use Rattle.boot_cli.specs.RunEnd.{IsMadeOf, Plays, TellsFirst, answer_after, answer_of, armed_chip}
+use Rattle.sweep.specs.Living.{setup_of}
 use Rattle.boot_cli.specs.Script.{came_by}
 use Rattle.boot_cli.specs.Telling.{BreaksOff, TellsAll, TellsSome}
 

@@ -3,4 +3,5 @@ pub mod OrderEnd
 pub mod ProvisionEnd
 pub mod RunEnd
 pub mod Script
+pub mod SweepEnd
 pub mod Telling

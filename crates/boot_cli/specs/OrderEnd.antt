@@ -14,6 +14,7 @@ use Rattle.making_commands.specs.NewManifestEnd.{AnswersNewManifest}
 use Rattle.reading_commands.specs.Inputs.{names_of}
 use Rattle.boot_cli.specs.ProvisionEnd.{AnswersProvision}
 use Rattle.boot_cli.specs.RunEnd.{AnswersRun}
+use Rattle.boot_cli.specs.SweepEnd.{AnswersSweep}
 
 -- The sources that two words name.
 abbrev pub AreNamed : List ℕ → List ℕ → Source → Source → Type 0
@@ -57,4 +58,7 @@ AnswersOrder answer (order.Slots device flash) input file then old new =
 AnswersOrder answer (order.Run device flash script durable) input file then old new =
     (one other : Source) × AreNamed device.now script.now one other
     × AnswersRun answer one (source.File flash) other input file old new
+AnswersOrder answer (order.Sweep device script images choices) input file then old new =
+    (one other : Source) × AreNamed device.now script.now one other
+    × AnswersSweep answer one other input file old new
 AnswersOrder answer order.Codes input file then old new = AnswersCodes answer old new

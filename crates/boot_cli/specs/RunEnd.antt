@@ -8,12 +8,10 @@ use Rattle.flash_model.specs.Memory.{Memory, with_armed}
 use Rattle.sector_map.specs.declared.layout.SectorMap.{SectorMap}
 use Rattle.upload.specs.Sessions.{AllClosed}
 use Rattle.machine.specs.Holding.{DeviceView}
-use Rattle.machine.specs.Intake.{Setup}
 use Rattle.machine.specs.Passing.{RunsTo}
 use Rattle.machine.specs.Steps.{DeviceEvent}
 use Rattle.machine.specs.declared.reply.Reply.{Reply}
 use Rattle.machine.specs.declared.reply.Reply.TheVariants as reply
-use Rattle.boot_core.specs.Device.{made}
 use Rattle.reading_commands.specs.declared.answer.Answer.{Answer}
 use Rattle.reading_commands.specs.declared.answer.Answer.TheVariants.{Done, Refused, Cut}
 use Rattle.reading_commands.specs.declared.error.Refusal.{Refusal}
@@ -26,11 +24,8 @@ use Rattle.reading_commands.specs.DeviceInput.{RefusesMap}
 use Rattle.reading_commands.specs.Input.{FileBytes}
 use Rattle.reading_commands.specs.Inputs.{GiveEach}
 use Rattle.answers.specs.ReplyText.{replies_text}
+use Rattle.sweep.specs.Living.{setup_of}
 use Rattle.boot_cli.specs.Script.{IsScript, Known, came_by, known_after}
-
--- What a device is made with, by its file.
-abbrev pub setup_of : DeviceFile → Setup
-setup_of device = made device.map device.identity device.trial_boots
 
 -- The flash that has these bytes, of whose writes these are to be cut, as counted from now.
 abbrev pub armed_chip : SectorMap → List ℕ → List Armed → Chip

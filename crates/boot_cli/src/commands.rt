@@ -3,3 +3,4 @@
 
 pub mod playing;
 pub mod provision;
+pub mod sweeping;

@@ -10,6 +10,7 @@ use std::io;
 use std::io::{ErrorKind, Read};
 use std::os::unix::fs::FileExt;
 use std::rt::Files;
+use std::time::Clock;
 
 /// The file of a flash that a host opened last, which the flash is written through to.
 #[derive(Drop)]
@@ -29,21 +30,24 @@ impl<H: Host> FlashFile for HostFile<'_, H> {
 pub struct SystemHost<'a, R: Files, I: Read> {
     runtime: &'a R,
     input: I,
+    is_watched: bool,
     flash: Option<HeldFile>,
 }
 
 impl<'a, R: Files, I: Read> SystemHost<'a, R, I> {
-    /// The files of `runtime`, and `input` as standard input.
-    pub fn new(runtime: &'a R, input: I) -> Self {
+    /// The files and the clock of `runtime`, and `input` as standard input. `is_watched` says
+    /// whether standard error is a terminal.
+    pub fn new(runtime: &'a R, input: I, is_watched: bool) -> Self {
         SystemHost {
             runtime,
             input,
+            is_watched,
             flash: None,
         }
     }
 }
 
-impl<R: Files<File = File>, I: Read> Host for SystemHost<'_, R, I> {
+impl<R: Files<File = File> + Clock, I: Read> Host for SystemHost<'_, R, I> {
     ghost input = { λ host. I.remaining host.input };
 
     fn read_file<A: Allocator>(
@@ -112,5 +116,12 @@ impl<R: Files<File = File>, I: Read> Host for SystemHost<'_, R, I> {
         bytes: &[u8],
     ) -> Result<(), FlashFault> {
         replacing::replace_file(self.runtime, &alloc, name, bytes)
+    }
+
+    fn watched_seconds(&self) -> Option<u64> {
+        if !self.is_watched {
+            return None;
+        }
+        Some(self.runtime.monotonic().ok()?.as_secs())
     }
 }

@@ -2,7 +2,8 @@
 ghost use Rattle.std.specs.Prelude.{◌≡◌, IfOk};
 ghost use Rattle.boot_cli.specs.OrderEnd.{AnswersOrder};
 
-use crate::commands::{playing, provision};
+use crate::commands::sweeping::Named;
+use crate::commands::{playing, provision, sweeping};
 use command_line::{Order, OrderError, STANDARD_INPUT, fault_of, no_text, order};
 use making_commands::extract::Copying;
 use making_commands::{extract, make_device, make_image, make_manifest};
@@ -158,6 +159,20 @@ fn perform<'a, 'h, A: Allocator, H: Host, O: Write, E: Write>(
             let (device, script) = (Source::named(device), Source::named(script));
             let access = access_of(durable);
             playing::perform(alloc, heap, device, flash, access, script, text, host, out)
+        }
+        Order::Sweep {
+            device,
+            script,
+            images,
+            choices,
+        } => {
+            let (device, script) = (Source::named(device), Source::named(script));
+            let named = Named {
+                device,
+                script,
+                images: &images,
+            };
+            sweeping::perform(alloc, heap, named, &choices, text, host, out, err)
         }
         Order::Codes => codes::perform(out),
     }

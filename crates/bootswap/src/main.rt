@@ -21,7 +21,7 @@ fn main(rt: HostRuntime) -> ExitCode {
                 // It is no part of the answer, which goes on without it.
                 let _ = err.write_all(READING);
             }
-            let mut host = SystemHost::new(&rt, input);
+            let mut host = SystemHost::new(&rt, input, err.is_terminal());
             cli(
                 alloc,
                 &alloc,

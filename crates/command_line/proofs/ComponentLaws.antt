@@ -1,11 +1,12 @@
 -- How many files words say, and what is asked for where they say none.
 use Rattle.std.proofs.Common.{◌≡◌, ◌+◌, ◌∙◌, Bool, List, [], ◌∷◌, ◌++◌, ap, false, length, length-append, refl, rules, suc, sym, true, codes}
 use Rattle.clap.specs.Words.{Row, Text}
-use Rattle.command_line.specs.Orders.{AreComponents, Asks, SaysManifest}
+use Rattle.command_line.specs.Orders.{AreComponents, Asks, SaysManifest, SaysSweep}
 use Rattle.command_line.specs.declared.orders.NewComponent.{NewComponent}
 use Rattle.command_line.specs.declared.orders.NewManifest.{NewManifest}
+use Rattle.command_line.specs.declared.orders.SweepChoices.{SweepChoices}
 use Rattle.command_line.specs.declared.orders.Order.{Order}
-use Rattle.command_line.specs.declared.orders.Order.TheVariants.{Choose, Check, Image, Manifest, MakeDevice, MakeImage, MakeManifest, Provision, Extract, Show, Slots, Run, Codes}
+use Rattle.command_line.specs.declared.orders.Order.TheVariants.{Choose, Check, Image, Manifest, MakeDevice, MakeImage, MakeManifest, Provision, Extract, Show, Slots, Run, Sweep, Codes}
 
 -- one file a word
 same_count : (kind : Bool) (words : List Text) (some others : List NewComponent)
@@ -43,4 +44,23 @@ none_asked rows none (Extract device flash image side out) asks = search rules
 none_asked rows none (Show device flash) asks = search rules
 none_asked rows none (Slots device flash) asks = search rules
 none_asked rows none (Run device flash script durable) asks = search rules
+none_asked rows none (Sweep device script images choices) asks = search rules
 none_asked rows none Codes asks = search rules
+
+-- Where no sweep is said, none is asked for.
+pub no_sweep_asked : (rows : List Row) → ((choices : SweepChoices) → SaysSweep rows choices → ⊥)
+    → (order : Order) → Asks (codes "sweep") rows order → ⊥
+no_sweep_asked rows none (Sweep device script images choices) asks = none choices asks.1.3
+no_sweep_asked rows none (MakeManifest device manifest) asks = search rules
+no_sweep_asked rows none (Choose table) asks = search rules
+no_sweep_asked rows none (Check table report) asks = search rules
+no_sweep_asked rows none (Image file) asks = search rules
+no_sweep_asked rows none (Manifest device file) asks = search rules
+no_sweep_asked rows none (MakeDevice device) asks = search rules
+no_sweep_asked rows none (MakeImage image body values) asks = search rules
+no_sweep_asked rows none (Provision device flash images) asks = search rules
+no_sweep_asked rows none (Extract device flash image side out) asks = search rules
+no_sweep_asked rows none (Show device flash) asks = search rules
+no_sweep_asked rows none (Slots device flash) asks = search rules
+no_sweep_asked rows none (Run device flash script durable) asks = search rules
+no_sweep_asked rows none Codes asks = search rules

@@ -123,6 +123,12 @@ run_shape = asking (codes "run")
     (one_name (codes "DEVICE") ∷ one_name (codes "FLASH") ∷ one_name (codes "SCRIPT")
     ∷ one_flag (codes "durable") ∷ [])
 
+abbrev pub sweep_shape : Shape
+sweep_shape = asking (codes "sweep")
+    (one_name (codes "DEVICE") ∷ one_name (codes "SCRIPT") ∷ all_names (codes "IMAGE")
+    ∷ one_flag (codes "twice") ∷ one_option (codes "sample") false
+    ∷ one_option (codes "seed") false ∷ one_option (codes "svg") false ∷ [])
+
 abbrev pub codes_shape : Shape
 codes_shape = new_shape (codes "codes")
 
@@ -147,6 +153,7 @@ shape_for sub.Extract = extract_shape
 shape_for sub.Show = show_shape
 shape_for sub.Slots = slots_shape
 shape_for sub.Run = run_shape
+shape_for sub.Sweep = sweep_shape
 shape_for sub.Codes = codes_shape
 
 -- The program with a subcommand more.
@@ -159,5 +166,5 @@ bootswap = record {
   top = record program.top { is_leaf = false };
   subs = choose_shape ∷ check_shape ∷ image_shape ∷ manifest_shape ∷ make_device_shape
       ∷ make_image_shape ∷ make_manifest_shape ∷ provision_shape ∷ extract_shape ∷ show_shape
-      ∷ slots_shape ∷ run_shape ∷ codes_shape ∷ [];
+      ∷ slots_shape ∷ run_shape ∷ sweep_shape ∷ codes_shape ∷ [];
 }

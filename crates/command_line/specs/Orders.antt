@@ -20,7 +20,8 @@ use Rattle.command_line.specs.declared.orders.NewComponent.{NewComponent}
 use Rattle.command_line.specs.declared.orders.NewImage.{NewImage}
 use Rattle.command_line.specs.declared.orders.NewManifest.{NewManifest}
 use Rattle.command_line.specs.declared.orders.Order.{Order}
-use Rattle.command_line.specs.declared.orders.Order.TheVariants.{Choose, Check, Image, Manifest, MakeDevice, MakeImage, MakeManifest, Provision, Extract, Show, Slots, Run, Codes}
+use Rattle.command_line.specs.declared.orders.SweepChoices.{SweepChoices}
+use Rattle.command_line.specs.declared.orders.Order.TheVariants.{Choose, Check, Image, Manifest, MakeDevice, MakeImage, MakeManifest, Provision, Extract, Show, Slots, Run, Sweep, Codes}
 
 -- The subcommand of an order.
 abbrev pub command_of : Order → Text
@@ -36,6 +37,7 @@ command_of (Extract device flash image side out) = codes "extract"
 command_of (Show device flash) = codes "show"
 command_of (Slots device flash) = codes "slots"
 command_of (Run device flash script durable) = codes "run"
+command_of (Sweep device script images choices) = codes "sweep"
 command_of Codes = codes "codes"
 
 -- The matches of a subcommand have this name for an argument.
@@ -133,6 +135,13 @@ pub record SaysManifest (rows : List Row) (manifest : NewManifest) : Type 0 wher
       ≡ first_of (codes "precursor") rows
   pub components : SaysComponents rows manifest.components.items
 
+-- The matches say this of a sweep.
+pub record SaysSweep (rows : List Row) (choices : SweepChoices) : Type 0 where
+  pub twice : choices.is_twice ≡ is_given (codes "twice") rows
+  pub sample : HasNumber (codes "sample") (2 ^ 32) rows choices.sample
+  pub seed : HasNumber (codes "seed") (2 ^ 32) rows choices.seed
+  pub picture : option_map (λ file. file.now) choices.picture ≡ first_of (codes "svg") rows
+
 -- The number of an image that the matches have.
 abbrev pub image_at : List Row → Option ℕ
 image_at rows = option_and_then (number_below 256) (first_of (codes "IMAGE") rows)
@@ -175,6 +184,10 @@ HasNames rows (Slots device flash) =
 HasNames rows (Run device flash script durable) =
     IsNamed rows (codes "DEVICE") device.now × IsNamed rows (codes "FLASH") flash.now
     × IsNamed rows (codes "SCRIPT") script.now × (durable ≡ is_given (codes "durable") rows)
+HasNames rows (Sweep device script images choices) =
+    IsNamed rows (codes "DEVICE") device.now × IsNamed rows (codes "SCRIPT") script.now
+    × (all_of (codes "IMAGE") rows ≡ Some (map (λ image. image.now) images.items))
+    × SaysSweep rows choices
 HasNames rows Codes = ⊤
 
 -- A subcommand with these matches asks for this order.
@@ -215,6 +228,7 @@ names_of (Extract device flash image side out) = device ∷ flash ∷ out ∷ []
 names_of (Show device flash) = device ∷ flash ∷ []
 names_of (Slots device flash) = device ∷ flash ∷ []
 names_of (Run device flash script durable) = device ∷ flash ∷ script ∷ []
+names_of (Sweep device script images choices) = device ∷ script ∷ images.items
 names_of Codes = []
 
 -- `-` is standard input.
@@ -231,6 +245,8 @@ writes_to_standard_input (MakeImage image body values) = is_standard_input image
 writes_to_standard_input (Provision device flash images) = is_standard_input flash
 writes_to_standard_input (Extract device flash image side out) = is_standard_input out
 writes_to_standard_input (Run device flash script durable) = is_standard_input flash
+writes_to_standard_input (Sweep device script images choices) =
+    option_map_or is_standard_input choices.picture false
 writes_to_standard_input _ = false
 
 -- The fault of an order in its use of standard input: it would write to it, or read it twice.

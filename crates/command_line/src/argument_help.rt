@@ -27,6 +27,10 @@ pub const MANIFEST_USAGE: &str =
 /// The usage of `run`: its option stands under the names, as `--help` does.
 pub const RUN_USAGE: &str = "bootswap run <DEVICE> <FLASH> <SCRIPT>";
 
+/// The usage of `sweep`, which would be too long for a line.
+pub const SWEEP_USAGE: &str = "bootswap sweep <DEVICE> <SCRIPT> <IMAGE>... [--twice] [--sample <N>]
+           [--seed <N>] [--svg <FILE>]";
+
 pub const TABLE_FILE: &str = "The file that the table is read from; `-` is standard input";
 
 pub const REPORT_FILE: &str = "The file that the report is read from; `-` is standard input";
@@ -135,4 +139,21 @@ pub const TEST: OptionHelp = OptionHelp {
 pub const PERMANENT: OptionHelp = OptionHelp {
     value: "I=FILE",
     text: "FILE may come for image I, to stay",
+};
+
+pub const TWICE: &str = "Behind each cut, cut each write of the next boot too";
+
+pub const SAMPLE: OptionHelp = OptionHelp {
+    value: "N",
+    text: "Draw N cuts at random, and try no others",
+};
+
+pub const SEED: OptionHelp = OptionHelp {
+    value: "N",
+    text: "What the draws begin with; without it 1",
+};
+
+pub const SVG: OptionHelp = OptionHelp {
+    value: "FILE",
+    text: "The picture that is made",
 };

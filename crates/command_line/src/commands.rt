@@ -7,7 +7,7 @@ ghost use Rattle.command_line.specs.Commands.{extract_shape, image_shape, make_d
 ghost use Rattle.command_line.specs.Commands.{make_image_shape};
 ghost use Rattle.command_line.specs.Commands.{make_manifest_shape, manifest_shape, program};
 ghost use Rattle.command_line.specs.Commands.{provision_shape, run_shape, shape_for, show_shape, slots_shape};
-ghost use Rattle.command_line.specs.Commands.{with_command};
+ghost use Rattle.command_line.specs.Commands.{sweep_shape, with_command};
 
 use crate::arguments::{Argument, with_arguments};
 use crate::help::Help;
@@ -38,6 +38,8 @@ pub const SHOW: &str = "show";
 pub const SLOTS: &str = "slots";
 
 pub const RUN: &str = "run";
+
+pub const SWEEP: &str = "sweep";
 
 pub const CODES: &str = "codes";
 
@@ -98,6 +100,14 @@ pub mod named {
     pub const TEST: &str = "test";
 
     pub const PERMANENT: &str = "permanent";
+
+    pub const TWICE: &str = "twice";
+
+    pub const SAMPLE: &str = "sample";
+
+    pub const SEED: &str = "seed";
+
+    pub const SVG: &str = "svg";
 }
 
 /// A subcommand of the program.
@@ -115,11 +125,12 @@ pub enum Subcommand {
     Show,
     Slots,
     Run,
+    Sweep,
     Codes,
 }
 
 /// The subcommands, in the order in which help lists them.
-const SUBCOMMANDS: [Subcommand; 13] = [
+const SUBCOMMANDS: [Subcommand; 14] = [
     Subcommand::Choose,
     Subcommand::Check,
     Subcommand::Image,
@@ -132,6 +143,7 @@ const SUBCOMMANDS: [Subcommand; 13] = [
     Subcommand::Show,
     Subcommand::Slots,
     Subcommand::Run,
+    Subcommand::Sweep,
     Subcommand::Codes,
 ];
 
@@ -187,6 +199,7 @@ impl Subcommand {
             Subcommand::Show => show(alloc),
             Subcommand::Slots => slots(alloc),
             Subcommand::Run => run(alloc),
+            Subcommand::Sweep => sweep(alloc),
             Subcommand::Codes => codes(alloc),
         }
     }
@@ -206,6 +219,7 @@ impl Subcommand {
             Subcommand::Show => "bootswap show",
             Subcommand::Slots => "bootswap slots",
             Subcommand::Run => "bootswap run",
+            Subcommand::Sweep => "bootswap sweep",
             Subcommand::Codes => "bootswap codes",
         }
     }
@@ -376,6 +390,26 @@ fn run<'a>(alloc: Global) -> Result<Command<'a>, AllocError>
     with_arguments(
         alloc,
         command.override_usage(argument_help::RUN_USAGE),
+        &arguments,
+    )
+}
+
+fn sweep<'a>(alloc: Global) -> Result<Command<'a>, AllocError>
+    ensures { IfOk result (λ command. shape_of command ≡ sweep_shape) }
+{
+    let arguments = [
+        Argument::File(named::DEVICE, argument_help::DEVICE_FILE),
+        Argument::File(named::SCRIPT, argument_help::SCRIPT_FILE),
+        Argument::Files(named::IMAGE, argument_help::IMAGE_FILES),
+        Argument::Flag(named::TWICE, argument_help::TWICE),
+        Argument::Optional(named::SAMPLE, argument_help::SAMPLE),
+        Argument::Optional(named::SEED, argument_help::SEED),
+        Argument::Optional(named::SVG, argument_help::SVG),
+    ];
+    let command = new_command(alloc, SWEEP, help::SWEEP);
+    with_arguments(
+        alloc,
+        command.override_usage(argument_help::SWEEP_USAGE),
         &arguments,
     )
 }

@@ -53,6 +53,12 @@ pub const NO_SLOTS: &str =
 /// The fault of words whose boots of a trial are no number of boots.
 pub const NO_TRIAL_BOOTS: &str = "`--trial-boots` is a number from 1 to 7";
 
+/// The fault of words whose number of runs is none.
+pub const NO_SAMPLE: &str = "`--sample` is a number, in digits, below 4294967296";
+
+/// The fault of words whose beginning of the draws is no number.
+pub const NO_SEED: &str = "`--seed` is a number, in digits, below 4294967296";
+
 /// The fault of words that are no text.
 pub const NO_TEXT: &str = "invalid UTF-8 was detected in one or more arguments";
 
@@ -64,6 +70,9 @@ pub const WRITTEN: &str = "the flash file is written to, so it can't be standard
 
 /// The fault of an order that makes an image on standard input.
 pub const IMAGE_WRITTEN: &str = "the image file is made, so it can't be standard input, `-`";
+
+/// The fault of an order that makes a picture on standard input.
+pub const PICTURE_WRITTEN: &str = "the picture is made, so it can't be standard input, `-`";
 
 /// The fault of words that ask for no order.
 pub const NO_ORDER: &str = "a subcommand is required but one was not provided";

@@ -9,7 +9,7 @@ ghost use Rattle.command_line.specs.Faults.{IsTold, IsUsage};
 ghost use Rattle.command_line.specs.Orders.{files_of, misuse_of, names_of, standard_inputs};
 ghost use Rattle.command_line.specs.Orders.{writes_to_standard_input};
 
-use crate::commands::{EXTRACT, MAKE_DEVICE, MAKE_IMAGE, MAKE_MANIFEST, Subcommand, named};
+use crate::commands::{EXTRACT, MAKE_DEVICE, MAKE_IMAGE, MAKE_MANIFEST, SWEEP, Subcommand, named};
 use crate::device_words::{number_in, trial_boots_in};
 use crate::error::OrderError;
 use crate::escaped::Escaped;
@@ -48,7 +48,8 @@ pub fn no_text(alloc: Global) -> OrderError
 }
 
 /// The fault of words that ask for no order, though `clap` takes them: a word of `make-device`,
-/// `make-image`, `make-manifest` or `extract` isn't what it has to be, or they name no subcommand.
+/// `make-image`, `make-manifest`, `extract` or `sweep` isn't what it has to be, or they name no
+/// subcommand.
 pub(crate) fn no_order(alloc: Global, matches: &ArgMatches<'_>) -> OrderError
     ensures { IsUsage InvalidValue result ⊎ IsUsage MissingSubcommand result }
 {
@@ -57,6 +58,7 @@ pub(crate) fn no_order(alloc: Global, matches: &ArgMatches<'_>) -> OrderError
         Some((MAKE_IMAGE, names)) => no_values(alloc, names),
         Some((MAKE_MANIFEST, names)) => no_components(alloc, names),
         Some((EXTRACT, names)) => no_slot(alloc, names),
+        Some((SWEEP, names)) => no_choices(alloc, names),
         _ => no_subcommand(alloc),
     }
 }
@@ -170,6 +172,21 @@ fn no_slot(alloc: Global, names: &ArgMatches<'_>) -> OrderError
     }
 }
 
+/// The fault of words of `sweep` of which one is no number.
+fn no_choices(alloc: Global, names: &ArgMatches<'_>) -> OrderError
+    ensures { IsUsage InvalidValue result }
+{
+    let text = if number_said(names, named::SAMPLE).is_none() {
+        fault_texts::NO_SAMPLE
+    } else {
+        fault_texts::NO_SEED
+    };
+    match subcommand_error(alloc, Subcommand::Sweep, ErrorKind::InvalidValue, text) {
+        Ok(error) => OrderError::from(error),
+        Err(error) => OrderError::from(error),
+    }
+}
+
 /// The fault of words that name no subcommand.
 fn no_subcommand(alloc: Global) -> OrderError
     ensures { IsUsage MissingSubcommand result }
@@ -205,6 +222,7 @@ pub(crate) fn misuse(alloc: Global, order: &Order<'_>) -> Result<Option<Error>, 
 fn written_text(order: &Order<'_>) -> &'static str {
     match order {
         Order::MakeImage { .. } | Order::Extract { .. } => fault_texts::IMAGE_WRITTEN,
+        Order::Sweep { .. } => fault_texts::PICTURE_WRITTEN,
         _ => fault_texts::WRITTEN,
     }
 }
@@ -224,6 +242,7 @@ fn subcommand_of(order: &Order<'_>) -> Subcommand {
         Order::Show { .. } => Subcommand::Show,
         Order::Slots { .. } => Subcommand::Slots,
         Order::Run { .. } => Subcommand::Run,
+        Order::Sweep { .. } => Subcommand::Sweep,
         Order::Codes => Subcommand::Codes,
     }
 }
@@ -250,6 +269,7 @@ fn writes_to_standard_input(order: &Order<'_>) -> bool
         Order::Provision { flash, .. } | Order::Run { flash, .. } => is_standard_input(flash),
         Order::MakeImage { image, .. } => is_standard_input(image),
         Order::Extract { out, .. } => is_standard_input(out),
+        Order::Sweep { choices, .. } => choices.picture.is_some_and(|file| is_standard_input(file)),
         Order::Choose { .. }
         | Order::Check { .. }
         | Order::Image { .. }
@@ -300,18 +320,24 @@ fn reads_standard_input_twice(order: &Order<'_>) -> bool
         } => standard_inputs(&[*device, *flash, *last]) > 1,
         Order::MakeManifest { device, manifest } => inputs_of_manifest(device, manifest) > 1,
         Order::Provision {
-            device,
-            flash,
+            device: a,
+            flash: b,
             images,
-        } => inputs_of_provision(device, flash, images.as_slice()) > 1,
+        }
+        | Order::Sweep {
+            device: a,
+            script: b,
+            images,
+            ..
+        } => inputs_with(a, b, images.as_slice()) > 1,
     }
 }
 
-/// How many of the files that a flash is made of are standard input, and of the flash itself.
-fn inputs_of_provision(device: &str, flash: &str, images: &[&str]) -> usize
-    ensures { result ≡ standard_inputs (device.entry ∷ flash.entry ∷ images.now) }
+/// How many of two files and of images are standard input.
+fn inputs_with(one: &str, other: &str, images: &[&str]) -> usize
+    ensures { result ≡ standard_inputs (one.entry ∷ other.entry ∷ images.now) }
 {
-    standard_inputs(&[device, flash]).saturating_add(standard_inputs(images))
+    standard_inputs(&[one, other]).saturating_add(standard_inputs(images))
 }
 
 /// How many of the files that a manifest is made of are standard input.

@@ -57,6 +57,7 @@ Examples:
   bootswap show device.json flash.bin
   bootswap extract device.json flash.bin 0 primary running.img
   bootswap run device.json flash.bin script.txt
+  bootswap sweep device.json script.txt a.img b.img
   bootswap choose table.txt
   bootswap choose table.txt > report.txt
   bootswap check table.txt report.txt
@@ -617,6 +618,62 @@ Examples:
   bootswap run device.json flash.bin script.txt
   echo boot | bootswap run device.json flash.bin -
   bootswap run --durable device.json flash.bin script.txt",
+};
+
+pub const SWEEP: Help = Help {
+    about: "Cuts each write of a script in turn, and tells what comes of it",
+    long_about: "Provisions a device in memory with these images, as `provision` does, and runs a
+script on it as `run` does, once for each write of its flash and each way to
+tear that write. Behind the cut the device boots until a boot isn't cut, and the
+script goes on. No file is changed. The script has no lines `cut`.
+
+It prints a line for each event, with a character for each of its writes: what
+the next boot said where that write was cut. So one sees where an upgrade
+counts, that is from which write on the next boot takes it:
+  6 finish 0 from 8 *
+  7 boot from 9 ttttttttttttttttttttttttttttttttttttt*
+Behind `from` is the number of the event's first write. The characters:
+  .  it took nothing                  a  it tried the set on trial again
+  t  it took a set on trial           x  it gave no answer
+  p  it took a set for good           *  one thing or another, by what the cut
+  r  it went back to the old images      left
+  _  no cut of it was tried
+Then how many runs there were, and each set of images that ran at the end of
+one, with the number of these runs and the first cut that leads to it, such as
+`cut 9 keep`, or `uncut`:
+  runs 547
+  end 547 uncut
+  run 0 1.0.0+0
+  run 1 1.0.0+0
+A write is torn in six ways: `keep`, `done`, `hex:ff`, `hex:00` and copies of a
+trailer's magic, as a script has them, and `half`: the first half is written.
+
+`other COUNT cut WRITE TORN` tells of runs that ended in no way in which the
+script can end where power fails before or behind the event, and not in it, or
+where the event is left out; `refused COUNT cut WRITE TORN` of runs in which a
+boot gave no answer.
+
+With `--twice` each write of the boot behind a cut is cut too. A long script is
+tried by `--sample N`, which draws N cuts. `--svg FILE` draws what is printed.",
+    after: "Exit status: 0 done, 1 refused, 2 the words are wrong.
+Example: bootswap sweep device.json script.txt a.img b.img
+`bootswap sweep --help` tells what is printed.",
+    long_after: "Exit status:
+  0  each boot gave an answer, and each run ended as the script without a cut,
+     or as if power had failed beside the event that was cut
+  1  one didn't, as the lines `other` and `refused` tell; or the images or the
+     device's sizes are refused, as `provision` tells; or standard error has a
+     line `error: ..`: `device file`, `image count`, `image 1 too big`,
+     `script line 1` for the first line that is wrong, `picture is an input`
+     where FILE is one of the files that are named, `cannot write NAME` where it
+     could not be made, `cannot read NAME`, or `memory`; or the answer could not
+     be written
+  2  the words of the command are wrong
+
+Examples:
+  bootswap sweep device.json script.txt a.img b.img
+  bootswap sweep --twice --svg sweep.svg device.json script.txt a.img b.img
+  bootswap sweep --sample 10000 --seed 7 device.json long.txt a.img b.img",
 };
 
 pub const CODES: Help = Help {

@@ -22,10 +22,13 @@ mod image_words;
 mod manifest_words;
 mod order_reading;
 mod orders;
+mod sweep_words;
 
 pub use codes::REFUSALS;
 pub use error::OrderError;
 pub use escaped::Escaped;
 pub use faults::{fault_of, no_text};
 pub use order_reading::order;
-pub use orders::{NewComponent, NewDevice, NewImage, NewManifest, Order, STANDARD_INPUT};
+pub use orders::{
+    NewComponent, NewDevice, NewImage, NewManifest, Order, STANDARD_INPUT, SweepChoices,
+};

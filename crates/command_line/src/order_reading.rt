@@ -10,7 +10,7 @@ ghost use Rattle.command_line.specs.Orders.{misuse_of, side_at, side_of};
 
 use crate::commands::{
     CHECK, CHOOSE, CODES, EXTRACT, IMAGE, MAKE_DEVICE, MAKE_IMAGE, MAKE_MANIFEST, MANIFEST,
-    PROVISION, RUN, SHOW, SLOTS, bootswap, named,
+    PROVISION, RUN, SHOW, SLOTS, SWEEP, bootswap, named,
 };
 use crate::device_words::device_in;
 use crate::error::OrderError;
@@ -18,6 +18,7 @@ use crate::faults::{misuse, no_order};
 use crate::image_words::image_values_in;
 use crate::manifest_words::manifest_values_in;
 use crate::orders::Order;
+use crate::sweep_words::sweep_choices_in;
 use clap::{ArgMatches, Error};
 use common::ascii::number_u8;
 use sector_map::Side;
@@ -116,6 +117,9 @@ fn order_of<'a>(
     if command == RUN {
         return Ok(run_in(names));
     }
+    if command == SWEEP {
+        return sweep_in(alloc, names);
+    }
     if command == CODES {
         return Ok(Some(Order::Codes));
     }
@@ -207,15 +211,26 @@ fn provision_in<'a>(alloc: Global, names: &ArgMatches<'a>) -> Result<Option<Orde
     let Some(flash) = name_in(names, named::FLASH) else {
         return Ok(None);
     };
-    let Some(images) = names_in(names, named::IMAGE) else {
+    let Some(images) = images_in(alloc, names)? else {
         return Ok(None);
     };
-    let images = images.to_vec(alloc)?;
     Ok(Some(Order::Provision {
         device,
         flash,
         images,
     }))
+}
+
+/// The images that the words give.
+fn images_in<'a>(alloc: Global, names: &ArgMatches<'a>) -> Result<Option<Vec<&'a str>>, AllocError>
+    ensures { IfOk result (λ found.
+        option_map (λ images. map (λ image. image.now) images.items) found
+        ≡ all_of (codes "IMAGE") (rows_of (found_of names.now))) }
+{
+    match names_in(names, named::IMAGE) {
+        Some(images) => Ok(Some(images.to_vec(alloc)?)),
+        None => Ok(None),
+    }
 }
 
 fn extract_in<'a>(names: &ArgMatches<'a>) -> Option<Order<'a>>
@@ -293,6 +308,29 @@ fn run_in<'a>(names: &ArgMatches<'a>) -> Option<Order<'a>>
     })
 }
 
+fn sweep_in<'a>(alloc: Global, names: &ArgMatches<'a>) -> Result<Option<Order<'a>>, AllocError>
+    ensures { IfOk result (Finds (Asks (codes "sweep") (rows_of (found_of names.now)))) }
+{
+    let Some(device) = name_in(names, named::DEVICE) else {
+        return Ok(None);
+    };
+    let Some(script) = name_in(names, named::SCRIPT) else {
+        return Ok(None);
+    };
+    let Some(images) = images_in(alloc, names)? else {
+        return Ok(None);
+    };
+    let Some(choices) = sweep_choices_in(names) else {
+        return Ok(None);
+    };
+    Ok(Some(Order::Sweep {
+        device,
+        script,
+        images,
+        choices,
+    }))
+}
+
 /// The name that the words give for this argument.
 pub(crate) fn name_in<'a>(names: &ArgMatches<'a>, argument: &str) -> Option<&'a str>
     ensures { option_map (λ name. name.now) result
@@ -302,7 +340,7 @@ pub(crate) fn name_in<'a>(names: &ArgMatches<'a>, argument: &str) -> Option<&'a 
 }
 
 /// Whether the words give this option, which has no value.
-fn is_given(names: &ArgMatches<'_>, option: &str) -> bool
+pub(crate) fn is_given(names: &ArgMatches<'_>, option: &str) -> bool
     ensures { result ≡ is_given option.now (rows_of (found_of names.now)) }
 {
     match name_in(names, option) {

@@ -64,6 +64,19 @@ pub struct NewManifest<'a> {
     pub components: Vec<NewComponent<'a>>,
 }
 
+/// What a sweep tries and makes, as the words have it.
+#[derive(Clone, Copy)]
+pub struct SweepChoices<'a> {
+    /// Whether each write of the boot behind a cut is cut too.
+    pub is_twice: bool,
+    /// How many runs are drawn at random, where the words say it.
+    pub sample: Option<u32>,
+    /// What the draws begin with, where the words say it.
+    pub seed: Option<u32>,
+    /// The name of the picture that is made, where one is asked for.
+    pub picture: Option<&'a str>,
+}
+
 /// What the words ask for: a subcommand, with the names that the words give its files.
 #[derive(Drop)]
 pub enum Order<'a> {
@@ -158,6 +171,17 @@ pub enum Order<'a> {
         script: &'a str,
         /// Whether each write is to be on the disk before the next one, of a plain file too.
         durable: bool,
+    },
+    /// The runs of a device by a script, with each write of them cut.
+    Sweep {
+        /// The name of the device file.
+        device: &'a str,
+        /// The name of the script.
+        script: &'a str,
+        /// The names of the images that run first, in their order.
+        images: Vec<&'a str>,
+        /// What is tried and made.
+        choices: SweepChoices<'a>,
     },
     /// What the codes and names of refusals say.
     Codes,

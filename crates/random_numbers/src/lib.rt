@@ -1,4 +1,5 @@
-//! Numbers for tests at random, the same in each run.
+//! Numbers at random, for tests and for sweeps that try a sample. From one seed they are the same in
+//! each run.
 #![tactic(auto)]
 
 ghost use Rattle.std.specs.Prelude.{◌<◌};

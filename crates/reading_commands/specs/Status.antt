@@ -20,6 +20,7 @@ status_of_refusal no.FlashSize = 1
 status_of_refusal no.FlashInUse = 1
 status_of_refusal no.FlashIsInput = 1
 status_of_refusal no.ImageIsInput = 1
+status_of_refusal no.PictureIsInput = 1
 status_of_refusal no.ImageInUse = 1
 status_of_refusal no.ImageCount = 1
 status_of_refusal (no.NoImage image) = 1

@@ -34,6 +34,9 @@ pub enum Refusal<'a> {
     /// The image file that is to be made is the one that its body is read from.
     #[error("image is an input")]
     ImageIsInput,
+    /// The picture that is to be made is one of the files that are read.
+    #[error("picture is an input")]
+    PictureIsInput,
     /// Another program uses the image file that is to be made.
     #[error("image in use")]
     ImageInUse,

@@ -114,6 +114,10 @@ pub trait Host {
         ensures done { OnOk result (IsKnownAs (file self.new name.now) bytes.now) }
         ensures failed { IfErr result (λ _. KeepsFiles (file self.old) (file self.new)) }
         ensures input { Keeps (input self.old) (input self.new) };
+
+    /// The seconds by a clock that never goes back, where somebody at a terminal reads standard
+    /// error; none where nobody does.
+    fn watched_seconds(&self) -> Option<u64>;
 }
 
 /// The standard input of a host, as a reader.

@@ -1,7 +1,7 @@
 //! The commands of `bootswap` that write no flash: which of the images that a device is asked to
 //! boot may run together, decided from a table; what an image says of itself; what a manifest says
-//! to a device; and what stands on the flash of one and in its slots. And what every command shares: where its input
-//! comes from, its answer or refusal, and its exit status.
+//! to a device; and what stands on the flash of one and in its slots. And what every command
+//! shares: where its input comes from, its answer or refusal, and its exit status.
 //!
 //! Promises: a command answers `Done` only where what was asked for was done, for what the files
 //! that its words name hold; and the exit status is 0 only after that answer. A program may call it

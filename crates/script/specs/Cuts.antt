@@ -9,10 +9,13 @@ use Rattle.script.specs.Said.{SaidTorn, Done, Hex, Keep}
 abbrev pub Leaves : SaidTorn → Torn → Type 0
 Leaves Keep torn.Keep = Unit {0}
 Leaves Keep torn.Done = ⊥
+Leaves Keep torn.Half = ⊥
 Leaves Keep (torn.Bytes pattern) = ⊥
 Leaves Done torn.Keep = ⊥
 Leaves Done torn.Done = Unit {0}
+Leaves Done torn.Half = ⊥
 Leaves Done (torn.Bytes pattern) = ⊥
 Leaves (Hex digits) torn.Keep = ⊥
 Leaves (Hex digits) torn.Done = ⊥
+Leaves (Hex digits) torn.Half = ⊥
 Leaves (Hex digits) (torn.Bytes pattern) = decode_of digits ≡ Ok pattern.items

@@ -10,7 +10,8 @@ ghost use Rattle.answers.specs.DeviceFile.{IsOfFile};
 ghost use Rattle.answers.specs.FlashOf.{IsFlashOf};
 ghost use Rattle.answers.specs.ReplyText.{reply_text};
 ghost use Rattle.boot_cli.specs.Loading.{armed_in, came_in};
-ghost use Rattle.boot_cli.specs.RunEnd.{AnswersRun, Plays, TellsFirst, answer_after, armed_flash, setup_of};
+ghost use Rattle.boot_cli.specs.RunEnd.{AnswersRun, Plays, TellsFirst, answer_after, armed_flash};
+ghost use Rattle.sweep.specs.Living.{setup_of};
 ghost use Rattle.boot_cli.specs.Telling.{BreaksOff, TellsAll, TellsSome};
 ghost use Rattle.reading_commands.specs.declared.source.Source.TheVariants as source;
 
@@ -28,6 +29,7 @@ use std::alloc::{AllocError, Allocator, Global};
 use std::io::Write;
 use std::marker::Brand;
 use std::sync::ledger::{Blank, Ledger};
+use sweep::device_over;
 
 /// Reads a device file, the flash of the device and a script from `host`, runs the script's events
 /// on the device, and writes each reply to `out` as its event is done. What changes on the flash is
@@ -183,22 +185,6 @@ fn arm_all<M: Ledger>(memory: &mut MemFlash<M>, cuts: Vec<Cut>) -> Result<(), Al
         memory.arm(u64::from(cut.write), cut.torn)?;
     }
     Ok(())
-}
-
-/// A device of this file over this flash. It isn't up, and no upload is open.
-fn device_over<F: Flash>(flash: F, device: &DeviceFile) -> Device<F>
-    requires device { IsOfFile device.now }
-    requires laid_out { IsLaidOut device.now.map (F.chip flash) }
-    ensures setup { result.setup ≡ setup_of device.now }
-    ensures flash { result.here.flash ≡ F.chip flash }
-    ensures down { result.here.up ≡ false }
-    ensures closed { AllClosed result.here.sessions }
-{
-    if device.trial_boots == 1 {
-        Device::new(flash, device.map, device.identity)
-    } else {
-        Device::with_trial(flash, device.map, device.identity, device.trial_boots)
-    }
 }
 
 /// Runs these events on a device, in order, and writes each reply to `out` as its event is done,

@@ -69,7 +69,7 @@ pub fn perform<'a, A: Allocator, H: Host, O: Write>(
 
 /// The bytes of a flash that holds these images, each at the front of its primary slot, and is
 /// erased elsewhere.
-fn read_images<'a, A: Allocator, H: Host>(
+pub(crate) fn read_images<'a, A: Allocator, H: Host>(
     alloc: Global,
     heap: &A,
     map: &SectorMap,
@@ -205,7 +205,7 @@ fn replace<'a, A: Allocator, H: Host>(
 }
 
 /// Writes to `out` what came of making a flash. Of one that is made it takes no memory to tell.
-fn tell_made<'a, A: Allocator, O: Write>(
+pub(crate) fn tell_made<'a, A: Allocator, O: Write>(
     heap: &A,
     made: Made,
     out: &mut O,

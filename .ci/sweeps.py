@@ -1,0 +1,216 @@
+"""What the built program tells of a script with each write cut, and that the same commands by hand say the same."""
+
+import contextlib
+import os
+import re
+import xml.etree.ElementTree
+
+from builders import device
+from checking import EXAMPLES, ONE, PAIR, flash_of, read, short
+from worked import SUM_OF_WRITES, TORN, WORKED, WRITES
+
+SCRIPT = f"{EXAMPLES}/scripts/{WORKED}.txt"
+SWEEP = ["sweep", PAIR, SCRIPT, ONE, ONE]
+OLD, NEW = ("".join(f"run {image} {version}\n" for image in (0, 1)) for version in ("1.0.0+0", "2.0.0+0"))
+
+# The events of the worked run, as they are told.
+EVENTS = ["boot", "accept", "piece 0", "piece 1", "finish 1", "finish 0", "boot", "confirm 0", "boot", "boot"]
+
+# What the boot behind a cut says, for each write of each event: nothing was requested yet, or one image alone; or both
+# are taken, which goes on; or the set on trial goes back. The last write of an event may have done its work, and then
+# the boot says what it says behind that event.
+SAID = ["", "..", "..", "..", ".", "*", 37 * "t" + "*", "r", 43 * "r" + "*", ""]
+
+# The same where the last two events confirm both images, and the boot behind them ends the trial.
+KEPT = "boot\naccept {0}/manifests/trial.json\npiece 0 {0}/images/needing.img\npiece 1 {0}/images/partner.img\n"
+KEPT += "finish 0\nfinish 1\nboot\nconfirm 0\nconfirm 1\nboot\n"
+
+
+def told(events, said, *rest):
+    """What is printed of these events, with these characters, and then these lines."""
+    lines, first = [], 1
+    for number, (event, marks) in enumerate(zip(events, said), 1):
+        lines.append(f"{number} {event}" + (f" from {first} {marks}" if marks else "") + "\n")
+        first += len(marks)
+    return "".join([*lines, *rest]).encode()
+
+
+def check_worked(checks):
+    """The worked run, of which all ends are alike: both images were tried, and went back."""
+    flash_of(checks)
+    assert [len(it) for it in SAID] == WRITES
+    runs = 1 + 6 * SUM_OF_WRITES
+    wanted = told(EVENTS, SAID, f"runs {runs}\nend {runs} uncut\n", OLD)
+    checks.expect("sweep: the worked run", SWEEP, 0, wanted)
+    checks.expect("sweep: its script on standard input", ["sweep", PAIR, "-", ONE, ONE], 0, wanted, given=read(SCRIPT))
+    given = read(ONE)
+    checks.expect("sweep: an image on standard input", ["sweep", PAIR, SCRIPT, "-", ONE], 0, wanted, given=given)
+    twice = checks.run(["sweep", "--twice", *SWEEP[1:]])
+    number = re.search(rb"^runs (\d+)\nend (\d+) uncut\n", twice[1], re.M)
+    is_more = number and number[1] == number[2] and int(number[1]) > 20 * runs
+    is_good = twice[0] == 0 and is_more and twice[1].endswith(OLD.encode()) and not twice[2]
+    name = "sweep: the worked run, and a second cut in the boot behind the first"
+    checks.tell(name, [] if is_good else [short(twice)])
+
+
+def boot_behind(replies):
+    """The character for what the boot behind a cut replies."""
+    kinds = {"plain": ".", "trial": "t", "permanent": "p", "reverted": "r", "trial-again": "a"}
+    return kinds.get(replies.split()[1].decode(), "x")
+
+
+def by_hand(checks, whole, events, number, torn):
+    """What `run` says where this write is cut, a boot comes behind it, and then the rest of the events: what the boot
+    says, and the versions that run at the end; none where nothing is cut."""
+    checks.file("flash", whole)
+    _, said, _ = checks.run(["run", PAIR, "flash", "-"], given=f"cut {number} {torn}\n{''.join(events)}".encode())
+    replies = [line for line in said.split(b"\n") if line[:1].isdigit()]
+    cut = next((at for at, line in enumerate(replies) if line.endswith(b" cut")), None)
+    if cut is None:
+        return None
+    checks.file("flash", whole)
+    behind = [*events[: cut + 1], "boot\n", *events[cut + 1 :]]
+    _, said, _ = checks.run(["run", PAIR, "flash", "-"], given=f"cut {number} {torn}\n{''.join(behind)}".encode())
+    replies = [line for line in said.split(b"\n") if line[:1].isdigit()]
+    _, listed, _ = checks.run(["slots", PAIR, "flash"])
+    versions = re.findall(rb"^slot \d primary\nversion (\S+)$", listed, re.M)
+    return cut, boot_behind(replies[cut + 1]), tuple(versions)
+
+
+def check_kept(checks):
+    """A run in which what is tried stays, with each write cut: what `sweep` tells is what `run` and `slots` say."""
+    whole, script = flash_of(checks), KEPT.format(EXAMPLES)
+    events = script.splitlines(keepends=True)
+    status, out, err = checks.run(["sweep", PAIR, checks.file("script", script.encode()), ONE, ONE])
+    marks, ends, number = {}, {}, 0
+    while True:
+        number += 1
+        found = [by_hand(checks, whole, events, number, torn) for torn in TORN]
+        if not found[0]:
+            break
+        for event, said, versions in found:
+            marks.setdefault(number, set()).add(said)
+            ends[versions] = ends.get(versions, 0) + 1
+    told_marks = "".join(re.findall(r" from \d+ (\S+)$", out.decode(), re.M))
+    faults = [] if (status, err) == (0, b"") else [f"{status} {short(err)}"]
+    faults += [] if len(told_marks) == number - 1 else [f"{len(told_marks)} writes, and not {number - 1}"]
+    for at, mark in enumerate(told_marks, 1):
+        one = marks[at]
+        # The half of a write, which no script has, may be another.
+        if mark != "*" and {mark} != one:
+            faults.append(f"write {at}: {mark}, and not {one}")
+    checks.tell("sweep: a trial that stays: what each next boot says", faults[:5])
+    counts = re.findall(r"^end (\d+) (.*)\n((?:run .*\n)*)", out.decode(), re.M)
+    sets = {lines: int(count) for count, _, lines in counts}
+    faults = [] if set(sets) == {OLD, NEW} else [short(out[-300:])]
+    runs = 1 + 6 * (number - 1)
+    faults += [] if f"runs {runs}\nend {sets.get(NEW)} uncut\n{NEW}".encode() in out else ["not so many runs"]
+    faults += [] if f"end {sets.get(OLD)} cut 1 keep\n{OLD}".encode() in out else ["another first cut"]
+    # Without the half of each write and the run without a cut.
+    for lines, versions in ((OLD, (b"1.0.0+0",) * 2), (NEW, (b"2.0.0+0",) * 2)):
+        least = ends.get(versions, 0)
+        if not least <= sets.get(lines, 0) <= least + number:
+            faults.append(f"{sets.get(lines)} runs end so, and by hand {least}")
+    checks.tell("sweep: a trial that stays: the sets at the end", faults)
+
+
+def check_samples(checks):
+    """Of a sample as many runs are made as are asked for, and the same for the same seed."""
+    sample = lambda number, seed: checks.run(["sweep", "--sample", str(number), "--seed", str(seed), *SWEEP[1:]])
+    one, again, other = sample(30, 7), sample(30, 7), sample(30, 8)
+    faults = [] if one == again else ["two sweeps of one seed are not the same"]
+    faults += [] if one != other else ["two seeds draw the same"]
+    for status, out, err in (one, other):
+        marks = "".join(re.findall(r" from \d+ (\S+)$", out.decode(), re.M))
+        tried = len(marks) - marks.count("_")
+        is_good = (status, err) == (0, b"") and b"runs 31\nend 31 uncut\n" in out and 10 < tried <= 30
+        faults += [] if is_good else [f"{status}, {tried} writes tried: {short(out)}"]
+    checks.tell("sweep: a sample of 30", faults)
+    none = told(EVENTS, [len(it) * "_" for it in SAID], f"runs 1\nend 1 uncut\n{OLD}")
+    checks.expect("sweep: a sample of none", ["sweep", "--sample=0", *SWEEP[1:]], 0, none)
+    checks.expect("sweep: no events", ["sweep", PAIR, "-", ONE, ONE], 0, f"runs 1\nend 1 uncut\n{OLD}".encode())
+    seeds = {checks.run(["sweep", "--sample=9", f"--seed={it}", *SWEEP[1:]])[0] for it in (0, 1, 2**32 - 1)}
+    checks.tell("sweep: the least and the greatest seed", [] if seeds == {0} else [f"{seeds}"])
+
+
+SVG = "{http://www.w3.org/2000/svg}"
+
+# What a square of the picture says, by the character that stands for it in the text.
+WORDS = {
+    ".": "the next boot took nothing",
+    "t": "the next boot took a set on trial",
+    "r": "the next boot went back",
+    "*": "the next boot said one thing or another",
+}
+
+
+def check_pictures(checks):
+    """The picture has a square for each write, which says what its character says."""
+    picture = f"{checks.folder}/sweep.svg"
+    checks.file("sweep.svg", b"old")
+    got = checks.run(["sweep", "--svg", "sweep.svg", *SWEEP[1:]])
+    tree = xml.etree.ElementTree.parse(picture).getroot()
+    titles = [it.find(f"{SVG}title").text for it in tree.iter(f"{SVG}rect") if it.find(f"{SVG}title") is not None]
+    wanted = [f"write {number}: {WORDS[mark]}" for number, mark in enumerate("".join(SAID), 1)]
+    labels = [it.text for it in tree.iter(f"{SVG}text")]
+    faults = [] if got[0] == 0 and got == checks.run(SWEEP) else ["another text with a picture"]
+    faults += [] if titles == wanted else [short(titles)]
+    faults += [] if labels[:10] == [f"{at} {it}" for at, it in enumerate(EVENTS, 1)] else [short(labels)]
+    checks.tell("sweep: the picture", faults)
+    os.remove(picture)
+
+
+def check_progress(checks):
+    """A terminal at standard error is told how far a sweep is, in one line that is taken away at the end."""
+    ours, theirs = os.openpty()
+    usual = checks.run(SWEEP)
+    got = checks.run(SWEEP, stderr=theirs)
+    os.close(theirs)
+    told = b""
+    # Linux ends what a terminal has with an error, once nobody writes to it.
+    with contextlib.suppress(OSError):
+        while more := os.read(ours, 4096):
+            told += more
+    os.close(ours)
+    line = rb"(\rsweep: \d+ of 91, \d+ s left\x1b\[K)*\r\x1b\[K"
+    faults = [] if got == usual else [short(got)]
+    faults += [] if re.fullmatch(line, told) else [short(told)]
+    checks.tell("sweep: how far it is, at a terminal", faults)
+
+
+def check_refusals(checks):
+    """What can't be swept is told, and no picture is made or changed."""
+    checks.file("abc", b"abc")
+    checks.file("picture", b"old")
+    checks.file("cuts", b"cut 3 keep\nboot\n")
+    checks.file("frob", b"boot\nfrob\n")
+    checks.file("absent", b"boot\naccept nothing\n")
+    checks.file("narrow.json", device(sector=0))
+    given = lambda *words: ["sweep", "--svg", "picture", *words]
+    rows = [
+        ("a script that cuts", given(PAIR, "cuts", ONE, ONE), b"", b"error: script line 1\n"),
+        ("a bad line", given(PAIR, "frob", ONE, ONE), b"", b"error: script line 2\n"),
+        ("a file of a line isn't there", given(PAIR, "absent", ONE, ONE), b"", b"error: cannot read nothing\n"),
+        ("no device file", given("abc", SCRIPT, ONE, ONE), b"", b"error: device file\n"),
+        ("sizes that make no map", given("narrow.json", SCRIPT, ONE, ONE), b"refused map 1 BadSector\n", b""),
+        ("an image too few", given(PAIR, SCRIPT, ONE), b"", b"error: image count\n"),
+        ("an image that isn't there", given(PAIR, SCRIPT, ONE, "nothing"), b"", b"error: cannot read nothing\n"),
+        ("a damaged image", given(PAIR, SCRIPT, ONE, "abc"), b"refused boot 5 RunningDamaged 1\n", b""),
+        ("the picture is the script", ["sweep", "--svg=cuts", PAIR, "cuts", ONE, ONE], b"", b"error: script line 1\n"),
+        ("the picture is an image", ["sweep", "--svg=abc", PAIR, SCRIPT, ONE, "abc"], b"",
+            b"error: picture is an input\n"),
+        ("the picture is an image by another name", ["sweep", "--svg=./abc", PAIR, SCRIPT, ONE, "abc"], b"",
+            b"error: picture is an input\n"),
+        ("the picture can't be made", ["sweep", "--sample=0", "--svg=no/folder", PAIR, SCRIPT, ONE, ONE], b"",
+            b"error: cannot write no/folder\n"),
+    ]  # fmt: skip
+    for name, words, out, err in rows:
+        checks.expect(f"sweep: {name}", words, 1, out, err)
+    checks.file("script", read(SCRIPT))
+    words = ["sweep", "--svg=script", PAIR, "script", ONE, ONE]
+    checks.expect("sweep: the picture is a script that is right", words, 1, err=b"error: picture is an input\n")
+    is_kept = (read(f"{checks.folder}/picture"), read(f"{checks.folder}/abc")) == (b"old", b"abc")
+    checks.tell("sweep: no picture is made of what is refused", [] if is_kept else ["a file was changed"])
+
+
+CHECKS = (check_worked, check_kept, check_samples, check_pictures, check_progress, check_refusals)

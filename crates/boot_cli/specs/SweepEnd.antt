@@ -1,0 +1,43 @@
+-- What a sweep comes to.
+use Rattle.std.specs.Prelude.{◌⊎◌, ℕ, List, [], ◌∷◌, Option}
+use Rattle.events.specs.declared.event.Event.{Event}
+use Rattle.sector_map.specs.declared.layout.SectorMap.{SectorMap}
+use Rattle.reading_commands.specs.declared.answer.Answer.{Answer}
+use Rattle.reading_commands.specs.declared.answer.Answer.TheVariants.{Done, Refused, Cut}
+use Rattle.reading_commands.specs.declared.source.Source.{Source}
+use Rattle.reading_commands.specs.DeviceInput.{RefusesMap}
+use Rattle.reading_commands.specs.Input.{FileBytes}
+use Rattle.reading_commands.specs.Inputs.{GiveEach}
+use Rattle.answers.specs.declared.device.DeviceFile.{DeviceFile}
+use Rattle.answers.specs.DeviceFile.{IsDeviceFile}
+use Rattle.answers.specs.FlashOf.{IsFlashOf}
+use Rattle.boot_cli.specs.declared.commands.sweeping.Provisioned.{Provisioned}
+use Rattle.boot_cli.specs.declared.commands.sweeping.Provisioned.TheVariants as made
+use Rattle.boot_cli.specs.RunEnd.{known_after_each}
+use Rattle.boot_cli.specs.Script.{IsScript}
+
+-- A flash that was made has as many bytes as its map.
+abbrev pub IsWhole : SectorMap → Provisioned → Type 0
+IsWhole map (made.Done bytes) = IsFlashOf map bytes.items
+IsWhole map (made.Refused fault) = Unit {0}
+
+-- `sweep` read the bytes of a device file, and of a script that cuts no write, with the files that
+-- it names. What is printed of the runs is no part of this ..
+pub record SweepsDevice (device script : Source) (input : Option (List ℕ)) (files : FileBytes)
+    : Type 0 where
+  pub device_bytes : List ℕ
+  pub of_device : DeviceFile
+  pub text : List ℕ
+  pub came : List (Event (List ℕ))
+  pub given : GiveEach (device ∷ script ∷ []) input files (device_bytes ∷ text ∷ [])
+  pub is_device : IsDeviceFile device_bytes of_device
+  pub says : IsScript text
+      (known_after_each (device ∷ script ∷ []) (record { input = input; files = files })) [] came
+
+-- .. or wrote why the sizes of the device file make no map, and then nothing else counts.
+abbrev pub AnswersSweep : Answer → Source → Source → Option (List ℕ) → FileBytes
+    → Option (List ℕ) → Option (List ℕ) → Type 0
+AnswersSweep Done device script input files old new = SweepsDevice device script input files
+AnswersSweep Refused device script input files old new =
+    SweepsDevice device script input files ⊎ RefusesMap device input files old new
+AnswersSweep Cut device script input files old new = ⊥

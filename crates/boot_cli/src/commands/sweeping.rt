@@ -1,0 +1,325 @@
+//! `bootswap sweep`: what comes of a script, with each write of the flash cut.
+ghost use Rattle.std.specs.Prelude.{◌≡◌, ◌≤◌, [], IfOk};
+ghost use Rattle.answers.specs.DeviceFile.{IsOfFile};
+ghost use Rattle.answers.specs.FlashOf.{IsFlashOf};
+ghost use Rattle.reading_commands.specs.Status.{status_of_answer};
+ghost use Rattle.boot_cli.specs.Loading.{came_in};
+ghost use Rattle.boot_cli.specs.Script.{IsScript, Known, StaysKnown};
+ghost use Rattle.boot_cli.specs.SweepEnd.{AnswersSweep, IsWhole};
+
+use crate::commands::provision::{Made, read_images, tell_made};
+use crate::loading::{load, read_script};
+use answers::{DeviceFile, flash_of, write_all};
+use command_line::SweepChoices;
+use events::Event;
+use machine::Fault;
+use reading_commands::{Answer, FlashFault, Host, Refusal, Source, read_device};
+use sector_map::SectorMap;
+use std::alloc::{AllocError, Allocator, Global};
+use std::io::Write;
+use std::marker::Brand;
+use std::sync::ledger::{Blank, Ledger};
+use sweep::{Life, Plan, Watch, found_text, picture_of, sweep};
+
+/// The files that a sweep reads.
+#[derive(Clone, Copy)]
+pub struct Named<'a, 'w> {
+    /// The device file.
+    pub device: Source<'a>,
+    /// The script.
+    pub script: Source<'a>,
+    /// The names of the images that run first, as the words have them.
+    pub images: &'w [&'a str],
+}
+
+/// A flash that was made a device's, or why it wasn't.
+#[derive(Drop)]
+pub enum Provisioned {
+    /// These are its bytes.
+    Done(Vec<u8>),
+    /// This is why.
+    Refused(Fault),
+}
+
+/// How far a sweep is, told on standard error.
+#[derive(Drop)]
+struct Progress<'a, H, E> {
+    /// Where the time comes from.
+    host: &'a H,
+    /// Standard error.
+    err: &'a mut E,
+    /// When the sweep began, and when it was told last, in seconds; none where nobody watches.
+    seconds: Option<(u64, u64)>,
+}
+
+/// Reads a device file, a script and images from `host`, makes a flash in memory a device's, runs
+/// the script on it with the writes cut that `choices` ask for, and writes to `out` what came of
+/// it. The script's text is put into `text`. Flashes stand in memory of `alloc`, all else in that
+/// of `heap`. Where somebody watches, `err` is told how far it is.
+///
+/// All files are judged before anything is run, and none is changed but the picture, where one is
+/// asked for, which is made or replaced once all is run.
+pub fn perform<'a, 'h, A: Allocator, H: Host, O: Write, E: Write>(
+    alloc: Global,
+    heap: &'h A,
+    named: Named<'a, '_>,
+    choices: &SweepChoices<'a>,
+    text: &'a mut Vec<u8, &'h A>,
+    host: &mut H,
+    out: &mut O,
+    err: &mut E,
+) -> Result<Answer, Refusal<'a>>
+    ensures { IfOk result (λ answer. AnswersSweep answer named.entry.device named.entry.script
+        (H.input host.old) (H.file host.old) (O.contents out.old) (O.contents out.new)) }
+{
+    let is_input_read = reads_standard_input(&named);
+    let Some(device) = read_device(alloc, heap, named.device, host, out)? else {
+        return Ok(Answer::Refused);
+    };
+    *text = read_script(heap, named.script, host)?;
+    let events = load_uncut(alloc, heap, text, is_input_read, host)?;
+    refuse_inputs(host, choices.picture, &named)?;
+    sweep_images(
+        alloc,
+        heap,
+        &device,
+        &events,
+        named.images,
+        choices,
+        host,
+        out,
+        err,
+    )
+}
+
+/// Whether one of these files is standard input.
+fn reads_standard_input(named: &Named<'_, '_>) -> bool {
+    named.device.is_standard_input()
+        || named.script.is_standard_input()
+        || named
+            .images
+            .iter()
+            .any(|image| Source::named(image).is_standard_input())
+}
+
+/// The events of a script that cuts no write, with the files that its lines name.
+fn load_uncut<'a, 'h, A: Allocator, H: Host>(
+    alloc: Global,
+    heap: &'h A,
+    text: &'a [u8],
+    is_input_read: bool,
+    host: &mut H,
+) -> Result<Vec<Event<Vec<u8, &'h A>>, &'h A>, Refusal<'a>>
+    ensures { IfOk result (λ events. (known : Known)
+        → StaysKnown known (H.input host.old) (H.file host.old)
+        → IsScript text.now known [] (came_in events.items)) }
+{
+    let script = load(alloc, heap, text, is_input_read, host)?;
+    if !script.cuts.is_empty() {
+        // Cuts stand before all else.
+        return Err(Refusal::ScriptLine(1));
+    }
+    Ok(script.events)
+}
+
+/// Refuses a picture whose file is one of those that are named.
+fn refuse_inputs<'a, H: Host>(
+    host: &H,
+    picture: Option<&'a str>,
+    named: &Named<'_, '_>,
+) -> Result<(), Refusal<'a>> {
+    let Some(picture) = picture else {
+        return Ok(());
+    };
+    refuse_input(host, picture, named.device)?;
+    refuse_input(host, picture, named.script)?;
+    for image in named.images {
+        refuse_input(host, picture, Source::named(image))?;
+    }
+    Ok(())
+}
+
+/// Refuses a picture whose file is what is read here, by whatever name.
+fn refuse_input<'a, H: Host>(
+    host: &H,
+    picture: &'a str,
+    source: Source<'_>,
+) -> Result<(), Refusal<'a>> {
+    let Source::File(name) = source else {
+        return Ok(());
+    };
+    if name == picture {
+        return Err(Refusal::PictureIsInput);
+    }
+    match host.is_same_file(name, picture) {
+        Ok(false) => Ok(()),
+        Ok(true) => Err(Refusal::PictureIsInput),
+        Err(_) => Err(Refusal::CannotReplace(Source::File(picture))),
+    }
+}
+
+/// Makes a flash with these images a device's, and sweeps these events on it.
+fn sweep_images<'a, A: Allocator, B: Allocator, H: Host, O: Write, E: Write>(
+    alloc: Global,
+    heap: &A,
+    device: &DeviceFile,
+    events: &[Event<Vec<u8, B>>],
+    images: &[&'a str],
+    choices: &SweepChoices<'a>,
+    host: &mut H,
+    out: &mut O,
+    err: &mut E,
+) -> Result<Answer, Refusal<'a>>
+    requires device { IsOfFile device.now }
+    ensures { IfOk result (λ answer. status_of_answer answer ≤ 1) }
+{
+    let bytes = read_images(alloc, heap, &device.map, images, host)?;
+    let Ok(made) = provision_in_memory::<Brand>(alloc, Blank::new(2), &device.map, bytes) else {
+        return Err(Refusal::NoMemory);
+    };
+    match made {
+        Provisioned::Refused(fault) => tell_made(heap, Made::Refused(fault), out),
+        Provisioned::Done(bytes) => {
+            let life = Life {
+                device,
+                bytes: &bytes,
+                events,
+                between: &[],
+                more: &[],
+            };
+            tell_sweep(alloc, heap, &life, choices, host, out, err)
+        }
+    }
+}
+
+/// Makes the flash of these bytes a device's, in memory.
+fn provision_in_memory<L: Ledger>(
+    alloc: Global,
+    blank: Blank,
+    map: &SectorMap,
+    bytes: Vec<u8>,
+) -> Result<Provisioned, AllocError>
+    requires name { blank.name ≡ L.name }
+    requires parts { blank.parts ≡ L.parts }
+    requires two { L.parts ≡ 2 }
+    requires whole { IsFlashOf map.now bytes.items }
+    ensures { IfOk result (λ made. IsWhole map.now made) }
+{
+    let mut flash = flash_of::<L>(alloc, blank, map, bytes);
+    if let Err(fault) = boot_core::provision(&mut flash, map) {
+        return Ok(Provisioned::Refused(fault));
+    }
+    Ok(Provisioned::Done(Vec::from_slice(alloc, flash.bytes())?))
+}
+
+/// Sweeps a life, makes the picture where one is asked for, and writes what was found to `out`.
+fn tell_sweep<'a, A: Allocator, B: Allocator, H: Host, O: Write, E: Write>(
+    alloc: Global,
+    heap: &A,
+    life: &Life<'_, B>,
+    choices: &SweepChoices<'a>,
+    host: &mut H,
+    out: &mut O,
+    err: &mut E,
+) -> Result<Answer, Refusal<'a>>
+    requires device { IsOfFile life.now.device.now }
+    requires whole { IsFlashOf life.now.device.now.map life.now.bytes.now }
+    ensures { IfOk result (λ answer. status_of_answer answer ≤ 1) }
+{
+    let mut progress = Progress::new(host, err);
+    let Ok(found) = sweep(alloc, heap, life, plan_of(choices), &mut progress) else {
+        return Err(Refusal::NoMemory);
+    };
+    if let Some(name) = choices.picture {
+        let Ok(picture) = picture_of(heap, life, &found) else {
+            return Err(Refusal::NoMemory);
+        };
+        replace(heap, name, picture.as_bytes(), host)?;
+    }
+    let Ok(text) = found_text(heap, life, &found) else {
+        return Err(Refusal::NoMemory);
+    };
+    match write_all(out, text.as_bytes()) {
+        Ok(()) => Ok(answer_of(found.is_good())),
+        Err(_) => Err(Refusal::CannotWrite),
+    }
+}
+
+/// What is tried, by the words.
+fn plan_of(choices: &SweepChoices<'_>) -> Plan {
+    Plan {
+        is_twice: choices.is_twice,
+        sample: choices.sample,
+        seed: choices.seed.unwrap_or(1),
+    }
+}
+
+/// What a sweep comes to.
+fn answer_of(is_good: bool) -> Answer
+    ensures { status_of_answer result ≤ 1 }
+{
+    if is_good {
+        Answer::Done
+    } else {
+        Answer::Refused
+    }
+}
+
+/// Makes or replaces the file of the picture.
+fn replace<'a, A: Allocator, H: Host>(
+    heap: &A,
+    name: &'a str,
+    bytes: &[u8],
+    host: &mut H,
+) -> Result<(), Refusal<'a>> {
+    match host.replace_file(heap, name, bytes) {
+        Ok(()) => Ok(()),
+        Err(FlashFault::NoMemory) => Err(Refusal::NoMemory),
+        Err(FlashFault::InUse | FlashFault::WrongLength | FlashFault::Failed) => {
+            Err(Refusal::CannotReplace(Source::File(name)))
+        }
+    }
+}
+
+impl<'a, H: Host, E: Write> Progress<'a, H, E> {
+    /// Of a sweep that begins now.
+    fn new(host: &'a H, err: &'a mut E) -> Self {
+        let seconds = host.watched_seconds().map(|now| (now, now));
+        Progress { host, err, seconds }
+    }
+
+    /// Writes how far the sweep is, over what was written before, or takes that away at the end.
+    /// Nothing depends on it, so a write that fails changes nothing.
+    fn tell(&mut self, done: u32, all: u32, went: u64) {
+        let result = if done == all {
+            write!(self.err, "\r\x1b[K")
+        } else {
+            let left = seconds_left(done, all, went);
+            write!(self.err, "\rsweep: {done} of {all}, {left} s left\x1b[K")
+        };
+        let _ = result;
+        let _ = self.err.flush();
+    }
+}
+
+impl<H: Host, E: Write> Watch for Progress<'_, H, E> {
+    fn see(&mut self, done: u32, all: u32) {
+        let Some((began, told)) = self.seconds else {
+            return;
+        };
+        let Some(now) = self.host.watched_seconds() else {
+            return;
+        };
+        if now == told && done != all {
+            return;
+        }
+        self.seconds = Some((began, now));
+        self.tell(done, all, now.saturating_sub(began));
+    }
+}
+
+/// How many seconds the rest takes, where so many parts of all took these.
+fn seconds_left(done: u32, all: u32, went: u64) -> u64 {
+    let left = u64::from(all.saturating_sub(done));
+    went.saturating_mul(left) / u64::from(done.max(1))
+}

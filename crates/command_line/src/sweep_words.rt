@@ -1,0 +1,24 @@
+//! The words of `sweep`: what is tried and made.
+
+ghost use Rattle.clap.specs.Words.{found_of, rows_of};
+ghost use Rattle.command_line.specs.Orders.{Finds, SaysSweep};
+
+use crate::commands::named;
+use crate::image_words::number_said;
+use crate::order_reading::{is_given, name_in};
+use crate::orders::SweepChoices;
+use clap::ArgMatches;
+
+/// What the words say that a sweep tries and makes; none where one of their numbers is none.
+pub fn sweep_choices_in<'a>(names: &ArgMatches<'a>) -> Option<SweepChoices<'a>>
+    ensures { Finds (SaysSweep (rows_of (found_of names.now))) result }
+{
+    let sample = number_said(names, named::SAMPLE)?;
+    let seed = number_said(names, named::SEED)?;
+    Some(SweepChoices {
+        is_twice: is_given(names, named::TWICE),
+        sample,
+        seed,
+        picture: name_in(names, named::SVG),
+    })
+}

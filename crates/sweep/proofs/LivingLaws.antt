@@ -1,0 +1,203 @@
+-- What a device goes through in a run of a sweep, one event more at a time.
+use Rattle.std.proofs.Common.{◌≡◌, ℕ, zero, suc, ◌+◌, ◌<◌, List, [], ◌∷◌, ◌++◌, ap, append-nil, append_assoc, arith, get_or, length, length-append, map, refl, replicate, subst, sym, take, ◌∙◌}
+use Rattle.std.specs.Prelude.{Vec}
+use Rattle.std.specs.List.{AllZip, range_with_len}
+use Rattle.std.proofs.lemmas.List.{map-append, replicate-append-replicate, take-map, take_more}
+use Rattle.common.proofs.Mapped.{AllZip-push}
+use Rattle.events.specs.declared.event.Event.{Event}
+use Rattle.events.specs.declared.event.Event.TheVariants as event
+use Rattle.events.specs.Event.{event_map}
+use Rattle.flash_model.specs.declared.torn.Armed.{Armed}
+use Rattle.flash_model.specs.declared.torn.Torn.{Torn}
+use Rattle.flash_model.specs.Chip.{Chip}
+use Rattle.flash_model.specs.Memory.{with_armed}
+use Rattle.sector_map.specs.declared.layout.SectorMap.{SectorMap}
+use Rattle.version_order.specs.declared.version.Version.{Version}
+use Rattle.machine.specs.Holding.{DeviceView}
+use Rattle.machine.specs.Intake.{Setup}
+use Rattle.machine.specs.Passing.{RunsTo, StepsTo}
+use Rattle.machine.specs.Steps.{DeviceEvent}
+use Rattle.machine.specs.declared.reply.Reply.{Reply}
+use Rattle.machine.proofs.Runs.{run_joins, runs_more, runs_none}
+use Rattle.answers.specs.FlashOf.{flash_of}
+use Rattle.answers.proofs.TextLaws.{range-more}
+use Rattle.sweep.specs.Cuts.{AreArmedFor, ArmsAll, IsArmedFor, IsTorn}
+use Rattle.sweep.specs.declared.cuts.Cut.{Cut}
+use Rattle.sweep.specs.Living.{HasVersion, Lives, LivesOne, Reboots, held_in, lent_in, with_boots}
+
+-- ---- runs
+
+-- a run goes on by a run
+runs_join : (setup : Setup) (old mid new : DeviceView) (events more : List DeviceEvent) (replies answered : List Reply)
+    → RunsTo setup old mid events replies → RunsTo setup mid new more answered
+    → RunsTo setup old new (events ++ more) (replies ++ answered)
+runs_join setup old mid new events more replies answered runs rest = λ m holds.
+    let before = runs m holds in
+    let after = rest before.0 before.2 in
+    (after.0, run_joins setup m before.0 after.0 events more replies answered before.1 after.1, after.2)
+
+-- a run of one step
+runs_one : (setup : Setup) (old new : DeviceView) (happened : DeviceEvent) (reply : Reply)
+    → StepsTo setup old new happened reply → RunsTo setup old new (happened ∷ []) (reply ∷ [])
+runs_one setup old new happened reply steps =
+    runs_more setup old old new [] [] happened reply (runs_none setup old) steps
+
+-- ---- boots
+
+pub reboots_none : (setup : Setup) (here : DeviceView) → Reboots setup here here
+reboots_none setup here = record { count = 0; replies = []; runs = runs_none setup here }
+
+pub reboots_more : (setup same : Setup) (old mid new : DeviceView) (reply : Reply) → Reboots setup old mid
+    → same ≡ setup → StepsTo same mid new event.Boot reply → Reboots setup old new
+reboots_more setup same old mid new reply before is steps =
+    let boot : DeviceEvent = event.Boot in
+    record {
+      count = before.count + 1;
+      replies = before.replies ++ reply ∷ [];
+      runs = subst (λ boots. RunsTo setup old new boots (before.replies ++ reply ∷ []))
+          (replicate-append-replicate before.count 1 boot)
+          (runs_more setup old mid new (replicate before.count boot) before.replies boot reply before.runs
+          (subst (λ s. StepsTo s mid new boot reply) is steps));
+    }
+
+-- ---- one event
+
+-- an event without a cut
+pub lives_one : (setup : Setup) (old new : DeviceView) (happened : DeviceEvent) (reply : Reply)
+    → StepsTo setup old new happened reply → LivesOne setup old new happened
+lives_one setup old new happened reply steps = record {
+  count = 0;
+  replies = reply ∷ [];
+  runs = runs_one setup old new happened reply steps;
+}
+
+-- an event with boots behind it
+pub lives_and_reboots : (setup same : Setup) (old mid new : DeviceView) (happened : DeviceEvent) (reply : Reply)
+    → StepsTo setup old mid happened reply → same ≡ setup → Reboots same mid new → LivesOne setup old new happened
+lives_and_reboots setup same old mid new happened reply steps is reboots = record {
+  count = reboots.count;
+  replies = reply ∷ reboots.replies;
+  runs = runs_join setup old mid new (happened ∷ []) (replicate reboots.count event.Boot) (reply ∷ []) reboots.replies
+      (runs_one setup old mid happened reply steps)
+      (subst (λ s. RunsTo s mid new (replicate reboots.count event.Boot) reboots.replies) is reboots.runs);
+}
+
+-- ---- many events
+
+boots_lent : (count : ℕ) → lent_in (replicate count event.Boot) ≡ replicate count event.Boot
+boots_lent zero = refl
+boots_lent (suc count) = ap (λ boots. event.Boot ∷ boots) (boots_lent count)
+
+with_boots-append : (came more : List (Event (List ℕ))) (counts others : List ℕ) → length counts ≡ length came
+    → with_boots (came ++ more) (counts ++ others) ≡ with_boots came counts ++ with_boots more others
+with_boots-append [] more [] others same = refl
+with_boots-append [] more (n ∷ counts) others same = absurd (omega (arith, same))
+with_boots-append (c ∷ came) more [] others same = absurd (omega (arith, same))
+with_boots-append (c ∷ came) more (n ∷ counts) others same =
+    ap (λ rest. c ∷ (replicate n event.Boot ++ rest)) (with_boots-append came more counts others (omega (arith, same)))
+    ∙ ap (λ rest. c ∷ rest) (sym (append_assoc (replicate n event.Boot) (with_boots came counts) (with_boots more others)))
+
+pub lives_none : (setup : Setup) (here : DeviceView) → Lives setup here here []
+lives_none setup here = record {
+  counts = [];
+  events = [];
+  replies = [];
+  each = refl;
+  come = refl;
+  runs = runs_none setup here;
+}
+
+pub lives_join : (setup same : Setup) (old mid new : DeviceView) (came more : List (Event (List ℕ)))
+    → Lives setup old mid came → same ≡ setup → Lives same mid new more → Lives setup old new (came ++ more)
+lives_join setup same old mid new came more before is after = record {
+  counts = before.counts ++ after.counts;
+  events = before.events ++ after.events;
+  replies = before.replies ++ after.replies;
+  each = length-append before.counts after.counts ∙ ap (λ n. n + length after.counts) before.each
+      ∙ ap (λ n. length came + n) after.each ∙ sym (length-append came more);
+  come = map-append (event_map (λ bytes. bytes.now)) before.events after.events
+      ∙ ap (λ l. l ++ lent_in after.events) before.come
+      ∙ ap (λ l. with_boots came before.counts ++ l) after.come
+      ∙ sym (with_boots-append came more before.counts after.counts before.each);
+  runs = runs_join setup old mid new before.events after.events before.replies after.replies before.runs
+      (subst (λ s. RunsTo s mid new after.events after.replies) is after.runs);
+}
+
+lives_of_one : (setup : Setup) (old new : DeviceView) (happened : DeviceEvent) (came : Event (List ℕ))
+    → event_map (λ bytes. bytes.now) happened ≡ came → LivesOne setup old new happened → Lives setup old new (came ∷ [])
+lives_of_one setup old new happened came is one = record {
+  counts = one.count ∷ [];
+  events = happened ∷ replicate one.count event.Boot;
+  replies = one.replies;
+  each = refl;
+  come = ap (λ c. c ∷ lent_in (replicate one.count event.Boot)) is
+      ∙ ap (λ boots. came ∷ boots) (boots_lent one.count ∙ sym (append-nil (replicate one.count event.Boot)));
+  runs = one.runs;
+}
+
+-- what comes by one event more of those that hold their bytes
+held_in-more : {A : Type 0} (all : List (Event (Vec ℕ A))) (i : ℕ) (read : Event (Vec ℕ A)) → i < length all
+    → read ≡ get_or all i read
+    → take (i + 1) (held_in all) ≡ take i (held_in all) ++ event_map (λ bytes. bytes.items) read ∷ []
+held_in-more all i read below is =
+    let next : take (i + 1) all ≡ take i all ++ read ∷ [] =
+    take_more all i read below ∙ ap (λ e. take i all ++ e ∷ []) (sym is) in
+    take-map (event_map (λ bytes. bytes.items)) (i + 1) all
+    ∙ ap held_in next
+    ∙ map-append (event_map (λ bytes. bytes.items)) (take i all) (read ∷ [])
+    ∙ ap (λ l. l ++ event_map (λ bytes. bytes.items) read ∷ []) (sym (take-map (event_map (λ bytes. bytes.items)) i all))
+
+pub lives_more : {A : Type 0} (setup same : Setup) (old mid new : DeviceView) (all : List (Event (Vec ℕ A))) (i : ℕ)
+    (read : Event (Vec ℕ A)) (happened : DeviceEvent) → Lives setup old mid (take i (held_in all)) → i < length all
+    → read ≡ get_or all i read
+    → event_map (λ bytes. bytes.now) happened ≡ event_map (λ bytes. bytes.items) read
+    → same ≡ setup → LivesOne same mid new happened → Lives setup old new (take (i + 1) (held_in all))
+lives_more setup same old mid new all i read happened before below is lent stays one =
+    subst (λ came. Lives setup old new came) (sym (held_in-more all i read below is))
+    (lives_join setup same old mid new (take i (held_in all)) _ before stays
+    (lives_of_one same mid new happened _ lent one))
+
+-- ---- cuts
+
+pub arms_none : (chip : Chip) → ArmsAll [] chip chip
+arms_none chip = record {
+  armed = [];
+  are_armed = tt;
+  chip = ap (λ all. with_armed chip all) (sym (append-nil chip.fixed.armed));
+}
+
+pub arms_more : (all : List Cut) (i : ℕ) (cut : Cut) (at : ℕ) (torn : Torn) (old mid new : Chip) → i < length all
+    → cut ≡ get_or all i cut → ArmsAll (take i all) old mid → at ≡ cut.write → IsTorn cut.tear torn
+    → new ≡ with_armed mid new.fixed.armed
+    → new.fixed.armed ≡ mid.fixed.armed ++ record { at = at; torn = torn } ∷ []
+    → ArmsAll (take (i + 1) all) old new
+arms_more all i cut at torn old mid new below is before number leaves same armed =
+    let one : Armed = record { at = at; torn = torn } in
+    record {
+      armed = before.armed ++ one ∷ [];
+      are_armed = subst (λ cuts. AreArmedFor cuts (before.armed ++ one ∷ []))
+          (sym (take_more all i cut below ∙ ap (λ c. take i all ++ c ∷ []) (sym is)))
+          (AllZip-push IsArmedFor (take i all) before.armed cut one before.are_armed
+          (record { number = number; leaves = leaves }));
+      chip = same ∙ ap (λ all. with_armed mid all)
+          (armed ∙ ap (λ chip. chip.fixed.armed ++ one ∷ []) before.chip
+          ∙ append_assoc old.fixed.armed before.armed (one ∷ []))
+          ∙ ap (λ chip. with_armed chip (old.fixed.armed ++ (before.armed ++ one ∷ []))) before.chip;
+    }
+
+-- ---- what runs
+
+pub versions_more : (map : SectorMap) (chip : Chip) (image : ℕ) (versions : List Version) (version : Version)
+    → AllZip (HasVersion map chip) (range_with_len 0 image) versions → HasVersion map chip image version
+    → AllZip (HasVersion map chip) (range_with_len 0 (image + 1)) (versions ++ version ∷ [])
+versions_more map chip image versions version before has =
+    subst (λ images. AllZip (HasVersion map chip) images (versions ++ version ∷ [])) (sym (range-more image))
+    (AllZip-push (HasVersion map chip) (range_with_len 0 image) versions image version before has)
+
+-- ---- a whole run
+
+-- the flash that is made, once its cuts are armed
+pub armed_flash : (old new : Chip) (map : SectorMap) (bytes : List ℕ) (cuts : List Cut) → old ≡ flash_of map bytes
+    → (arms : ArmsAll cuts old new) → new ≡ with_armed (flash_of map bytes) arms.armed
+armed_flash old new map bytes cuts made arms =
+    arms.chip ∙ ap (λ chip. with_armed chip (chip.fixed.armed ++ arms.armed)) made

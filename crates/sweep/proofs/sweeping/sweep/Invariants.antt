@@ -1,0 +1,5 @@
+use Rattle.sweep.proofs.sweeping.sweep.Given as goal
+
+-- the token that the flash is made with
+abbrev pub ghosts-count_writes : goal.ghosts-count_writes
+ghosts-count_writes g a = record { name = a.blank.name; parts = a.blank.parts }

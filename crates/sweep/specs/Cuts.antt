@@ -1,0 +1,43 @@
+-- What the cuts of a sweep leave, and the flash that is armed with them.
+use Rattle.std.specs.Prelude.{◌≡◌, ℕ, List, [], ◌∷◌, ◌++◌}
+use Rattle.std.specs.List.{AllZip}
+use Rattle.flash_model.specs.declared.torn.Armed.{Armed}
+use Rattle.flash_model.specs.declared.torn.Torn.{Torn}
+use Rattle.flash_model.specs.declared.torn.Torn.TheVariants as torn
+use Rattle.flash_model.specs.Chip.{Chip}
+use Rattle.flash_model.specs.Memory.{with_armed}
+use Rattle.trailer.specs.declared.format.TheConstants.{MAGIC}
+use Rattle.sweep.specs.declared.cuts.Cut.{Cut}
+use Rattle.sweep.specs.declared.cuts.Tear.{Tear}
+use Rattle.sweep.specs.declared.cuts.Tear.TheVariants as tear
+
+-- A cut leaves copies of these bytes.
+abbrev pub IsCopies : List ℕ → Torn → Type 0
+IsCopies bytes (torn.Bytes pattern) = pattern.items ≡ bytes
+IsCopies bytes torn.Keep = ⊥
+IsCopies bytes torn.Done = ⊥
+IsCopies bytes torn.Half = ⊥
+
+-- What the ways to tear a write leave.
+abbrev pub IsTorn : Tear → Torn → Type 0
+IsTorn tear.Keep left = left ≡ torn.Keep
+IsTorn tear.Done left = left ≡ torn.Done
+IsTorn tear.Ones left = IsCopies (0xff ∷ []) left
+IsTorn tear.Zeros left = IsCopies (0x00 ∷ []) left
+IsTorn tear.Magic left = IsCopies MAGIC left
+IsTorn tear.Half left = left ≡ torn.Half
+
+-- A write of a flash is armed for a cut.
+pub record IsArmedFor (cut : Cut) (armed : Armed) : Type 0 where
+  pub number : armed.at ≡ cut.write
+  pub leaves : IsTorn cut.tear armed.torn
+
+-- Writes are armed for cuts, each for one.
+abbrev pub AreArmedFor : List Cut → List Armed → Type 0
+AreArmedFor cuts armed = AllZip IsArmedFor cuts armed
+
+-- A call arms these writes of a flash, behind those that were armed before.
+pub record ArmsAll (cuts : List Cut) (old new : Chip) : Type 0 where
+  pub armed : List Armed
+  pub are_armed : AreArmedFor cuts armed
+  pub chip : new ≡ with_armed old (old.fixed.armed ++ armed)

@@ -1,0 +1,28 @@
+//! A device of a device file.
+
+ghost use Rattle.std.specs.Prelude.{◌≡◌, false};
+ghost use Rattle.sector_map.specs.Map.{IsLaidOut};
+ghost use Rattle.upload.specs.Sessions.{AllClosed};
+ghost use Rattle.answers.specs.DeviceFile.{IsOfFile};
+ghost use Rattle.sweep.specs.Living.{setup_of};
+
+use answers::DeviceFile;
+use boot_core::Device;
+use flash_model::Flash;
+
+/// A device of this file over this flash, on which its map is laid out. It isn't up, and no upload
+/// is open.
+pub fn device_over<F: Flash>(flash: F, device: &DeviceFile) -> Device<F>
+    requires device { IsOfFile device.now }
+    requires laid_out { IsLaidOut device.now.map (F.chip flash) }
+    ensures setup { result.setup ≡ setup_of device.now }
+    ensures flash { result.here.flash ≡ F.chip flash }
+    ensures down { result.here.up ≡ false }
+    ensures closed { AllClosed result.here.sessions }
+{
+    if device.trial_boots == 1 {
+        Device::new(flash, device.map, device.identity)
+    } else {
+        Device::with_trial(flash, device.map, device.identity, device.trial_boots)
+    }
+}

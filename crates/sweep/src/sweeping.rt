@@ -1,0 +1,362 @@
+//! All runs of a sweep.
+
+ghost use Rattle.std.specs.Prelude.{◌≡◌};
+ghost use Rattle.answers.specs.DeviceFile.{IsOfFile};
+ghost use Rattle.answers.specs.FlashOf.{IsFlashOf};
+
+use crate::cuts::{Cut, Cuts, TEARS, Tear};
+use crate::device::device_over;
+use crate::found::{Found, Mark, Tally, is_same};
+use crate::living::{Life, live};
+use crate::notes::{CutNote, LifeEnd};
+use crate::plan::{Plan, Watch};
+use answers::{DeviceFile, flash_of};
+use arrayvec::ArrayVec;
+use boot_core::step;
+use common::limits::MOST_IMAGES;
+use events::Event;
+use random_numbers::Random;
+use std::alloc::{AllocError, Allocator, Global};
+use std::marker::Brand;
+use std::sync::ledger::{Blank, Ledger};
+use version_order::Version;
+
+/// What runs at the end of a life in which power fails beside an event, and not in it: the versions
+/// of the images, none where one is damaged.
+#[derive(Drop)]
+struct EndsBeside {
+    /// The event, from 0.
+    event: usize,
+    /// Without the event.
+    left_out: Option<ArrayVec<Version, MOST_IMAGES>>,
+    /// Where power fails in the place of the event.
+    before: Option<ArrayVec<Version, MOST_IMAGES>>,
+    /// Where power fails behind the event.
+    behind: Option<ArrayVec<Version, MOST_IMAGES>>,
+}
+
+/// Lives a life once without a cut, and then once with each write cut in each way, or as `plan`
+/// says. Who watches is told after each part.
+///
+/// A device that has no memory for a manifest ends the sweep. Copies of the flash stand in memory
+/// of `alloc`, what is found in that of `heap`; both are a few numbers for each write and each
+/// event, and two copies of the flash at a time.
+///
+/// # Errors
+/// `AllocError` where memory is refused.
+pub fn sweep<'h, A: Allocator, B: Allocator, W: Watch>(
+    alloc: Global,
+    heap: &'h A,
+    life: &Life<'_, B>,
+    plan: Plan,
+    watch: &mut W,
+) -> Result<Found<&'h A>, AllocError>
+    requires device { IsOfFile life.now.device.now }
+    requires whole { IsFlashOf life.now.device.now.map life.now.bytes.now }
+{
+    let writes = count_writes::<Brand, A, B>(alloc, heap, Blank::new(2), life)?;
+    let count = writes.last().copied().unwrap_or(0);
+    let marks = vec![in heap; Mark::NotTried; count as usize]?;
+    let mut found = Found {
+        writes,
+        marks,
+        sets: Vec::new(heap),
+        all: Tally::none(),
+        others: Tally::none(),
+        refused: Tally::none(),
+    };
+    let end = live(alloc, life, &[])?;
+    found.count_run(None, end)?;
+    match plan.sample {
+        None => cut_each(alloc, life, plan.is_twice, &mut found, watch)?,
+        Some(runs) => cut_some(alloc, life, plan, runs, &mut found, watch)?,
+    }
+    Ok(found)
+}
+
+/// For each event the number of writes that were made when it was over. No write is cut.
+fn count_writes<'h, L: Ledger, A: Allocator, B: Allocator>(
+    alloc: Global,
+    heap: &'h A,
+    blank: Blank,
+    life: &Life<'_, B>,
+) -> Result<Vec<u32, &'h A>, AllocError>
+    requires name { blank.name ≡ L.name }
+    requires parts { blank.parts ≡ L.parts }
+    requires two { L.parts ≡ 2 }
+    requires device { IsOfFile life.now.device.now }
+    requires whole { IsFlashOf life.now.device.now.map life.now.bytes.now }
+{
+    let bytes = Vec::from_slice(alloc, life.bytes)?;
+    let flash = flash_of::<L>(alloc, blank, &life.device.map, bytes);
+    let mut device = device_over(flash, life.device);
+    let mut writes = Vec::with_capacity(heap, life.events.len())?;
+    for event in life.events {
+        let event = event.as_deref();
+        step(alloc, &mut device, &event);
+        let count = device.flash().writes().min(u64::from(u32::MAX)) as u32;
+        if writes.push(count).is_err() {
+            return Err(AllocError);
+        }
+    }
+    Ok(writes)
+}
+
+/// Cuts each write in each way.
+fn cut_each<A: Allocator, B: Allocator, W: Watch>(
+    alloc: Global,
+    life: &Life<'_, B>,
+    is_twice: bool,
+    found: &mut Found<A>,
+    watch: &mut W,
+) -> Result<(), AllocError>
+    requires device { IsOfFile life.now.device.now }
+    requires whole { IsFlashOf life.now.device.now.map life.now.bytes.now }
+{
+    let count = found.marks.len().min(u32::MAX as usize) as u32;
+    let mut beside = None;
+    for done in 0..count {
+        cut_write(alloc, life, done + 1, is_twice, found, &mut beside)?;
+        watch.see(done + 1, count);
+    }
+    Ok(())
+}
+
+/// Cuts a write in each way.
+fn cut_write<A: Allocator, B: Allocator>(
+    alloc: Global,
+    life: &Life<'_, B>,
+    write: u32,
+    is_twice: bool,
+    found: &mut Found<A>,
+    beside: &mut Option<EndsBeside>,
+) -> Result<(), AllocError>
+    requires device { IsOfFile life.now.device.now }
+    requires whole { IsFlashOf life.now.device.now.map life.now.bytes.now }
+{
+    for tear in &TEARS {
+        let first = Cut { write, tear: *tear };
+        let behind = try_cuts(alloc, life, Cuts::One(first), found, beside)?;
+        if is_twice {
+            cut_behind(alloc, life, first, behind, found, beside)?;
+        }
+    }
+    Ok(())
+}
+
+/// Cuts each write of the boot behind a cut too, which makes so many.
+fn cut_behind<A: Allocator, B: Allocator>(
+    alloc: Global,
+    life: &Life<'_, B>,
+    first: Cut,
+    behind: u32,
+    found: &mut Found<A>,
+    beside: &mut Option<EndsBeside>,
+) -> Result<(), AllocError>
+    requires device { IsOfFile life.now.device.now }
+    requires whole { IsFlashOf life.now.device.now.map life.now.bytes.now }
+{
+    for place in 0..behind {
+        let write = first.write.saturating_add(place).saturating_add(1);
+        cut_second(alloc, life, first, write, found, beside)?;
+    }
+    Ok(())
+}
+
+/// Cuts a write behind a cut in each way.
+fn cut_second<A: Allocator, B: Allocator>(
+    alloc: Global,
+    life: &Life<'_, B>,
+    first: Cut,
+    write: u32,
+    found: &mut Found<A>,
+    beside: &mut Option<EndsBeside>,
+) -> Result<(), AllocError>
+    requires device { IsOfFile life.now.device.now }
+    requires whole { IsFlashOf life.now.device.now.map life.now.bytes.now }
+{
+    for tear in &TEARS {
+        let second = Cut { write, tear: *tear };
+        try_cuts(alloc, life, Cuts::Two(first, second), found, beside)?;
+    }
+    Ok(())
+}
+
+/// Makes so many runs with cuts that are drawn at random, a write and a way each.
+fn cut_some<A: Allocator, B: Allocator, W: Watch>(
+    alloc: Global,
+    life: &Life<'_, B>,
+    plan: Plan,
+    runs: u32,
+    found: &mut Found<A>,
+    watch: &mut W,
+) -> Result<(), AllocError>
+    requires device { IsOfFile life.now.device.now }
+    requires whole { IsFlashOf life.now.device.now.map life.now.bytes.now }
+{
+    let count = found.marks.len().min(u32::MAX as usize) as u32;
+    let mut beside = None;
+    // The generator takes any number but 0.
+    let mut random = Random::new(plan.seed.max(1));
+    for done in 0..runs {
+        let Some(first) = drawn(&mut random, 0, count) else {
+            return Ok(());
+        };
+        let behind = try_cuts(alloc, life, Cuts::One(first), found, &mut beside)?;
+        if plan.is_twice {
+            if let Some(second) = drawn(&mut random, first.write, behind) {
+                try_cuts(alloc, life, Cuts::Two(first, second), found, &mut beside)?;
+            }
+        }
+        watch.see(done + 1, runs);
+    }
+    Ok(())
+}
+
+/// A cut that is drawn at random, of one of the `count` writes behind this one; none where there
+/// are none.
+fn drawn(random: &mut Random, behind: u32, count: u32) -> Option<Cut> {
+    if count == 0 {
+        return None;
+    }
+    let place = random.number() % count;
+    let tear = tear_at(random.number());
+    Some(Cut {
+        write: behind.saturating_add(place).saturating_add(1),
+        tear,
+    })
+}
+
+/// The way to tear a write that a number stands for.
+fn tear_at(number: u32) -> Tear {
+    TEARS[(number % TEARS.len() as u32) as usize]
+}
+
+/// Lives a life with these cuts, and counts what came of it. The answer is how many writes there
+/// were from the one behind the first that was cut to the end of the boot that was not cut any
+/// more.
+fn try_cuts<A: Allocator, B: Allocator>(
+    alloc: Global,
+    life: &Life<'_, B>,
+    cuts: Cuts,
+    found: &mut Found<A>,
+    beside: &mut Option<EndsBeside>,
+) -> Result<u32, AllocError>
+    requires device { IsOfFile life.now.device.now }
+    requires whole { IsFlashOf life.now.device.now.map life.now.bytes.now }
+{
+    let (end, first) = match cuts {
+        Cuts::One(first) => (live(alloc, life, &[first])?, first),
+        Cuts::Two(first, second) => (live(alloc, life, &[first, second])?, first),
+    };
+    let mut behind = 0;
+    if let Some(cut) = end.cut {
+        found.mark(first.write, cut.said);
+        behind = cut.writes.min(u64::from(u32::MAX)) as u32;
+        if is_other(alloc, life, &cut, &end, found, beside)? {
+            found.others.count(Some(cuts));
+        }
+    }
+    found.count_run(Some(cuts), end)?;
+    Ok(behind)
+}
+
+/// Whether a run ended neither as the one without a cut nor as if power had failed beside the event
+/// in which a write was cut first, or that event were left out.
+fn is_other<A: Allocator, B: Allocator>(
+    alloc: Global,
+    life: &Life<'_, B>,
+    cut: &CutNote,
+    end: &LifeEnd,
+    found: &Found<A>,
+    beside: &mut Option<EndsBeside>,
+) -> Result<bool, AllocError>
+    requires device { IsOfFile life.now.device.now }
+    requires whole { IsFlashOf life.now.device.now.map life.now.bytes.now }
+{
+    if let Some(uncut) = found.sets.first() {
+        if is_same(&uncut.versions, &end.versions) {
+            return Ok(false);
+        }
+    }
+    if let Some(known) = beside {
+        if known.event == cut.event {
+            return Ok(!known.has(end));
+        }
+    }
+    let known = live_beside(alloc, life, cut.event)?;
+    let answer = !known.has(end);
+    *beside = Some(known);
+    Ok(answer)
+}
+
+impl EndsBeside {
+    /// Whether this end is one of them.
+    fn has(&self, end: &LifeEnd) -> bool {
+        is_same(&self.left_out, &end.versions)
+            || is_same(&self.before, &end.versions)
+            || is_same(&self.behind, &end.versions)
+    }
+}
+
+/// What runs at the end of a life in which power fails beside the event of this number, from 0, or
+/// which goes on without it.
+fn live_beside<B: Allocator>(
+    alloc: Global,
+    life: &Life<'_, B>,
+    event: usize,
+) -> Result<EndsBeside, AllocError>
+    requires device { IsOfFile life.now.device.now }
+    requires whole { IsFlashOf life.now.device.now.map life.now.bytes.now }
+{
+    let Life {
+        device,
+        bytes,
+        events,
+        between: _,
+        more: _,
+    } = life;
+    let place = event.min(events.len());
+    let (nothing, _) = events.split_at(0);
+    let (before, _) = events.split_at(place);
+    let (through, more) = events.split_at(place.saturating_add(1).min(events.len()));
+    let power_fails = power_fails(alloc)?;
+    Ok(EndsBeside {
+        event,
+        left_out: end_of(alloc, device, bytes, before, nothing, more)?,
+        before: end_of(alloc, device, bytes, before, &power_fails, more)?,
+        behind: end_of(alloc, device, bytes, through, &power_fails, more)?,
+    })
+}
+
+/// What comes where power fails between two events: the device is reset, and boots.
+fn power_fails<B: Allocator>(alloc: Global) -> Result<Vec<Event<Vec<u8, B>>>, AllocError> {
+    let mut events = Vec::new(alloc);
+    events.push(Event::Reset)?;
+    events.push(Event::Boot)?;
+    Ok(events)
+}
+
+/// What runs at the end where these events come to this device with these bytes on its flash,
+/// without a cut.
+fn end_of<B: Allocator>(
+    alloc: Global,
+    device: &DeviceFile,
+    bytes: &[u8],
+    events: &[Event<Vec<u8, B>>],
+    between: &[Event<Vec<u8, B>>],
+    more: &[Event<Vec<u8, B>>],
+) -> Result<Option<ArrayVec<Version, MOST_IMAGES>>, AllocError>
+    requires device { IsOfFile device.now }
+    requires whole { IsFlashOf device.now.map bytes.now }
+{
+    let life = Life {
+        device,
+        bytes,
+        events,
+        between,
+        more,
+    };
+    let end = live(alloc, &life, &[])?;
+    Ok(end.versions)
+}

@@ -1,0 +1,145 @@
+//! What is printed of a sweep.
+
+use crate::found::{Found, Mark, SetTally, Tally};
+use crate::living::Life;
+use crate::notes::Said;
+use events::Event;
+use std::alloc::{AllocError, Allocator};
+
+/// What a sweep prints, in memory of `heap`: a line for each event, with a character for each write
+/// of it; how many runs there were; the sets that ran at the end of one; and what went wrong.
+///
+/// # Errors
+/// `AllocError` where that memory is refused.
+pub fn found_text<'h, A: Allocator, B: Allocator>(
+    heap: &'h A,
+    life: &Life<'_, B>,
+    found: &Found<&'h A>,
+) -> Result<String<&'h A>, AllocError> {
+    let mut text = String::new(heap);
+    write_events(&mut text, life.events, found)?;
+    let runs = found.all.runs;
+    writeln!(text, "runs {runs}")?;
+    write_sets(&mut text, &found.sets)?;
+    write_wrong(&mut text, "other", &found.others)?;
+    write_wrong(&mut text, "refused", &found.refused)?;
+    Ok(text)
+}
+
+/// Adds a line for each event.
+fn write_events<A: Allocator, B: Allocator>(
+    text: &mut String<&A>,
+    events: &[Event<Vec<u8, B>>],
+    found: &Found<&A>,
+) -> Result<(), AllocError> {
+    let mut before = 0;
+    for (place, event) in events.iter().enumerate() {
+        let number = place.saturating_add(1);
+        write!(text, "{number} ")?;
+        write_event(text, event)?;
+        let end = found.writes.get(place).copied().unwrap_or(before);
+        write_marks(text, &found.marks, before, end)?;
+        writeln!(text)?;
+        before = end;
+    }
+    Ok(())
+}
+
+/// Adds the words of an event, as the line of a script has them, but for its files.
+pub(crate) fn write_event<A: Allocator, B: Allocator>(
+    text: &mut String<&A>,
+    event: &Event<Vec<u8, B>>,
+) -> Result<(), AllocError> {
+    match event {
+        Event::Accept(_) => write!(text, "accept"),
+        Event::Piece(image, _) => write!(text, "piece {image}"),
+        Event::Finish(image) => write!(text, "finish {image}"),
+        Event::Withdraw(image) => write!(text, "withdraw {image}"),
+        Event::Confirm(image) => write!(text, "confirm {image}"),
+        Event::Boot => write!(text, "boot"),
+        Event::Reset => write!(text, "reset"),
+    }
+}
+
+/// Adds the number of the first write of an event, and a character for each of them, where there
+/// are any: those behind the first `before` of all, up to the one of the number `end`.
+fn write_marks<A: Allocator>(
+    text: &mut String<&A>,
+    marks: &[Mark],
+    before: u32,
+    end: u32,
+) -> Result<(), AllocError> {
+    let Some(marks) = marks.get(before as usize..end as usize) else {
+        return Ok(());
+    };
+    if marks.is_empty() {
+        return Ok(());
+    }
+    let first = before.saturating_add(1);
+    write!(text, " from {first} ")?;
+    for mark in marks {
+        let character = character_of(*mark);
+        write!(text, "{character}")?;
+    }
+    Ok(())
+}
+
+/// The character for what the boots behind the cuts of a write said.
+fn character_of(mark: Mark) -> &'static str {
+    match mark {
+        Mark::NotTried => "_",
+        Mark::Several => "*",
+        Mark::All(Said::Plain) => ".",
+        Mark::All(Said::Trial) => "t",
+        Mark::All(Said::Permanent) => "p",
+        Mark::All(Said::Reverted) => "r",
+        Mark::All(Said::TrialAgain) => "a",
+        Mark::All(Said::Refused) => "x",
+    }
+}
+
+/// Adds the sets that ran at the end of a run, each with the number of runs and the first cuts that
+/// lead to it.
+fn write_sets<A: Allocator>(text: &mut String<&A>, sets: &[SetTally]) -> Result<(), AllocError> {
+    for set in sets {
+        write_tally(text, "end", &set.tally)?;
+        write_versions(text, set)?;
+    }
+    Ok(())
+}
+
+/// Adds the images of a set.
+fn write_versions<A: Allocator>(text: &mut String<&A>, set: &SetTally) -> Result<(), AllocError> {
+    let Some(versions) = &set.versions else {
+        return writeln!(text, "damaged");
+    };
+    for (image, version) in versions.iter().enumerate() {
+        writeln!(text, "run {image} {version}")?;
+    }
+    Ok(())
+}
+
+/// Adds a line of runs that went wrong, where there are any.
+fn write_wrong<A: Allocator>(
+    text: &mut String<&A>,
+    word: &str,
+    tally: &Tally,
+) -> Result<(), AllocError> {
+    if tally.runs == 0 {
+        return Ok(());
+    }
+    write_tally(text, word, tally)
+}
+
+/// Adds a line with a word, a number of runs and the cuts of the first of them.
+fn write_tally<A: Allocator>(
+    text: &mut String<&A>,
+    word: &str,
+    tally: &Tally,
+) -> Result<(), AllocError> {
+    let runs = tally.runs;
+    match tally.first {
+        Some(cuts) => writeln!(text, "{word} {runs} {cuts}"),
+        None => writeln!(text, "{word} {runs} uncut"),
+    }
+}
