@@ -81,11 +81,19 @@ impl Notes {
     /// `AllocError` where the device had no memory for it.
     pub fn end_event(&mut self, reply: &Reply) -> Result<(), AllocError> {
         self.events = self.events.saturating_add(1);
-        match reply {
-            Reply::Refused(Fault::NoMemory)
-            | Reply::Refused(Fault::Manifest(ManifestError::NoMemory)) => Err(AllocError),
-            _ => Ok(()),
-        }
+        had_memory(reply)
+    }
+}
+
+/// Whether the device had memory for what it replies to.
+///
+/// # Errors
+/// `AllocError` where it had none.
+pub fn had_memory(reply: &Reply) -> Result<(), AllocError> {
+    match reply {
+        Reply::Refused(Fault::NoMemory)
+        | Reply::Refused(Fault::Manifest(ManifestError::NoMemory)) => Err(AllocError),
+        _ => Ok(()),
     }
 }
 

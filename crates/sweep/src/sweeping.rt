@@ -8,7 +8,7 @@ use crate::cuts::{Cut, Cuts, TEARS, Tear};
 use crate::device::device_over;
 use crate::found::{Found, Mark, Tally, is_same};
 use crate::living::{Life, live};
-use crate::notes::{CutNote, LifeEnd};
+use crate::notes::{CutNote, LifeEnd, had_memory};
 use crate::plan::{Plan, Watch};
 use answers::{DeviceFile, flash_of};
 use arrayvec::ArrayVec;
@@ -93,7 +93,8 @@ fn count_writes<'h, L: Ledger, A: Allocator, B: Allocator>(
     let mut writes = Vec::with_capacity(heap, life.events.len())?;
     for event in life.events {
         let event = event.as_deref();
-        step(alloc, &mut device, &event);
+        let reply = step(alloc, &mut device, &event);
+        had_memory(&reply)?;
         let count = device.flash().writes().min(u64::from(u32::MAX)) as u32;
         if writes.push(count).is_err() {
             return Err(AllocError);
