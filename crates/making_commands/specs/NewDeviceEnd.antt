@@ -37,3 +37,13 @@ abbrev pub AnswersNewDevice : Answer → NewDevice → Option (List ℕ) → Opt
 AnswersNewDevice Done asked old new = WritesDevice asked old new
 AnswersNewDevice Refused asked old new = RefusesSizes asked old new
 AnswersNewDevice Cut asked old new = ⊥
+
+-- Two devices have the same map, identity and boots of a trial.
+pub record AreSame (one other : DeviceFile) : Type 0 where
+  pub sector_size : one.map.sector_size ≡ other.map.sector_size
+  pub images : one.map.images ≡ other.map.images
+  pub sectors : one.map.sectors ≡ other.map.sectors
+  pub vendor : one.identity.vendor ≡ other.identity.vendor
+  pub class : one.identity.class ≡ other.identity.class
+  pub identified : one.identity.images ≡ other.identity.images
+  pub trial_boots : one.trial_boots ≡ other.trial_boots

@@ -1,9 +1,9 @@
 //! `bootswap make-device`: the device file of a device, by the sizes of its flash and its names.
-ghost use Rattle.std.specs.Prelude.{◌≡◌, IfOk, OnOk, unwrap_or};
+ghost use Rattle.std.specs.Prelude.{◌≡◌, IfOk, OnOk, true, unwrap_or};
 ghost use Rattle.std.specs.Io.KnownBytes.{Appends};
 ghost use Rattle.answers.specs.AnswerText.{map_refusal_text};
 ghost use Rattle.answers.specs.DeviceFile.{IsDeviceFile};
-ghost use Rattle.making_commands.specs.NewDeviceEnd.{AnswersNewDevice, IsAsked};
+ghost use Rattle.making_commands.specs.NewDeviceEnd.{AnswersNewDevice, AreSame, IsAsked};
 ghost use Rattle.sector_map.specs.Making.{HasSizes};
 
 use crate::map_text::map_text;
@@ -126,8 +126,20 @@ fn expect_file<'a>(alloc: Global, text: &[u8], device: &DeviceFile) -> Result<()
     ensures { OnOk result (IsDeviceFile text.now device.now) }
 {
     match DeviceFile::read(alloc, text) {
-        Ok(read) if read == *device => Ok(()),
+        Ok(read) if is_same(&read, device) => Ok(()),
         Err(DeviceFault::NoMemory) => Err(Refusal::NoMemory),
         _ => Err(Refusal::DeviceFile),
     }
+}
+
+/// Whether two devices are the same.
+fn is_same(one: &DeviceFile, other: &DeviceFile) -> bool
+    ensures { result ≡ true → AreSame one.now other.now }
+{
+    if one.map == other.map {
+        if one.identity == other.identity {
+            return one.trial_boots == other.trial_boots;
+        }
+    }
+    false
 }
