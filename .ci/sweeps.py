@@ -6,7 +6,7 @@ import re
 import xml.etree.ElementTree
 
 from builders import device
-from checking import EXAMPLES, ONE, PAIR, flash_of, read, short
+from checking import EXAMPLES, ONE, PAIR, ROOT, flash_of, read, short
 from worked import SUM_OF_WRITES, TORN, WORKED, WRITES
 
 SCRIPT = f"{EXAMPLES}/scripts/{WORKED}.txt"
@@ -155,6 +155,7 @@ def check_pictures(checks):
     labels = [it.text for it in tree.iter(f"{SVG}text")]
     faults = [] if got[0] == 0 and got == checks.run(SWEEP) else ["another text with a picture"]
     faults += [] if titles == wanted else [short(titles)]
+    faults += [] if read(picture) == read(f"{ROOT}/docs/sweep.svg") else ["it isn't the one of docs/"]
     faults += [] if labels[:10] == [f"{at} {it}" for at, it in enumerate(EVENTS, 1)] else [short(labels)]
     checks.tell("sweep: the picture", faults)
     os.remove(picture)
