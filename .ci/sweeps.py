@@ -1,11 +1,12 @@
 """What the built program tells of a script with each write cut, and that the same commands by hand say the same."""
 
 import contextlib
+import hashlib
 import os
 import re
 import xml.etree.ElementTree
 
-from builders import device
+from builders import component, device, image, manifest, version
 from checking import EXAMPLES, ONE, PAIR, ROOT, flash_of, read, short
 from worked import SUM_OF_WRITES, TORN, WORKED, WRITES
 
@@ -114,6 +115,57 @@ def check_kept(checks):
     checks.tell("sweep: a trial that stays: the sets at the end", faults)
 
 
+def rows_of(out):
+    """The characters of each event that makes a write, by its words."""
+    return {words: marks for words, marks in re.findall(r"^\d+ (.*) from \d+ (\S+)$", out.decode(), re.M)}
+
+
+def lets_come(checks, sequence, kind, files):
+    """The events by which files come to the images, in their order, and are requested so."""
+    parts = []
+    for number, name in enumerate(files):
+        whole = read(os.path.join(checks.folder, name))
+        digest = hashlib.sha256(whole).hexdigest()
+        parts.append(component(component_id=number, kind=kind, size=len(whole), payload_digest=digest))
+    accepted = checks.file(f"manifest-{sequence}", manifest(components=parts, sequence_number=sequence))
+    pieces = [f"piece {number} {name}\n" for number, name in enumerate(files)]
+    return [f"accept {accepted}\n", *pieces, *(f"finish {number}\n" for number in range(len(files)))]
+
+
+def check_characters(checks):
+    """A set that is taken for good, and a trial of three boots, of which a power cut takes one."""
+    files = [f"{EXAMPLES}/images/{name}.img" for name in ("needing", "partner")]
+    script = "".join(["boot\n", *lets_come(checks, 1, "permanent", files), "boot\n"])
+    status, out, err = checks.run(["sweep", PAIR, checks.file("script", script.encode()), ONE, ONE])
+    row = out.decode().splitlines()[6]
+    # Where the last write is done, the next boot takes nothing more.
+    is_good = (status, err) == (0, b"") and re.fullmatch(r"7 boot from \d+ p{20,}\*?\.*", row)
+    checks.tell("sweep: a set that is taken for good", [] if is_good else [f"{status} {short(out)} {short(err)}"])
+    patient = f"{EXAMPLES}/devices/patient.json"
+    status, out, err = checks.run(["sweep", patient, SCRIPT, ONE, ONE])
+    is_good = (status, err) == (0, b"") and re.search(rb"^8 confirm 0 from \d+ a$", out, re.M)
+    checks.tell("sweep: a trial of three boots", [] if is_good else [f"{status} {short(out)} {short(err)}"])
+
+
+def check_others(checks):
+    """A cut in a manifest that replaces two requests may leave one of them, which no cut beside it does."""
+    whole = flash_of(checks)
+    two, three = (
+        [checks.file(f"image-{major}-{number}", image((), own=version(major, number))) for number in (0, 1)]
+        for major in (2, 3)
+    )
+    events = ["boot\n", *lets_come(checks, 1, "permanent", two), *lets_come(checks, 2, "permanent", three), "boot\n"]
+    words = ["sweep", PAIR, checks.file("script", "".join(events).encode()), ONE, ONE]
+    status, out, err = checks.run(words)
+    other = re.search(r"^other \d+ cut (\d+) (keep|done|hex:\S+)$", out.decode(), re.M)
+    faults = [] if (status, err) == (1, b"") and other else [f"{status} {short(out)} {short(err)}"]
+    if other:
+        cut, _, versions = by_hand(checks, whole, events, int(other[1]), other[2])
+        is_left = events[cut] == "accept manifest-2\n" and versions in ONE_LEFT
+        faults += [] if is_left else [f"event {cut}, {versions}"]
+    checks.tell("sweep: a cut that leaves one of two requests", faults)
+
+
 def check_samples(checks):
     """Of a sample as many runs are made as are asked for, and the same for the same seed."""
     sample = lambda number, seed: checks.run(["sweep", "--sample", str(number), "--seed", str(seed), *SWEEP[1:]])
@@ -132,6 +184,9 @@ def check_samples(checks):
     seeds = {checks.run(["sweep", "--sample=9", f"--seed={it}", *SWEEP[1:]])[0] for it in (0, 1, 2**32 - 1)}
     checks.tell("sweep: the least and the greatest seed", [] if seeds == {0} else [f"{seeds}"])
 
+
+# What runs where one of both requests is left.
+ONE_LEFT = [(b"1.0.0+0", b"2.1.0+0"), (b"2.0.0+0", b"1.0.0+0")]
 
 SVG = "{http://www.w3.org/2000/svg}"
 
@@ -214,4 +269,5 @@ def check_refusals(checks):
     checks.tell("sweep: no picture is made of what is refused", [] if is_kept else ["a file was changed"])
 
 
-CHECKS = (check_worked, check_kept, check_samples, check_pictures, check_progress, check_refusals)
+CHECKS = (check_worked, check_kept, check_characters, check_others, check_samples, check_pictures)
+CHECKS += (check_progress, check_refusals)
