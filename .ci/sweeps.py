@@ -164,6 +164,8 @@ def check_others(checks):
         is_left = events[cut] == "accept manifest-2\n" and versions in ONE_LEFT
         faults += [] if is_left else [f"event {cut}, {versions}"]
     checks.tell("sweep: a cut that leaves one of two requests", faults)
+    for name in [*two, *three]:
+        os.remove(f"{checks.folder}/{name}")
 
 
 def check_samples(checks):
@@ -236,19 +238,17 @@ def check_progress(checks):
 
 def check_refusals(checks):
     """What can't be swept is told, and no picture is made or changed."""
-    checks.file("abc", b"abc")
-    checks.file("picture", b"old")
-    checks.file("cuts", b"cut 3 keep\nboot\n")
-    checks.file("frob", b"boot\nfrob\n")
-    checks.file("absent", b"boot\naccept nothing\n")
-    checks.file("narrow.json", device(sector=0))
+    files = {"abc": b"abc", "picture": b"old", "cuts": b"cut 3 keep\nboot\n", "frob": b"boot\nfrob\n"}
+    files |= {"accepts": b"boot\naccept nothing\n", "no-map.json": device(sector=0), "script": read(SCRIPT)}
+    for name, contents in files.items():
+        checks.file(name, contents)
     given = lambda *words: ["sweep", "--svg", "picture", *words]
     rows = [
         ("a script that cuts", given(PAIR, "cuts", ONE, ONE), b"", b"error: script line 1\n"),
         ("a bad line", given(PAIR, "frob", ONE, ONE), b"", b"error: script line 2\n"),
-        ("a file of a line isn't there", given(PAIR, "absent", ONE, ONE), b"", b"error: cannot read nothing\n"),
+        ("a file of a line isn't there", given(PAIR, "accepts", ONE, ONE), b"", b"error: cannot read nothing\n"),
         ("no device file", given("abc", SCRIPT, ONE, ONE), b"", b"error: device file\n"),
-        ("sizes that make no map", given("narrow.json", SCRIPT, ONE, ONE), b"refused map 1 BadSector\n", b""),
+        ("sizes that make no map", given("no-map.json", SCRIPT, ONE, ONE), b"refused map 1 BadSector\n", b""),
         ("an image too few", given(PAIR, SCRIPT, ONE), b"", b"error: image count\n"),
         ("an image that isn't there", given(PAIR, SCRIPT, ONE, "nothing"), b"", b"error: cannot read nothing\n"),
         ("a damaged image", given(PAIR, SCRIPT, ONE, "abc"), b"refused boot 5 RunningDamaged 1\n", b""),
@@ -262,11 +262,12 @@ def check_refusals(checks):
     ]  # fmt: skip
     for name, words, out, err in rows:
         checks.expect(f"sweep: {name}", words, 1, out, err)
-    checks.file("script", read(SCRIPT))
     words = ["sweep", "--svg=script", PAIR, "script", ONE, ONE]
     checks.expect("sweep: the picture is a script that is right", words, 1, err=b"error: picture is an input\n")
     is_kept = (read(f"{checks.folder}/picture"), read(f"{checks.folder}/abc")) == (b"old", b"abc")
     checks.tell("sweep: no picture is made of what is refused", [] if is_kept else ["a file was changed"])
+    for name in files:
+        os.remove(f"{checks.folder}/{name}")
 
 
 CHECKS = (check_worked, check_kept, check_characters, check_others, check_samples, check_pictures)
