@@ -67,7 +67,7 @@ UNREADABLE = {
 USAGE = """
 
 Usage: bootswap make-device --sector <BYTES> --slots <N,N,..>
-           --vendor <DOMAIN> --class <NAME> [--trial-boots <N>]
+           --vendor <DOMAIN> --class <NAME> [--trial-boots <N>] [--explain]
 
 For more information, try '--help'.
 """

@@ -54,7 +54,7 @@ HELPS = {
     ],
     "make-device -h": [
         "Usage: bootswap make-device --sector <BYTES> --slots <N,N,..>\n"
-        "           --vendor <DOMAIN> --class <NAME> [--trial-boots <N>]\n",
+        "           --vendor <DOMAIN> --class <NAME> [--trial-boots <N>] [--explain]\n",
         "  --slots <N,N,..> ",
         "Exit status: 0 ",
         "Example: bootswap make-device ",
@@ -84,7 +84,7 @@ HELPS = {
     ],
     "make-manifest -h": [
         "Usage: bootswap make-manifest <DEVICE> --sequence <N> [--precursor <FLASH>]\n"
-        "           [--test <I=FILE>].. [--permanent <I=FILE>]..\n",
+        "           [--test <I=FILE>].. [--permanent <I=FILE>].. [--explain]\n",
         "Exit status: 0 ",
         "Example: bootswap make-manifest ",
     ],
@@ -188,7 +188,7 @@ HELPS = {
     ],
     "sweep -h": [
         "Usage: bootswap sweep <DEVICE> <SCRIPT> <IMAGE>... [--twice] [--sample <N>]\n"
-        "           [--seed <N>] [--svg <FILE>]\n",
+        "           [--seed <N>] [--svg <FILE>] [--explain]\n",
         "  --twice ",
         "  --sample <N> ",
         "  --seed <N> ",

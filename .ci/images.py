@@ -137,6 +137,10 @@ OF_ALL_OPTIONS = bytes.fromhex(
     "0769280010002000896e4f7e6453b9acfeb7fb1a9f84bdb472b1442b371fab3d17cceefe97572120"
 )
 
+# The same, with its last dependency in brackets, as MCUboot's imgtool has them.
+BRACKETED = [it if it != "1 2.0.0" else "(1, 2.0.0)" for it in ALL_OPTIONS]
+BRACKETED[BRACKETED.index("(1, 2.0.0)") - 1] = "--dependencies"
+
 # The same options in another order.
 OTHER_ORDER = [
     *("--needs=1 2", "--flags=16", "--needs-one=3 4 5 6.7", "--header-size=48", "--version=0", "--needs-one", "8 9"),
@@ -178,6 +182,10 @@ def expect_made(checks, name, words, body, wanted):
 def check_made_images(checks):
     """An image that is made has the bytes of the format, and is described as what was asked for."""
     expect_made(checks, "with all options", ALL_OPTIONS, b"ABCD", OF_ALL_OPTIONS)
+    expect_made(checks, "with a dependency in brackets", BRACKETED, b"ABCD", OF_ALL_OPTIONS)
+    close = ["--dependencies=(255,0)" if it == "255 0" else it for it in ALL_OPTIONS if it != "--needs"]
+    close = ["--dependencies=(1,2)" if it == "1 2.0.0" else it for it in close]
+    expect_made(checks, "with its dependencies in brackets", close, b"ABCD", OF_ALL_OPTIONS)
     expect_made(checks, "with all options in another order", OTHER_ORDER, b"ABCD", of_other_order())
     zero = image([(0x50, bytes(4))], own=version(0))
     expect_made(checks, "of version 0 and counter 0", ["--version", "0", "--counter", "0"], b"ABCD", zero)

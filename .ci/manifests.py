@@ -202,7 +202,7 @@ def check_next_boots(checks):
 USAGE = """
 
 Usage: bootswap make-manifest <DEVICE> --sequence <N> [--precursor <FLASH>]
-           [--test <I=FILE>].. [--permanent <I=FILE>]..
+           [--test <I=FILE>].. [--permanent <I=FILE>].. [--explain]
 
 For more information, try '--help'.
 """

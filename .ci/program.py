@@ -25,7 +25,7 @@ LOG = f"{OUT}/bootswap.log"
 PROGRAM = f"{OUT}/bootswap"
 
 # What is told before a build: as measured on 4 processors, all of them taken.
-COST = "40 to 75 minutes of one processor, 1 GB of disk"
+COST = "45 to 100 minutes of one processor, 1.2 GB of disk"
 
 # The most memory that the check of a crate has taken, in bytes, and what each further process of
 # one takes.
@@ -48,6 +48,8 @@ SECONDS = {
     "common": 19,
     "decision": 25,
     "events": 16,
+    "explaining_commands": 130,
+    "explanations": 125,
     "file_flash": 31,
     "flash_model": 66,
     "image_header": 23,

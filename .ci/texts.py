@@ -385,6 +385,11 @@ UNREADABLE = {
         "--needs=", "--needs=1", "--needs=1 ", "--needs=1  2.0.0", "--needs= 1 2.0.0", "--needs=256 2.0.0",
         "--needs=1 2.0.0 2 2.0.0", "--needs=1 2.0.x", "--needs=1,2.0.0",
     ],
+    "`--dependencies` is the number of an image and a version, in brackets: '(1, 2.0.0)'": [
+        "--dependencies=", "--dependencies=()", "--dependencies=1, 2.0.0", "--dependencies=(1, 2.0.0",
+        "--dependencies=1, 2.0.0)", "--dependencies=(1,  2.0.0)", "--dependencies=(1 2.0.0)", "--dependencies=( 1,2)",
+        "--dependencies=(256, 2.0.0)", "--dependencies=(1, 2.0.x)", "--dependencies=(1, 2.0.0)(2, 2.0.0)",
+    ],
     "`--needs-one` is numbers of images, each with a version, in one word: '1 2.0.0 2 2.0.0'": [
         "--needs-one=", "--needs-one=1 2.0.0 2", "--needs-one=1 2.0.0 2 2.0.0 ", "--needs-one=1 2.0.0 x 2.0.0",
         "--needs-one=1 2.0.0 2 65536.0",
@@ -394,8 +399,9 @@ UNREADABLE = {
 IMAGE_USAGE = """
 
 Usage: bootswap make-image <OUT> <BODY> --version <VERSION> [--counter <N>]
-           [--needs <'J VERSION'>].. [--needs-one <'J VERSION ..'>]..
-           [--header-size <BYTES>] [--load-address <N>] [--flags <N>]
+           [--needs <'J VERSION'>].. [--dependencies <'(J, V)'>]..
+           [--needs-one <'J VERSION ..'>].. [--header-size <BYTES>]
+           [--load-address <N>] [--flags <N>] [--explain]
 
 For more information, try '--help'.
 """

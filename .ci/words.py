@@ -207,7 +207,7 @@ USAGES = {
         IS_WRITTEN: ["run d - s", "run - - s"],
     },
     """sweep <DEVICE> <SCRIPT> <IMAGE>... [--twice] [--sample <N>]
-           [--seed <N>] [--svg <FILE>]""": {
+           [--seed <N>] [--svg <FILE>] [--explain]""": {
         f"{MISSING}\n  <IMAGE>...": ["sweep a b"],
         "the argument '--twice' cannot be used multiple times": ["sweep --twice --twice a b c"],
         "the argument '--sample <N>' cannot be used multiple times": ["sweep a b c --sample=1 --sample=1"],
@@ -221,8 +221,9 @@ USAGES = {
     },
     "codes": {"unexpected argument 'a' found": ["codes a"]},
     """make-image <OUT> <BODY> --version <VERSION> [--counter <N>]
-           [--needs <'J VERSION'>].. [--needs-one <'J VERSION ..'>]..
-           [--header-size <BYTES>] [--load-address <N>] [--flags <N>]""": {
+           [--needs <'J VERSION'>].. [--dependencies <'(J, V)'>]..
+           [--needs-one <'J VERSION ..'>].. [--header-size <BYTES>]
+           [--load-address <N>] [--flags <N>] [--explain]""": {
         f"{MISSING}\n  --version <VERSION>": ["make-image a b"],
         IS_MADE: ["make-image - b --version=1", "make-image - - --version=1"],
         "the argument '--counter <N>' cannot be used multiple times": [
@@ -230,7 +231,7 @@ USAGES = {
         ],
     },
     """make-manifest <DEVICE> --sequence <N> [--precursor <FLASH>]
-           [--test <I=FILE>].. [--permanent <I=FILE>]..""": {
+           [--test <I=FILE>].. [--permanent <I=FILE>].. [--explain]""": {
         f"{MISSING}\n  <DEVICE>": ["make-manifest --sequence=1 --test=0=a"],
         f"{MISSING}\n  --sequence <N>": ["make-manifest a --test=0=a"],
         "the argument '--sequence <N>' cannot be used multiple times": ["make-manifest a --sequence=1 --sequence=1"],

@@ -31,9 +31,7 @@ pub fn open<R: Files<File = File>>(
     length: u64,
     access: Access,
 ) -> Result<HeldFile, FlashFault> {
-    let Ok((file, is_device)) = open_plain(runtime, name, access) else {
-        return Err(FlashFault::Failed);
-    };
+    let (file, is_device) = open_plain(runtime, name, access).map_err(FlashFault::Failed)?;
     hold(runtime, name, &file, access)?;
     match length_of(&file) {
         Ok(found) if found == length => Ok(HeldFile {
@@ -42,7 +40,7 @@ pub fn open<R: Files<File = File>>(
             is_durable: is_device || access == Access::WriteDurably,
         }),
         Ok(_) => Err(FlashFault::WrongLength),
-        Err(_) => Err(FlashFault::Failed),
+        Err(error) => Err(FlashFault::Failed(error)),
     }
 }
 
@@ -92,12 +90,12 @@ pub fn hold<R: Files<File = File>>(
     match held {
         Ok(()) => {}
         Err(TryLockError::WouldBlock) => return Err(FlashFault::InUse),
-        Err(TryLockError::Error(_)) => return Err(FlashFault::Failed),
+        Err(TryLockError::Error(error)) => return Err(FlashFault::Failed(error)),
     }
     match (file.metadata(), fs::metadata(runtime, name)) {
         (Ok(one), Ok(other)) if is_one_file(&one, &other) => Ok(()),
         (Ok(_), Ok(_)) => Err(FlashFault::InUse),
-        _ => Err(FlashFault::Failed),
+        (Err(error), _) | (_, Err(error)) => Err(FlashFault::Failed(error)),
     }
 }
 

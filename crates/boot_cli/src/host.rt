@@ -91,8 +91,8 @@ impl<R: Files<File = File> + Clock, I: Read> Host for SystemHost<'_, R, I> {
         let Ok(mut bytes) = vec![in alloc; 0; length as usize] else {
             return Err(FlashFault::NoMemory);
         };
-        if held.file.read_exact_at(&mut bytes, 0).is_err() {
-            return Err(FlashFault::Failed);
+        if let Err(error) = held.file.read_exact_at(&mut bytes, 0) {
+            return Err(FlashFault::Failed(error));
         }
         self.flash = Some(held);
         Ok(bytes)

@@ -4,8 +4,9 @@
 //! survives power cuts.
 //!
 //! Promises: status 0 comes only where what the words ask for was done, for what the files that
-//! they name hold; and what `run` writes are the replies of a device to its script, with the cuts
-//! of the script armed on the flash that is made for it. The program and tests may call
+//! they name hold; of `sweep` only that it ran, for what it finds is tested; and what `run` writes
+//! are the replies of a device to its script, with the cuts of the script armed on the flash that is
+//! made for it. The program and tests may call
 //! it: the program gives the commands its words, the system's files and its standard input and
 //! outputs, and a test gives them others.
 #![tactic(auto)]
@@ -22,7 +23,8 @@ pub use answers::{
     CheckEnd, ChooseEnd, DescribeEnd, ManifestEnd, ShowEnd, check_over, choose_over, describe_over,
     show_over, tell_over,
 };
-pub use command_line::{Order, OrderError, order};
+pub use command_line::{Order, OrderError, Request, request};
+pub use explaining_commands::Remembering;
 pub use host::SystemHost;
 pub use program::{cli, refuse_words, run_order};
 pub use reading_commands::{Access, FlashFault, Host, StandardInput};

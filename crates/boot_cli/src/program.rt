@@ -4,7 +4,8 @@ ghost use Rattle.boot_cli.specs.OrderEnd.{AnswersOrder};
 
 use crate::commands::sweeping::Named;
 use crate::commands::{playing, provision, sweeping};
-use command_line::{Order, OrderError, STANDARD_INPUT, fault_of, no_text, order};
+use command_line::{Order, OrderError, Request, STANDARD_INPUT, fault_of, no_text, request};
+use explaining_commands::{Remembering, explain_end};
 use making_commands::extract::Copying;
 use making_commands::{extract, make_device, make_image, make_manifest};
 use reading_commands::{
@@ -28,19 +29,22 @@ const USAGE: u8 = 2;
 /// The first word is the program's own name, and without another one the choice is made over
 /// standard input. The words and JSON texts are parsed in memory of `alloc`, where flashes and what
 /// runs on them stand too, and all else stands in memory of `heap`. Input comes from `host`, which
-/// keeps the file of a flash. Answers go to `out`, error lines and the words on a wrong usage to
+/// keeps the file of a flash, and what is read where the answer is to be explained. Answers go to `out`, error lines and the words on a wrong usage to
 /// `err`, and both are flushed. After a write that failed nothing more is written, and the status
 /// is 1.
 pub fn cli<S: AsStr, A: Allocator, H: Host, O: Write, E: Write>(
     alloc: Global,
     heap: &A,
     words: &[S],
-    host: &mut H,
+    host: &mut Remembering<H>,
     out: &mut O,
     err: &mut E,
 ) -> u8 {
-    match order_in(alloc, words) {
-        Ok(order) => run_order(alloc, heap, order, host, out, err),
+    match request_in(alloc, words) {
+        Ok(request) if request.is_explained => {
+            run_explained(alloc, heap, words, request.order, host, out, err)
+        }
+        Ok(request) => run_order(alloc, heap, request.order, host, out, err),
         Err(OrderError::NoMemory) => refuse(Refusal::NoMemory, err),
         Err(OrderError::Usage(answer)) => {
             if answer.use_stderr() {
@@ -53,13 +57,41 @@ pub fn cli<S: AsStr, A: Allocator, H: Host, O: Write, E: Write>(
 }
 
 /// What the words ask for: with none after the program's own name the choice over standard input.
-fn order_in<'a, S: AsStr>(alloc: Global, words: &'a [S]) -> Result<Order<'a>, OrderError> {
+fn request_in<'a, S: AsStr>(alloc: Global, words: &'a [S]) -> Result<Request<'a>, OrderError> {
     if words.len() <= 1 {
-        return Ok(Order::Choose {
-            table: STANDARD_INPUT,
+        return Ok(Request {
+            order: Order::Choose {
+                table: STANDARD_INPUT,
+            },
+            is_explained: false,
         });
     }
-    order(alloc, words)
+    request(alloc, words)
+}
+
+/// Runs the command of an order to its exit status, as [`run_order`] does, and says on standard
+/// error why its answer is as it is. The order is what `words` ask for. The host keeps what is read,
+/// for that.
+fn run_explained<S: AsStr, A: Allocator, H: Host, O: Write, E: Write>(
+    alloc: Global,
+    heap: &A,
+    words: &[S],
+    order: Order<'_>,
+    host: &mut Remembering<H>,
+    out: &mut O,
+    err: &mut E,
+) -> u8
+    ensures { result ≡ 0 → AnswersOrder Answer.Done order.entry (H.input host.old.host)
+        (H.file host.old.host) (H.file host.new.host) (O.contents out.old) (O.contents out.new) }
+{
+    let mut text = Vec::new(heap);
+    host.kept.start();
+    let outcome = perform(alloc, heap, order, true, &mut text, host, out, err);
+    let status = finish(outcome, out, err);
+    if let Ok(request) = request(alloc, words) {
+        explain_end(alloc, heap, &request.order, outcome, host, err);
+    }
+    status
 }
 
 /// Runs the command of an order to its exit status: 0 only where the whole answer is written, and
@@ -78,17 +110,19 @@ pub fn run_order<A: Allocator, H: Host, O: Write, E: Write>(
     // A script's text, in which a refusal may name a file.
     let mut text = Vec::new(heap);
     finish(
-        perform(alloc, heap, order, &mut text, host, out, err),
+        perform(alloc, heap, order, false, &mut text, host, out, err),
         out,
         err,
     )
 }
 
-/// Runs the command of an order. What it tells on the way goes to `err`.
+/// Runs the command of an order. What it tells on the way goes to `err`: why replies of a run are as
+/// they are only where that is asked for.
 fn perform<'a, 'h, A: Allocator, H: Host, O: Write, E: Write>(
     alloc: Global,
     heap: &'h A,
     order: Order<'a>,
+    is_explained: bool,
     text: &'a mut Vec<u8, &'h A>,
     host: &mut H,
     out: &mut O,
@@ -158,7 +192,10 @@ fn perform<'a, 'h, A: Allocator, H: Host, O: Write, E: Write>(
         } => {
             let (device, script) = (Source::named(device), Source::named(script));
             let access = access_of(durable);
-            playing::perform(alloc, heap, device, flash, access, script, text, host, out)
+            let why = is_explained.then_some(err);
+            playing::perform(
+                alloc, heap, device, flash, access, script, text, host, out, why,
+            )
         }
         Order::Sweep {
             device,

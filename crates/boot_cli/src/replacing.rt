@@ -60,7 +60,7 @@ pub fn replace_file<R: Files<File = File>, A: Allocator>(
     };
     put.map_err(|error| match error.kind() {
         ErrorKind::OutOfMemory => FlashFault::NoMemory,
-        _ => FlashFault::Failed,
+        _ => FlashFault::Failed(error),
     })
 }
 
@@ -75,12 +75,9 @@ fn write_device<R: Files<File = File>>(
     let held = holding::open(runtime, name, bytes.len() as u64, Access::Write)?;
     // Another file may have taken the name, of which a part would not do.
     if !held.is_device {
-        return Err(FlashFault::Failed);
+        return Err(FlashFault::Failed(io::Error::from(ErrorKind::InvalidInput)));
     }
-    match write_through(&held.file, bytes) {
-        Ok(()) => Ok(()),
-        Err(_) => Err(FlashFault::Failed),
-    }
+    write_through(&held.file, bytes).map_err(FlashFault::Failed)
 }
 
 /// Writes a file from its first byte on, and returns once all is on the medium.
@@ -96,11 +93,12 @@ fn open_old<R: Files<File = File>>(
     old: &Metadata,
 ) -> Result<File, FlashFault> {
     if !old.is_file() {
-        return Err(FlashFault::Failed);
+        return Err(FlashFault::Failed(io::Error::from(ErrorKind::InvalidInput)));
     }
-    let Ok(file) = OpenOptions::new().write(true).open(runtime, name) else {
-        return Err(FlashFault::Failed);
-    };
+    let file = OpenOptions::new()
+        .write(true)
+        .open(runtime, name)
+        .map_err(FlashFault::Failed)?;
     hold(runtime, name, &file, Access::Write)?;
     Ok(file)
 }

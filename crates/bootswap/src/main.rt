@@ -3,7 +3,7 @@
 //! file, that boots, takes uploads and survives power cuts.
 #![tactic(auto)]
 
-use boot_cli::{SystemHost, cli, refuse_words};
+use boot_cli::{Remembering, SystemHost, cli, refuse_words};
 use std::io::{IsTerminal, Write};
 use std::process::ExitCode;
 use std::rt::Env;
@@ -21,7 +21,8 @@ fn main(rt: HostRuntime) -> ExitCode {
                 // It is no part of the answer, which goes on without it.
                 let _ = err.write_all(READING);
             }
-            let mut host = SystemHost::new(&rt, input, err.is_terminal());
+            let system = SystemHost::new(&rt, input, err.is_terminal());
+            let mut host = Remembering::over(alloc, system);
             cli(
                 alloc,
                 &alloc,

@@ -1,5 +1,5 @@
 -- The program's subcommands, and the names that each of them asks for, in the words of `clap`.
-use Rattle.std.specs.Prelude.{Bool, List, [], ◌∷◌, Some, codes, fold, true, false}
+use Rattle.std.specs.Prelude.{◌++◌, Bool, List, [], ◌∷◌, Some, codes, fold, true, false}
 use Rattle.clap.specs.Lexer.{usize_max}
 use Rattle.clap.specs.Simple.{new_shape}
 use Rattle.clap.specs.Words.{App, Rule, Shape, Text, new_rule, with_rule, with_subcommand}
@@ -66,9 +66,10 @@ with_argument command argument = with_rule command (rule_for argument)
 abbrev pub with_arguments : App → List Argument → App
 with_arguments command arguments = fold with_argument command arguments
 
--- A subcommand that asks for these names, in this order.
+-- A subcommand that asks for these names, in this order, and has the option that each has.
 abbrev pub asking : Text → List Rule → Shape
-asking command rules = record (new_shape command) { rules = rules }
+asking command rules =
+    record (new_shape command) { rules = rules ++ one_flag (codes "explain") ∷ [] }
 
 abbrev pub choose_shape : Shape
 choose_shape = asking (codes "choose") (one_name (codes "TABLE") ∷ [])
@@ -93,7 +94,8 @@ make_device_shape = asking (codes "make-device")
 abbrev pub make_image_shape : Shape
 make_image_shape = asking (codes "make-image")
     (one_name (codes "OUT") ∷ one_name (codes "BODY") ∷ one_option (codes "version") true
-    ∷ counter_option ∷ options (codes "needs") ∷ options (codes "needs-one")
+    ∷ counter_option ∷ options (codes "needs") ∷ options (codes "dependencies")
+    ∷ options (codes "needs-one")
     ∷ one_option (codes "header-size") false ∷ one_option (codes "load-address") false
     ∷ one_option (codes "flags") false ∷ [])
 
@@ -130,7 +132,7 @@ sweep_shape = asking (codes "sweep")
     ∷ one_option (codes "seed") false ∷ one_option (codes "svg") false ∷ [])
 
 abbrev pub codes_shape : Shape
-codes_shape = new_shape (codes "codes")
+codes_shape = asking (codes "codes") []
 
 -- The program without its subcommands: it has a version, and asks for a subcommand.
 abbrev pub program : App

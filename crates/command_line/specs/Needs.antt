@@ -1,8 +1,8 @@
 -- Which dependencies the words of a text say.
-use Rattle.std.specs.Prelude.{◌≡◌, ◌==◌, ℕ, List, [], ◌∷◌, Option, Some, None, option_and_then, option_map}
+use Rattle.std.specs.Prelude.{◌≡◌, ◌==◌, ◌-◌, ◌&&◌, ℕ, Bool, List, [], ◌∷◌, Option, Some, None, drop, if◌then◌else◌, length, nat_le, option_and_then, option_map, slice_index, take}
 use Rattle.std.specs.List.{slice_split}
 use Rattle.clap.specs.Words.{Text}
-use Rattle.common.specs.Ascii.{number_below}
+use Rattle.common.specs.Ascii.{cut, number_below}
 use Rattle.version_order.specs.declared.dependency.Dependency.{Dependency}
 use Rattle.version_order.specs.declared.version.Version.{Version}
 use Rattle.version_order.specs.VersionText.{version_of}
@@ -36,3 +36,32 @@ AreNeeds text needs = needs_of (spaced text) ≡ Some needs
 -- .. or this one alone.
 abbrev pub IsNeed : Text → Dependency → Type 0
 IsNeed text need = AreNeeds text (need ∷ [])
+
+-- A text without the space that it may begin with.
+abbrev pub without_space : Text → Text
+without_space [] = []
+without_space (byte ∷ text) = if byte == 32 then text else byte ∷ text
+
+-- The dependency that stands between brackets: the number of an image, a comma, which a space may
+-- follow, and the lowest version that will do.
+abbrev pub need_between : Text → Option Dependency
+need_between text =
+    option_and_then (λ minimum. need_of (cut 44 text).0 (without_space minimum)) (cut 44 text).1
+
+-- A text begins with a bracket and ends with its other one.
+abbrev pub is_bracketed : Text → Bool
+is_bracketed text =
+    nat_le 2 (length text) && slice_index text 0 == 40 && slice_index text (length text - 1) == 41
+
+-- What stands between the brackets of a text.
+abbrev pub between_brackets : Text → Option Text
+between_brackets text =
+    if is_bracketed text then Some (take (length text - 2) (drop 1 text)) else None
+
+-- The dependency that a text in brackets says ..
+abbrev pub bracketed_need : Text → Option Dependency
+bracketed_need text = option_and_then need_between (between_brackets text)
+
+-- .. and that it says this one.
+abbrev pub IsBracketed : Text → Dependency → Type 0
+IsBracketed text need = bracketed_need text ≡ Some need

@@ -11,10 +11,11 @@ use Rattle.common.specs.Ascii.{number_below, number_of}
 use Rattle.common.specs.declared.limits.TheConstants.{MOST_IMAGES, MOST_TRIAL_BOOTS}
 use Rattle.sector_map.specs.declared.layout.Side.{Side}
 use Rattle.sector_map.specs.declared.layout.Side.TheVariants.{Primary, Secondary}
+use Rattle.version_order.specs.declared.dependency.Dependency.{Dependency}
 use Rattle.version_order.specs.declared.version.Version.{Version}
 use Rattle.version_order.specs.VersionText.{version_of}
 use Rattle.command_line.specs.Commands.{bootswap}
-use Rattle.command_line.specs.Needs.{AreNeeds, IsNeed}
+use Rattle.command_line.specs.Needs.{AreNeeds, IsBracketed, IsNeed}
 use Rattle.command_line.specs.declared.orders.NewDevice.{NewDevice}
 use Rattle.command_line.specs.declared.orders.NewComponent.{NewComponent}
 use Rattle.command_line.specs.declared.orders.NewImage.{NewImage}
@@ -90,11 +91,19 @@ version_at rows = option_and_then version_of (first_of (codes "version") rows)
 abbrev pub texts_at : Text → List Row → List Text
 texts_at argument rows = unwrap_or (all_of argument rows) []
 
+-- The matches of `make-image` say these dependencies: those in brackets behind the others.
+pub record SaysDependencies (rows : List Row) (dependencies : List Dependency) : Type 0 where
+  pub needs : List Dependency
+  pub bracketed : List Dependency
+  pub are_needs : AllZip IsNeed (texts_at (codes "needs") rows) needs
+  pub are_bracketed : AllZip IsBracketed (texts_at (codes "dependencies") rows) bracketed
+  pub all : dependencies ≡ needs ++ bracketed
+
 -- The matches of `make-image` say this of an image.
 pub record SaysImage (rows : List Row) (image : NewImage) : Type 0 where
   pub version : version_at rows ≡ Some image.version
   pub counter : HasNumber (codes "counter") (2 ^ 32) rows image.counter
-  pub dependencies : AllZip IsNeed (texts_at (codes "needs") rows) image.dependencies.items
+  pub dependencies : SaysDependencies rows image.dependencies.items
   pub groups : AllZip AreNeeds (texts_at (codes "needs-one") rows)
       (map (λ group. group.items) image.groups.items)
   pub header_size : HasNumber (codes "header-size") (2 ^ 16) rows image.header_size
@@ -202,6 +211,15 @@ IsOrderOf (Some named) order = Asks named.0 named.1 order
 -- The words ask for this order: they name its subcommand, and give it its names and options.
 abbrev pub IsOrder : List Text → Order → Type 0
 IsOrder words = IsOrderOf (subcommand_of bootswap words)
+
+-- The subcommand that was named is to be explained, by its matches.
+abbrev pub has_explain : Option (Text × List Row) → Bool
+has_explain None = false
+has_explain (Some named) = is_given (codes "explain") named.1
+
+-- The words say that the answer is to be explained.
+abbrev pub is_explained : List Text → Bool
+is_explained words = has_explain (subcommand_of bootswap words)
 
 -- What was found is so, and where nothing was found, nothing is so.
 abbrev pub Finds : {T : Type 0} → (T → Type 0) → Option T → Type 0

@@ -1,5 +1,4 @@
-//! What help says of the arguments and the options of commands, and how the words of a command are
-//! written. No line is longer than 80 columns.
+//! What help says of the arguments and the options of commands. No line is longer than 80 columns.
 
 /// What help says of an option.
 #[derive(Clone, Copy)]
@@ -9,27 +8,6 @@ pub struct OptionHelp {
     /// What it says.
     pub text: &'static str,
 }
-
-/// The usage of `make-device`, which would be too long for a line.
-pub const USAGE: &str = "bootswap make-device --sector <BYTES> --slots <N,N,..>
-           --vendor <DOMAIN> --class <NAME> [--trial-boots <N>]";
-
-/// The usage of `make-image`, which would be too long for a line.
-pub const IMAGE_USAGE: &str = "bootswap make-image <OUT> <BODY> --version <VERSION> [--counter <N>]
-           [--needs <'J VERSION'>].. [--needs-one <'J VERSION ..'>]..
-           [--header-size <BYTES>] [--load-address <N>] [--flags <N>]";
-
-/// The usage of `make-manifest`, which would be too long for a line.
-pub const MANIFEST_USAGE: &str =
-    "bootswap make-manifest <DEVICE> --sequence <N> [--precursor <FLASH>]
-           [--test <I=FILE>].. [--permanent <I=FILE>]..";
-
-/// The usage of `run`: its option stands under the names, as `--help` does.
-pub const RUN_USAGE: &str = "bootswap run <DEVICE> <FLASH> <SCRIPT>";
-
-/// The usage of `sweep`, which would be too long for a line.
-pub const SWEEP_USAGE: &str = "bootswap sweep <DEVICE> <SCRIPT> <IMAGE>... [--twice] [--sample <N>]
-           [--seed <N>] [--svg <FILE>]";
 
 pub const TABLE_FILE: &str = "The file that the table is read from; `-` is standard input";
 
@@ -56,6 +34,8 @@ pub const FLASH_FILE: &str = "The flash file, which is written to";
 pub const SCRIPT_FILE: &str = "The file that the script is read from; `-` is standard input";
 
 pub const DURABLE: &str = "Sync each write of a plain file to the disk before the next";
+
+pub const EXPLAIN: &str = "Say why on standard error";
 
 pub const SECTOR: OptionHelp = OptionHelp {
     value: "BYTES",
@@ -99,6 +79,11 @@ pub const COUNTER: OptionHelp = OptionHelp {
 pub const NEEDS: OptionHelp = OptionHelp {
     value: "J VERSION",
     text: "It needs image J, with at least that version",
+};
+
+pub const DEPENDENCIES: OptionHelp = OptionHelp {
+    value: "(J, V)",
+    text: "The same in brackets, as imgtool has it",
 };
 
 pub const NEEDS_ONE: OptionHelp = OptionHelp {

@@ -108,7 +108,14 @@ pub mod named {
     pub const SEED: &str = "seed";
 
     pub const SVG: &str = "svg";
+
+    pub const EXPLAIN: &str = "explain";
+
+    pub const DEPENDENCIES: &str = "dependencies";
 }
+
+/// The option that each subcommand has.
+const EXPLAIN: Argument = Argument::Flag(named::EXPLAIN, argument_help::EXPLAIN);
 
 /// A subcommand of the program.
 #[derive(Clone, Copy)]
@@ -165,8 +172,7 @@ fn program<'a>(alloc: Global) -> Result<Command<'a>, AllocError>
 {
     let command = new_command(alloc, "bootswap", help::PROGRAM)
         .version("0.1.0")
-        .subcommand_required(true)
-        .override_usage("bootswap [COMMAND]");
+        .subcommand_required(true);
     command.bin_name("bootswap")
 }
 
@@ -228,7 +234,10 @@ impl Subcommand {
 fn choose<'a>(alloc: Global) -> Result<Command<'a>, AllocError>
     ensures { IfOk result (λ command. shape_of command ≡ choose_shape) }
 {
-    let arguments = [Argument::File(named::TABLE, argument_help::TABLE_FILE)];
+    let arguments = [
+        Argument::File(named::TABLE, argument_help::TABLE_FILE),
+        EXPLAIN,
+    ];
     with_arguments(alloc, new_command(alloc, CHOOSE, help::CHOOSE), &arguments)
 }
 
@@ -238,6 +247,7 @@ fn check<'a>(alloc: Global) -> Result<Command<'a>, AllocError>
     let arguments = [
         Argument::File(named::TABLE, argument_help::TABLE_FILE),
         Argument::File(named::REPORT, argument_help::REPORT_FILE),
+        EXPLAIN,
     ];
     with_arguments(alloc, new_command(alloc, CHECK, help::CHECK), &arguments)
 }
@@ -245,7 +255,10 @@ fn check<'a>(alloc: Global) -> Result<Command<'a>, AllocError>
 fn image<'a>(alloc: Global) -> Result<Command<'a>, AllocError>
     ensures { IfOk result (λ command. shape_of command ≡ image_shape) }
 {
-    let arguments = [Argument::File(named::FILE, argument_help::IMAGE_FILE)];
+    let arguments = [
+        Argument::File(named::FILE, argument_help::IMAGE_FILE),
+        EXPLAIN,
+    ];
     with_arguments(alloc, new_command(alloc, IMAGE, help::IMAGE), &arguments)
 }
 
@@ -255,6 +268,7 @@ fn manifest<'a>(alloc: Global) -> Result<Command<'a>, AllocError>
     let arguments = [
         Argument::File(named::DEVICE, argument_help::DEVICE_FILE),
         Argument::File(named::FILE, argument_help::MANIFEST_FILE),
+        EXPLAIN,
     ];
     with_arguments(
         alloc,
@@ -272,11 +286,11 @@ fn make_device<'a>(alloc: Global) -> Result<Command<'a>, AllocError>
         Argument::Required(named::VENDOR, argument_help::VENDOR),
         Argument::Required(named::CLASS, argument_help::CLASS),
         Argument::Optional(named::TRIAL_BOOTS, argument_help::TRIAL_BOOTS),
+        EXPLAIN,
     ];
-    let command = new_command(alloc, MAKE_DEVICE, help::MAKE_DEVICE);
     with_arguments(
         alloc,
-        command.override_usage(argument_help::USAGE),
+        new_command(alloc, MAKE_DEVICE, help::MAKE_DEVICE),
         &arguments,
     )
 }
@@ -294,15 +308,16 @@ fn make_image<'a>(alloc: Global) -> Result<Command<'a>, AllocError>
             argument_help::COUNTER,
         ),
         Argument::Repeated(named::NEEDS, argument_help::NEEDS),
+        Argument::Repeated(named::DEPENDENCIES, argument_help::DEPENDENCIES),
         Argument::Repeated(named::NEEDS_ONE, argument_help::NEEDS_ONE),
         Argument::Optional(named::HEADER_SIZE, argument_help::HEADER_SIZE),
         Argument::Optional(named::LOAD_ADDRESS, argument_help::LOAD_ADDRESS),
         Argument::Optional(named::FLAGS, argument_help::FLAGS),
+        EXPLAIN,
     ];
-    let command = new_command(alloc, MAKE_IMAGE, help::MAKE_IMAGE);
     with_arguments(
         alloc,
-        command.override_usage(argument_help::IMAGE_USAGE),
+        new_command(alloc, MAKE_IMAGE, help::MAKE_IMAGE),
         &arguments,
     )
 }
@@ -316,11 +331,11 @@ fn make_manifest<'a>(alloc: Global) -> Result<Command<'a>, AllocError>
         Argument::Optional(named::PRECURSOR, argument_help::PRECURSOR),
         Argument::Repeated(named::TEST, argument_help::TEST),
         Argument::Repeated(named::PERMANENT, argument_help::PERMANENT),
+        EXPLAIN,
     ];
-    let command = new_command(alloc, MAKE_MANIFEST, help::MAKE_MANIFEST);
     with_arguments(
         alloc,
-        command.override_usage(argument_help::MANIFEST_USAGE),
+        new_command(alloc, MAKE_MANIFEST, help::MAKE_MANIFEST),
         &arguments,
     )
 }
@@ -332,6 +347,7 @@ fn provision<'a>(alloc: Global) -> Result<Command<'a>, AllocError>
         Argument::File(named::DEVICE, argument_help::DEVICE_FILE),
         Argument::File(named::FLASH, argument_help::NEW_FLASH_FILE),
         Argument::Files(named::IMAGE, argument_help::IMAGE_FILES),
+        EXPLAIN,
     ];
     with_arguments(
         alloc,
@@ -349,6 +365,7 @@ fn extract<'a>(alloc: Global) -> Result<Command<'a>, AllocError>
         Argument::File(named::IMAGE, argument_help::IMAGE_NUMBER),
         Argument::File(named::SIDE, argument_help::SLOT_SIDE),
         Argument::File(named::OUT, argument_help::NEW_IMAGE_FILE),
+        EXPLAIN,
     ];
     with_arguments(
         alloc,
@@ -363,6 +380,7 @@ fn show<'a>(alloc: Global) -> Result<Command<'a>, AllocError>
     let arguments = [
         Argument::File(named::DEVICE, argument_help::DEVICE_FILE),
         Argument::File(named::FLASH, argument_help::SHOWN_FLASH_FILE),
+        EXPLAIN,
     ];
     with_arguments(alloc, new_command(alloc, SHOW, help::SHOW), &arguments)
 }
@@ -373,6 +391,7 @@ fn slots<'a>(alloc: Global) -> Result<Command<'a>, AllocError>
     let arguments = [
         Argument::File(named::DEVICE, argument_help::DEVICE_FILE),
         Argument::File(named::FLASH, argument_help::SHOWN_FLASH_FILE),
+        EXPLAIN,
     ];
     with_arguments(alloc, new_command(alloc, SLOTS, help::SLOTS), &arguments)
 }
@@ -385,13 +404,9 @@ fn run<'a>(alloc: Global) -> Result<Command<'a>, AllocError>
         Argument::File(named::FLASH, argument_help::FLASH_FILE),
         Argument::File(named::SCRIPT, argument_help::SCRIPT_FILE),
         Argument::Flag(named::DURABLE, argument_help::DURABLE),
+        EXPLAIN,
     ];
-    let command = new_command(alloc, RUN, help::RUN);
-    with_arguments(
-        alloc,
-        command.override_usage(argument_help::RUN_USAGE),
-        &arguments,
-    )
+    with_arguments(alloc, new_command(alloc, RUN, help::RUN), &arguments)
 }
 
 fn sweep<'a>(alloc: Global) -> Result<Command<'a>, AllocError>
@@ -405,19 +420,15 @@ fn sweep<'a>(alloc: Global) -> Result<Command<'a>, AllocError>
         Argument::Optional(named::SAMPLE, argument_help::SAMPLE),
         Argument::Optional(named::SEED, argument_help::SEED),
         Argument::Optional(named::SVG, argument_help::SVG),
+        EXPLAIN,
     ];
-    let command = new_command(alloc, SWEEP, help::SWEEP);
-    with_arguments(
-        alloc,
-        command.override_usage(argument_help::SWEEP_USAGE),
-        &arguments,
-    )
+    with_arguments(alloc, new_command(alloc, SWEEP, help::SWEEP), &arguments)
 }
 
 fn codes<'a>(alloc: Global) -> Result<Command<'a>, AllocError>
     ensures { IfOk result (λ command. shape_of command ≡ codes_shape) }
 {
-    Ok(new_command(alloc, CODES, help::CODES))
+    with_arguments(alloc, new_command(alloc, CODES, help::CODES), &[EXPLAIN])
 }
 
 /// A command without arguments, with what help says of it.
@@ -425,6 +436,7 @@ fn new_command<'a>(alloc: Global, name: &'a str, help: Help) -> Command<'a>
     ensures { app_of result ≡ new_app name.entry.now }
 {
     Command::new(alloc, name)
+        .override_usage(help.usage)
         .about(help.about)
         .long_about(help.long_about)
         .after_help(help.after)

@@ -39,6 +39,10 @@ pub const NO_FLAGS: &str = "`--flags` is a number, in digits, below 4294967296";
 pub const NO_NEEDS: &str =
     "`--needs` is the number of an image and a version, in one word: '1 2.0.0'";
 
+/// The fault of words whose dependency in brackets is none.
+pub const NO_DEPENDENCIES: &str =
+    "`--dependencies` is the number of an image and a version, in brackets: '(1, 2.0.0)'";
+
 /// The fault of words whose group is none.
 pub const NO_NEEDS_ONE: &str =
     "`--needs-one` is numbers of images, each with a version, in one word: '1 2.0.0 2 2.0.0'";

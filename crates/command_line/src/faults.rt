@@ -9,13 +9,14 @@ ghost use Rattle.command_line.specs.Faults.{IsTold, IsUsage};
 ghost use Rattle.command_line.specs.Orders.{files_of, misuse_of, names_of, standard_inputs};
 ghost use Rattle.command_line.specs.Orders.{writes_to_standard_input};
 
+use crate::bracketed_words::bracketed_in;
 use crate::commands::{EXTRACT, MAKE_DEVICE, MAKE_IMAGE, MAKE_MANIFEST, SWEEP, Subcommand, named};
 use crate::device_words::{number_in, trial_boots_in};
 use crate::error::OrderError;
 use crate::escaped::Escaped;
-use crate::image_words::{dependencies_in, header_size_in, number_said, version_in};
+use crate::image_words::{header_size_in, needs_in_words, number_said, version_in};
 use crate::manifest_words::components_in;
-use crate::order_reading::{image_in_words, named_in, order};
+use crate::order_reading::{image_in_words, named_in, request};
 use crate::orders::{NewManifest, Order, STANDARD_INPUT};
 use crate::{commands, fault_texts};
 use clap::error::ErrorKind;
@@ -24,13 +25,13 @@ use std::alloc::{AllocError, Global};
 use std::convert::AsStr;
 
 /// The fault of these words, as it is printed: it names them with their control characters escaped.
-/// `fault` is what `order` answered.
+/// `fault` is what `request` answered.
 pub fn fault_of<S: AsStr>(alloc: Global, words: &[S], fault: Error) -> OrderError
     ensures { IsTold result }
 {
     match escaped_words(alloc, words) {
         Err(error) => OrderError::from(error),
-        Ok(escaped) => match order(alloc, escaped.as_slice()) {
+        Ok(escaped) => match request(alloc, escaped.as_slice()) {
             Err(error) => error,
             Ok(_) => OrderError::from(fault),
         },
@@ -114,8 +115,11 @@ fn values_fault(alloc: Global, names: &ArgMatches<'_>) -> Result<&'static str, A
     if number_said(names, named::FLAGS).is_none() {
         return Ok(fault_texts::NO_FLAGS);
     }
-    match dependencies_in(alloc, names)? {
-        None => Ok(fault_texts::NO_NEEDS),
+    if needs_in_words(alloc, names)?.is_none() {
+        return Ok(fault_texts::NO_NEEDS);
+    }
+    match bracketed_in(alloc, names)? {
+        None => Ok(fault_texts::NO_DEPENDENCIES),
         Some(_) => Ok(fault_texts::NO_NEEDS_ONE),
     }
 }

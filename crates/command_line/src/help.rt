@@ -5,6 +5,9 @@ use crate::codes::REFUSALS;
 /// What help says of a command.
 #[derive(Clone, Copy)]
 pub struct Help {
+    /// How its words are written. Options stand there only where one has to be given, or more than
+    /// one is a command's own.
+    pub usage: &'static str,
     /// What it does, in a line.
     pub about: &'static str,
     /// What it does, and what its files look like.
@@ -16,6 +19,7 @@ pub struct Help {
 }
 
 pub const PROGRAM: Help = Help {
+    usage: "bootswap [COMMAND]",
     about: "Runs a device's bootloader on a file, and decides which images run together",
     long_about: "A bootloader core in the manner of MCUboot, on files: it provisions, shows and
 runs a device whose flash is a file, decides which of the requested images may
@@ -35,7 +39,9 @@ other. `choose` decides so by a table, which says of each image of a device what
 runs and what is requested in its place.
 
 With no command the program does `choose` on standard input. A file that is
-named `-` is standard input.",
+named `-` is standard input. With `--explain` a command says on standard error
+why its answer is as it is: what stands where in a file that is refused, what
+may stand there, and why a request is left.",
     after: "Exit status: 0 done, 1 refused, 2 the words are wrong, 3 cut, 4 flash file.
 `bootswap --help` tells more, `bootswap help run` what a script looks like, and
 `bootswap codes` what the code and the name of a refusal say.",
@@ -60,7 +66,7 @@ Examples:
   bootswap sweep device.json script.txt a.img b.img
   bootswap choose table.txt
   bootswap choose table.txt > report.txt
-  bootswap check table.txt report.txt
+  bootswap check table.txt report.txt --explain
   bootswap image firmware.img
   bootswap manifest device.json manifest.json
 
@@ -68,6 +74,7 @@ Examples:
 };
 
 pub const CHOOSE: Help = Help {
+    usage: "bootswap choose <TABLE>",
     about: "Reads a table and prints the report of the choice over it",
     long_about: "Reads a table and prints the report of the choice over it.
 
@@ -120,6 +127,7 @@ Examples:
 };
 
 pub const CHECK: Help = Help {
+    usage: "bootswap check <TABLE> <REPORT>",
     about: "Says whether a report is right for a table",
     long_about: "Reads a table and a report, and says whether the report is right for the table:
 `yes` or `no`.
@@ -161,6 +169,7 @@ Examples:
 };
 
 pub const IMAGE: Help = Help {
+    usage: "bootswap image <FILE>",
     about: "Checks an image and prints what it says of itself",
     long_about: "Reads an image of MCUboot's format, checks it, and prints what it says of
 itself: its version, length, security counter, digest and the images that it
@@ -191,6 +200,7 @@ Example:
 };
 
 pub const MANIFEST: Help = Help {
+    usage: "bootswap manifest <DEVICE> <FILE>",
     about: "Checks a manifest for a device and prints what it says",
     long_about: "Reads a device file and a manifest, checks whether the manifest is for that
 device, and prints what it says: its sequence number, and for each component
@@ -236,6 +246,8 @@ Examples:
 };
 
 pub const MAKE_DEVICE: Help = Help {
+    usage: "bootswap make-device --sector <BYTES> --slots <N,N,..>
+           --vendor <DOMAIN> --class <NAME> [--trial-boots <N>] [--explain]",
     about: "Makes the device file, and tells where the flash's parts lie",
     long_about: "Makes a device file from the sizes of a device's flash and the names of its
 vendor and class, and prints it on standard output. Where the parts of the flash
@@ -288,6 +300,10 @@ Examples:
 };
 
 pub const MAKE_IMAGE: Help = Help {
+    usage: "bootswap make-image <OUT> <BODY> --version <VERSION> [--counter <N>]
+           [--needs <'J VERSION'>].. [--dependencies <'(J, V)'>]..
+           [--needs-one <'J VERSION ..'>].. [--header-size <BYTES>]
+           [--load-address <N>] [--flags <N>] [--explain]",
     about: "Makes an image of MCUboot's format out of its body",
     long_about: "Reads the body of an image from BODY, and makes the image in the file OUT:
 header, body, what the image asks of a device, and its digest. It prints `done`.
@@ -304,7 +320,8 @@ What `bootswap image` says of it, where the body is `ABCD`:
   needs 1 2.0.0+0
 
 A version is `major.minor.revision+build`, and last parts that are 0 may be left
-out. `--needs` may be given up to 16 times. `--needs-one '1 2.0.0 2 2.0.0'` says
+out. `--needs` may be given up to 16 times; `--dependencies '(1, 2.0.0)'` is
+another way to say it, MCUboot's imgtool's. `--needs-one '1 2.0.0 2 2.0.0'` says
 that it needs one of these images, one to four; it may be given up to 4 times.
 The quotes keep the words of one dependency together.
 
@@ -339,6 +356,8 @@ Examples:
 };
 
 pub const MAKE_MANIFEST: Help = Help {
+    usage: "bootswap make-manifest <DEVICE> --sequence <N> [--precursor <FLASH>]
+           [--test <I=FILE>].. [--permanent <I=FILE>].. [--explain]",
     about: "Makes a manifest, of the files that may come to a device",
     long_about: "Reads a device file and the files that may come to the device, and prints the
 manifest that lets them come: it is for the device's vendor and class, and has
@@ -390,6 +409,7 @@ Examples:
 };
 
 pub const PROVISION: Help = Help {
+    usage: "bootswap provision <DEVICE> <FLASH> <IMAGE>...",
     about: "Makes the flash file of a device, an image for each slot pair",
     long_about: "Makes the flash of a device in a file and provisions it: FLASH gets the length
 of the device's flash, all 0xFF, with each IMAGE at the start of its primary
@@ -438,6 +458,7 @@ Examples:
 };
 
 pub const EXTRACT: Help = Help {
+    usage: "bootswap extract <DEVICE> <FLASH> <IMAGE> <SIDE> <OUT>",
     about: "Copies the image in a slot of a flash into a file",
     long_about: "Reads a device file and a flash file, and copies the intact image that a slot
 begins with into the file OUT. IMAGE is the number of the image, and SIDE is
@@ -475,6 +496,7 @@ Examples:
 };
 
 pub const SHOW: Help = Help {
+    usage: "bootswap show <DEVICE> <FLASH>",
     about: "Prints what stands on the flash of a device",
     long_about: "Reads a device file and a flash file, and prints what stands on the flash:
   state trial      what the device is in the middle of: `steady`, `swap`,
@@ -511,6 +533,7 @@ Examples:
 };
 
 pub const SLOTS: Help = Help {
+    usage: "bootswap slots <DEVICE> <FLASH>",
     about: "Prints what the slots hold, and what a boot would take",
     long_about: "Reads a device file and a flash file, and prints first what `show` prints, then
 what stands in the slots, image by image:
@@ -550,6 +573,7 @@ Examples:
 };
 
 pub const RUN: Help = Help {
+    usage: "bootswap run <DEVICE> <FLASH> <SCRIPT>",
     about: "Runs a device on a flash file by a script; prints its replies",
     long_about: "Runs a device on a flash file by a script, and prints a reply to each event.
 Each write goes to FLASH at once, so that the next run goes on from there. FLASH
@@ -621,6 +645,8 @@ Examples:
 };
 
 pub const SWEEP: Help = Help {
+    usage: "bootswap sweep <DEVICE> <SCRIPT> <IMAGE>... [--twice] [--sample <N>]
+           [--seed <N>] [--svg <FILE>] [--explain]",
     about: "Cuts each write of a script in turn, and tells what comes of it",
     long_about: "Provisions a device in memory with these images, as `provision` does, and runs a
 script on it as `run` does, once for each write of its flash and each way to
@@ -677,6 +703,7 @@ Examples:
 };
 
 pub const CODES: Help = Help {
+    usage: "bootswap codes",
     about: "Lists what the codes and names of refusals say",
     long_about: REFUSALS,
     after: "Exit status: 0 done, 1 the list could not be written, 2 the words are wrong.

@@ -4,8 +4,10 @@ ghost use Rattle.std.specs.Prelude.{◌≡◌, ◌^◌, IfOk, codes, map, option
 ghost use Rattle.std.specs.List.{AllZip};
 ghost use Rattle.clap.specs.Words.{found_of, rows_of};
 ghost use Rattle.command_line.specs.Needs.{AreNeeds, IsNeed, need_of, needs_of, spaced};
-ghost use Rattle.command_line.specs.Orders.{Finds, HasNumber, SaysImage, texts_at, version_at};
+ghost use Rattle.command_line.specs.Orders.{Finds, HasNumber, SaysDependencies, SaysImage};
+ghost use Rattle.command_line.specs.Orders.{texts_at, version_at};
 
+use crate::bracketed_words::bracketed_in;
 use crate::commands::named;
 use crate::device_words::number_in;
 use crate::order_reading::{name_in, names_in};
@@ -84,13 +86,33 @@ pub fn header_size_in(names: &ArgMatches<'_>) -> Option<Option<u16>>
     Some(Some(size))
 }
 
-/// The dependencies that the words give; none where one of the words says no dependency.
-pub fn dependencies_in(
+/// The dependencies that the words give, those in brackets behind the others; none where one of the
+/// words says no dependency.
+fn dependencies_in(
     alloc: Global,
     names: &ArgMatches<'_>,
 ) -> Result<Option<Vec<Dependency>>, AllocError>
-    ensures { IfOk result (Finds (λ dependencies. AllZip IsNeed
-        (texts_at (codes "needs") (rows_of (found_of names.now))) dependencies.items)) }
+    ensures { IfOk result (λ found. Finds (SaysDependencies (rows_of (found_of names.now)))
+        (option_map (λ dependencies. dependencies.items) found)) }
+{
+    let Some(mut dependencies) = needs_in_words(alloc, names)? else {
+        return Ok(None);
+    };
+    let Some(bracketed) = bracketed_in(alloc, names)? else {
+        return Ok(None);
+    };
+    dependencies.extend_from_slice(&bracketed)?;
+    Ok(Some(dependencies))
+}
+
+/// The dependencies that the words of `--needs` give; none where one of them says no dependency.
+pub fn needs_in_words(
+    alloc: Global,
+    names: &ArgMatches<'_>,
+) -> Result<Option<Vec<Dependency>>, AllocError>
+    ensures { IfOk result (λ found.
+        Finds (AllZip IsNeed (texts_at (codes "needs") (rows_of (found_of names.now))))
+        (option_map (λ dependencies. dependencies.items) found)) }
 {
     match names_in(names, named::NEEDS) {
         Some(words) => dependencies_of(alloc, words),
@@ -99,7 +121,7 @@ pub fn dependencies_in(
 }
 
 /// The groups that the words give; none where one of the words says no group.
-pub fn groups_in(
+fn groups_in(
     alloc: Global,
     names: &ArgMatches<'_>,
 ) -> Result<Option<Vec<Vec<Dependency>>>, AllocError>
@@ -115,8 +137,8 @@ pub fn groups_in(
 
 /// The dependencies that these words say, each one.
 fn dependencies_of(alloc: Global, words: &[&str]) -> Result<Option<Vec<Dependency>>, AllocError>
-    ensures { IfOk result (Finds (λ dependencies.
-        AllZip IsNeed (map (λ word. word.now) words.now) dependencies.items)) }
+    ensures { IfOk result (λ found. Finds (AllZip IsNeed (map (λ word. word.now) words.now))
+        (option_map (λ dependencies. dependencies.items) found)) }
 {
     let mut dependencies = Vec::new(alloc);
     for word in words {

@@ -1,15 +1,16 @@
 //! The command line: what the words of a `bootswap` command ask for, and what the program says of
 //! itself.
 //!
-//! Promises: an order has exactly the subcommand, the names of files, the numbers, the version and
-//! the dependencies that `clap`'s definition of the matches gives for the words, and names standard
-//! input once at most; each other answer is a fault in the words, a request for help or the
-//! version, or want of memory. Files are named here and not opened. Allocates to read the words and
-//! to make texts. The program alone may call it.
+//! Promises: a request has exactly the subcommand, the names of files, the numbers, the version and
+//! the dependencies that `clap`'s definition of the matches gives for the words, names standard
+//! input once at most, and is to be explained exactly where the words say it; each other answer is a
+//! fault in the words, a request for help or the version, or want of memory. Files are named here
+//! and not opened. Allocates to read the words and to make texts. The program alone may call it.
 #![tactic(auto)]
 
 mod argument_help;
 mod arguments;
+mod bracketed_words;
 mod codes;
 mod commands;
 mod device_words;
@@ -28,7 +29,7 @@ pub use codes::REFUSALS;
 pub use error::OrderError;
 pub use escaped::Escaped;
 pub use faults::{fault_of, no_text};
-pub use order_reading::order;
+pub use order_reading::request;
 pub use orders::{
-    NewComponent, NewDevice, NewImage, NewManifest, Order, STANDARD_INPUT, SweepChoices,
+    NewComponent, NewDevice, NewImage, NewManifest, Order, Request, STANDARD_INPUT, SweepChoices,
 };

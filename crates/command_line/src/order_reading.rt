@@ -5,8 +5,8 @@ ghost use Rattle.clap.specs.Words.{HasKind, all_of, fault_of, first_of, found_of
 ghost use Rattle.clap.specs.Words.{rows_of, subcommand_of, subcommand_rows_of};
 ghost use Rattle.command_line.specs.Commands.{bootswap};
 ghost use Rattle.command_line.specs.Faults.{IsRefusal};
-ghost use Rattle.command_line.specs.Orders.{Asks, Finds, IsOrder, IsOrderOf, image_at, is_given};
-ghost use Rattle.command_line.specs.Orders.{misuse_of, side_at, side_of};
+ghost use Rattle.command_line.specs.Orders.{Asks, Finds, IsOrder, IsOrderOf, has_explain, image_at};
+ghost use Rattle.command_line.specs.Orders.{is_explained, is_given, misuse_of, side_at, side_of};
 
 use crate::commands::{
     CHECK, CHOOSE, CODES, EXTRACT, IMAGE, MAKE_DEVICE, MAKE_IMAGE, MAKE_MANIFEST, MANIFEST,
@@ -17,7 +17,7 @@ use crate::error::OrderError;
 use crate::faults::{misuse, no_order};
 use crate::image_words::image_values_in;
 use crate::manifest_words::manifest_values_in;
-use crate::orders::Order;
+use crate::orders::{Order, Request};
 use crate::sweep_words::sweep_choices_in;
 use clap::{ArgMatches, Error};
 use common::ascii::number_u8;
@@ -30,9 +30,11 @@ use std::convert::AsStr;
 /// Else they ask for help or the version, or are at fault: by `clap`, because they have no number,
 /// version or dependency where one has to be, or because the order names standard input for two
 /// files, or for a file that is written to.
-pub fn order<'a, S: AsStr>(alloc: Global, words: &'a [S]) -> Result<Order<'a>, OrderError>
-    ensures order { IfOk result (IsOrder (map S.text words.entry.now)) }
-    ensures sound { IfOk result (λ order. misuse_of order ≡ None) }
+pub fn request<'a, S: AsStr>(alloc: Global, words: &'a [S]) -> Result<Request<'a>, OrderError>
+    ensures order { IfOk result (λ request. IsOrder (map S.text words.entry.now) request.order) }
+    ensures explained { IfOk result (λ request.
+        request.is_explained ≡ is_explained (map S.text words.entry.now)) }
+    ensures sound { IfOk result (λ request. misuse_of request.order ≡ None) }
     ensures refused { IfErr result (IsRefusal (map S.text words.entry.now)) }
 {
     let matches = matches_of(alloc, words)?;
@@ -41,7 +43,20 @@ pub fn order<'a, S: AsStr>(alloc: Global, words: &'a [S]) -> Result<Order<'a>, O
     };
     match misuse(alloc, &order)? {
         Some(fault) => Err(OrderError::from(fault)),
-        None => Ok(order),
+        None => Ok(Request {
+            order,
+            is_explained: is_explained(&matches),
+        }),
+    }
+}
+
+/// Whether it is to be said why the answer is as it is.
+fn is_explained(matches: &ArgMatches<'_>) -> bool
+    ensures { result ≡ has_explain (subcommand_rows_of matches.now) }
+{
+    match named_in(matches) {
+        Some((_, names)) => is_given(names, named::EXPLAIN),
+        None => false,
     }
 }
 
@@ -81,49 +96,23 @@ fn order_of<'a>(
 ) -> Result<Option<Order<'a>>, AllocError>
     ensures { IfOk result (Finds (Asks command.now (rows_of (found_of names.now)))) }
 {
-    if command == CHOOSE {
-        return Ok(choose_in(names));
+    match command {
+        CHOOSE => Ok(choose_in(names)),
+        CHECK => Ok(check_in(names)),
+        IMAGE => Ok(image_in(names)),
+        MANIFEST => Ok(manifest_in(names)),
+        MAKE_DEVICE => make_device_in(alloc, names),
+        MAKE_IMAGE => make_image_in(alloc, names),
+        MAKE_MANIFEST => make_manifest_in(alloc, names),
+        PROVISION => provision_in(alloc, names),
+        EXTRACT => Ok(extract_in(names)),
+        SHOW => Ok(show_in(names)),
+        SLOTS => Ok(slots_in(names)),
+        RUN => Ok(run_in(names)),
+        SWEEP => sweep_in(alloc, names),
+        CODES => Ok(Some(Order::Codes)),
+        _ => Ok(None),
     }
-    if command == CHECK {
-        return Ok(check_in(names));
-    }
-    if command == IMAGE {
-        return Ok(image_in(names));
-    }
-    if command == MANIFEST {
-        return Ok(manifest_in(names));
-    }
-    if command == MAKE_DEVICE {
-        return make_device_in(alloc, names);
-    }
-    if command == MAKE_IMAGE {
-        return make_image_in(alloc, names);
-    }
-    if command == MAKE_MANIFEST {
-        return make_manifest_in(alloc, names);
-    }
-    if command == PROVISION {
-        return provision_in(alloc, names);
-    }
-    if command == EXTRACT {
-        return Ok(extract_in(names));
-    }
-    if command == SHOW {
-        return Ok(show_in(names));
-    }
-    if command == SLOTS {
-        return Ok(slots_in(names));
-    }
-    if command == RUN {
-        return Ok(run_in(names));
-    }
-    if command == SWEEP {
-        return sweep_in(alloc, names);
-    }
-    if command == CODES {
-        return Ok(Some(Order::Codes));
-    }
-    Ok(None)
 }
 
 fn choose_in<'a>(names: &ArgMatches<'a>) -> Option<Order<'a>>

@@ -186,3 +186,12 @@ pub enum Order<'a> {
     /// What the codes and names of refusals say.
     Codes,
 }
+
+/// What the words ask for, and how it is to be answered.
+#[derive(Drop)]
+pub struct Request<'a> {
+    /// The order.
+    pub order: Order<'a>,
+    /// Whether it is to be said why the answer is as it is.
+    pub is_explained: bool,
+}

@@ -39,7 +39,7 @@ pub fn replace<'a, A: Allocator, H: Host>(
         Ok(()) => Ok(()),
         Err(FlashFault::InUse) => Err(Refusal::ImageInUse),
         Err(FlashFault::NoMemory) => Err(Refusal::NoMemory),
-        Err(FlashFault::WrongLength | FlashFault::Failed) => {
+        Err(FlashFault::WrongLength | FlashFault::Failed(_)) => {
             Err(Refusal::CannotReplace(Source::File(name)))
         }
     }

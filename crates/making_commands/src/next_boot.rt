@@ -1,35 +1,12 @@
 //! What a boot would decide of the files that a manifest lets come: for its notes alone.
 
-ghost use Rattle.std.specs.Prelude.{◌≡◌};
-ghost use Rattle.sector_map.specs.Map.{IsLaidOut};
-
 use crate::make_manifest::is_named;
 use certificate::{Reason, Request, Table, is_valid};
 use chooser::choose;
 use command_line::NewComponent;
-use decision::{entry_of, read_table};
-use flash_model::Flash;
-use machine::Reading;
-use sector_map::SectorMap;
-use set_log::{Kind, read_state};
+use decision::entry_of;
 use std::alloc::{AllocError, Allocator};
 use tlv::{Desc, ImageError};
-
-/// The table of what runs and what is requested on a flash, where the device is at rest and all of
-/// that can be read.
-pub fn table_on<F: Flash>(flash: &mut F, map: &SectorMap) -> Option<Table>
-    requires { IsLaidOut map.now (F.chip flash.old) }
-    ensures { F.chip flash.new ≡ F.chip flash.old }
-{
-    let state = read_state(flash, map).ok()?;
-    if state.kind != Kind::Steady {
-        return None;
-    }
-    match read_table(flash, map, 0, &state.floors) {
-        Ok(Reading::Read(table)) => Some(table),
-        _ => None,
-    }
-}
 
 /// Requests for an image of a table, if there is one, what a file says of itself.
 pub fn request(table: &mut Option<Table>, image: u8, file: Result<Desc, ImageError>) {

@@ -6,14 +6,13 @@ ghost use Rattle.making_commands.specs.NewManifestEnd.{HaveImages};
 ghost use Rattle.making_commands.specs.NewManifestSteps.{FindsNone, FindsPrecursor};
 ghost use Rattle.making_commands.specs.NewManifestSteps.{FindsPrecursors, ReadsPrecursors};
 
-use crate::next_boot::table_on;
 use answers::flash_of;
 use arrayvec::ArrayVec;
 use certificate::Table;
 use command_line::{NewComponent, NewManifest};
 use flash_model::Flash;
 use manifest::MOST_COMPONENTS;
-use reading_commands::{Access, Host, Refusal, Source, read_flash};
+use reading_commands::{Access, Host, Refusal, Source, read_flash, table_on};
 use sector_map::{SectorMap, Side};
 use std::alloc::Global;
 use std::marker::Brand;

@@ -105,6 +105,6 @@ fn open_flash<'a, H: Host>(
             FlashFault::InUse => Refusal::FlashInUse,
             FlashFault::WrongLength => Refusal::FlashSize,
             FlashFault::NoMemory => Refusal::NoMemory,
-            FlashFault::Failed => Refusal::CannotRead(Source::File(name)),
+            FlashFault::Failed(_) => Refusal::CannotRead(Source::File(name)),
         })
 }

@@ -32,8 +32,8 @@ pub enum FlashFault {
     WrongLength,
     /// Memory ran out.
     NoMemory,
-    /// The system could not open, lock, read, make, replace or write it.
-    Failed,
+    /// The system could not open, lock, read, make, replace or write it, for this reason.
+    Failed(io::Error),
 }
 
 /// Where the program's input comes from, and the file of a flash that it writes. A test stands in

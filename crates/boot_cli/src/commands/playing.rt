@@ -20,6 +20,7 @@ use crate::loading::{Cut, Script, load, read_script};
 use answers::{DeviceFile, flash_of, reply_text, write_all};
 use boot_core::{Device, step};
 use events::Event;
+use explaining_commands::ReplyNotes;
 use file_flash::{FileFlash, FlashFile};
 use flash_model::{Flash, MemFlash};
 use machine::Reply;
@@ -33,12 +34,13 @@ use sweep::device_over;
 
 /// Reads a device file, the flash of the device and a script from `host`, runs the script's events
 /// on the device, and writes each reply to `out` as its event is done. What changes on the flash is
-/// written through to its file at once, which is opened for `access`, one that writes.
+/// written through to its file at once, which is opened for `access`, one that writes. Where `why`
+/// is given, it is told why replies are as they are.
 ///
 /// The flash stands in memory of `alloc`, and so does what the device needs to run; the script's
 /// text is put into `text`, and all else stands in memory of `heap`. All files are judged before
 /// anything is run, and the flash's is held from then on.
-pub fn perform<'a, 'h, A: Allocator, H: Host, O: Write>(
+pub fn perform<'a, 'h, A: Allocator, H: Host, O: Write, E: Write>(
     alloc: Global,
     heap: &'h A,
     device: Source<'a>,
@@ -48,6 +50,7 @@ pub fn perform<'a, 'h, A: Allocator, H: Host, O: Write>(
     text: &'a mut Vec<u8, &'h A>,
     host: &mut H,
     out: &mut O,
+    why: Option<&mut E>,
 ) -> Result<Answer, Refusal<'a>>
     ensures { IfOk result (λ answer.
         AnswersRun answer device.entry (source.File flash.entry) script.entry
@@ -61,13 +64,14 @@ pub fn perform<'a, 'h, A: Allocator, H: Host, O: Write>(
     *text = read_script(heap, script, host)?;
     let script = load(alloc, heap, text, is_input_read, host)?;
     let file = HostFile { host };
-    play_script(alloc, heap, &device, bytes, script, file, out)
+    let mut notes = ReplyNotes::new(alloc, heap, &device, why);
+    play_script(alloc, heap, &device, bytes, script, file, out, &mut notes)
 }
 
 /// Runs the events of a script on a device that has these bytes on its flash, and writes each reply
 /// to `out` as its event is done. What changes is written through to the file of the flash, which
 /// holds the bytes.
-fn play_script<'a, 'h, A: Allocator, F: FlashFile + Drop, O: Write>(
+fn play_script<'a, 'h, A: Allocator, F: FlashFile + Drop, O: Write, E: Write>(
     alloc: Global,
     heap: &'h A,
     device: &DeviceFile,
@@ -75,6 +79,7 @@ fn play_script<'a, 'h, A: Allocator, F: FlashFile + Drop, O: Write>(
     script: Script<&'h A>,
     file: F,
     out: &mut O,
+    notes: &mut ReplyNotes<'_, '_, '_, A, E>,
 ) -> Result<Answer, Refusal<'a>>
     requires device { IsOfFile device.now }
     requires whole { IsFlashOf device.now.map bytes.items }
@@ -87,7 +92,7 @@ fn play_script<'a, 'h, A: Allocator, F: FlashFile + Drop, O: Write>(
         (came_in script.entry.events.items) (O.contents out.old) (O.contents out.new)) }
 {
     let Script { cuts, events } = script;
-    play::<Brand, Brand, _, _, _, _>(
+    play::<Brand, Brand, _, _, _, _, _>(
         alloc,
         heap,
         Blank::new(2),
@@ -98,13 +103,23 @@ fn play_script<'a, 'h, A: Allocator, F: FlashFile + Drop, O: Write>(
         &events,
         file,
         out,
+        notes,
     )
 }
 
 /// Runs these events on a device that has these bytes on its flash, with these writes of the flash
 /// cut, writes each reply to `out` as its event is done, and what changes to the file of the flash,
 /// which holds the bytes.
-fn play<'a, L: Ledger, M: Ledger, A: Allocator, B: Allocator, F: FlashFile + Drop, O: Write>(
+fn play<
+    'a,
+    L: Ledger,
+    M: Ledger,
+    A: Allocator,
+    B: Allocator,
+    F: FlashFile + Drop,
+    O: Write,
+    E: Write,
+>(
     alloc: Global,
     heap: &A,
     blank: Blank,
@@ -115,6 +130,7 @@ fn play<'a, L: Ledger, M: Ledger, A: Allocator, B: Allocator, F: FlashFile + Dro
     events: &[Event<Vec<u8, B>>],
     file: F,
     out: &mut O,
+    notes: &mut ReplyNotes<'_, '_, '_, A, E>,
 ) -> Result<Answer, Refusal<'a>>
     requires name { blank.name ≡ L.name }
     requires parts { blank.parts ≡ L.parts }
@@ -138,7 +154,7 @@ fn play<'a, L: Ledger, M: Ledger, A: Allocator, B: Allocator, F: FlashFile + Dro
         return Err(Refusal::NoMemory);
     };
     let mut device = device_over(flash, device);
-    let answer = tell_each(alloc, heap, &mut device, events, out)?;
+    let answer = tell_each(alloc, heap, &mut device, events, out, notes)?;
     if device.flash().has_failed() {
         return Err(Refusal::FlashFile);
     }
@@ -189,12 +205,13 @@ fn arm_all<M: Ledger>(memory: &mut MemFlash<M>, cuts: Vec<Cut>) -> Result<(), Al
 
 /// Runs these events on a device, in order, and writes each reply to `out` as its event is done,
 /// before the next one. Where a reply can't be written, no event is run after it.
-fn tell_each<'a, A: Allocator, B: Allocator, F: Flash, O: Write>(
+fn tell_each<'a, A: Allocator, B: Allocator, F: Flash, O: Write, E: Write>(
     alloc: Global,
     heap: &A,
     device: &mut Device<F>,
     events: &[Event<Vec<u8, B>>],
     out: &mut O,
+    notes: &mut ReplyNotes<'_, '_, '_, A, E>,
 ) -> Result<Answer, Refusal<'a>>
     requires { device.old.here.flash.is_on ≡ true }
     ensures all { IfOk result (λ answer.
@@ -209,6 +226,7 @@ fn tell_each<'a, A: Allocator, B: Allocator, F: Flash, O: Write>(
         let event = event.as_deref();
         let reply = step(alloc, device, &event);
         tell_reply(heap, index + 1, &reply, out)?;
+        notes.tell(events, index, &reply);
         answer = answer_after(&reply);
     }
     Ok(answer)

@@ -200,7 +200,7 @@ fn replace<'a, A: Allocator, H: Host>(
         Err(FlashFault::InUse) => Err(Refusal::FlashInUse),
         Err(FlashFault::WrongLength) => Err(Refusal::FlashSize),
         Err(FlashFault::NoMemory) => Err(Refusal::NoMemory),
-        Err(FlashFault::Failed) => Err(Refusal::FlashFile),
+        Err(FlashFault::Failed(_)) => Err(Refusal::FlashFile),
     }
 }
 

@@ -275,7 +275,7 @@ fn replace<'a, A: Allocator, H: Host>(
     match host.replace_file(heap, name, bytes) {
         Ok(()) => Ok(()),
         Err(FlashFault::NoMemory) => Err(Refusal::NoMemory),
-        Err(FlashFault::InUse | FlashFault::WrongLength | FlashFault::Failed) => {
+        Err(FlashFault::InUse | FlashFault::WrongLength | FlashFault::Failed(_)) => {
             Err(Refusal::CannotReplace(Source::File(name)))
         }
     }

@@ -13,7 +13,7 @@ pub returns-in_default : goal.returns-in_default
 returns-in_default c = λ dependencies each.
     let word = word_at c.args.words.now c.loop-word.word-index in
     let is = get_or_default c.args.words.now c.loop-word.word-index _ word c.loop-word-test.true in
-    let at = AllZip-at IsNeed (λ w. w.now) c.args.words.now dependencies.items c.loop-word.word-index word
+    let at = AllZip-at IsNeed (λ w. w.now) c.args.words.now dependencies c.loop-word.word-index word
     c.loop-word-test.true is each in
     (rw c.in_default.is at c.in_ok-dependency.ensures) at.0 at.1
 

@@ -3,7 +3,7 @@ use Rattle.std.specs.Prelude.{option_map}
 use Rattle.clap.specs.Words.{kind_of}
 use Rattle.command_line.specs.Orders.{IsOrderOf}
 use Rattle.command_line.proofs.Refusals.{misused}
-use Rattle.command_line.proofs.order_reading.order.Goals as goal
+use Rattle.command_line.proofs.order_reading.request.Goals as goal
 
 -- The order that was found is the one that the words ask for, and it is refused for its misuse.
 pub returns-in-Some-2-clause-refused : goal.returns-in-Some-2-clause-refused

@@ -1,0 +1,29 @@
+use Rattle.std.proofs.Common.{ℕ, List, [], Bor, get_or, sym}
+use Rattle.std.proofs.lemmas.List.{get_or_default}
+use Rattle.common.proofs.Mapped.{AllZip-at, AllZip-more}
+use Rattle.command_line.specs.Needs.{IsBracketed}
+use Rattle.command_line.proofs.bracketed_words.bracketed_of.Goals as goal
+
+-- the word at a place
+abbrev word_at : List (Bor (List ℕ)) → ℕ → Bor (List ℕ)
+word_at words place = get_or words place (record { ref_ptr = (0, 0); now = [] })
+
+-- What is found of each word would be found of this one.
+pub returns-in_default : goal.returns-in_default
+returns-in_default c = λ dependencies each.
+    let word = word_at c.args.words.now c.loop-word.word-index in
+    let is = get_or_default c.args.words.now c.loop-word.word-index _ word c.loop-word-test.true in
+    let at = AllZip-at IsBracketed (λ w. w.now) c.args.words.now dependencies c.loop-word.word-index word
+    c.loop-word-test.true is each in
+    let none = rw c.in_default.is at c.bracketed_need.ensures in
+    absurd (cc (none, at.1))
+
+-- The dependency of one word more.
+pub loop-word-preserved : goal.loop-word-preserved
+loop-word-preserved c =
+    let word = word_at c.args.words.now c.loop-word.word-index in
+    let is = get_or_default c.args.words.now c.loop-word.word-index _ word c.loop-word-test.true in
+    let more = AllZip-more IsBracketed (λ w. w.now) c.args.words.now c.loop-word.dependencies.items
+    c.loop-word.word-index word c.in-Some.dependency c.loop-word-test.true is c.loop-word.invariant
+    (sym (rw c.in-Some.is at c.bracketed_need.ensures)) in
+    rw c.in_ok-push.ensures.items more

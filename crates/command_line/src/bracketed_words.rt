@@ -1,0 +1,70 @@
+//! The words of `--dependencies`, which are written as MCUboot's `imgtool` has them.
+
+ghost use Rattle.std.specs.Prelude.{◌≡◌, IfOk, codes, map, option_map};
+ghost use Rattle.std.specs.List.{AllZip};
+ghost use Rattle.clap.specs.Words.{found_of, rows_of};
+ghost use Rattle.command_line.specs.Needs.{IsBracketed, bracketed_need, need_between};
+ghost use Rattle.command_line.specs.Orders.{Finds, texts_at};
+
+use crate::commands::named;
+use crate::order_reading::names_in;
+use clap::ArgMatches;
+use common::ascii::{cut, number_u8};
+use std::alloc::{AllocError, Global};
+use version_order::{Dependency, Version};
+
+/// The dependencies that the words of `--dependencies` give; none where one of them says none.
+pub fn bracketed_in(
+    alloc: Global,
+    names: &ArgMatches<'_>,
+) -> Result<Option<Vec<Dependency>>, AllocError>
+    ensures { IfOk result (λ found.
+        Finds (AllZip IsBracketed
+        (texts_at (codes "dependencies") (rows_of (found_of names.now))))
+        (option_map (λ dependencies. dependencies.items) found)) }
+{
+    match names_in(names, named::DEPENDENCIES) {
+        Some(words) => bracketed_of(alloc, words),
+        None => Ok(Some(Vec::new(alloc))),
+    }
+}
+
+/// The dependencies that these words say, each one.
+fn bracketed_of(alloc: Global, words: &[&str]) -> Result<Option<Vec<Dependency>>, AllocError>
+    ensures { IfOk result (λ found. Finds (AllZip IsBracketed (map (λ word. word.now) words.now))
+        (option_map (λ dependencies. dependencies.items) found)) }
+{
+    let mut dependencies = Vec::new(alloc);
+    for word in words {
+        let Some(dependency) = bracketed_need(word) else {
+            return Ok(None);
+        };
+        dependencies.push(dependency)?;
+    }
+    Ok(Some(dependencies))
+}
+
+/// The dependency that a word says: the number of an image and a version in brackets, parted by a
+/// comma, which a space may follow: `(1, 2.0.0)`.
+fn bracketed_need(word: &str) -> Option<Dependency>
+    ensures { result ≡ bracketed_need word.now }
+{
+    match word.as_bytes() {
+        [b'(', between @ .., b')'] => need_between(between),
+        _ => None,
+    }
+}
+
+/// The dependency that stands between brackets.
+fn need_between(text: &[u8]) -> Option<Dependency>
+    ensures { result ≡ need_between text.now }
+{
+    let (image, version) = cut(text, b',');
+    let version = match version? {
+        [b' ', version @ ..] => version,
+        version => version,
+    };
+    let image = number_u8(image)?;
+    let minimum = Version::from_ascii(version).ok()?;
+    Some(Dependency { image, minimum })
+}

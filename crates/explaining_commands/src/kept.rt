@@ -1,0 +1,74 @@
+//! What was read, kept for the notes.
+
+use std::alloc::{AllocError, Global};
+
+/// What was read of one file.
+#[derive(Drop)]
+struct KeptFile {
+    name: String,
+    bytes: Vec<u8>,
+}
+
+/// What was read of files and of standard input, from when that is asked for. What there is no
+/// memory for isn't kept.
+#[derive(Drop)]
+pub struct Kept {
+    alloc: Global,
+    is_on: bool,
+    files: Vec<KeptFile>,
+    input: Vec<u8>,
+}
+
+impl Kept {
+    /// Nothing, in memory of `alloc`.
+    pub fn new(alloc: Global) -> Kept {
+        Kept {
+            alloc,
+            is_on: false,
+            files: Vec::new(alloc),
+            input: Vec::new(alloc),
+        }
+    }
+
+    /// Keeps from now on what is read.
+    pub fn start(&mut self) {
+        self.is_on = true;
+    }
+
+    /// Keeps what the file of this name holds.
+    pub fn keep_file(&mut self, name: &str, bytes: &[u8]) {
+        if self.is_on {
+            // A note less is no fault of the command.
+            let _ = self.try_keep_file(name, bytes);
+        }
+    }
+
+    fn try_keep_file(&mut self, name: &str, bytes: &[u8]) -> Result<(), AllocError> {
+        let name = String::from_str(self.alloc, name)?;
+        let bytes = Vec::from_slice(self.alloc, bytes)?;
+        self.files.push(KeptFile { name, bytes })?;
+        Ok(())
+    }
+
+    /// Keeps what standard input gave next.
+    pub fn keep_input(&mut self, bytes: &[u8]) {
+        if self.is_on && self.input.extend_from_slice(bytes).is_err() {
+            self.input.clear();
+        }
+    }
+
+    /// What the file of this name held.
+    pub fn file(&self, name: &str) -> Option<&[u8]> {
+        for file in self.files.as_slice() {
+            if file.name.as_str() == name {
+                return Some(file.bytes.as_slice());
+            }
+        }
+        None
+    }
+
+    /// What standard input gave.
+    pub fn input(&self) -> &[u8] {
+        self.input.as_slice()
+    }
+}

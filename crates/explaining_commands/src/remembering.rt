@@ -1,0 +1,128 @@
+//! A host that remembers what was read from it.
+
+use crate::kept::Kept;
+use reading_commands::{Access, FlashFault, Host, Source};
+use std::alloc::{Allocator, Global};
+use std::io;
+
+/// A host that can keep what is read from it, of files, flashes and standard input, and keeps the
+/// last error of the system. What it keeps stands in memory of its own, beside that of the command.
+#[derive(Drop)]
+pub struct Remembering<H> {
+    /// The host below.
+    pub host: H,
+    /// What was read.
+    pub kept: Kept,
+    /// The last error of the system.
+    pub error: Option<io::Error>,
+}
+
+impl<H: Host> Remembering<H> {
+    /// The host below. Nothing was read yet, and nothing is kept until that is asked for: then it
+    /// stands in memory of `alloc`.
+    pub fn over(alloc: Global, host: H) -> Self {
+        Remembering {
+            host,
+            kept: Kept::new(alloc),
+            error: None,
+        }
+    }
+
+    /// What was read of a source, if it was read to its end.
+    pub fn read_before(&self, source: Source<'_>) -> Option<&[u8]> {
+        match source {
+            Source::StandardInput => Some(self.kept.input()),
+            Source::File(name) => self.kept.file(name),
+        }
+    }
+}
+
+impl<H: Host> Host for Remembering<H> {
+    ghost input = { λ it. H.input it.host };
+
+    ghost file = { λ it. H.file it.host };
+
+    fn read_file<A: Allocator>(
+        &mut self,
+        alloc: A,
+        name: &str,
+        most: u32,
+    ) -> io::Result<Vec<u8, A>> {
+        let read = self.host.read_file(alloc, name, most);
+        match &read {
+            Ok(bytes) => self.kept.keep_file(name, bytes),
+            Err(error) => self.error = Some(*error),
+        }
+        read
+    }
+
+    fn read_part<A: Allocator>(
+        &mut self,
+        alloc: A,
+        name: &str,
+        from: usize,
+        count: usize,
+    ) -> io::Result<Option<Vec<u8, A>>> {
+        let read = self.host.read_part(alloc, name, from, count);
+        if let Err(error) = &read {
+            self.error = Some(*error);
+        }
+        read
+    }
+
+    fn read_standard_input(&mut self, buffer: &mut [u8]) -> io::Result<usize> {
+        let read = self.host.read_standard_input(buffer);
+        match &read {
+            Ok(count) => self
+                .kept
+                .keep_input(buffer.get(..*count).unwrap_or_default()),
+            Err(error) => self.error = Some(*error),
+        }
+        read
+    }
+
+    fn is_same_file(&self, one: &str, other: &str) -> io::Result<bool> {
+        self.host.is_same_file(one, other)
+    }
+
+    fn open_flash<A: Allocator>(
+        &mut self,
+        alloc: A,
+        name: &str,
+        length: u64,
+        access: Access,
+    ) -> Result<Vec<u8, A>, FlashFault> {
+        let opened = self.host.open_flash(alloc, name, length, access);
+        match &opened {
+            Ok(bytes) => self.kept.keep_file(name, bytes),
+            Err(FlashFault::Failed(error)) => self.error = Some(*error),
+            Err(_) => {}
+        }
+        opened
+    }
+
+    fn write_flash(&mut self, at: u64, bytes: &[u8]) -> io::Result<()> {
+        let written = self.host.write_flash(at, bytes);
+        if let Err(error) = &written {
+            self.error = Some(*error);
+        }
+        written
+    }
+
+    fn replace_file<A: Allocator>(
+        &mut self,
+        alloc: A,
+        name: &str,
+        bytes: &[u8],
+    ) -> Result<(), FlashFault> {
+        let replaced = self.host.replace_file(alloc, name, bytes);
+        if let Err(FlashFault::Failed(error)) = &replaced {
+            self.error = Some(*error);
+        }
+        replaced
+    }
+
+    fn watched_seconds(&self) -> Option<u64> {
+        self.host.watched_seconds()
+    }
+}

@@ -1,0 +1,141 @@
+//! What is wrong with a device file.
+
+use crate::json_notes::{Key, Wanted, add_value, explain_keys, explain_text, explain_values};
+use common::limits::{MOST_IMAGES, MOST_TRIAL_BOOTS};
+use manifest::json::{array, json_of, number, number_of};
+use sector_map::MapError;
+use serde_json::Value;
+use std::alloc::{AllocError, Allocator, Global};
+
+/// The keys of a device file.
+const KEYS: [Key; 5] = [
+    Key::Needed("sector", Wanted::Number),
+    Key::Needed("sectors", Wanted::List),
+    Key::Needed("vendor-id", Wanted::Uuid),
+    Key::Needed("class-id", Wanted::Uuid),
+    Key::Optional("trial-boots", Wanted::Number),
+];
+
+/// Adds why bytes are no device file: where they stop being JSON, which keys are missing or not
+/// known, or what stands at a key and what may stand there. The JSON value stands in memory of
+/// `alloc` meanwhile.
+pub fn explain_device<A: Allocator>(
+    notes: &mut String<&A>,
+    alloc: Global,
+    bytes: &[u8],
+) -> Result<(), AllocError> {
+    let Ok(value) = json_of(alloc, bytes) else {
+        return explain_text(notes, alloc, bytes);
+    };
+    explain_keys(notes, "the device file", &value, KEYS.as_slice())?;
+    explain_values(notes, alloc, "the device file", &value, KEYS.as_slice())?;
+    explain_sectors(notes, alloc, &value)?;
+    explain_trial_boots(notes, &value)
+}
+
+/// Adds the entries of `sectors` that are no numbers.
+fn explain_sectors<A: Allocator>(
+    notes: &mut String<&A>,
+    alloc: Global,
+    value: &Value,
+) -> Result<(), AllocError> {
+    let Some(sectors) = array(value, "sectors") else {
+        return Ok(());
+    };
+    for (image, sectors) in sectors.iter().enumerate() {
+        if number_of(sectors).is_none() {
+            write!(notes, "note: `sectors` has ")?;
+            add_value(notes, alloc, sectors)?;
+            writeln!(
+                notes,
+                " for image {image}, and it has to be a number from 1 on, in digits alone"
+            )?;
+        }
+    }
+    Ok(())
+}
+
+/// Adds that a trial has too few boots or too many, where it has.
+fn explain_trial_boots<A: Allocator>(
+    notes: &mut String<&A>,
+    value: &Value,
+) -> Result<(), AllocError> {
+    match number(value, "trial-boots") {
+        Some(boots) if boots < 1 || boots > u32::from(MOST_TRIAL_BOOTS) => writeln!(
+            notes,
+            "note: `trial-boots` is {boots}, and a trial has 1 to {MOST_TRIAL_BOOTS} boots"
+        ),
+        _ => Ok(()),
+    }
+}
+
+/// Adds which sizes of a device file make no map. Its JSON value stands in memory of `alloc`
+/// meanwhile.
+pub fn explain_map<A: Allocator>(
+    notes: &mut String<&A>,
+    alloc: Global,
+    bytes: &[u8],
+    fault: MapError,
+) -> Result<(), AllocError> {
+    let Ok(value) = json_of(alloc, bytes) else {
+        return Ok(());
+    };
+    let (Some(sector), Some(sectors)) = (number(&value, "sector"), array(&value, "sectors")) else {
+        return Ok(());
+    };
+    match fault {
+        MapError::BadSector => writeln!(
+            notes,
+            "note: `sector` is {sector}, and a sector has 512 to 131072 bytes, a multiple of 64"
+        ),
+        MapError::BadCount => explain_count(notes, sectors.as_slice()),
+        MapError::TrailerFull => explain_trailers(notes, sector, sectors.as_slice()),
+        MapError::TooLarge => writeln!(
+            notes,
+            "note: all slots, the scratch and the log together have 4294967295 bytes at most"
+        ),
+    }
+}
+
+/// Adds that there are too few images or too many, or which of them has no sectors.
+fn explain_count<A: Allocator>(
+    notes: &mut String<&A>,
+    sectors: &[Value],
+) -> Result<(), AllocError> {
+    let count = sectors.len();
+    if count == 0 || count > MOST_IMAGES {
+        writeln!(
+            notes,
+            "note: `sectors` has {count} entries, one an image, and there are 1 to {MOST_IMAGES}"
+        )?;
+    }
+    for (image, sectors) in sectors.iter().enumerate() {
+        if number_of(sectors) == Some(0) {
+            writeln!(
+                notes,
+                "note: `sectors` has 0 for image {image}, and it is 1 at least"
+            )?;
+        }
+    }
+    Ok(())
+}
+
+/// Adds the images whose trailers don't fit into a sector.
+fn explain_trailers<A: Allocator>(
+    notes: &mut String<&A>,
+    sector: u32,
+    sectors: &[Value],
+) -> Result<(), AllocError> {
+    for (image, sectors) in sectors.iter().enumerate() {
+        let count = number_of(sectors).unwrap_or_default();
+        let trailer = u64::from(count) * 24 + 56;
+        if trailer > u64::from(sector) {
+            writeln!(
+                notes,
+                "note: image {image} has {count} sectors; its trailer would have 24 a sector and \
+                 56 bytes, {trailer}, and a sector has {sector}"
+            )?;
+        }
+    }
+    Ok(())
+}

@@ -1,0 +1,156 @@
+//! What is wrong with the keys and values of a JSON object.
+
+use crate::shown::Shown;
+use manifest::json::{array, digest, number, text, uuid};
+use serde_json::Value;
+use std::alloc::{AllocError, Allocator, Global};
+
+/// What has to stand at a key.
+#[derive(Clone, Copy)]
+pub enum Wanted {
+    /// A number below 2^32, in digits alone.
+    Number,
+    /// A UUID.
+    Uuid,
+    /// 32 bytes in 64 hexadecimal digits.
+    Digest,
+    /// One of two words.
+    Kind,
+    /// A list.
+    List,
+}
+
+impl Wanted {
+    /// Whether what stands at a key of a value is that.
+    fn is_met(self, value: &Value, key: &str) -> bool {
+        match self {
+            Wanted::Number => number(value, key).is_some(),
+            Wanted::Uuid => uuid(value, key).is_some(),
+            Wanted::Digest => digest(value, key).is_some(),
+            Wanted::Kind => matches!(text(value, key), Some("test" | "permanent")),
+            Wanted::List => array(value, key).is_some(),
+        }
+    }
+
+    /// What it is called.
+    fn name(self) -> &'static str {
+        match self {
+            Wanted::Number => "a number from 0 to 4294967295, in digits alone",
+            Wanted::Uuid => "a UUID in quotation marks",
+            Wanted::Digest => "64 hexadecimal digits in quotation marks",
+            Wanted::Kind => "\"test\" or \"permanent\"",
+            Wanted::List => "a list in square brackets",
+        }
+    }
+}
+
+/// A key, and what has to stand there.
+#[derive(Clone, Copy)]
+pub enum Key {
+    /// It has to be there.
+    Needed(&'static str, Wanted),
+    /// It may be missing.
+    Optional(&'static str, Wanted),
+}
+
+impl Key {
+    /// The key itself.
+    fn name(self) -> &'static str {
+        match self {
+            Key::Needed(name, _) | Key::Optional(name, _) => name,
+        }
+    }
+
+    /// What has to stand there.
+    fn wanted(self) -> Wanted {
+        match self {
+            Key::Needed(_, wanted) | Key::Optional(_, wanted) => wanted,
+        }
+    }
+
+    /// Whether it is missing in a value, and may not be.
+    fn is_missing(self, value: &Value) -> bool {
+        matches!(self, Key::Needed(..)) && value.get(self.name()).is_none()
+    }
+}
+
+/// Adds where a text stops being JSON.
+pub fn explain_text<A: Allocator>(
+    notes: &mut String<&A>,
+    alloc: Global,
+    bytes: &[u8],
+) -> Result<(), AllocError> {
+    match Value::from_slice(alloc, bytes) {
+        Err(error) if !error.is_memory() => writeln!(notes, "note: {error}"),
+        _ => Ok(()),
+    }
+}
+
+/// Adds the keys that are missing in an object, and those that aren't known. `owner` is what the
+/// object is called.
+pub fn explain_keys<A: Allocator>(
+    notes: &mut String<&A>,
+    owner: &str,
+    value: &Value,
+    keys: &[Key],
+) -> Result<(), AllocError> {
+    let Some(members) = value.as_object() else {
+        return writeln!(notes, "note: {owner} is no object in braces");
+    };
+    for key in keys {
+        if key.is_missing(value) {
+            let name = key.name();
+            writeln!(notes, "note: {owner} has no `{name}`")?;
+        }
+    }
+    for name in members.keys() {
+        if !is_known(name, keys) {
+            let shown = Shown(name.as_bytes());
+            writeln!(notes, "note: {owner} has `{shown}`, which isn't known")?;
+        }
+    }
+    Ok(())
+}
+
+/// Whether a key is one of these.
+fn is_known(name: &str, keys: &[Key]) -> bool {
+    for key in keys {
+        if name == key.name() {
+            return true;
+        }
+    }
+    false
+}
+
+/// Adds the keys of an object at which something else stands than has to.
+pub fn explain_values<A: Allocator>(
+    notes: &mut String<&A>,
+    alloc: Global,
+    owner: &str,
+    value: &Value,
+    keys: &[Key],
+) -> Result<(), AllocError> {
+    for key in keys {
+        let name = key.name();
+        if let Some(found) = value.get(name)
+            && !key.wanted().is_met(value, name)
+        {
+            let wanted = key.wanted().name();
+            write!(notes, "note: `{name}` of {owner} is ")?;
+            add_value(notes, alloc, found)?;
+            writeln!(notes, ", and has to be {wanted}")?;
+        }
+    }
+    Ok(())
+}
+
+/// Adds a value as JSON.
+pub fn add_value<A: Allocator>(
+    notes: &mut String<&A>,
+    alloc: Global,
+    value: &Value,
+) -> Result<(), AllocError> {
+    let text = value.to_string(alloc)?;
+    let shown = Shown(text.as_bytes());
+    write!(notes, "{shown}")
+}

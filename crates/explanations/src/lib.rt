@@ -1,0 +1,36 @@
+//! Why bytes are refused and requests are left, in sentences for people: what `--explain` adds to
+//! an answer.
+//!
+//! Each call adds lines `note: ..` to a text: what stands in the bytes that it is given, where, and
+//! what may stand there. It is given what was refused, and looks for the place; where it finds none
+//! it adds nothing. Nothing is promised of the sentences but that each call ends, whatever the
+//! bytes are: tests compare them. Allocates for the text, and to read JSON. Any program that has
+//! read the bytes may call it.
+#![tactic(auto)]
+
+mod device_notes;
+mod image_areas;
+mod image_notes;
+mod json_notes;
+mod manifest_notes;
+mod needs_notes;
+mod places;
+mod refusal_notes;
+mod report_notes;
+mod script_notes;
+mod shown;
+mod table_notes;
+mod verdict_notes;
+mod versions;
+
+pub use device_notes::{explain_device, explain_map};
+pub use image_notes::{add_digits, explain_image};
+pub use manifest_notes::explain_manifest;
+pub use needs_notes::explain_running;
+pub use places::{Place, line_at};
+pub use refusal_notes::explain_refusals;
+pub use report_notes::explain_report_line;
+pub use script_notes::explain_script_line;
+pub use shown::Shown;
+pub use table_notes::explain_table_line;
+pub use verdict_notes::explain_no;

@@ -1,0 +1,134 @@
+//! What is wrong with a manifest.
+
+use crate::json_notes::{Key, Wanted, explain_keys, explain_text, explain_values};
+use manifest::json::{array, json_of, number, uuid};
+use manifest::{Identity, MOST_COMPONENTS};
+use serde_json::Value;
+use std::alloc::{AllocError, Allocator, Global};
+use uuid::Uuid;
+
+/// The keys of a manifest.
+const KEYS: [Key; 5] = [
+    Key::Needed("manifest-version", Wanted::Number),
+    Key::Needed("sequence-number", Wanted::Number),
+    Key::Needed("vendor-id", Wanted::Uuid),
+    Key::Needed("class-id", Wanted::Uuid),
+    Key::Needed("components", Wanted::List),
+];
+
+/// The keys of a component.
+const COMPONENT_KEYS: [Key; 5] = [
+    Key::Needed("component-id", Wanted::Number),
+    Key::Needed("kind", Wanted::Kind),
+    Key::Needed("size", Wanted::Number),
+    Key::Needed("payload-digest", Wanted::Digest),
+    Key::Optional("precursor-digest", Wanted::Digest),
+];
+
+/// Adds why bytes are no manifest for a device of this identity: where they stop being JSON, which
+/// keys are missing or not known, what stands at a key and what may stand there, or which device
+/// the manifest is for. The JSON value stands in memory of `alloc` meanwhile.
+pub fn explain_manifest<A: Allocator>(
+    notes: &mut String<&A>,
+    alloc: Global,
+    bytes: &[u8],
+    identity: &Identity,
+) -> Result<(), AllocError> {
+    let Ok(value) = json_of(alloc, bytes) else {
+        return explain_text(notes, alloc, bytes);
+    };
+    explain_keys(notes, "the manifest", &value, KEYS.as_slice())?;
+    explain_values(notes, alloc, "the manifest", &value, KEYS.as_slice())?;
+    match number(&value, "manifest-version") {
+        Some(version) if version != 1 => {
+            writeln!(
+                notes,
+                "note: `manifest-version` is {version}, and has to be 1"
+            )?;
+        }
+        _ => {}
+    }
+    explain_identifier(notes, &value, "vendor-id", identity.vendor)?;
+    explain_identifier(notes, &value, "class-id", identity.class)?;
+    let components = match array(&value, "components") {
+        Some(components) => components.as_slice(),
+        None => &[],
+    };
+    explain_components(notes, alloc, components, identity.images)
+}
+
+/// Adds that an identifier isn't the device's, where it is another one.
+fn explain_identifier<A: Allocator>(
+    notes: &mut String<&A>,
+    value: &Value,
+    key: &str,
+    own: Uuid,
+) -> Result<(), AllocError> {
+    match uuid(value, key) {
+        Some(found) if found != own => {
+            writeln!(notes, "note: `{key}` is {found}, and the device's is {own}")
+        }
+        _ => Ok(()),
+    }
+}
+
+/// Adds what is wrong with the components of a manifest.
+fn explain_components<A: Allocator>(
+    notes: &mut String<&A>,
+    alloc: Global,
+    components: &[Value],
+    images: u8,
+) -> Result<(), AllocError> {
+    let count = components.len();
+    if count == 0 || count > MOST_COMPONENTS {
+        writeln!(
+            notes,
+            "note: `components` has {count} entries, and there are 1 to {MOST_COMPONENTS}"
+        )?;
+    }
+    for (place, component) in components.iter().enumerate() {
+        let before = components.get(..place).unwrap_or_default();
+        explain_component(notes, alloc, before, component, images)?;
+    }
+    Ok(())
+}
+
+/// Adds what is wrong with a component behind others.
+fn explain_component<A: Allocator>(
+    notes: &mut String<&A>,
+    alloc: Global,
+    before: &[Value],
+    component: &Value,
+    images: u8,
+) -> Result<(), AllocError> {
+    let place = before.len();
+    let owner = format!(in alloc; "entry {place} of `components`")?;
+    explain_keys(notes, &owner, component, COMPONENT_KEYS.as_slice())?;
+    explain_values(notes, alloc, &owner, component, COMPONENT_KEYS.as_slice())?;
+    let Some(image) = number(component, "component-id") else {
+        return Ok(());
+    };
+    if image >= u32::from(images) {
+        writeln!(
+            notes,
+            "note: {owner} is for image {image}, and the device has {images}, from 0 on"
+        )?;
+    }
+    if names_image(before, image) {
+        writeln!(
+            notes,
+            "note: {owner} is for image {image}, as one before it"
+        )?;
+    }
+    Ok(())
+}
+
+/// Whether one of these components is for this image.
+fn names_image(components: &[Value], image: u32) -> bool {
+    for component in components {
+        if number(component, "component-id") == Some(image) {
+            return true;
+        }
+    }
+    false
+}

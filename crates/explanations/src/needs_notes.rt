@@ -1,0 +1,69 @@
+//! Dependencies that a set of images doesn't meet.
+
+use crate::versions::{Versions, is_taken};
+use certificate::{Entry, Request, Table};
+use std::alloc::{AllocError, Allocator};
+
+/// Adds a sentence for each dependency and group of the running images of a table that the running
+/// versions don't meet.
+pub fn explain_running<A: Allocator>(
+    notes: &mut String<&A>,
+    table: &Table,
+) -> Result<(), AllocError> {
+    explain_set(notes, table, 0)
+}
+
+/// Adds a sentence for each dependency and group that a set of the images of a table doesn't meet:
+/// bit i of `taken` stands for the request of image i.
+pub fn explain_set<A: Allocator>(
+    notes: &mut String<&A>,
+    table: &Table,
+    taken: u8,
+) -> Result<(), AllocError> {
+    let versions = Versions::of_set(table, taken);
+    for (number, image) in table.images.iter().enumerate() {
+        let entry = match &image.request {
+            Request::Entry(entry) if is_taken(taken, number) => entry,
+            _ => &image.running,
+        };
+        explain_dependencies(notes, &versions, number, entry)?;
+        explain_groups(notes, &versions, number, entry)?;
+    }
+    Ok(())
+}
+
+/// Adds the dependencies of an image that versions don't meet.
+fn explain_dependencies<A: Allocator>(
+    notes: &mut String<&A>,
+    versions: &Versions,
+    number: usize,
+    entry: &Entry,
+) -> Result<(), AllocError> {
+    let version = entry.version;
+    for need in entry.dependencies.iter() {
+        if !versions.meet(need) {
+            write!(notes, "note: image {number}: {version} needs")?;
+            versions.add_need(notes, need, false)?;
+            writeln!(notes)?;
+        }
+    }
+    Ok(())
+}
+
+/// Adds the groups of an image that versions don't meet.
+fn explain_groups<A: Allocator>(
+    notes: &mut String<&A>,
+    versions: &Versions,
+    number: usize,
+    entry: &Entry,
+) -> Result<(), AllocError> {
+    let version = entry.version;
+    for group in entry.groups.iter() {
+        if !versions.meet_one(group) {
+            write!(notes, "note: image {number}: {version} needs")?;
+            versions.add_group(notes, group, false)?;
+            writeln!(notes)?;
+        }
+    }
+    Ok(())
+}

@@ -1,0 +1,49 @@
+//! Lines of a text by their numbers.
+
+use crate::shown::Shown;
+use common::lines::first_line;
+use std::alloc::{AllocError, Allocator};
+
+/// A line of a text, and what stands before it.
+#[derive(Clone, Copy)]
+pub struct Place<'a> {
+    /// The lines before it.
+    pub before: &'a [u8],
+    /// The line, without its line feed.
+    pub line: &'a [u8],
+}
+
+/// The line of this number, counted from 1. None where the text has fewer.
+pub fn line_at(text: &[u8], number: usize) -> Option<Place<'_>> {
+    let mut rest = text;
+    for count in 1..=number {
+        if rest.is_empty() {
+            return None;
+        }
+        let (line, after) = first_line(rest);
+        if count == number {
+            let before = text.get(..text.len().saturating_sub(rest.len()))?;
+            return Some(Place { before, line });
+        }
+        rest = after;
+    }
+    None
+}
+
+/// Adds what a line says, of a text of this kind.
+pub fn add_line<A: Allocator>(
+    notes: &mut String<&A>,
+    kind: &str,
+    number: usize,
+    line: &[u8],
+) -> Result<(), AllocError> {
+    let shown = Shown(line);
+    writeln!(notes, "note: {kind} line {number} is `{shown}`")?;
+    if line.last() == Some(&b'\r') {
+        writeln!(
+            notes,
+            "note: a carriage return ends it; a line ends with a line feed alone"
+        )?;
+    }
+    Ok(())
+}

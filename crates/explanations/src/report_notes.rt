@@ -1,0 +1,56 @@
+//! Lines that no report goes on from.
+
+use crate::places::{add_line, line_at};
+use crate::table_notes::WORDS;
+use certificate::{MOST_REFUSALS, Report};
+use common::limits::MOST_IMAGES;
+use std::alloc::{AllocError, Allocator};
+
+/// What stands behind `refuse I`.
+const REASONS: &str =
+    "note: a REASON is damaged, older, counter, no-such-image J, needs J VERSION, or needs-one with
+note: one to four pairs J VERSION
+";
+
+/// Adds what the line of this number says, counted from 1, from which no report goes on, and what
+/// could stand there.
+pub fn explain_report_line<A: Allocator>(
+    notes: &mut String<&A>,
+    text: &[u8],
+    number: usize,
+) -> Result<(), AllocError> {
+    let Some(place) = line_at(text, number) else {
+        return writeln!(
+            notes,
+            "note: the report is empty; it begins with `run 0 VERSION` or `take 0 VERSION`"
+        );
+    };
+    add_line(notes, "report", number, place.line)?;
+    let before = Report::parse(place.before).unwrap_or_default();
+    write!(notes, "note: here may stand")?;
+    add_choices(notes, &before)?;
+    if !before.images.is_empty() {
+        write!(notes, "{REASONS}")?;
+    }
+    write!(notes, "{WORDS}")
+}
+
+/// Adds what may follow a report.
+fn add_choices<A: Allocator>(notes: &mut String<&A>, report: &Report) -> Result<(), AllocError> {
+    let count = report.images.len();
+    if count < MOST_IMAGES && report.refusals.is_empty() {
+        write!(notes, " `run {count} VERSION`, `take {count} VERSION`")?;
+        if count == 0 {
+            return writeln!(notes);
+        }
+        write!(notes, ",")?;
+    }
+    if report.refusals.len() < MOST_REFUSALS {
+        writeln!(notes, " `refuse I REASON`")
+    } else {
+        writeln!(
+            notes,
+            " nothing more: a report has {MOST_REFUSALS} refusals at most"
+        )
+    }
+}

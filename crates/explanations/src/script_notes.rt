@@ -1,0 +1,167 @@
+//! What is wrong with a line of a script.
+
+use crate::places::{add_line, line_at};
+use crate::shown::Shown;
+use common::ascii::{cut, number, number_u8};
+use common::lines::first_line;
+use script::{Event, FileText, Line, PartText, line_of};
+use std::alloc::{AllocError, Allocator};
+
+/// The words that lines begin with.
+const WORDS: &str = "cut, accept, piece, finish, withdraw, confirm, boot and reset";
+
+/// Adds what the line of this number says, counted from 1, and why no script has it there: how it
+/// is spelled, where it stands, or what it names of a file. `may_cut` says whether the script may
+/// cut writes.
+pub fn explain_script_line<A: Allocator>(
+    notes: &mut String<&A>,
+    text: &[u8],
+    number: usize,
+    may_cut: bool,
+) -> Result<(), AllocError> {
+    let Some(place) = line_at(text, number) else {
+        return Ok(());
+    };
+    add_line(notes, "script", number, place.line)?;
+    match line_of(place.line) {
+        None => explain_spelling(notes, place.line),
+        Some(Line::Cut { .. }) if !may_cut => writeln!(
+            notes,
+            "note: a sweep cuts each write itself, and its script cuts none"
+        ),
+        Some(Line::Cut { write, torn: _ }) => explain_order(notes, place.before, write),
+        Some(Line::Event(event)) => explain_event(notes, event),
+    }
+}
+
+/// Adds why a cut of this write may not stand behind these lines.
+fn explain_order<A: Allocator>(
+    notes: &mut String<&A>,
+    before: &[u8],
+    write: u32,
+) -> Result<(), AllocError> {
+    let mut rest = before;
+    let mut last = 0;
+    for _ in 0..before.len() {
+        if rest.is_empty() {
+            break;
+        }
+        let (line, after) = first_line(rest);
+        rest = after;
+        match line_of(line) {
+            Some(Line::Cut { write, torn: _ }) => last = write,
+            _ => return writeln!(notes, "note: cuts stand before the first event"),
+        }
+    }
+    writeln!(
+        notes,
+        "note: cuts stand by rising numbers, and behind write {last} write {write} is none"
+    )
+}
+
+/// Adds what is wrong with what an event names of a file.
+fn explain_event<A: Allocator>(
+    notes: &mut String<&A>,
+    event: Event<FileText<'_>>,
+) -> Result<(), AllocError> {
+    let (Event::Accept(file) | Event::Piece(_, file)) = event else {
+        return Ok(());
+    };
+    if file.name == "-" {
+        return writeln!(
+            notes,
+            "note: standard input is read once, and was read before"
+        );
+    }
+    match file.part {
+        Some(part) => explain_part(notes, file.name, part),
+        None => Ok(()),
+    }
+}
+
+/// Adds what is wrong with the part of a file.
+fn explain_part<A: Allocator>(
+    notes: &mut String<&A>,
+    name: &str,
+    part: PartText<'_>,
+) -> Result<(), AllocError> {
+    let name = Shown(name.as_bytes());
+    match part.numbers() {
+        Some((from, count)) => writeln!(
+            notes,
+            "note: {name} doesn't have {count} bytes from byte {from} on, the first being byte 0"
+        ),
+        None => writeln!(
+            notes,
+            "note: behind a file stand two numbers, its first byte and how many: decimal, without \
+             leading zeros"
+        ),
+    }
+}
+
+/// Adds why a line is spelled as none.
+fn explain_spelling<A: Allocator>(notes: &mut String<&A>, line: &[u8]) -> Result<(), AllocError> {
+    let (word, fields) = cut(line, b' ');
+    let rest = fields.unwrap_or_default();
+    match str::from_utf8(word) {
+        Ok(word @ ("boot" | "reset")) => writeln!(notes, "note: nothing stands behind `{word}`"),
+        Ok("cut") => explain_cut(notes, rest),
+        Ok("accept") => writeln!(
+            notes,
+            "note: behind `accept` stands the name of one file, in UTF-8 and without a space"
+        ),
+        Ok("piece") => explain_piece(notes, rest),
+        Ok("finish" | "withdraw" | "confirm") => explain_number(notes, rest),
+        _ => {
+            let word = Shown(word);
+            writeln!(
+                notes,
+                "note: `{word}` is no word that a line begins with; those are {WORDS}"
+            )
+        }
+    }
+}
+
+/// Adds what is wrong behind `cut`.
+fn explain_cut<A: Allocator>(notes: &mut String<&A>, fields: &[u8]) -> Result<(), AllocError> {
+    let (write, torn) = cut(fields, b' ');
+    match number(write) {
+        Some(1..) => {}
+        _ => {
+            let write = Shown(write);
+            return writeln!(
+                notes,
+                "note: `{write}` is no number of a write: 1 to 4294967295, decimal, without \
+                 leading zeros"
+            );
+        }
+    }
+    let torn = Shown(torn.unwrap_or_default());
+    writeln!(
+        notes,
+        "note: `{torn}` says nothing that a cut leaves: `keep`, `done`, or `hex:` with an even \
+         number of digits"
+    )
+}
+
+/// Adds what is wrong behind `piece`.
+fn explain_piece<A: Allocator>(notes: &mut String<&A>, fields: &[u8]) -> Result<(), AllocError> {
+    let (image, _) = cut(fields, b' ');
+    if number_u8(image).is_none() {
+        return explain_number(notes, image);
+    }
+    writeln!(
+        notes,
+        "note: behind `piece` stand the number of an image, the name of a file without a space, \
+         and, for a part of it, its first byte and how many"
+    )
+}
+
+/// Adds that a word is no number of an image.
+fn explain_number<A: Allocator>(notes: &mut String<&A>, word: &[u8]) -> Result<(), AllocError> {
+    let word = Shown(word);
+    writeln!(
+        notes,
+        "note: `{word}` is no number of an image: 0 to 255, decimal, without leading zeros"
+    )
+}

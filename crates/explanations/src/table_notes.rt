@@ -1,0 +1,67 @@
+//! Lines that no table goes on from.
+
+use crate::places::{add_line, line_at};
+use certificate::{Entry, Request, Table};
+use common::limits::{MOST_DEPENDENCIES, MOST_GROUPS, MOST_IMAGES};
+use std::alloc::{AllocError, Allocator};
+
+/// How words of tables and reports are written.
+pub const WORDS: &str =
+    "note: a VERSION is major.minor.revision+build, of which last parts may be left out; numbers are
+note: decimal, without leading zeros; one space parts two words
+";
+
+/// Adds what the line of this number says, counted from 1, from which no table goes on, and what
+/// could stand there.
+pub fn explain_table_line<A: Allocator>(
+    notes: &mut String<&A>,
+    text: &[u8],
+    number: usize,
+) -> Result<(), AllocError> {
+    let Some(place) = line_at(text, number) else {
+        return writeln!(
+            notes,
+            "note: the table is empty; it begins with `image 0 VERSION COUNTER FLOOR`"
+        );
+    };
+    add_line(notes, "table", number, place.line)?;
+    let before = Table::parse(place.before).unwrap_or_default();
+    write!(notes, "note: here may stand")?;
+    add_choices(notes, &before)?;
+    write!(notes, "{WORDS}")
+}
+
+/// Adds what may follow a table.
+fn add_choices<A: Allocator>(notes: &mut String<&A>, table: &Table) -> Result<(), AllocError> {
+    let images = table.images.as_slice();
+    if let Some(image) = images.last() {
+        match &image.request {
+            Request::None => {
+                add_needs(notes, &image.running)?;
+                write!(notes, " `request VERSION COUNTER`, `damaged`,")?;
+            }
+            Request::Entry(entry) => add_needs(notes, entry)?,
+            Request::Damaged => {}
+        }
+    }
+    let count = images.len();
+    if count < MOST_IMAGES {
+        writeln!(notes, " `image {count} VERSION COUNTER FLOOR`")
+    } else {
+        writeln!(
+            notes,
+            " no further image: a table has {MOST_IMAGES} at most"
+        )
+    }
+}
+
+/// Adds what may follow what an entry asks for.
+fn add_needs<A: Allocator>(notes: &mut String<&A>, entry: &Entry) -> Result<(), AllocError> {
+    if entry.groups.is_empty() && entry.dependencies.len() < MOST_DEPENDENCIES {
+        write!(notes, " `needs J VERSION`,")?;
+    }
+    if entry.groups.len() < MOST_GROUPS {
+        write!(notes, " `needs-one J VERSION ..`,")?;
+    }
+    Ok(())
+}

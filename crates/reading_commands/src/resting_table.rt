@@ -1,0 +1,27 @@
+//! The table of a device that rests, for notes.
+
+ghost use Rattle.std.specs.Prelude.{◌≡◌};
+ghost use Rattle.sector_map.specs.Map.{IsLaidOut};
+
+use certificate::Table;
+use decision::read_table;
+use flash_model::Flash;
+use machine::Reading;
+use sector_map::SectorMap;
+use set_log::{Kind, read_state};
+
+/// The table of what runs and what is requested on a flash, where the device is at rest and all of
+/// that can be read.
+pub fn table_on<F: Flash>(flash: &mut F, map: &SectorMap) -> Option<Table>
+    requires { IsLaidOut map.now (F.chip flash.old) }
+    ensures { F.chip flash.new ≡ F.chip flash.old }
+{
+    let state = read_state(flash, map).ok()?;
+    if state.kind != Kind::Steady {
+        return None;
+    }
+    match read_table(flash, map, 0, &state.floors) {
+        Ok(Reading::Read(table)) => Some(table),
+        _ => None,
+    }
+}
