@@ -418,15 +418,15 @@ def check_replies(checks):
     checks.tell("explained: replies of a run", [] if is_good else [repr((status, out, err))])
     checks.file("needing", image(protected=(DEPENDENCY,), own=version(1)))
     told = noted(b"image 0: 1.0.0+0 needs image 1 from 2.3.4+5 on, which is 1.0.0+0")
-    words = ["provision", PAIR, "new", "needing", ONE, "--explain"]
+    words = ["provision", PAIR, "unmade", "needing", ONE, "--explain"]
     checks.expect("explained: images that don't fit", words, 1, b"refused boot 6 InvalidSet\n", told)
     checks.file("damaged", other)
-    status, out, err = checks.run(["provision", PAIR, "new", "damaged", ONE, "--explain"])
+    status, out, err = checks.run(["provision", PAIR, "unmade", "damaged", ONE, "--explain"])
     is_good = (status, out) == (1, b"refused boot 5 RunningDamaged 0\n") and err.startswith(
         noted(b"damaged is no intact image:")
     )
     checks.tell("explained: a damaged image", [] if is_good else [repr((status, out, err))])
-    absent = not os.path.exists(f"{checks.folder}/new")
+    absent = not os.path.exists(f"{checks.folder}/unmade")
     checks.tell("explained: nothing is made", [] if absent else ["a file is there"])
 
 

@@ -90,6 +90,40 @@ def check_faults(checks):
             checks.tell(f"{fault}: {shown(map(str, words))}", [] if got == usual else [short(got)])
 
 
+def is_explained_after(fault, got, usual):
+    """Whether a run that is explained may end so after a fault: as one that isn't, and with fewer notes."""
+    if got[:2] == usual[:2] and usual[2].startswith(got[2]):
+        return True
+    status, out, err = got
+    if fault in FAILING and b"\nnote: " in err:
+        err = err[: err.index(b"\nnote: ") + 1]
+    return is_end_after(fault, (status, out, err), usual)
+
+
+def explained_runs():
+    """Runs that are explained: of a table and a report that are refused, of requests, of files that are none."""
+    yield from [["choose", "-"], ["choose", table("neither")], ["check", table("pair"), report("three")]]
+    yield from [["check", table("pair"), "-"], ["image", PAIR], ["image", "-"], ["manifest", PAIR, "-"]]
+    yield from [["show", "-", "flash"], ["show", PAIR, "gone"], ["slots", PAIR, "flash"]]
+    yield from [["sweep", PAIR, "-", ONE, ONE], ["provision", PAIR, "unmade", PAIR, ONE]]
+
+
+def check_explained_faults(checks):
+    """Has each opening, read, write and allocation of a run that is explained fail in turn: its answer is one that it
+    may have without, and what is noted is a beginning of what is noted else."""
+    flash_of(checks)
+    given = b"image 0 1.0.0+0 0 0\nneeds 00 1\n"
+    for words in explained_runs():
+        words = [*words, "--explain"]
+        usual = checks.run(words, given=given)
+        for fault in ("fail", "nothing", "short", "memory"):
+            faults = []
+            for at, got in each_fault(checks, fault, lambda env: checks.run(words, given=given, env=env)):
+                if not is_explained_after(fault, got, usual):
+                    faults.append(f"at call {at}: {short(got)}")
+            checks.tell(f"{fault}: {shown(map(str, words))}, {at} calls", faults[:5])
+
+
 def check_failed_reads(checks):
     """A read that fails gives no answer, whatever was read before, and one that has no memory is told as such."""
     given = read(table("pair"))

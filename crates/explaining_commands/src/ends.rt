@@ -17,7 +17,8 @@ use std::alloc::{AllocError, Allocator, Global};
 use std::io::Write;
 
 /// Writes to `err` why a command ended so: the command of `order`, which was run over `host`. The
-/// notes are made in memory of `heap`, JSON values stand in that of `alloc`.
+/// notes are made in memory of `heap`, JSON values stand in that of `alloc`. There are none where
+/// there was no memory to keep what was read.
 pub fn explain_end<A: Allocator, H: Host, E: Write>(
     alloc: Global,
     heap: &A,
@@ -26,6 +27,9 @@ pub fn explain_end<A: Allocator, H: Host, E: Write>(
     host: &Remembering<H>,
     err: &mut E,
 ) {
+    if !host.kept.is_whole() {
+        return;
+    }
     let mut notes = String::new(heap);
     let inputs = inputs_of(order);
     // Where memory runs out, what is noted so far is told.

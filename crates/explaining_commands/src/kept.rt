@@ -9,12 +9,12 @@ struct KeptFile {
     bytes: Vec<u8>,
 }
 
-/// What was read of files and of standard input, from when that is asked for. What there is no
-/// memory for isn't kept.
+/// What was read of files and of standard input, from when that is asked for.
 #[derive(Drop)]
 pub struct Kept {
     alloc: Global,
     is_on: bool,
+    is_whole: bool,
     files: Vec<KeptFile>,
     input: Vec<u8>,
 }
@@ -25,6 +25,7 @@ impl Kept {
         Kept {
             alloc,
             is_on: false,
+            is_whole: true,
             files: Vec::new(alloc),
             input: Vec::new(alloc),
         }
@@ -37,9 +38,8 @@ impl Kept {
 
     /// Keeps what the file of this name holds.
     pub fn keep_file(&mut self, name: &str, bytes: &[u8]) {
-        if self.is_on {
-            // A note less is no fault of the command.
-            let _ = self.try_keep_file(name, bytes);
+        if self.is_on && self.try_keep_file(name, bytes).is_err() {
+            self.is_whole = false;
         }
     }
 
@@ -53,8 +53,13 @@ impl Kept {
     /// Keeps what standard input gave next.
     pub fn keep_input(&mut self, bytes: &[u8]) {
         if self.is_on && self.input.extend_from_slice(bytes).is_err() {
-            self.input.clear();
+            self.is_whole = false;
         }
+    }
+
+    /// Whether all that was read is kept: there was memory for it.
+    pub fn is_whole(&self) -> bool {
+        self.is_whole
     }
 
     /// What the file of this name held.
