@@ -373,6 +373,7 @@ def check_durable_words(checks):
 
 CHECKS = (
     check_faults,
+    check_explained_faults,
     check_failed_reads,
     check_little_is_read,
     check_making_faults,
