@@ -105,7 +105,7 @@ def explained_runs():
     yield from [["choose", "-"], ["choose", table("neither")], ["check", table("pair"), report("three")]]
     yield from [["check", table("pair"), "-"], ["image", PAIR], ["image", "-"], ["manifest", PAIR, "-"]]
     yield from [["show", "-", "flash"], ["show", PAIR, "gone"], ["slots", PAIR, "flash"]]
-    yield from [["sweep", PAIR, "-", ONE, ONE], ["provision", PAIR, "unmade", PAIR, ONE]]
+    yield from [["sweep", PAIR, "-", ONE, ONE], ["sweep", PAIR, SCRIPT, PAIR, ONE]]
 
 
 def check_explained_faults(checks):

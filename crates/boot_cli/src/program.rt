@@ -5,7 +5,7 @@ ghost use Rattle.boot_cli.specs.OrderEnd.{AnswersOrder};
 use crate::commands::sweeping::Named;
 use crate::commands::{playing, provision, sweeping};
 use command_line::{Order, OrderError, Request, STANDARD_INPUT, fault_of, no_text, request};
-use explaining_commands::{Remembering, explain_end};
+use explaining_commands::{Remembering, UntilFailed, explain_end};
 use making_commands::extract::Copying;
 use making_commands::{extract, make_device, make_image, make_manifest};
 use reading_commands::{
@@ -85,11 +85,12 @@ fn run_explained<S: AsStr, A: Allocator, H: Host, O: Write, E: Write>(
         (H.file host.old.host) (H.file host.new.host) (O.contents out.old) (O.contents out.new) }
 {
     let mut text = Vec::new(heap);
+    let mut told = UntilFailed::over(err);
     host.kept.start();
-    let outcome = perform(alloc, heap, order, true, &mut text, host, out, err);
-    let status = finish(outcome, out, err);
+    let outcome = perform(alloc, heap, order, true, &mut text, host, out, &mut told);
+    let status = finish(outcome, out, &mut told);
     if let Ok(request) = request(alloc, words) {
-        explain_end(alloc, heap, &request.order, outcome, host, err);
+        explain_end(alloc, heap, &request.order, outcome, host, &mut told);
     }
     status
 }

@@ -17,9 +17,11 @@ mod kept;
 mod refused;
 mod remembering;
 mod replies;
+mod until_failed;
 mod uploads;
 
 pub use ends::explain_end;
 pub use kept::Kept;
 pub use remembering::Remembering;
 pub use replies::ReplyNotes;
+pub use until_failed::UntilFailed;
