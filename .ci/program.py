@@ -25,7 +25,7 @@ LOG = f"{OUT}/bootswap.log"
 PROGRAM = f"{OUT}/bootswap"
 
 # What is told before a build: as measured on 4 processors, all of them taken.
-COST = "45 to 100 minutes of one processor, 1.2 GB of disk"
+COST = "45 to 100 minutes of one processor, 1.4 GB of disk"
 
 # The most memory that the check of a crate has taken, in bytes, and what each further process of
 # one takes.
