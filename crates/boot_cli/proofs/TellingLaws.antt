@@ -1,14 +1,14 @@
 -- Replies that are told one by one: what all of them come to, and what stands where one could not
 -- be told.
-use Rattle.std.proofs.Common.{◌≡◌, ℕ, ◌+◌, ◌-◌, ◌<◌, ◌≤◌, false, List, [], ◌∷◌, ◌++◌, Option, Some, ap, append-nil, arith, get_or, length, length-append, map, refl, subst, sym, take, ◌∙◌}
-use Rattle.std.specs.Prelude.{Vec}
+use Rattle.std.proofs.Common.{◌≡◌, ℕ, ◌+◌, ◌-◌, false, List, [], ◌∷◌, ◌++◌, Option, Some, ap, append-nil, arith, get_or, length, length-append, map, refl, subst, sym, take, ◌∙◌}
 use Rattle.std.specs.Io.KnownBytes.{Appends}
 use Rattle.std.proofs.KnownBytes.{Appends-nil, Appends-trans}
 use Rattle.std.proofs.Math.Seq.{get_or-append_seam}
-use Rattle.std.proofs.lemmas.List.{length-map, length-take-le, map-append, take-map, take_all, take_more}
+use Rattle.std.proofs.lemmas.List.{length-map, map-append}
 use Rattle.std.proofs.lemmas.Option.{slice_get-get_or}
 use Rattle.events.specs.declared.event.Event.{Event}
 use Rattle.flash_model.specs.declared.torn.Armed.{Armed}
+use Rattle.script.specs.declared.line_order.Reading.{Reading}
 use Rattle.machine.specs.Holding.{DeviceView}
 use Rattle.machine.specs.Intake.{Setup}
 use Rattle.machine.specs.Passing.{RunsTo, StepsTo}
@@ -24,11 +24,15 @@ use Rattle.reading_commands.specs.Status.{status_of_refusal}
 use Rattle.answers.specs.declared.device.DeviceFile.{DeviceFile}
 use Rattle.answers.specs.ReplyText.{replies_text, reply_text}
 use Rattle.answers.proofs.ReplyLaws.{replies_text-push}
-use Rattle.boot_cli.specs.Loading.{came_in, came_of}
-use Rattle.boot_cli.specs.RunEnd.{IsMadeOf, Plays, TellsFirst, answer_after, answer_of, armed_chip}
+use Rattle.common.specs.Lines.{lines_of}
+use Rattle.reading_commands.specs.Input.{FileBytes}
+use Rattle.boot_cli.specs.declared.judging.Kept.{Kept}
+use Rattle.boot_cli.specs.Loading.{BringsAll, BringsFirst}
+use Rattle.boot_cli.specs.RunEnd.{IsMadeOf, Plays, answer_after, answer_of, armed_chip}
 use Rattle.sweep.specs.Living.{setup_of}
 use Rattle.boot_cli.specs.Script.{came_by}
-use Rattle.boot_cli.specs.Telling.{BreaksOff, TellsAll, TellsSome}
+use Rattle.boot_cli.specs.Telling.{BreaksEvent, BreaksText, PlaysText, TellsAll, TellsEvent, TellsFirst, TellsSome, TellsText}
+use Rattle.boot_cli.proofs.ScriptLaws.{AreTaken, BringsFirst-none, BringsFirst-taken}
 
 -- the last reply says what a run comes to
 answer_of-push : (replies : List Reply) (reply : Reply) → answer_of (replies ++ reply ∷ []) ≡ answer_after (Some reply)
@@ -39,25 +43,10 @@ answer_of-push replies reply =
     ap answer_after (slice_get-get_or all (length all - 1) reply (omega (arith, count))
     ∙ ap Some (ap (λ k. get_or all k reply) last ∙ get_or-append_seam replies reply [] reply))
 
--- what comes by one event more
-pub came_in-more : {A : Type 0} (all : List (Event (Vec ℕ A))) (i : ℕ) (read : Event (Vec ℕ A)) (event : DeviceEvent)
-    → i < length all → read ≡ get_or all i read → came_by event ≡ came_of read
-    → take (i + 1) (came_in all) ≡ take i (came_in all) ++ came_by event ∷ []
-came_in-more all i read event below is comes =
-    let there : i < length (came_in all) = omega (arith, below, length-map all came_of) in
-    let next : take (i + 1) all ≡ take i all ++ read ∷ [] =
-    take_more all i read below ∙ ap (λ e. take i all ++ e ∷ []) (sym is) in
-    take-map came_of (i + 1) all
-    ∙ ap (λ l. map came_of l) next
-    ∙ map-append came_of (take i all) (read ∷ [])
-    ∙ ap (λ l. l ++ came_of read ∷ []) (sym (take-map came_of i all))
-    ∙ ap (λ c. take i (came_in all) ++ c ∷ []) (sym comes)
-
 -- there are as many replies as came
-replied : (events : List DeviceEvent) (replies : List Reply) (all : List (Event (List ℕ))) (i : ℕ) → i ≤ length all
-    → map came_by events ≡ take i all → length replies ≡ length events → length replies ≡ i
-replied events replies all i below come each =
-    each ∙ sym (length-map events came_by) ∙ ap length come ∙ length-take-le i all below
+replied : (events : List DeviceEvent) (replies : List Reply) (came : List (Event (List ℕ)))
+    → map came_by events ≡ came → length replies ≡ length events → length replies ≡ length came
+replied events replies came come each = each ∙ sym (length-map events came_by) ∙ ap length come
 
 -- before the first event
 pub TellsAll-none : (setup : Setup) (here : DeviceView) (written : Option (List ℕ))
@@ -73,92 +62,130 @@ TellsAll-none setup here written = record {
 }
 
 -- an event more, whose reply was told
-pub TellsAll-more : (setup here : Setup) (old mid new : DeviceView) (all : List (Event (List ℕ))) (i : ℕ)
-    (event : DeviceEvent) (reply : Reply) (answer next : Answer) (before between after : Option (List ℕ))
-    → TellsAll answer setup old mid (take i all) before between → i ≤ length all
-    → take (i + 1) all ≡ take i all ++ came_by event ∷ [] → here ≡ setup → StepsTo here mid new event reply
-    → Appends between after (reply_text (i + 1) reply) → next ≡ answer_after (Some reply)
-    → TellsAll next setup old new (take (i + 1) all) before after
-TellsAll-more setup here old mid new all i event reply answer next before between after before_it below more same steps
-    written says =
-    let count = replied before_it.events before_it.replies all i below before_it.come before_it.each in
-    let number : i + 1 ≡ 1 + length before_it.replies = omega (arith, count) in
+pub TellsAll-more : (setup here : Setup) (old mid new : DeviceView) (came : List (Event (List ℕ)))
+    (one : Event (List ℕ)) (number : ℕ) (answer next : Answer) (before between after : Option (List ℕ))
+    → TellsAll answer setup old mid came before between → number ≡ length came + 1 → here ≡ setup
+    → TellsEvent next number here mid new one between after
+    → TellsAll next setup old new (came ++ one ∷ []) before after
+TellsAll-more setup here old mid new came one number answer next before between after before_it counted same told =
+    let count = replied before_it.events before_it.replies came before_it.come before_it.each in
+    let place : number ≡ 1 + length before_it.replies = omega (arith, count, counted) in
     record {
-      events = before_it.events ++ event ∷ [];
-      replies = before_it.replies ++ reply ∷ [];
-      come = map-append came_by before_it.events (event ∷ [])
-          ∙ ap (λ l. l ++ came_by event ∷ []) before_it.come ∙ sym more;
-      runs = runs_more setup old mid new before_it.events before_it.replies event reply before_it.runs
-          (subst (λ s. StepsTo s mid new event reply) same steps);
-      each = length-append before_it.replies (reply ∷ []) ∙ ap (λ k. k + 1) before_it.each
-          ∙ sym (length-append before_it.events (event ∷ []));
-      answered = says ∙ sym (answer_of-push before_it.replies reply);
-      written = subst (Appends before after) (sym (replies_text-push 1 before_it.replies reply))
+      events = before_it.events ++ told.event ∷ [];
+      replies = before_it.replies ++ told.reply ∷ [];
+      come = map-append came_by before_it.events (told.event ∷ [])
+          ∙ ap (λ l. l ++ came_by told.event ∷ []) before_it.come ∙ ap (λ c. came ++ c ∷ []) told.comes;
+      runs = runs_more setup old mid new before_it.events before_it.replies told.event told.reply before_it.runs
+          (subst (λ s. StepsTo s mid new told.event told.reply) same told.steps);
+      each = length-append before_it.replies (told.reply ∷ []) ∙ ap (λ k. k + 1) before_it.each
+          ∙ sym (length-append before_it.events (told.event ∷ []));
+      answered = told.answered ∙ sym (answer_of-push before_it.replies told.reply);
+      written = subst (Appends before after) (sym (replies_text-push 1 before_it.replies told.reply))
           (Appends-trans before between after _ _ before_it.written
-          (subst (λ k. Appends between after (reply_text k reply)) number written));
+          (subst (λ k. Appends between after (reply_text k told.reply)) place told.written));
     }
 
 -- an event more, whose reply was not told
 pub TellsSome-more : (refusal : Refusal) (setup here : Setup) (old mid new : DeviceView)
-    (all : List (Event (List ℕ))) (i : ℕ) (event : DeviceEvent) (reply : Reply) (answer : Answer)
+    (came : List (Event (List ℕ))) (one : Event (List ℕ)) (number : ℕ) (answer : Answer)
     (before between after : Option (List ℕ))
-    → TellsAll answer setup old mid (take i all) before between → i ≤ length all
-    → take (i + 1) all ≡ take i all ++ came_by event ∷ [] → here ≡ setup → StepsTo here mid new event reply
-    → BreaksOff refusal (reply_text (i + 1) reply) between after
-    → TellsSome refusal setup old new all before after
-TellsSome-more refusal setup here old mid new all i event reply answer before between after before_it below more same
-    steps broken =
-    let count = replied before_it.events before_it.replies all i below before_it.come before_it.each in
-    let number : i + 1 ≡ 1 + length before_it.replies = omega (arith, count) in
-    let each : length (before_it.replies ++ reply ∷ []) ≡ length (before_it.events ++ event ∷ []) =
-    length-append before_it.replies (reply ∷ []) ∙ ap (λ k. k + 1) before_it.each
-    ∙ sym (length-append before_it.events (event ∷ [])) in
-    let events : length (before_it.events ++ event ∷ []) ≡ i + 1 =
-    omega (arith, count, before_it.each, length-append before_it.events (event ∷ [])) in
+    → TellsAll answer setup old mid came before between → number ≡ length came + 1 → here ≡ setup
+    → BreaksEvent refusal number here mid new one between after
+    → TellsSome refusal setup old new (came ++ one ∷ []) before after
+TellsSome-more refusal setup here old mid new came one number answer before between after before_it counted same told =
+    let count = replied before_it.events before_it.replies came before_it.come before_it.each in
+    let place : number ≡ 1 + length before_it.replies = omega (arith, count, counted) in
+    let broken = told.broken in
     record {
-      events = before_it.events ++ event ∷ [];
+      events = before_it.events ++ told.event ∷ [];
       told = before_it.replies;
-      last = reply;
+      untold = told.reply ∷ [];
       count = broken.count;
-      come = map-append came_by before_it.events (event ∷ [])
-          ∙ ap (λ l. l ++ came_by event ∷ []) before_it.come ∙ sym more ∙ ap (λ k. take k all) (sym events);
-      runs = runs_more setup old mid new before_it.events before_it.replies event reply before_it.runs
-          (subst (λ s. StepsTo s mid new event reply) same steps);
-      each = each;
+      come = map-append came_by before_it.events (told.event ∷ [])
+          ∙ ap (λ l. l ++ came_by told.event ∷ []) before_it.come ∙ ap (λ c. came ++ c ∷ []) told.comes;
+      runs = runs_more setup old mid new before_it.events before_it.replies told.event told.reply before_it.runs
+          (subst (λ s. StepsTo s mid new told.event told.reply) same told.steps);
+      each = length-append before_it.replies (told.reply ∷ []) ∙ ap (λ k. k + 1) before_it.each
+          ∙ sym (length-append before_it.events (told.event ∷ []));
+      one = omega arith;
       written = Appends-trans before between after _ _ before_it.written
-          (subst (λ k. Appends between after (take broken.count (reply_text k reply))) number broken.begun);
+          (subst (λ text. Appends between after (take broken.count text))
+          (ap (λ k. reply_text k told.reply) place
+          ∙ sym (append-nil (reply_text (1 + length before_it.replies) told.reply)))
+          broken.begun);
       output = broken.output;
     }
 
--- all that comes by events
-pub came_in-all : {A : Type 0} (all : List (Event (Vec ℕ A))) (i : ℕ) → length all ≤ i
-    → take i (came_in all) ≡ came_in all
-came_in-all all i past = take_all i (came_in all) (omega (arith, past, length-map all came_of))
+-- a refusal with another status isn't that of the flash file
+not_of_file : (refusal : Refusal) → status_of_refusal refusal ≡ 1 → refusal ≡ FlashFile → ⊥
+not_of_file refusal one file =
+    let same : 1 ≡ 4 = sym one ∙ ap status_of_refusal file in omega (arith, same)
 
--- a device that was just made over a flash, and all was told
-pub Plays-told : (device : DeviceFile) (bytes : List ℕ) (cuts : List Armed) (came : List (Event (List ℕ)))
-    (old new : DeviceView) (answer : Answer) (before after : Option (List ℕ)) → IsMadeOf device.map bytes cuts old
-    → TellsAll answer (setup_of device) old new came before after → Plays answer device bytes cuts came before after
-Plays-told device bytes cuts came old new answer before after made told = record {
+-- all was told so far, and the next line could not be read
+pub TellsSome-all : (refusal : Refusal) (setup : Setup) (old new : DeviceView) (came : List (Event (List ℕ)))
+    (answer : Answer) (before after : Option (List ℕ)) → status_of_refusal refusal ≡ 1
+    → TellsAll answer setup old new came before after → TellsSome refusal setup old new came before after
+TellsSome-all refusal setup old new came answer before after one told = record {
   events = told.events;
-  replies = told.replies;
+  told = told.replies;
+  untold = [];
+  count = 0;
   come = told.come;
-  played = record { old = old; new = new; made = made; runs = told.runs; each = told.each };
-  answered = told.answered;
-  written = told.written;
+  runs = subst (λ l. RunsTo setup old new told.events l) (sym (append-nil told.replies)) told.runs;
+  each = ap length (append-nil told.replies) ∙ told.each;
+  one = omega arith;
+  written = subst (Appends before after) (sym (append-nil (replies_text 1 told.replies))) told.written;
+  output = not_of_file refusal one;
 }
 
--- .. or all was told, and the flash file failed
-pub TellsFirst-all : (device : DeviceFile) (bytes : List ℕ) (cuts : List Armed) (came : List (Event (List ℕ)))
-    (old new : DeviceView) (answer : Answer) (before after : Option (List ℕ)) → IsMadeOf device.map bytes cuts old
-    → TellsAll answer (setup_of device) old new came before after
-    → TellsFirst FlashFile device bytes cuts came before after
-TellsFirst-all device bytes cuts came old new answer before after made told =
-    let count : length came ≤ length told.events =
-    omega (arith, length-map told.events came_by, ap length told.come) in
+-- a run that broke off at some line
+pub BreaksText-some : {A : Type 0} (refusal : Refusal) (setup : Setup) (old new : DeviceView) (text rest : List ℕ)
+    (reading : Reading) (taken : ℕ) (kept : List (Kept A)) (files : FileBytes) (came : List (Event (List ℕ)))
+    (before after : Option (List ℕ)) → AreTaken text rest reading taken kept files came
+    → TellsSome refusal setup old new came before after
+    → BreaksText refusal setup old new text kept files before after
+BreaksText-some refusal setup old new text rest reading taken kept files came before after are tells = record {
+  lines = taken;
+  came = came;
+  comes = BringsFirst-taken text rest reading taken kept files came are;
+  tells = tells;
+}
+
+-- a device that was just made over a flash, and all was told
+pub PlaysText-told : {A : Type 0} (device : DeviceFile) (bytes : List ℕ) (cuts : List Armed) (text : List ℕ)
+    (kept : List (Kept A)) (files : FileBytes) (old new : DeviceView) (answer : Answer)
+    (before after : Option (List ℕ)) → IsMadeOf device.map bytes cuts old
+    → TellsText answer (setup_of device) old new text kept files before after
+    → PlaysText answer device bytes cuts text kept files before after
+PlaysText-told device bytes cuts text kept files old new answer before after made all =
+    let told = all.tells in
     record {
+      came = all.came;
+      comes = all.comes;
+      plays = record {
+        events = told.events;
+        replies = told.replies;
+        come = told.come;
+        played = record { old = old; new = new; made = made; runs = told.runs; each = told.each };
+        answered = told.answered;
+        written = told.written;
+      };
+    }
+
+-- .. or all was told, and the flash file failed
+pub TellsFirst-all : {A : Type 0} (device : DeviceFile) (bytes : List ℕ) (cuts : List Armed) (text : List ℕ)
+    (kept : List (Kept A)) (files : FileBytes) (old new : DeviceView) (answer : Answer)
+    (before after : Option (List ℕ)) → IsMadeOf device.map bytes cuts old
+    → TellsText answer (setup_of device) old new text kept files before after
+    → TellsFirst FlashFile device bytes cuts text kept files before after
+TellsFirst-all device bytes cuts text kept files old new answer before after made all =
+    let told = all.tells in
+    record {
+      lines = length (lines_of text);
+      came = all.came;
+      comes = all.comes;
       events = told.events;
-      come = told.come ∙ sym (take_all (length told.events) came count);
+      come = told.come;
       told = told.replies;
       untold = [];
       played = record {
@@ -171,36 +198,42 @@ TellsFirst-all device bytes cuts came old new answer before after made told =
       one = omega arith;
       count = 0;
       written = subst (Appends before after) (sym (append-nil (replies_text 1 told.replies))) told.written;
-      whole = λ file. (told.come, refl);
+      whole = λ file. (refl, refl);
     }
 
 -- .. or only the first was told
-pub TellsFirst-some : (refusal : Refusal) (device : DeviceFile) (bytes : List ℕ) (cuts : List Armed)
-    (came : List (Event (List ℕ))) (old new : DeviceView) (before after : Option (List ℕ))
-    → IsMadeOf device.map bytes cuts old
-    → TellsSome refusal (setup_of device) old new came before after
-    → TellsFirst refusal device bytes cuts came before after
-TellsFirst-some refusal device bytes cuts came old new before after made some =
-    let last = reply_text (1 + length some.told) some.last in
+pub TellsFirst-some : {A : Type 0} (refusal : Refusal) (device : DeviceFile) (bytes : List ℕ) (cuts : List Armed)
+    (text : List ℕ) (kept : List (Kept A)) (files : FileBytes) (old new : DeviceView)
+    (before after : Option (List ℕ)) → IsMadeOf device.map bytes cuts old
+    → BreaksText refusal (setup_of device) old new text kept files before after
+    → TellsFirst refusal device bytes cuts text kept files before after
+TellsFirst-some refusal device bytes cuts text kept files old new before after made broken =
+    let some = broken.tells in
     record {
+      lines = broken.lines;
+      came = broken.came;
+      comes = broken.comes;
       events = some.events;
       come = some.come;
       told = some.told;
-      untold = some.last ∷ [];
+      untold = some.untold;
       played = record { old = old; new = new; made = made; runs = some.runs; each = some.each };
-      one = omega arith;
+      one = some.one;
       count = some.count;
-      written = subst (λ text. Appends before after (replies_text 1 some.told ++ take some.count text))
-          (sym (append-nil last)) some.written;
+      written = some.written;
       whole = λ file. absurd (some.output file);
     }
 
 -- .. or there was no memory for the flash
-pub TellsFirst-none : (device : DeviceFile) (bytes : List ℕ) (cuts : List Armed) (came : List (Event (List ℕ)))
-    (written : Option (List ℕ)) → TellsFirst NoMemory device bytes cuts came written written
-TellsFirst-none device bytes cuts came written =
+pub TellsFirst-none : {A : Type 0} (device : DeviceFile) (bytes : List ℕ) (cuts : List Armed) (text : List ℕ)
+    (kept : List (Kept A)) (files : FileBytes) (written : Option (List ℕ))
+    → TellsFirst NoMemory device bytes cuts text kept files written written
+TellsFirst-none device bytes cuts text kept files written =
     let here : DeviceView = seen (armed_chip device.map bytes cuts) [] false in
     record {
+      lines = 0;
+      came = [];
+      comes = BringsFirst-none text kept files;
       events = [];
       come = refl;
       told = [];
@@ -219,5 +252,5 @@ TellsFirst-none device bytes cuts came written =
       one = omega arith;
       count = 0;
       written = Appends-nil written;
-      whole = λ file. let same : 1 ≡ 4 = ap status_of_refusal file in absurd (omega (arith, same));
+      whole = λ file. absurd (not_of_file NoMemory refl file);
     }

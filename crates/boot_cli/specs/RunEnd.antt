@@ -1,5 +1,5 @@
 -- What a run of a device comes to.
-use Rattle.std.specs.Prelude.{◌≡◌, ◌⊎◌, ℕ, ◌+◌, ◌-◌, ◌≤◌, false, List, [], ◌∷◌, ◌++◌, length, take, Option, None, Some, map, slice_get}
+use Rattle.std.specs.Prelude.{◌≡◌, ◌⊎◌, ℕ, ◌-◌, false, List, [], ◌∷◌, length, Option, None, Some, map, slice_get}
 use Rattle.std.specs.Io.KnownBytes.{Appends}
 use Rattle.events.specs.declared.event.Event.{Event}
 use Rattle.flash_model.specs.declared.torn.Armed.{Armed}
@@ -14,8 +14,6 @@ use Rattle.machine.specs.declared.reply.Reply.{Reply}
 use Rattle.machine.specs.declared.reply.Reply.TheVariants as reply
 use Rattle.reading_commands.specs.declared.answer.Answer.{Answer}
 use Rattle.reading_commands.specs.declared.answer.Answer.TheVariants.{Done, Refused, Cut}
-use Rattle.reading_commands.specs.declared.error.Refusal.{Refusal}
-use Rattle.reading_commands.specs.declared.error.Refusal.TheVariants.{FlashFile}
 use Rattle.answers.specs.declared.device.DeviceFile.{DeviceFile}
 use Rattle.reading_commands.specs.declared.source.Source.{Source}
 use Rattle.answers.specs.DeviceFile.{IsDeviceFile}
@@ -77,25 +75,6 @@ pub record Plays (answer : Answer) (device : DeviceFile) (bytes : List ℕ) (cut
   pub played : IsPlayed device bytes cuts events replies
   pub answered : answer ≡ answer_of replies
   pub written : Appends old new (replies_text 1 replies)
-
--- What a writer took of a run that ended without an answer, of a device of this file with these
--- bytes on its flash, of whose writes these are to be cut, and to which this was to come.
-pub record TellsFirst (refusal : Refusal) (device : DeviceFile) (bytes : List ℕ)
-    (cuts : List Armed) (came : List (Event (List ℕ))) (old new : Option (List ℕ)) : Type 0 where
-  -- The first of it came, in these events, and nothing after them.
-  pub events : List DeviceEvent
-  pub come : map came_by events ≡ take (length events) came
-  -- The replies to them were told, but for one at most, which is the last.
-  pub told : List Reply
-  pub untold : List Reply
-  pub played : IsPlayed device bytes cuts events (told ++ untold)
-  pub one : length untold ≤ 1
-  -- The writer took all of those that were told, and so many bytes of the one that wasn't.
-  pub count : ℕ
-  pub written : Appends old new
-      (replies_text 1 told ++ take count (replies_text (1 + length told) untold))
-  -- Where it is the flash file that failed, all of it came, and each reply was told.
-  pub whole : refusal ≡ FlashFile → (map came_by events ≡ came) × (untold ≡ [])
 
 -- What is known of a host after these sources were read.
 abbrev pub known_after_each : List Source → Known → Known

@@ -1,7 +1,7 @@
 //! The file that a flash is written through to, and the system as a host.
 
 use crate::holding::HeldFile;
-use crate::{holding, part_reading, replacing};
+use crate::{file_reading, holding, replacing};
 use file_flash::FlashFile;
 use reading_commands::{Access, FlashFault, Host};
 use std::alloc::Allocator;
@@ -16,7 +16,7 @@ use std::time::Clock;
 #[derive(Drop)]
 pub struct HostFile<'a, H> {
     /// Where the file is.
-    pub host: &'a mut H,
+    pub host: &'a H,
 }
 
 impl<H: Host> FlashFile for HostFile<'_, H> {
@@ -56,24 +56,29 @@ impl<R: Files<File = File> + Clock, I: Read> Host for SystemHost<'_, R, I> {
         name: &str,
         most: u32,
     ) -> io::Result<Vec<u8, A>> {
-        let mut start = File::open(self.runtime, name)?.take(u64::from(most) + 1);
-        let mut bytes = Vec::new(alloc);
-        start.read_to_end(&mut bytes)?;
-        Ok(bytes)
+        file_reading::read_start(self.runtime, alloc, name, most)
+    }
+
+    fn read_input<A: Allocator>(&mut self, alloc: A, most: u32) -> io::Result<Vec<u8, A>> {
+        file_reading::read_input(alloc, &mut self.input, most)
+    }
+
+    fn read_again<A: Allocator>(&self, alloc: A, name: &str, most: u32) -> io::Result<Vec<u8, A>> {
+        file_reading::read_start(self.runtime, alloc, name, most)
     }
 
     fn read_part<A: Allocator>(
-        &mut self,
+        &self,
         alloc: A,
         name: &str,
         from: usize,
         count: usize,
     ) -> io::Result<Option<Vec<u8, A>>> {
-        part_reading::read_part(self.runtime, alloc, name, from, count)
+        file_reading::read_part(self.runtime, alloc, name, from, count)
     }
 
-    fn read_standard_input(&mut self, buffer: &mut [u8]) -> io::Result<usize> {
-        self.input.read(buffer)
+    fn is_plain(&self, name: &str) -> io::Result<bool> {
+        file_reading::is_plain(self.runtime, name)
     }
 
     fn is_same_file(&self, one: &str, other: &str) -> io::Result<bool> {
@@ -98,7 +103,7 @@ impl<R: Files<File = File> + Clock, I: Read> Host for SystemHost<'_, R, I> {
         Ok(bytes)
     }
 
-    fn write_flash(&mut self, at: u64, bytes: &[u8]) -> io::Result<()> {
+    fn write_flash(&self, at: u64, bytes: &[u8]) -> io::Result<()> {
         let Some(held) = &self.flash else {
             return Err(io::Error::from(ErrorKind::NotFound));
         };
@@ -107,6 +112,13 @@ impl<R: Files<File = File> + Clock, I: Read> Host for SystemHost<'_, R, I> {
             held.file.sync_data()?;
         }
         Ok(())
+    }
+
+    fn sync_flash(&self) -> io::Result<()> {
+        match &self.flash {
+            Some(held) => held.file.sync_data(),
+            None => Ok(()),
+        }
     }
 
     fn replace_file<A: Allocator>(

@@ -11,11 +11,14 @@
 //! outputs, and a test gives them others.
 #![tactic(auto)]
 
+mod bringing;
 mod commands;
+mod file_reading;
 mod holding;
 mod host;
+mod judging;
+mod lines;
 mod loading;
-mod part_reading;
 mod program;
 mod replacing;
 
@@ -27,4 +30,4 @@ pub use command_line::{Order, OrderError, Request, request};
 pub use explaining_commands::Remembering;
 pub use host::SystemHost;
 pub use program::{cli, refuse_words, run_order};
-pub use reading_commands::{Access, FlashFault, Host, StandardInput};
+pub use reading_commands::{Access, FlashFault, Host};

@@ -93,7 +93,7 @@ fn explain_error<A: Allocator, H: Host>(
     source: Source<'_>,
     host: &Remembering<H>,
 ) -> Result<(), AllocError> {
-    match host.error {
+    match host.error.get() {
         Some(error) => writeln!(notes, "note: {source}: {error}"),
         None => Ok(()),
     }

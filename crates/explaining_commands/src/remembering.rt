@@ -3,6 +3,7 @@
 use crate::kept::Kept;
 use reading_commands::{Access, FlashFault, Host, Source};
 use std::alloc::{Allocator, Global};
+use std::cell::Cell;
 use std::io;
 
 /// A host that can keep what is read from it, of files, flashes and standard input, and keeps the
@@ -13,8 +14,8 @@ pub struct Remembering<H> {
     pub host: H,
     /// What was read.
     pub kept: Kept,
-    /// The last error of the system.
-    pub error: Option<io::Error>,
+    /// The last error of the system. A host that is lent to a flash tells its errors too.
+    pub error: Cell<Option<io::Error>>,
 }
 
 impl<H: Host> Remembering<H> {
@@ -24,7 +25,7 @@ impl<H: Host> Remembering<H> {
         Remembering {
             host,
             kept: Kept::new(alloc),
-            error: None,
+            error: Cell::new(None),
         }
     }
 
@@ -51,13 +52,30 @@ impl<H: Host> Host for Remembering<H> {
         let read = self.host.read_file(alloc, name, most);
         match &read {
             Ok(bytes) => self.kept.keep_file(name, bytes),
-            Err(error) => self.error = Some(*error),
+            Err(error) => self.error.set(Some(*error)),
+        }
+        read
+    }
+
+    fn read_input<A: Allocator>(&mut self, alloc: A, most: u32) -> io::Result<Vec<u8, A>> {
+        let read = self.host.read_input(alloc, most);
+        match &read {
+            Ok(bytes) => self.kept.keep_input(bytes),
+            Err(error) => self.error.set(Some(*error)),
+        }
+        read
+    }
+
+    fn read_again<A: Allocator>(&self, alloc: A, name: &str, most: u32) -> io::Result<Vec<u8, A>> {
+        let read = self.host.read_again(alloc, name, most);
+        if let Err(error) = &read {
+            self.error.set(Some(*error));
         }
         read
     }
 
     fn read_part<A: Allocator>(
-        &mut self,
+        &self,
         alloc: A,
         name: &str,
         from: usize,
@@ -65,20 +83,13 @@ impl<H: Host> Host for Remembering<H> {
     ) -> io::Result<Option<Vec<u8, A>>> {
         let read = self.host.read_part(alloc, name, from, count);
         if let Err(error) = &read {
-            self.error = Some(*error);
+            self.error.set(Some(*error));
         }
         read
     }
 
-    fn read_standard_input(&mut self, buffer: &mut [u8]) -> io::Result<usize> {
-        let read = self.host.read_standard_input(buffer);
-        match &read {
-            Ok(count) => self
-                .kept
-                .keep_input(buffer.get(..*count).unwrap_or_default()),
-            Err(error) => self.error = Some(*error),
-        }
-        read
+    fn is_plain(&self, name: &str) -> io::Result<bool> {
+        self.host.is_plain(name)
     }
 
     fn is_same_file(&self, one: &str, other: &str) -> io::Result<bool> {
@@ -95,18 +106,26 @@ impl<H: Host> Host for Remembering<H> {
         let opened = self.host.open_flash(alloc, name, length, access);
         match &opened {
             Ok(bytes) => self.kept.keep_file(name, bytes),
-            Err(FlashFault::Failed(error)) => self.error = Some(*error),
+            Err(FlashFault::Failed(error)) => self.error.set(Some(*error)),
             Err(_) => {}
         }
         opened
     }
 
-    fn write_flash(&mut self, at: u64, bytes: &[u8]) -> io::Result<()> {
+    fn write_flash(&self, at: u64, bytes: &[u8]) -> io::Result<()> {
         let written = self.host.write_flash(at, bytes);
         if let Err(error) = &written {
-            self.error = Some(*error);
+            self.error.set(Some(*error));
         }
         written
+    }
+
+    fn sync_flash(&self) -> io::Result<()> {
+        let synced = self.host.sync_flash();
+        if let Err(error) = &synced {
+            self.error.set(Some(*error));
+        }
+        synced
     }
 
     fn replace_file<A: Allocator>(
@@ -117,7 +136,7 @@ impl<H: Host> Host for Remembering<H> {
     ) -> Result<(), FlashFault> {
         let replaced = self.host.replace_file(alloc, name, bytes);
         if let Err(FlashFault::Failed(error)) = &replaced {
-            self.error = Some(*error);
+            self.error.set(Some(*error));
         }
         replaced
     }

@@ -1,6 +1,6 @@
 //! Why the replies of a run are as they are.
 
-use crate::uploads::{OpenUploads, explain_upload};
+use crate::uploads::{Uploads, explain_opening};
 use answers::DeviceFile;
 use events::Event;
 use explanations::{explain_manifest, explain_refusals};
@@ -15,41 +15,36 @@ pub struct ReplyNotes<'h, 'd, 'e, A, E> {
     alloc: Global,
     heap: &'h A,
     device: &'d DeviceFile,
-    uploads: OpenUploads,
+    uploads: Uploads,
     err: Option<&'e mut E>,
 }
 
 impl<'h, 'd, 'e, A: Allocator, E: Write> ReplyNotes<'h, 'd, 'e, A, E> {
-    /// The notes of a run on this device. They are made in memory of `heap`, JSON values stand in
-    /// that of `alloc`, and `err` is where they are written, if they are asked for.
+    /// The notes of a run on this device. They are made in memory of `heap`; JSON values stand in
+    /// that of `alloc`, and so do the bytes of open uploads. `err` is where the notes are written,
+    /// if they are asked for.
     pub fn new(alloc: Global, heap: &'h A, device: &'d DeviceFile, err: Option<&'e mut E>) -> Self {
         ReplyNotes {
             alloc,
             heap,
             device,
-            uploads: OpenUploads::default(),
+            uploads: Uploads::new(alloc),
             err,
         }
     }
 
-    /// Writes why this is the reply to the event at this place, where there is something to say.
-    pub fn tell<B: Allocator>(
-        &mut self,
-        events: &[Event<Vec<u8, B>>],
-        place: usize,
-        reply: &Reply,
-    ) {
+    /// Writes why this is the reply to the event of this number, where there is something to say.
+    pub fn tell<B: Allocator>(&mut self, number: usize, event: &Event<Vec<u8, B>>, reply: &Reply) {
         if self.err.is_none() {
             return;
         }
         let mut notes = String::new(self.heap);
         // Where memory runs out, what is noted so far is told.
-        let _ = self.explain(&mut notes, events, place, reply);
+        let _ = self.explain(&mut notes, event, reply);
         if notes.is_empty() {
             return;
         }
         if let Some(err) = &mut self.err {
-            let number = place.saturating_add(1);
             // It is no part of the answer, which stands without it.
             let _ = writeln!(err, "note: of reply {number}:");
             let _ = err.write_all(notes.as_bytes());
@@ -57,33 +52,37 @@ impl<'h, 'd, 'e, A: Allocator, E: Write> ReplyNotes<'h, 'd, 'e, A, E> {
         }
     }
 
-    /// Adds why this is the reply to the event at this place.
+    /// Adds why this is the reply to the event, and keeps what comes in it for later ones.
     fn explain<B: Allocator>(
         &mut self,
         notes: &mut String<&A>,
-        events: &[Event<Vec<u8, B>>],
-        place: usize,
+        event: &Event<Vec<u8, B>>,
         reply: &Reply,
     ) -> Result<(), AllocError> {
-        match (events.get(place), reply) {
-            (Some(Event::Accept(text)), Reply::Done) => {
-                if let Ok(manifest) = Manifest::read(self.alloc, text, &self.device.identity) {
-                    self.uploads.open(&manifest, place);
+        match (event, reply) {
+            (Event::Accept(text), Reply::Done) => {
+                match Manifest::read(self.alloc, text, &self.device.identity) {
+                    Ok(manifest) => self.uploads.open(&manifest),
+                    Err(_) => Ok(()),
                 }
-                Ok(())
             }
-            (Some(Event::Accept(text)), Reply::Refused(Fault::Manifest(_))) => {
+            (Event::Accept(text), Reply::Refused(Fault::Manifest(_))) => {
                 explain_manifest(notes, self.alloc, text, &self.device.identity)
             }
-            (_, Reply::Refused(Fault::Upload(error))) => explain_upload(
-                self.alloc,
-                notes,
-                self.device,
-                &self.uploads,
-                events,
-                place,
-                *error,
-            ),
+            (Event::Accept(text), Reply::Refused(Fault::Upload(error))) => {
+                match Manifest::read(self.alloc, text, &self.device.identity) {
+                    Ok(manifest) => explain_opening(notes, &self.device.map, &manifest, *error),
+                    Err(_) => Ok(()),
+                }
+            }
+            (Event::Piece(image, bytes), Reply::Done) => self.uploads.add(*image, bytes),
+            (Event::Piece(image, bytes), Reply::Refused(Fault::Upload(error))) => {
+                self.uploads.add(*image, bytes)?;
+                self.uploads.explain(notes, *image, *error)
+            }
+            (Event::Finish(image), Reply::Refused(Fault::Upload(error))) => {
+                self.uploads.explain(notes, *image, *error)
+            }
             (_, Reply::Booted { table, report, .. }) => explain_refusals(notes, table, report),
             _ => Ok(()),
         }

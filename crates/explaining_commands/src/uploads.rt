@@ -1,8 +1,6 @@
 //! Why uploads are refused.
+ghost use Rattle.std.specs.Prelude.{◌<◌, IfSome, length};
 
-use answers::DeviceFile;
-use common::limits::MOST_IMAGES;
-use events::Event;
 use explanations::{add_digits, explain_image};
 use manifest::{Component, Manifest};
 use sector_map::SectorMap;
@@ -10,60 +8,77 @@ use sha2::{Digest, Sha256};
 use std::alloc::{AllocError, Allocator, Global};
 use upload::UploadError;
 
-/// For each image the event that opened its upload last: its place among the events.
-#[derive(Clone, Copy, Default)]
-pub struct OpenUploads([Option<usize>; MOST_IMAGES]);
-
-impl OpenUploads {
-    /// The event at this place opened the uploads of a manifest.
-    pub fn open(&mut self, manifest: &Manifest, place: usize) {
-        for component in manifest.components.as_slice() {
-            if let Some(opened) = self.0.get_mut(usize::from(component.image)) {
-                *opened = Some(place);
-            }
-        }
-    }
-
-    /// The place of the event that opened the upload of an image last.
-    fn opened(&self, image: u8) -> Option<usize> {
-        *self.0.get(usize::from(image))?
-    }
-}
-
-/// What an upload was to be, and what came of it.
+/// What an upload is to be, and what came of it so far.
 #[derive(Drop)]
 struct Upload {
     component: Component,
     bytes: Vec<u8>,
 }
 
-/// Adds why the upload is refused that the event at this place is about.
-pub fn explain_upload<A: Allocator, B: Allocator>(
+/// The uploads that manifests opened, of each image the last.
+#[derive(Drop)]
+pub struct Uploads {
     alloc: Global,
-    notes: &mut String<&A>,
-    device: &DeviceFile,
-    uploads: &OpenUploads,
-    events: &[Event<Vec<u8, B>>],
-    place: usize,
-    error: UploadError,
-) -> Result<(), AllocError> {
-    match events.get(place) {
-        Some(Event::Accept(bytes)) => match Manifest::read(alloc, bytes, &device.identity) {
-            Ok(manifest) => explain_opening(notes, &device.map, &manifest, error),
-            Err(_) => Ok(()),
-        },
-        Some(Event::Piece(image, _) | Event::Finish(image)) => {
-            match upload_of(alloc, device, uploads, events, place, *image)? {
-                Some(upload) => explain_bytes(notes, &upload, error),
-                None => Ok(()),
+    uploads: Vec<Upload>,
+}
+
+impl Uploads {
+    /// None, in memory of `alloc`.
+    pub fn new(alloc: Global) -> Self {
+        Uploads {
+            alloc,
+            uploads: Vec::new(alloc),
+        }
+    }
+
+    /// A manifest opened its uploads.
+    pub fn open(&mut self, manifest: &Manifest) -> Result<(), AllocError> {
+        for component in manifest.components.as_slice() {
+            let upload = Upload {
+                component: *component,
+                bytes: Vec::new(self.alloc),
+            };
+            match self.place_of(component.image) {
+                Some(place) => self.uploads[place] = upload,
+                None => self.uploads.push(upload)?,
             }
         }
-        _ => Ok(()),
+        Ok(())
+    }
+
+    /// These bytes came for an image.
+    pub fn add(&mut self, image: u8, bytes: &[u8]) -> Result<(), AllocError> {
+        match self.place_of(image) {
+            Some(place) => self.uploads[place].bytes.extend_from_slice(bytes),
+            None => Ok(()),
+        }
+    }
+
+    /// Adds why the upload of an image is refused.
+    pub fn explain<A: Allocator>(
+        &self,
+        notes: &mut String<&A>,
+        image: u8,
+        error: UploadError,
+    ) -> Result<(), AllocError> {
+        match self.place_of(image) {
+            Some(place) => explain_bytes(notes, &self.uploads[place], error),
+            None => Ok(()),
+        }
+    }
+
+    /// The place of the upload of an image.
+    fn place_of(&self, image: u8) -> Option<usize>
+        ensures { IfSome result (λ place. place < length self.now.uploads.items) }
+    {
+        self.uploads
+            .iter()
+            .position(|upload| upload.component.image == image)
     }
 }
 
 /// Adds why a manifest opens no uploads.
-fn explain_opening<A: Allocator>(
+pub fn explain_opening<A: Allocator>(
     notes: &mut String<&A>,
     map: &SectorMap,
     manifest: &Manifest,
@@ -88,58 +103,6 @@ fn explain_opening<A: Allocator>(
         }
     }
     Ok(())
-}
-
-/// What was to come for an image by the manifest that opened its upload, and what came of it, up to
-/// the event at this place.
-fn upload_of<B: Allocator>(
-    alloc: Global,
-    device: &DeviceFile,
-    uploads: &OpenUploads,
-    events: &[Event<Vec<u8, B>>],
-    place: usize,
-    image: u8,
-) -> Result<Option<Upload>, AllocError> {
-    let Some(opened) = uploads.opened(image) else {
-        return Ok(None);
-    };
-    let Some([Event::Accept(text), after @ ..]) = events.get(opened..=place) else {
-        return Ok(None);
-    };
-    let Ok(manifest) = Manifest::read(alloc, text, &device.identity) else {
-        return Ok(None);
-    };
-    let Some(component) = component_of(&manifest, image) else {
-        return Ok(None);
-    };
-    let bytes = pieces_of(alloc, after, image)?;
-    Ok(Some(Upload { component, bytes }))
-}
-
-/// The component of a manifest for an image.
-fn component_of(manifest: &Manifest, image: u8) -> Option<Component> {
-    manifest
-        .components
-        .iter()
-        .find(|component| component.image == image)
-        .copied()
-}
-
-/// The bytes that came for an image.
-fn pieces_of<B: Allocator>(
-    alloc: Global,
-    events: &[Event<Vec<u8, B>>],
-    image: u8,
-) -> Result<Vec<u8>, AllocError> {
-    let mut bytes = Vec::new(alloc);
-    for event in events {
-        if let Event::Piece(number, piece) = event
-            && *number == image
-        {
-            bytes.extend_from_slice(piece)?;
-        }
-    }
-    Ok(bytes)
 }
 
 /// Adds what is wrong with the bytes of an upload.

@@ -1,13 +1,11 @@
 //! What the program asks of the system: the bytes of files and of standard input, and the file of a
 //! flash.
 ghost use Rattle.std.specs.Prelude.{◌≤◌, IfErr, IfOk, IfSome, List, ℕ, None, OnOk, Option, length};
-ghost use Rattle.std.specs.Io.{ReadsAtMost};
-ghost use Rattle.std.specs.Io.KnownBytes.{Keeps, ReadConsumes};
+ghost use Rattle.std.specs.Io.KnownBytes.{Keeps};
 ghost use Rattle.reading_commands.specs.Input.{IsKnownAs, IsKnownPart, KeepsFiles};
 
 use std::alloc::Allocator;
 use std::io;
-use std::io::Read;
 
 /// What the file of a flash is opened for.
 #[derive(Clone, Copy, PartialEq, Eq)]
@@ -45,8 +43,9 @@ pub trait Host {
     // What is left of standard input, where it is known.
     ghost input: { Self → Option (List ℕ) } = { λ _. None };
 
-    // What the file of a name holds, where it is known. It isn't known of a block device: a write
-    // that fails may leave a part of what was to be written.
+    // What the file of a name holds, where it is known. It isn't known of a block device, since a
+    // write that fails may leave a part of what was to be written, nor of a file that a flash is
+    // written to.
     ghost file: { Self → List ℕ → Option (List ℕ) } = { λ _ _. None };
 
     /// The bytes of the file of this name, in memory of `alloc`: all of them where it has at most
@@ -57,25 +56,33 @@ pub trait Host {
         ensures files { KeepsFiles (file self.old) (file self.new) }
         ensures input { Keeps (input self.old) (input self.new) };
 
+    /// What is left of standard input, in memory of `alloc`: all of it where that is at most `most`
+    /// bytes, and else one more than that. No more is read.
+    fn read_input<A: Allocator>(&mut self, alloc: A, most: u32) -> io::Result<Vec<u8, A>>
+        ensures bytes { IfOk result (λ bytes. length bytes.items ≤ most
+            → IsKnownAs (input self.old) bytes.items) }
+        ensures files { KeepsFiles (file self.old) (file self.new) };
+
+    /// The same as `read_file`, while the host is lent to others too.
+    fn read_again<A: Allocator>(&self, alloc: A, name: &str, most: u32) -> io::Result<Vec<u8, A>>
+        ensures { IfOk result (λ bytes. length bytes.items ≤ most
+            → IsKnownAs (file self.now name.now) bytes.items) };
+
     /// So many bytes of the file of this name, from its byte `from` on, in memory of `alloc`. No
     /// other byte of a plain file is read. There are none where the file doesn't have them.
     fn read_part<A: Allocator>(
-        &mut self,
+        &self,
         alloc: A,
         name: &str,
         from: usize,
         count: usize,
     ) -> io::Result<Option<Vec<u8, A>>>
-        ensures part { IfOk result (λ read. IfSome read (λ part.
-            IsKnownPart (file self.old name.now) from count part.items)) }
-        ensures files { KeepsFiles (file self.old) (file self.new) }
-        ensures input { Keeps (input self.old) (input self.new) };
+        ensures { IfOk result (λ read. IfSome read (λ part.
+            IsKnownPart (file self.now name.now) from count part.items)) };
 
-    /// One read of standard input, as `Read::read`: up to the length of `buffer`, and 0 at the end.
-    fn read_standard_input(&mut self, buffer: &mut [u8]) -> io::Result<usize>
-        ensures bound { ReadsAtMost result buffer.new }
-        ensures bytes { ReadConsumes (input self.old) (input self.new) result buffer.new }
-        ensures files { KeepsFiles (file self.old) (file self.new) };
+    /// Whether the file of this name is a plain one, which can be read as often as one likes. A
+    /// pipe gives its bytes once.
+    fn is_plain(&self, name: &str) -> io::Result<bool>;
 
     /// Whether two names are of one file that is there, also where it has several names.
     fn is_same_file(&self, one: &str, other: &str) -> io::Result<bool>;
@@ -96,8 +103,11 @@ pub trait Host {
 
     /// Writes all of `bytes` to the file of a flash that was opened last, and for writing, from its
     /// byte `at` on. Does not allocate.
-    fn write_flash(&mut self, at: u64, bytes: &[u8]) -> io::Result<()>
-        ensures input { Keeps (input self.old) (input self.new) };
+    fn write_flash(&self, at: u64, bytes: &[u8]) -> io::Result<()>;
+
+    /// Has the system put all that was written to that file on its medium. A write that the system
+    /// kept back, and could not do then, fails here: nothing tells of it once the file is closed.
+    fn sync_flash(&self) -> io::Result<()>;
 
     /// Puts a file that holds `bytes` in the place of the file of this name, or makes it where
     /// there is none. Until it is done that file is as it was, and so it is where this fails. No
@@ -118,16 +128,4 @@ pub trait Host {
     /// The seconds by a clock that never goes back, where somebody at a terminal reads standard
     /// error; none where nobody does.
     fn watched_seconds(&self) -> Option<u64>;
-}
-
-/// The standard input of a host, as a reader.
-#[derive(Drop)]
-pub struct StandardInput<'a, H>(pub &'a mut H);
-
-impl<H: Host> Read for StandardInput<'_, H> {
-    ghost remaining = { λ reader. H.input reader.0.now };
-
-    fn read(&mut self, buffer: &mut [u8]) -> io::Result<usize> {
-        self.0.read_standard_input(buffer)
-    }
 }

@@ -28,7 +28,7 @@ mod table_input;
 pub use answer::{Answer, finish, refuse, status_after};
 pub use device_input::{read_device, read_flash};
 pub use error::Refusal;
-pub use host::{Access, FlashFault, Host, StandardInput};
+pub use host::{Access, FlashFault, Host};
 pub use limits::{MOST_FILE, MOST_SCRIPT};
 pub use resting_table::table_on;
 pub use source::Source;

@@ -1,14 +1,15 @@
 //! Where a command's input comes from, as its words name it.
-ghost use Rattle.std.specs.Prelude.{◌≤◌, IfOk, length};
-ghost use Rattle.reading_commands.specs.Input.{Gives, IsKnownAs, IsNamed, KeepsOthers};
+ghost use Rattle.std.specs.Prelude.{◌≡◌, ◌≤◌, IfOk, length};
+ghost use Rattle.reading_commands.specs.Input.{Gives, IsNamed, KeepsFiles, KeepsOthers};
+ghost use Rattle.reading_commands.specs.Status.{status_of_refusal};
 
 use crate::error::Refusal;
-use crate::host::{Host, StandardInput};
-use answers::{ReadError, read_all};
+use crate::host::Host;
 use command_line::{Escaped, STANDARD_INPUT};
 use std::alloc::Allocator;
 use std::fmt;
-use std::io::{ErrorKind, Read};
+use std::io;
+use std::io::ErrorKind;
 
 /// What a command reads.
 #[derive(Clone, Copy, Debug)]
@@ -47,6 +48,7 @@ impl<'a> Source<'a> {
             Gives self.entry (H.input host.old) (H.file host.old) bytes.items) }
         ensures others { KeepsOthers self.entry (H.input host.old) (H.file host.old)
             (H.input host.new) (H.file host.new) }
+        ensures files { KeepsFiles (H.file host.old) (H.file host.new) }
     {
         let bytes = self.read_start(alloc, host, most)?;
         if bytes.len() > most as usize {
@@ -67,37 +69,27 @@ impl<'a> Source<'a> {
             → Gives self.entry (H.input host.old) (H.file host.old) bytes.items) }
         ensures others { KeepsOthers self.entry (H.input host.old) (H.file host.old)
             (H.input host.new) (H.file host.new) }
+        ensures files { KeepsFiles (H.file host.old) (H.file host.new) }
     {
-        match self {
-            Source::StandardInput => {
-                input_start(alloc, host, most).map_err(|error| match error {
-                    ReadError::NoMemory => Refusal::NoMemory,
-                    ReadError::Failed => Refusal::CannotRead(self),
-                })
-            }
-            Source::File(name) => {
-                host.read_file(alloc, name, most)
-                    .map_err(|error| match error.kind() {
-                        ErrorKind::OutOfMemory => Refusal::NoMemory,
-                        _ => Refusal::CannotRead(self),
-                    })
-            }
+        let read = match self {
+            Source::StandardInput => host.read_input(alloc, most),
+            Source::File(name) => host.read_file(alloc, name, most),
+        };
+        match read {
+            Ok(bytes) => Ok(bytes),
+            Err(error) => Err(self.refusal(error)),
         }
     }
-}
 
-/// What standard input has left: all of it where that is at most `most` bytes, and else one more
-/// than that.
-fn input_start<A: Allocator, H: Host>(
-    alloc: A,
-    host: &mut H,
-    most: u32,
-) -> Result<Vec<u8, A>, ReadError>
-    ensures { IfOk result (λ bytes. length bytes.items ≤ most
-        → IsKnownAs (H.input host.old) bytes.items) }
-{
-    let mut start = StandardInput(host).take(u64::from(most) + 1);
-    read_all(alloc, &mut start)
+    /// Why a command refuses where this could not be read, for this reason.
+    pub fn refusal(self, error: io::Error) -> Refusal<'a>
+        ensures { status_of_refusal result ≡ 1 }
+    {
+        match error.kind() {
+            ErrorKind::OutOfMemory => Refusal::NoMemory,
+            _ => Refusal::CannotRead(self),
+        }
+    }
 }
 
 /// The name, with its control characters escaped.

@@ -1,22 +1,23 @@
 //! `bootswap run`: what a device answers to the events of a script.
-ghost use Rattle.std.specs.Prelude.{◌≡◌, ◌++◌, IfErr, IfOk, OnOk, Some, false, true};
+ghost use Rattle.std.specs.Prelude.{◌≡◌, ◌++◌, IfErr, IfOk, OnOk, Some, length, true};
 ghost use Rattle.std.specs.Io.KnownBytes.{Appends};
 ghost use Rattle.std.specs.Option.{ForSome};
 ghost use Rattle.file_flash.specs.FileFlash.{chip_of as over_chip, new_over, over_file};
 ghost use Rattle.flash_model.specs.Memory.{chip_of, memory_of, with_armed};
 ghost use Rattle.sector_map.specs.Map.{IsLaidOut};
-ghost use Rattle.upload.specs.Sessions.{AllClosed};
 ghost use Rattle.answers.specs.DeviceFile.{IsOfFile};
 ghost use Rattle.answers.specs.FlashOf.{IsFlashOf};
 ghost use Rattle.answers.specs.ReplyText.{reply_text};
-ghost use Rattle.boot_cli.specs.Loading.{armed_in, came_in};
-ghost use Rattle.boot_cli.specs.RunEnd.{AnswersRun, Plays, TellsFirst, answer_after, armed_flash};
-ghost use Rattle.sweep.specs.Living.{setup_of};
-ghost use Rattle.boot_cli.specs.Telling.{BreaksOff, TellsAll, TellsSome};
+ghost use Rattle.boot_cli.specs.Loading.{armed_in, came_of};
+ghost use Rattle.boot_cli.specs.RunEnd.{AnswersRun, answer_after, armed_flash};
+ghost use Rattle.boot_cli.specs.Telling.{BreaksEvent, BreaksOff, BreaksText, PlaysText, TellsEvent, TellsFirst, TellsText};
 ghost use Rattle.reading_commands.specs.declared.source.Source.TheVariants as source;
 
+use crate::bringing::Sources;
 use crate::host::HostFile;
-use crate::loading::{Cut, Script, load, read_script};
+use crate::judging::{Cut, Judged, judge};
+use crate::lines::Lines;
+use crate::loading::read_script;
 use answers::{DeviceFile, flash_of, reply_text, write_all};
 use boot_core::{Device, step};
 use events::Event;
@@ -25,6 +26,7 @@ use file_flash::{FileFlash, FlashFile};
 use flash_model::{Flash, MemFlash};
 use machine::Reply;
 use reading_commands::{Access, Answer, Host, Refusal, Source, read_device, read_flash};
+use script::Line;
 use sector_map::SectorMap;
 use std::alloc::{AllocError, Allocator, Global};
 use std::io::Write;
@@ -39,7 +41,8 @@ use sweep::device_over;
 ///
 /// The flash stands in memory of `alloc`, and so does what the device needs to run; the script's
 /// text is put into `text`, and all else stands in memory of `heap`. All files are judged before
-/// anything is run, and the flash's is held from then on.
+/// anything is run, and the flash's is held from then on. What a line names is read as its event
+/// comes, so that of the script only its text stands in memory, and what can't be read twice.
 pub fn perform<'a, 'h, A: Allocator, H: Host, O: Write, E: Write>(
     alloc: Global,
     heap: &'h A,
@@ -62,72 +65,80 @@ pub fn perform<'a, 'h, A: Allocator, H: Host, O: Write, E: Write>(
     };
     let bytes = read_flash(alloc, Source::File(flash), &device.map, access, host)?;
     *text = read_script(heap, script, host)?;
-    let script = load(alloc, heap, text, is_input_read, host)?;
-    let file = HostFile { host };
+    let Judged { cuts, kept, .. } = judge(alloc, heap, text, Some(flash), is_input_read, host)?;
+    let sources = Sources {
+        heap,
+        host: &*host,
+        kept: &kept,
+    };
     let mut notes = ReplyNotes::new(alloc, heap, &device, why);
-    play_script(alloc, heap, &device, bytes, script, file, out, &mut notes)
+    let answer = play_text(alloc, &device, bytes, cuts, text, &sources, out, &mut notes)?;
+    match host.sync_flash() {
+        Ok(()) => Ok(answer),
+        Err(_) => Err(Refusal::FlashFile),
+    }
 }
 
-/// Runs the events of a script on a device that has these bytes on its flash, and writes each reply
-/// to `out` as its event is done. What changes is written through to the file of the flash, which
-/// holds the bytes.
-fn play_script<'a, 'h, A: Allocator, F: FlashFile + Drop, O: Write, E: Write>(
+/// Runs what comes by the lines of a script on a device that has these bytes on its flash, with
+/// these writes of the flash cut, and writes each reply to `out` as its event is done. What changes
+/// is written through to the file of the flash, which holds the bytes.
+fn play_text<'a, 'h, A: Allocator, H: Host, O: Write, E: Write>(
     alloc: Global,
-    heap: &'h A,
     device: &DeviceFile,
     bytes: Vec<u8>,
-    script: Script<&'h A>,
-    file: F,
+    cuts: Vec<Cut>,
+    text: &'a [u8],
+    sources: &Sources<'a, 'h, '_, '_, A, H>,
     out: &mut O,
     notes: &mut ReplyNotes<'_, '_, '_, A, E>,
 ) -> Result<Answer, Refusal<'a>>
     requires device { IsOfFile device.now }
     requires whole { IsFlashOf device.now.map bytes.items }
-    requires held { ForSome (F.contents file) (λ all. all ≡ bytes.items) }
     ensures plays { IfOk result (λ answer.
-        Plays answer device.now bytes.items (armed_in script.entry.cuts.items)
-        (came_in script.entry.events.items) (O.contents out.old) (O.contents out.new)) }
+        PlaysText answer device.now bytes.items (armed_in cuts.items) text.now
+        sources.now.kept.now (H.file sources.now.host.now) (O.contents out.old) (O.contents out.new)) }
     ensures tells { IfErr result (λ refusal.
-        TellsFirst refusal device.now bytes.items (armed_in script.entry.cuts.items)
-        (came_in script.entry.events.items) (O.contents out.old) (O.contents out.new)) }
+        TellsFirst refusal device.now bytes.items (armed_in cuts.items) text.now
+        sources.now.kept.now (H.file sources.now.host.now) (O.contents out.old) (O.contents out.new)) }
 {
-    let Script { cuts, events } = script;
+    let file = HostFile { host: sources.host };
     play::<Brand, Brand, _, _, _, _, _>(
         alloc,
-        heap,
         Blank::new(2),
         Blank::new(2),
         device,
         bytes,
         cuts,
-        &events,
+        text,
+        sources,
         file,
         out,
         notes,
     )
 }
 
-/// Runs these events on a device that has these bytes on its flash, with these writes of the flash
-/// cut, writes each reply to `out` as its event is done, and what changes to the file of the flash,
-/// which holds the bytes.
+/// Runs what comes by the lines of a script on a device that has these bytes on its flash, with
+/// these writes of the flash cut, writes each reply to `out` as its event is done, and what changes
+/// to the file of the flash, which holds the bytes.
 fn play<
     'a,
+    'h,
     L: Ledger,
     M: Ledger,
     A: Allocator,
-    B: Allocator,
+    H: Host,
     F: FlashFile + Drop,
     O: Write,
     E: Write,
 >(
     alloc: Global,
-    heap: &A,
     blank: Blank,
     memory_blank: Blank,
     device: &DeviceFile,
     bytes: Vec<u8>,
     cuts: Vec<Cut>,
-    events: &[Event<Vec<u8, B>>],
+    text: &'a [u8],
+    sources: &Sources<'a, 'h, '_, '_, A, H>,
     file: F,
     out: &mut O,
     notes: &mut ReplyNotes<'_, '_, '_, A, E>,
@@ -142,11 +153,11 @@ fn play<
     requires whole { IsFlashOf device.now.map bytes.items }
     requires held { ForSome (F.contents file) (λ all. all ≡ bytes.items) }
     ensures plays { IfOk result (λ answer.
-        Plays answer device.now bytes.items (armed_in cuts.items) (came_in events.now)
-        (O.contents out.old) (O.contents out.new)) }
+        PlaysText answer device.now bytes.items (armed_in cuts.items) text.now
+        sources.now.kept.now (H.file sources.now.host.now) (O.contents out.old) (O.contents out.new)) }
     ensures tells { IfErr result (λ refusal.
-        TellsFirst refusal device.now bytes.items (armed_in cuts.items) (came_in events.now)
-        (O.contents out.old) (O.contents out.new)) }
+        TellsFirst refusal device.now bytes.items (armed_in cuts.items) text.now
+        sources.now.kept.now (H.file sources.now.host.now) (O.contents out.old) (O.contents out.new)) }
 {
     let map = &device.map;
     let Ok(flash) = armed_flash::<L, M, F>(alloc, blank, memory_blank, map, bytes, cuts, file)
@@ -154,7 +165,7 @@ fn play<
         return Err(Refusal::NoMemory);
     };
     let mut device = device_over(flash, device);
-    let answer = tell_each(alloc, heap, &mut device, events, out, notes)?;
+    let answer = tell_each(alloc, &mut device, text, sources, out, notes)?;
     if device.flash().has_failed() {
         return Err(Refusal::FlashFile);
     }
@@ -203,33 +214,64 @@ fn arm_all<M: Ledger>(memory: &mut MemFlash<M>, cuts: Vec<Cut>) -> Result<(), Al
     Ok(())
 }
 
-/// Runs these events on a device, in order, and writes each reply to `out` as its event is done,
-/// before the next one. Where a reply can't be written, no event is run after it.
-fn tell_each<'a, A: Allocator, B: Allocator, F: Flash, O: Write, E: Write>(
+/// Runs what comes by the lines of a script on a device, in order, and writes each reply to `out` as
+/// its event is done, before the next one. Where a reply can't be written, or the file of a line
+/// can't be read any more, no event is run after it.
+fn tell_each<'a, 'h, A: Allocator, H: Host, F: Flash, O: Write, E: Write>(
     alloc: Global,
-    heap: &A,
     device: &mut Device<F>,
-    events: &[Event<Vec<u8, B>>],
+    text: &'a [u8],
+    sources: &Sources<'a, 'h, '_, '_, A, H>,
     out: &mut O,
     notes: &mut ReplyNotes<'_, '_, '_, A, E>,
 ) -> Result<Answer, Refusal<'a>>
     requires { device.old.here.flash.is_on ≡ true }
     ensures all { IfOk result (λ answer.
-        TellsAll answer device.old.setup device.old.here device.new.here (came_in events.now)
-        (O.contents out.old) (O.contents out.new)) }
+        TellsText answer device.old.setup device.old.here device.new.here text.now
+        sources.now.kept.now (H.file sources.now.host.now) (O.contents out.old) (O.contents out.new)) }
     ensures some { IfErr result (λ refusal.
-        TellsSome refusal device.old.setup device.old.here device.new.here (came_in events.now)
-        (O.contents out.old) (O.contents out.new)) }
+        BreaksText refusal device.old.setup device.old.here device.new.here text.now
+        sources.now.kept.now (H.file sources.now.host.now) (O.contents out.old) (O.contents out.new)) }
 {
     let mut answer = Answer::Done;
-    for (index, event) in events.iter().enumerate() {
-        let event = event.as_deref();
-        let reply = step(alloc, device, &event);
-        tell_reply(heap, index + 1, &reply, out)?;
-        notes.tell(events, index, &reply);
-        answer = answer_after(&reply);
+    let mut lines = Lines::of(text);
+    let mut used = 0;
+    let mut number: usize = 0;
+    while !lines.rest.is_empty() {
+        if let Line::Event(event) = lines.next_line()? {
+            let event = sources.bring(&mut used, lines.number, event)?;
+            number += 1;
+            answer = tell_event(alloc, sources.heap, device, number, event, out, notes)?;
+        }
     }
     Ok(answer)
+}
+
+/// Has this event come to a device, and writes the reply to it to `out`.
+fn tell_event<'a, A: Allocator, B: Allocator, F: Flash, O: Write, E: Write>(
+    alloc: Global,
+    heap: &A,
+    device: &mut Device<F>,
+    number: usize,
+    event: Event<Vec<u8, B>>,
+    out: &mut O,
+    notes: &mut ReplyNotes<'_, '_, '_, A, E>,
+) -> Result<Answer, Refusal<'a>>
+    requires { device.old.here.flash.is_on ≡ true }
+    ensures setup { device.new.setup ≡ device.old.setup }
+    ensures on { device.new.here.flash.is_on ≡ true }
+    ensures told { IfOk result (λ answer.
+        TellsEvent answer number device.old.setup device.old.here device.new.here
+        (came_of event) (O.contents out.old) (O.contents out.new)) }
+    ensures begun { IfErr result (λ refusal.
+        BreaksEvent refusal number device.old.setup device.old.here device.new.here
+        (came_of event) (O.contents out.old) (O.contents out.new)) }
+{
+    let lent = event.as_deref();
+    let reply = step(alloc, device, &lent);
+    tell_reply(heap, number, &reply, out)?;
+    notes.tell(number, &event, &reply);
+    Ok(answer_after(&reply))
 }
 
 /// Writes the reply to the event of this number to `out`, and flushes it.

@@ -1,10 +1,8 @@
 //! `bootswap sweep`: what comes of a script, with each write of the flash cut.
-ghost use Rattle.std.specs.Prelude.{◌≡◌, ◌≤◌, [], IfOk};
+ghost use Rattle.std.specs.Prelude.{◌≡◌, ◌≤◌, IfOk};
 ghost use Rattle.answers.specs.DeviceFile.{IsOfFile};
 ghost use Rattle.answers.specs.FlashOf.{IsFlashOf};
 ghost use Rattle.reading_commands.specs.Status.{status_of_answer};
-ghost use Rattle.boot_cli.specs.Loading.{came_in};
-ghost use Rattle.boot_cli.specs.Script.{IsScript, Known, StaysKnown};
 ghost use Rattle.boot_cli.specs.SweepEnd.{AnswersSweep, IsWhole};
 
 use crate::commands::provision::{Made, read_images, tell_made};
@@ -77,7 +75,7 @@ pub fn perform<'a, 'h, A: Allocator, H: Host, O: Write, E: Write>(
         return Ok(Answer::Refused);
     };
     *text = read_script(heap, named.script, host)?;
-    let events = load_uncut(alloc, heap, text, is_input_read, host)?;
+    let events = load(alloc, heap, text, is_input_read, host)?;
     refuse_inputs(host, choices.picture, &named)?;
     sweep_images(
         alloc,
@@ -100,26 +98,6 @@ fn reads_standard_input(named: &Named<'_, '_>) -> bool {
             .images
             .iter()
             .any(|image| Source::named(image).is_standard_input())
-}
-
-/// The events of a script that cuts no write, with the files that its lines name.
-fn load_uncut<'a, 'h, A: Allocator, H: Host>(
-    alloc: Global,
-    heap: &'h A,
-    text: &'a [u8],
-    is_input_read: bool,
-    host: &mut H,
-) -> Result<Vec<Event<Vec<u8, &'h A>>, &'h A>, Refusal<'a>>
-    ensures { IfOk result (λ events. (known : Known)
-        → StaysKnown known (H.input host.old) (H.file host.old)
-        → IsScript text.now known [] (came_in events.items)) }
-{
-    let script = load(alloc, heap, text, is_input_read, host)?;
-    if !script.cuts.is_empty() {
-        // Cuts stand before all else.
-        return Err(Refusal::ScriptLine(1));
-    }
-    Ok(script.events)
 }
 
 /// Refuses a picture whose file is one of those that are named.

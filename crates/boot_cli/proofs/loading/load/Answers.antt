@@ -1,23 +1,21 @@
-use Rattle.std.proofs.Common.{arith, eqb-true, sym}
-use Rattle.script.specs.Said.{said}
-use Rattle.boot_cli.specs.Loading.{armed_in, came_in}
-use Rattle.boot_cli.proofs.ScriptLaws.{AreLoaded-all, AreLoaded-more}
+use Rattle.std.proofs.Common.{◌≡◌, [], eqb-true, length, subst, sym}
+use Rattle.std.proofs.lemmas.Result.{IfOk-weaker}
+use Rattle.boot_cli.specs.Loading.{AreCutsOf, BringsAll, came_in}
+use Rattle.boot_cli.proofs.ScriptLaws.{IsScript-brought, no_cuts}
 use Rattle.boot_cli.proofs.loading.load.Goals as goal
 
--- One line more was read.
-pub loop-reader-preserved : goal.loop-reader-preserved
-loop-reader-preserved g c = (
-  omega (arith, c.loop-reader.invariant.0, c.first_line.ensures.shorter),
-  AreLoaded-more c.args.text.now c.loop-reader.rest.now c.first_line.result.1.now c.first_line.result.0.now
-      c.loop-reader.reading c.takes.new.self (said c.in-Some.line) _ _ _ _ _ _
-      (armed_in c.loop-reader.script.cuts.items) (armed_in c.take_line.new.script.cuts.items)
-      (came_in c.loop-reader.script.events.items) (came_in c.take_line.new.script.events.items)
-      c.first_line.ensures.lines c.in-Some.ensures.says c.if-not-takes.ensures c.in_ok-take_line.ensures
-      c.loop-reader.invariant.1,
-)
-
--- All was read.
+-- No line cuts a write, and all events were brought.
 pub returns : goal.returns
-returns g c = AreLoaded-all c.args.text.now c.loop-reader.rest.now c.loop-reader.reading _ _ _ _
-    (armed_in c.loop-reader.script.cuts.items) (came_in c.loop-reader.script.events.items) (eqb-true _ _ (sym c.loop-reader-test.ensures))
-    c.loop-reader.invariant.1
+returns g c =
+    let judged = c.in_ok-judged.judged in
+    let files = g.H.Host.file c.judge.new.host in
+    let none = no_cuts judged.cuts.items
+    (subst (λ cuts. length cuts ≡ 0) c.as_slice.ensures.value (eqb-true _ _ (sym c.if-not-is_empty.ensures))) in
+    let cuts = subst (AreCutsOf c.args.text.now) none c.in_ok-judged.ensures.cuts in
+    IfOk-weaker c.bring_all.result _ _
+    (λ events brings known stays.
+    IsScript-brought c.args.text.now [] (came_in events.items) judged.kept.items
+    (g.H.Host.input c.args.host.now) (g.H.Host.file c.args.host.now) files cuts
+    (subst (λ kept. BringsAll c.args.text.now kept files (came_in events.items)) c.deref.ensures.value brings)
+    c.in_ok-judged.ensures.files c.in_ok-judged.ensures.kept known stays)
+    c.bring_all.ensures

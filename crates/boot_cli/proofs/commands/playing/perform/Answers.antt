@@ -1,29 +1,35 @@
 use Rattle.std.proofs.Common.{subst}
-use Rattle.std.proofs.lemmas.Result.{IfOk-weaker}
-use Rattle.boot_cli.specs.Loading.{armed_in, came_in}
-use Rattle.boot_cli.specs.Script.{IsScript}
+use Rattle.boot_cli.specs.Loading.{AreCutsOf, BringsAll, armed_in}
 use Rattle.answers.proofs.DeviceLaws.{IsOfFile-read}
 use Rattle.boot_cli.proofs.EndLaws.{AnswersRun-read}
+use Rattle.boot_cli.proofs.ScriptLaws.{IsScript-brought}
 use Rattle.boot_cli.proofs.commands.playing.perform.Goals as goal
 
 -- The device is one of a file.
-pub play_script-requires-clause-device : goal.play_script-requires-clause-device
-play_script-requires-clause-device g c =
+pub play_text-requires-clause-device : goal.play_text-requires-clause-device
+play_text-requires-clause-device g c =
     let read = rw c.in-Some.is at c.in_ok-device.ensures.read in
     IsOfFile-read read.0.0 c.in-Some.device read.0.2
 
--- All three were read in turn, and the replies were written.
-pub returns : goal.returns
-returns g c =
+-- All three were read in turn, what the script's lines bring came, and the replies were written.
+pub returns-in-Ok : goal.returns-in-Ok
+returns-in-Ok g c =
     let read = rw c.in-Some.is at c.in_ok-device.ensures.read in
-    let cuts = armed_in c.in_ok-script.script.cuts.items in
-    let came = came_in c.in_ok-script.script.events.items in
-    IfOk-weaker c.play_script.result _ _
-    (λ answer plays. AnswersRun-read answer c.args.device c.args.flash c.args.script _ _ _ _ _ _ _ _ _ _ _
-    c.in_ok-bytes.bytes.items c.in_ok-text.field-0.items cuts came c.in-Some.device
+    let input = g.H.Host.input c.read_script.new.host in
+    let before = g.H.Host.file c.read_script.new.host in
+    let files = g.H.Host.file c.judge.new.host in
+    let text = c.in_ok-text.field-0.items in
+    let kept = c.in_ok-cuts.field-0.kept.items in
+    let cuts = armed_in c.in_ok-cuts.field-0.cuts.items in
+    let plays = c.in_ok-answer.ensures.plays in
+    let cut = subst (λ text. AreCutsOf text cuts) c.deref.ensures.value c.in_ok-cuts.ensures.cuts in
+    let brings = subst (λ text. BringsAll text kept files plays.came) c.deref-3.ensures.value
+    (subst (λ kept. BringsAll c.deref-3.result.now kept files plays.came) c.deref-2.ensures.value plays.comes) in
+    AnswersRun-read c.in_ok-answer.answer c.args.device c.args.flash c.args.script _ _ _ _ _ _ _ _ _ _ _
+    c.in_ok-bytes.bytes.items text cuts plays.came c.in-Some.device
     read.0 c.in_ok-device.ensures.others
     c.in_ok-bytes.ensures.bytes c.in_ok-bytes.ensures.others
     c.in_ok-text.ensures.bytes c.in_ok-text.ensures.others
-    (λ known stays. subst (λ text. IsScript text known cuts came) c.deref.ensures.value (c.in_ok-script.ensures known stays))
-    c.in_ok-bytes.ensures.whole read.1 plays)
-    c.play_script.ensures.plays
+    (λ known stays.
+    IsScript-brought text cuts plays.came kept input before files cut brings c.in_ok-cuts.ensures.files c.in_ok-cuts.ensures.kept known stays)
+    c.in_ok-bytes.ensures.whole read.1 plays.plays

@@ -1,13 +1,14 @@
 use Rattle.std.proofs.Common.{◌∙◌, ap}
 use Rattle.common.proofs.Results.{IfErr-passed}
-use Rattle.boot_cli.specs.Loading.{armed_in, came_in}
-use Rattle.boot_cli.proofs.TellingLaws.{Plays-told, TellsFirst-all, TellsFirst-none, TellsFirst-some}
+use Rattle.boot_cli.specs.Loading.{armed_in}
+use Rattle.boot_cli.proofs.TellingLaws.{PlaysText-told, TellsFirst-all, TellsFirst-none, TellsFirst-some}
 use Rattle.boot_cli.proofs.commands.playing.play.Goals as goal
 
 -- There was no memory for the flash.
 pub returns-in_default-clause-tells : goal.returns-in_default-clause-tells
 returns-in_default-clause-tells g c =
-    TellsFirst-none c.args.device.now c.args.bytes.items (armed_in c.args.cuts.items) (came_in c.args.events.now) _
+    TellsFirst-none c.args.device.now c.args.bytes.items (armed_in c.args.cuts.items) c.args.text.now
+    c.args.sources.now.kept.now (g.H.Host.file c.args.sources.now.host.now) _
 
 -- The device was made over the flash of the bytes and the cuts, and not all replies were told.
 pub returns-in_err-answer-clause-tells : goal.returns-in_err-answer-clause-tells
@@ -15,7 +16,8 @@ returns-in_err-answer-clause-tells g c =
     let armed = c.in-Ok.ensures.armed in
     let device = c.device_over-device.ensures in
     IfErr-passed _ _ _ c.from_residual.ensures.1
-    (TellsFirst-some _ c.args.device.now c.args.bytes.items (armed_in c.args.cuts.items) (came_in c.args.events.now) _ _ _ _
+    (TellsFirst-some _ c.args.device.now c.args.bytes.items (armed_in c.args.cuts.items) c.args.text.now
+    c.args.sources.now.kept.now (g.H.Host.file c.args.sources.now.host.now) _ _ _ _
     (record {
       flash = device.flash ∙ ap (λ o. o.chip) armed;
       down = device.down;
@@ -28,7 +30,8 @@ pub returns-then-has_failed-clause-tells : goal.returns-then-has_failed-clause-t
 returns-then-has_failed-clause-tells g c =
     let armed = c.in-Ok.ensures.armed in
     let device = c.device_over-device.ensures in
-    TellsFirst-all c.args.device.now c.args.bytes.items (armed_in c.args.cuts.items) (came_in c.args.events.now) _ _ _ _ _
+    TellsFirst-all c.args.device.now c.args.bytes.items (armed_in c.args.cuts.items) c.args.text.now
+    c.args.sources.now.kept.now (g.H.Host.file c.args.sources.now.host.now) _ _ _ _ _
     (record {
       flash = device.flash ∙ ap (λ o. o.chip) armed;
       down = device.down;
@@ -41,7 +44,8 @@ pub returns-clause-plays : goal.returns-clause-plays
 returns-clause-plays g c =
     let armed = c.in-Ok.ensures.armed in
     let device = c.device_over-device.ensures in
-    Plays-told c.args.device.now c.args.bytes.items (armed_in c.args.cuts.items) (came_in c.args.events.now) _ _ _ _ _
+    PlaysText-told c.args.device.now c.args.bytes.items (armed_in c.args.cuts.items) c.args.text.now
+    c.args.sources.now.kept.now (g.H.Host.file c.args.sources.now.host.now) _ _ _ _ _
     (record {
       flash = device.flash ∙ ap (λ o. o.chip) armed;
       down = device.down;

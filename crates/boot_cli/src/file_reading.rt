@@ -1,13 +1,50 @@
-//! A part of a file, read without the rest of it.
+//! What is read of a file or of an input: its front, or a part without the rest of it.
 
-ghost use Rattle.std.specs.Prelude.{◌≡◌, IfOk, IfSome, length};
+ghost use Rattle.std.specs.Prelude.{◌≡◌, ◌≤◌, IfOk, IfSome, length};
+ghost use Rattle.reading_commands.specs.Input.{IsKnownAs};
 
 use std::alloc::Allocator;
 use std::fs::{File, OpenFile};
-use std::io;
 use std::io::Read;
 use std::os::unix::fs::FileExt;
 use std::rt::Files;
+use std::{fs, io};
+
+/// The bytes of the file of this name, in memory of `alloc`: all of them where it has at most
+/// `most`, and else one more than that, from its front.
+pub fn read_start<R: Files<File = File>, A: Allocator>(
+    runtime: &R,
+    alloc: A,
+    name: &str,
+    most: u32,
+) -> io::Result<Vec<u8, A>> {
+    let mut bytes = Vec::new(alloc);
+    File::open(runtime, name)?
+        .take(u64::from(most) + 1)
+        .read_to_end(&mut bytes)?;
+    Ok(bytes)
+}
+
+/// What an input has left, in memory of `alloc`: all of it where that is at most `most` bytes, and
+/// else one more than that.
+pub fn read_input<I: Read, A: Allocator>(
+    alloc: A,
+    input: &mut I,
+    most: u32,
+) -> io::Result<Vec<u8, A>>
+    ensures { IfOk result (λ bytes. length bytes.items ≤ most
+        → IsKnownAs (I.remaining input.old) bytes.items) }
+{
+    let mut bytes = Vec::new(alloc);
+    let mut start = input.take(u64::from(most) + 1);
+    start.read_to_end(&mut bytes)?;
+    Ok(bytes)
+}
+
+/// Whether the file of this name is a plain one.
+pub fn is_plain<R: Files>(runtime: &R, name: &str) -> io::Result<bool> {
+    Ok(fs::metadata(runtime, name)?.is_file())
+}
 
 /// So many bytes of the file of this name, from its byte `from` on, in memory of `alloc`, where it
 /// has them. Of a plain file nothing else is read. A pipe or a device, whose length isn't known, is

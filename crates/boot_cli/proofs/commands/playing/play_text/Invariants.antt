@@ -1,4 +1,4 @@
-use Rattle.boot_cli.proofs.commands.playing.play_script.Given as goal
+use Rattle.boot_cli.proofs.commands.playing.play_text.Given as goal
 
 -- the token that the flash over the file is made with ..
 abbrev pub ghosts-play-L-Ledger : goal.ghosts-play-L-Ledger
