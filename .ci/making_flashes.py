@@ -51,6 +51,9 @@ REFUSED = [
     ("pair.json made abc slot.img", b"refused boot 5 RunningDamaged 0\n", b""),
     ("pair.json made slot.img counted.img", b"refused boot 5 RunningDamaged 0\n", b""),
     ("uneven.json made slot.img sector.img", b"refused boot 5 RunningDamaged 0\n", b""),
+    ("pair.json made one.img short.img", b"refused boot 5 RunningDamaged 1\n", b""),
+    ("pair.json made empty.img empty.img", b"refused boot 5 RunningDamaged 0\n", b""),
+    ("pair.json made counted.img one.img", b"refused boot 6 InvalidSet\n", b""),
 ]
 
 # The same where `made` is an image that is read too: its file is judged by its length, and no

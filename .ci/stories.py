@@ -2,7 +2,7 @@
 
 import hashlib
 
-from builders import component, device, image, manifest, version
+from builders import VENDOR, component, device, image, little, manifest, version
 from checking import EXAMPLES, PAIR, read, short
 from worked import PLAIN, numbered
 
@@ -14,9 +14,11 @@ NAMES = ("one", "needing", "partner", "counted", "patched", "stale")
 IMAGES = {f"{name}.img": read(f"{EXAMPLES}/images/{name}.img") for name in NAMES}
 IMAGES["newer.img"] = image([], own=version(2))
 
-# Files that are no images, one of them longer than a slot of two sectors by a byte.
+# Files that are no images, one of them longer than a slot of two sectors by a byte, and one an image but for its last
+# byte.
 TEXTS = {it: it.encode() for it in ("ab", "abc", "abcd", "abd")}
 TEXTS.update({"long.img": 1025 * b"Z", "slot.img": 1024 * b"Z", "sector.img": 512 * b"Z"})
+TEXTS.update({"short.img": IMAGES["one.img"][:-1], "empty.img": b""})
 
 # Device files; that of `small.json` makes no map, and `other.json` is none.
 DEVICES = {
@@ -28,7 +30,8 @@ DEVICES = {
     "other.json": b"{}",
 }
 
-# Manifests: the sequence number, and each file with its image and how it is requested.
+# Manifests: the sequence number, and each file with its image and how it is requested. Those of
+# `absent-image.json` and `too-long.json` aren't for a device of two images.
 MANIFESTS = {
     "trial.json": [1, "0 test needing.img", "1 test partner.img"],
     "for-good.json": [7, "0 permanent needing.img", "1 permanent partner.img"],
@@ -41,6 +44,11 @@ MANIFESTS = {
     "stale.json": [2, "0 test stale.img"],
     "two-of-three.json": [1, "0 test newer.img", "2 test newer.img"],
     "text.json": [1, "0 test abc"],
+    "patched-for-a-test.json": [1, "0 test patched.img"],
+    "newer.json": [1, "0 test newer.img"],
+    "both-newer.json": [1, "0 test newer.img", "1 test newer.img"],
+    "absent-image.json": [1, "2 test abc"],
+    "too-long.json": [1, "1 test long.img"],
 }
 
 
@@ -55,6 +63,7 @@ def manifest_of(sequence, *files):
 
 
 FILES = {**IMAGES, **TEXTS, **DEVICES, **{name: manifest_of(*parts) for name, parts in MANIFESTS.items()}}
+FILES["other-vendor.json"] = manifest(vendor_id=f"{VENDOR[:-1]}e")
 
 # The upload of two images that need each other, and its replies.
 UPLOADED = "boot, accept trial.json, piece 0 needing.img, piece 1 partner.img, finish 1, finish 0"
@@ -97,6 +106,11 @@ def state(kind, images, sequence, floors, swaps, left=0):
     lines += [f"floor {number} {floor}" for number, floor in enumerate(floors)]
     lines += [f"swap {number} {swap}" for number, swap in enumerate(swaps.split())]
     return "".join(f"{line}\n" for line in lines).encode()
+
+
+def trial_record(left, permanent=0):
+    """The record of a trial of images 0 and 1 with so many boots left, of the sequence number 1."""
+    return bytes([4, 3, permanent, left]) + little(1, 4) + bytes(48) + b"\1" + 7 * b"\xff"
 
 
 def other_than(wanted, got, what):

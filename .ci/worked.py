@@ -11,6 +11,12 @@ WORKED = "reverted"
 WRITES = [0, 2, 2, 2, 1, 1, 38, 1, 44, 0]
 SUM_OF_WRITES = sum(WRITES)
 
+# How many of these erase a sector. The slots of an upload that is the first are erased already. The
+# upgrade moves one sector of each slot in three steps, each of which erases a sector, and erases the
+# two secondary trailers; the way back moves them again, erases four trailers, and turns the log to
+# its next sector.
+ERASES = [0, 0, 0, 0, 0, 0, 8, 0, 11, 0]
+
 # How a write is torn, as a script says it. The last one leaves copies of a good magic.
 MAGIC = "hex:77c295f360d2ef7f3552500f2cb67980"
 TORN = ["keep", "done", "hex:ff", "hex:00", MAGIC]
@@ -84,6 +90,27 @@ def check_cuts(checks):
     checks.file("flash", whole)
     words, out = ["run", PAIR, "flash", "-"], numbered(USUAL)
     checks.expect("a cut behind the last write", words, 0, out, given=cut_script(SUM_OF_WRITES + 1, "hex:00"))
+
+
+def erased_in(whole):
+    """How many sectors of a flash a cut left full of Zs."""
+    return [whole[at : at + 512] for at in range(0, len(whole), 512)].count(512 * b"Z")
+
+
+def check_erases(checks):
+    """Which writes of the worked run are erases: a cut of one leaves a whole sector of what it is torn into."""
+    whole, events = flash_of(checks), read(f"{EXAMPLES}/scripts/{WORKED}.txt").splitlines(keepends=True)
+    faults, erases = [], len(WRITES) * [0]
+    for number in range(1, SUM_OF_WRITES + 1):
+        event = event_of(number)
+        checks.file("flash", whole)
+        given = f"cut {number} hex:5a\n".encode() + b"".join(events[: event + 1])
+        status, said, err = checks.run(["run", PAIR, "flash", "-"], given=given)
+        if (status, said, err) != (3, numbered([*USUAL[:event], "cut"]), b""):
+            faults.append(f"write {number}: {status} {short(said)} {short(err)}")
+        erases[event] += erased_in(read(f"{checks.folder}/flash"))
+    faults += [] if erases == ERASES else [f"{erases}, and not {ERASES}"]
+    checks.tell(f"the worked run: {sum(ERASES)} of its {SUM_OF_WRITES} writes are erases", faults[:5])
 
 
 # A device of three images whose request for image 0 needs one of the others: its run, and what a
@@ -190,4 +217,4 @@ def check_flash_files(checks):
     checks.expect(name, ["run", PAIR, "flash", "-"], 0, numbered([PLAIN]), given=b"boot\n", most=0)
 
 
-CHECKS = (check_cuts, check_alternatives, check_fullest, check_flash_files)
+CHECKS = (check_cuts, check_erases, check_alternatives, check_fullest, check_flash_files)
