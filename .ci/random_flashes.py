@@ -26,7 +26,7 @@ FIRST = {
 
 def at_random(numbers, size):
     """So many bytes at random."""
-    return numbers.getrandbits(8 * size).to_bytes(size, "little")
+    return (numbers.getrandbits(8 * size) if size else 0).to_bytes(size, "little")
 
 
 def changed(numbers, whole):
