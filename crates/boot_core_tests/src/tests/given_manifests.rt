@@ -2,16 +2,10 @@
 
 ghost use Rattle.std.specs.Prelude.{◌≡◌};
 
+use super::devices::{PAIR, device_on, in_memory, outcome_of, put, two_images};
 use super::images::{FIRST, SECOND};
-use super::playing::two_images;
-use super::printing::told;
-use super::trials::pair;
-use boot_core::Device;
-use flash_model::{Flash, MemFlash};
-use machine::{Fault, Reply};
-use manifest::{Component, Identity, Manifest, ManifestError, class_id, vendor_id};
-use sector_map::SectorMap;
-use std::alloc::Global;
+use machine::{Event, Fault, Reply};
+use manifest::{Component, Manifest, ManifestError};
 use std::marker::Brand;
 use std::process::Abort;
 use std::sync::ledger::{Blank, Ledger};
@@ -45,142 +39,115 @@ fn component(image: u8, digest: [u8; 32]) -> Component {
 fn manifest(sequence: u32, second: u8) -> Result<Manifest, Fail> {
     let mut manifest = Manifest::default();
     manifest.sequence = sequence;
-    manifest.components.try_push(component(0, FIRST_DIGEST))?;
-    manifest
-        .components
-        .try_push(component(second, SECOND_DIGEST))?;
+    for part in [component(0, FIRST_DIGEST), component(second, SECOND_DIGEST)] {
+        manifest.components.try_push(part)?;
+    }
     Ok(manifest)
 }
 
-/// A new device of two images, which hasn't booted.
-fn new_device<L: Ledger>(
-    rt: &(impl Abort + AllocGlobal),
-    blank: Blank,
-) -> Result<Device<MemFlash<L>>, Fail>
-    requires name { blank.name ≡ L.name }
-    requires parts { blank.parts ≡ L.parts }
-    requires two { L.parts ≡ 2 }
-{
-    let map = SectorMap::new(512, &[2, 2])?;
-    let vendor = vendor_id("python.org");
-    let identity = Identity {
-        vendor,
-        class: class_id(vendor, "bootswap"),
-        images: map.images,
-    };
-    let bytes = two_images(rt)?;
-    assert!(rt; bytes.len() % 512 == 0 && bytes.len() < 65536);
-    let flash = MemFlash::<L>::from_bytes(rt.alloc(), blank, 512, bytes);
-    assert!(rt; map.fits(&flash));
-    let mut device = Device::new(flash, map, identity);
-    device.reset();
-    Ok(device)
-}
-
-/// Takes a manifest by its text, or as it was read.
-fn take<F: Flash>(
-    alloc: Global,
-    device: &mut Device<F>,
-    text: Option<&str>,
-    manifest: &Manifest,
-) -> Result<(), Fault> {
-    match text {
-        Some(text) => device.accept(alloc, text.as_bytes()),
-        None => device.accept_manifest(manifest),
-    }
-}
-
-/// The bytes of the flash of a new device that took a manifest of two images, and those after the
-/// boot that tries them.
+/// The reply of the boot that tries the files of a manifest that a new device took, and the bytes
+/// of its flash then.
 fn upgraded<L: Ledger>(
     rt: &(impl Abort + AllocGlobal),
     blank: Blank,
-    text: Option<&str>,
-) -> Result<(Vec<u8>, Vec<u8>), Fail>
+) -> Result<(Reply, Vec<u8>), Fail>
     requires name { blank.name ≡ L.name }
     requires parts { blank.parts ≡ L.parts }
     requires two { L.parts ≡ 2 }
 {
-    let mut device = new_device::<L>(rt, blank)?;
     let manifest = manifest(1, 1)?;
-    let early = take(rt.alloc(), &mut device, text, &manifest);
-    assert_eq!(rt; early, Err(Fault::NotBooted));
-    let plain = device.boot();
-    assert!(rt; matches!(plain, Ok(Reply::Booted { .. })));
-    assert_eq!(rt; take(rt.alloc(), &mut device, text, &manifest), Ok(()));
-    let taken = Vec::from_slice(rt.alloc(), device.flash().bytes())?;
-    assert_eq!(rt; device.piece(0, &FIRST), Ok(()));
-    assert_eq!(rt; device.piece(1, &SECOND), Ok(()));
-    assert_eq!(rt; device.finish(0), Ok(()));
-    assert_eq!(rt; device.finish(1), Ok(()));
-    let booted = device.boot()?;
-    let tried = told(rt.alloc(), &[booted])?;
-    assert_eq!(rt; tried.as_str(), "1 trial\ntake 0 2.0.0+0\ntake 1 2.0.0+0\n");
-    let late = take(rt.alloc(), &mut device, text, &manifest);
-    assert_eq!(rt; late, Err(Fault::OnTrial));
-    Ok((taken, Vec::from_slice(rt.alloc(), device.flash().bytes())?))
+    let mut device = device_on(rt, in_memory::<L>(rt, blank, two_images(rt)?))?;
+    device.boot()?;
+    let answers = [
+        device.accept_manifest(&manifest),
+        device.piece(0, &FIRST),
+        device.piece(1, &SECOND),
+        device.finish(0),
+        device.finish(1),
+    ];
+    let tried = device.boot()?;
+    let late = device.accept_manifest(&manifest);
+    assert!(rt; answers == [Ok(()); 5] && late == Err(Fault::OnTrial));
+    Ok((tried, Vec::from_slice(rt.alloc(), device.flash().bytes())?))
 }
 
-fn upgraded_by(
-    rt: &(impl Abort + AllocGlobal),
-    text: Option<&str>,
-) -> Result<(Vec<u8>, Vec<u8>), Fail> {
-    upgraded::<Brand>(rt, Blank::new(2), text)
+fn upgraded_by(rt: &(impl Abort + AllocGlobal)) -> Result<(Reply, Vec<u8>), Fail> {
+    upgraded::<Brand>(rt, Blank::new(2))
 }
+
+/// The same by the manifest's text.
+const EVENTS: [Event<&[u8]>; 7] = [
+    Event::Boot,
+    Event::Accept(PAIR),
+    Event::Piece(0, &FIRST),
+    Event::Piece(1, &SECOND),
+    Event::Finish(0),
+    Event::Finish(1),
+    Event::Boot,
+];
 
 #[test]
 fn a_manifest_that_was_read_is_taken_as_its_text_is(rt: HostRuntime) -> Result<(), Fail> {
-    let text = pair(rt.alloc())?;
-    let by_text = upgraded_by(&rt, Some(text.as_str()))?;
-    let as_read = upgraded_by(&rt, None)?;
-    assert!(rt; as_read.0.as_slice() == by_text.0.as_slice());
-    assert!(rt; as_read.1.as_slice() == by_text.1.as_slice());
-    // The second record of the log has the sequence number 1, and its gate is set.
-    assert!(rt; as_read.0.len() == 8192);
-    assert!(rt; as_read.0[6724..6728] == [0x01, 0x00, 0x00, 0x00]);
-    assert!(rt; as_read.0[6776] == 0x01);
+    let (tried, bytes) = upgraded_by(&rt)?;
+    let (replies, wanted) = outcome_of(&rt, two_images(&rt)?, &EVENTS)?;
+    assert!(rt; replies.last() == Some(&tried) && bytes == wanted);
     Ok(())
 }
 
-/// What a device of two images answers to a manifest with this sequence number that names image 0
-/// and this one, after one with the sequence number 1.
+/// What a new device answers to a manifest before it booted and then, and to one with this sequence
+/// number that names image 0 and this one; and the bytes of its flash after these.
 fn refused<L: Ledger>(
     rt: &(impl Abort + AllocGlobal),
     blank: Blank,
     sequence: u32,
     second: u8,
-) -> Result<Result<(), Fault>, Fail>
+) -> Result<([Result<(), Fault>; 3], Vec<u8>), Fail>
     requires name { blank.name ≡ L.name }
     requires parts { blank.parts ≡ L.parts }
     requires two { L.parts ≡ 2 }
 {
-    let mut device = new_device::<L>(rt, blank)?;
-    let first = manifest(1, 1)?;
+    let usual = manifest(1, 1)?;
     let other = manifest(sequence, second)?;
-    let plain = device.boot();
-    assert!(rt; matches!(plain, Ok(Reply::Booted { .. })));
-    assert_eq!(rt; device.accept_manifest(&first), Ok(()));
-    let before = Vec::from_slice(rt.alloc(), device.flash().bytes())?;
-    let answer = device.accept_manifest(&other);
-    assert!(rt; device.flash().bytes() == before.as_slice());
-    Ok(answer)
+    let mut device = device_on(rt, in_memory::<L>(rt, blank, two_images(rt)?))?;
+    let early = device.accept_manifest(&usual);
+    device.boot()?;
+    let answers = [
+        early,
+        device.accept_manifest(&usual),
+        device.accept_manifest(&other),
+    ];
+    Ok((
+        answers,
+        Vec::from_slice(rt.alloc(), device.flash().bytes())?,
+    ))
 }
 
 fn refused_of(
     rt: &(impl Abort + AllocGlobal),
     sequence: u32,
     second: u8,
-) -> Result<Result<(), Fault>, Fail> {
+) -> Result<([Result<(), Fault>; 3], Vec<u8>), Fail> {
     refused::<Brand>(rt, Blank::new(2), sequence, second)
 }
 
+/// What is refused, by the sequence number and the second image. That an image is lacking is told
+/// before the sequence number is looked at.
+const REFUSED: [(u32, u8, Fault); 3] = [
+    (2, 2, Fault::Manifest(ManifestError::NoComponent)),
+    (0, 2, Fault::Manifest(ManifestError::NoComponent)),
+    (0, 1, Fault::Upload(UploadError::OldSequence)),
+];
+
 #[test]
 fn a_manifest_that_was_read_is_refused_and_nothing_changes(rt: HostRuntime) -> Result<(), Fail> {
-    let foreign = Err(Fault::Manifest(ManifestError::NoComponent));
-    assert_eq!(rt; refused_of(&rt, 2, 2)?, foreign);
-    // That an image is lacking is told before the sequence number is looked at.
-    assert_eq!(rt; refused_of(&rt, 0, 2)?, foreign);
-    let old = Err(Fault::Upload(UploadError::OldSequence));
-    assert_eq!(rt; refused_of(&rt, 0, 1)?, old);
+    // The second record of the log has the sequence number 1, and its gate is set.
+    let mut wanted = two_images(&rt)?;
+    put(&rt, &mut wanted, 6720, &[0x00; 56]);
+    put(&rt, &mut wanted, 6720, &[0x01, 0x00, 0x00, 0x00, 0x01]);
+    put(&rt, &mut wanted, 6776, &[0x01]);
+    for (sequence, second, fault) in REFUSED {
+        let (answers, bytes) = refused_of(&rt, sequence, second)?;
+        assert!(&rt; answers == [Err(Fault::NotBooted), Ok(()), Err(fault)] && bytes == wanted);
+    }
     Ok(())
 }

@@ -3,8 +3,8 @@
 ghost use Rattle.std.specs.Prelude.{◌≡◌, ◌≤◌, ℕ, slice_index};
 ghost use Rattle.sector_map.specs.Map.{end_of_map};
 
-use super::images::{COUNTED_FIVE, RUNNING};
-use super::playing::{provisioned, put};
+use super::devices::{provisioned, put, two_images};
+use super::images::{COUNTED_FIVE, NEEDY, RUNNING};
 use boot_core::provision;
 use machine::Fault;
 use sector_map::SectorMap;
@@ -40,21 +40,43 @@ fn answer_to(rt: &impl Abort, bytes: &mut [u8], map: &SectorMap) -> Result<(), F
 }
 
 #[test]
-fn bytes_that_are_lent_are_made_the_flash_of_a_device(rt: HostRuntime) -> Result<(), Fail> {
+fn a_new_device_has_a_first_record_and_else_what_it_had(rt: HostRuntime) -> Result<(), Fail> {
     let map = SectorMap::new(512, &[2, 2])?;
-    let mut wanted = provisioned(&rt, 8192, &[RUNNING.as_slice(), COUNTED_FIVE.as_slice()])?;
-    // The floor of image 1 is its counter, and a sector lies behind the map.
+    let mut wanted = provisioned(&rt, &RUNNING, &COUNTED_FIVE)?;
+    // The floor of image 1 is its counter; its secondary slot holds something, and so do three
+    // sectors behind the map.
     put(&rt, &mut wanted, 6668, &[0x05]);
-    for _ in 0..512 {
-        wanted.push(0x5a)?;
+    put(&rt, &mut wanted, 4608, &[0x5a; 1024]);
+    for at in 0..1536u16 {
+        wanted.push((at % 251) as u8)?;
     }
     let mut bytes = Vec::from_slice(rt.alloc(), wanted.as_slice())?;
     // The trailers, and the log.
-    for trailer in [1024, 2560, 4096, 5632] {
-        put(&rt, &mut bytes, trailer, &[0x01; 512]);
+    for sector in [1024, 2560, 4096, 5632, 6656, 7168, 7680] {
+        put(&rt, &mut bytes, sector, &[0x01; 512]);
     }
-    put(&rt, &mut bytes, 6656, &[0x01; 1536]);
-    assert_eq!(rt; answer_to(&rt, &mut bytes, &map), Ok(()));
-    assert!(rt; bytes.as_slice() == wanted.as_slice());
+    let answer = answer_to(&rt, &mut bytes, &map);
+    assert!(rt; answer == Ok(()) && bytes == wanted);
+    Ok(())
+}
+
+/// What is written over the flash of a device, at a place, and what is answered then: the second
+/// image has no last byte, all is erased, or the first image needs what doesn't run.
+const REFUSED: [(usize, &[u8], Fault); 3] = [
+    (1611, &[0xff], Fault::RunningDamaged(1)),
+    (0, &[0xff; 8192], Fault::RunningDamaged(0)),
+    (0, &NEEDY, Fault::InvalidSet),
+];
+
+#[test]
+fn no_device_is_made_of_images_that_can_not_run(rt: HostRuntime) -> Result<(), Fail> {
+    let map = SectorMap::new(512, &[2, 2])?;
+    for (at, part, fault) in REFUSED {
+        let mut bytes = two_images(&rt)?;
+        put(&rt, &mut bytes, at, part);
+        let before = Vec::from_slice(rt.alloc(), bytes.as_slice())?;
+        let answer = answer_to(&rt, &mut bytes, &map);
+        assert!(&rt; answer == Err(fault) && bytes == before);
+    }
     Ok(())
 }

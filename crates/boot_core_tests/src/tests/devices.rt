@@ -1,0 +1,112 @@
+//! A device of two images on a flash in memory, and what comes of events on it. Sectors have 512
+//! bytes and slots two sectors, so that the primary slots begin at 0 and at 1536, and each slot has
+//! the sector of its trailer after it.
+
+ghost use Rattle.std.specs.Prelude.{◌≡◌};
+
+use super::images::RUNNING;
+use boot_core::{Device, run};
+use flash_model::{Flash, MemFlash};
+use machine::{Event, Reply};
+use manifest::{Identity, class_id, vendor_id};
+use sector_map::SectorMap;
+use std::marker::Brand;
+use std::process::Abort;
+use std::sync::ledger::{Blank, Ledger};
+use std::test::Fail;
+
+/// A manifest for the device: FIRST for image 0 and SECOND for image 1, both for a test. The
+/// identifier of its class is the UUID of version 5 of `bootswap` in the namespace of the vendor's
+/// identifier, and the digests were taken by another program.
+pub(super) const PAIR: &[u8] =
+    br#"{"manifest-version":1,"sequence-number":1,"vendor-id":"886313e1-3b8a-5372-9b90-0c9aee199e5d","class-id":"74b0b1ed-70fe-5a24-9102-6a41c2172c6d","components":[{"component-id":0,"kind":"test","payload-digest":"fe88ef28572ecaa2691d61458e393edb880bdca5831197bab8673082920c0a99","size":96},{"component-id":1,"kind":"test","payload-digest":"aec6e45d3aa1b928f93ca89f4c4835da6b261ffea3de90c93242ca94c188cc4f","size":96}]}"#;
+
+/// Writes a part of bytes.
+pub(super) fn put(rt: &impl Abort, bytes: &mut Vec<u8>, at: usize, part: &[u8]) {
+    assert!(rt; at <= bytes.len() && part.len() <= bytes.len() - at);
+    bytes[at..at + part.len()].copy_from_slice(part);
+}
+
+/// What a new log holds, at its places: the record of a steady state with the sequence number 0 and
+/// no floor, its gate, and the closing unit of the third sector.
+const LOG: [(usize, &[u8]); 4] = [
+    (6656, &[0x00; 56]),
+    (6656, &[0x01]),
+    (6712, &[0x01]),
+    (8184, &[0x01]),
+];
+
+/// The bytes of a provisioned flash that runs these images.
+pub(super) fn provisioned(
+    rt: &(impl Abort + AllocGlobal),
+    first: &[u8],
+    second: &[u8],
+) -> Result<Vec<u8>, Fail> {
+    let mut bytes = vec![in rt.alloc(); 0xff; 8192]?;
+    put(rt, &mut bytes, 0, first);
+    put(rt, &mut bytes, 1536, second);
+    for (at, part) in LOG {
+        put(rt, &mut bytes, at, part);
+    }
+    Ok(bytes)
+}
+
+/// The bytes of a provisioned flash that runs RUNNING twice.
+pub(super) fn two_images(rt: &(impl Abort + AllocGlobal)) -> Result<Vec<u8>, Fail> {
+    provisioned(rt, &RUNNING, &RUNNING)
+}
+
+/// A device of two images on a flash, which hasn't booted.
+pub(super) fn device_on<F: Flash + Drop>(rt: &impl Abort, flash: F) -> Result<Device<F>, Fail> {
+    let map = SectorMap::new(512, &[2, 2])?;
+    let vendor = vendor_id("python.org");
+    let identity = Identity {
+        vendor,
+        class: class_id(vendor, "bootswap"),
+        images: map.images,
+    };
+    assert!(rt; map.fits(&flash));
+    Ok(Device::new(flash, map, identity))
+}
+
+/// A flash in memory that has these bytes.
+pub(super) fn in_memory<L: Ledger>(
+    rt: &(impl Abort + AllocGlobal),
+    blank: Blank,
+    bytes: Vec<u8>,
+) -> MemFlash<L>
+    requires name { blank.name ≡ L.name }
+    requires parts { blank.parts ≡ L.parts }
+    requires two { L.parts ≡ 2 }
+{
+    assert!(rt; bytes.len() % 512 == 0 && bytes.len() < 65536);
+    MemFlash::<L>::from_bytes(rt.alloc(), blank, 512, bytes)
+}
+
+fn play<L: Ledger>(
+    rt: &(impl Abort + AllocGlobal),
+    blank: Blank,
+    bytes: Vec<u8>,
+    events: &[Event<&[u8]>],
+) -> Result<(Vec<Reply>, Vec<u8>), Fail>
+    requires name { blank.name ≡ L.name }
+    requires parts { blank.parts ≡ L.parts }
+    requires two { L.parts ≡ 2 }
+{
+    let mut device = device_on(rt, in_memory::<L>(rt, blank, bytes))?;
+    device.reset();
+    let replies = run(rt.alloc(), &mut device, events)?;
+    Ok((
+        replies,
+        Vec::from_slice(rt.alloc(), device.flash().bytes())?,
+    ))
+}
+
+/// The replies to events on a device whose flash has these bytes, and its bytes then.
+pub(super) fn outcome_of(
+    rt: &(impl Abort + AllocGlobal),
+    bytes: Vec<u8>,
+    events: &[Event<&[u8]>],
+) -> Result<(Vec<Reply>, Vec<u8>), Fail> {
+    play::<Brand>(rt, Blank::new(2), bytes, events)
+}
