@@ -17,17 +17,21 @@ def area(magic, entries):
 COUNTER = (0x50, little(7, 4))
 DEPENDENCY = (0x40, bytes([1, 0, 0, 0, 2, 3, 4, 0, 5, 0, 0, 0]))
 
+# What asks for images 1 and 2 at 2.0.0+0, in a dependency or as an alternative.
+ON_FIRST, ON_SECOND = (bytes([number, 0, 0, 0, 2, 0, 0, 0, 0, 0, 0, 0]) for number in (1, 2))
+
 
 def group(alternatives, last=b""):
     """The entry of a group of so many alternatives, each laid out as that dependency, with bytes behind them."""
     return (0xA0, alternatives * DEPENDENCY[1] + last)
 
 
-def image(protected=(COUNTER, DEPENDENCY), body=b"ABCD", digests=1, digest_kind=0x10, more=(), **fields):
+def image(protected=(COUNTER, DEPENDENCY), body=b"ABCD", digests=1, digest_kind=0x10, more=(), filler=b"", **fields):
     """An image, of version 1.2.3+4 where none is given, with these protected entries, so many entries of its digest,
-    more unprotected entries behind them, and these fields."""
+    more unprotected entries behind them, a filler behind its header, and these fields."""
     inner = area(0x6908, protected) if protected else b""
-    hashed = header(len(inner), len(body), **fields) + body + inner
+    fields = {"header_size": 32 + len(filler), **fields}
+    hashed = header(len(inner), len(body), **fields) + filler + body + inner
     return hashed + area(0x6907, [*digests * [(digest_kind, hashlib.sha256(hashed).digest())], *more])
 
 

@@ -10,6 +10,11 @@ SENSOR = "9ed1b5d5-f629-5008-93c6-1958ba5b9953"
 NEW = [
     (512, [2, 2], "python.org", "sensor", [], VENDOR, SENSOR),
     *((512, [2, 2], "python.org", "sensor", [it], VENDOR, SENSOR) for it in range(1, 8)),
+    (512, [2, 2], "python.org", "door lock", [], VENDOR, "92fcd4d1-2fca-5eea-b9da-befa76b1c30b"),
+    (512, [2, 2], "python.org", "T\u00fcrschloss", [], VENDOR, "f1a31c80-540f-55ee-8f65-1c89fad52a0c"),
+    (512, [2, 2], "www.example.com", "sensor", [],
+     "2ed6657d-e927-568b-95e1-2665a8aea6a2", "3af39fed-4dc3-580e-ac49-9464e70d7fd2"),
+    (512, [2, 2], "", "sensor", [], "4ebd0208-8328-5d69-8c44-ec50939c0967", "155601fd-ca3b-5adc-889b-7f706d926307"),
     (4096, [60], "example.com", "Weather station", [3],
      "cfbff0d1-9375-5685-968c-48ce8b15ae17", "ed8581f5-9fcc-5867-82c1-4e978ab8c534"),
     (512, [19], "a", "", [], "4f3f2898-69e3-5a0d-820a-c4e87987dbce", "d1859989-392f-583e-b1fb-abd4977c76ff"),
@@ -38,7 +43,7 @@ def check_made_device_files(checks):
         ids = f'"vendor-id":"{vendor_id}",\n "class-id":"{class_id}"'
         out = f'{{"sector":{sector},"sectors":[{slots_text}],\n {ids}{last}}}\n'
         words = asked(sector, slots, vendor, name, *boots)
-        title = f"the text of a device file: {sector} bytes, slots of {slots}, {vendor}, boots {boots}"
+        title = f"the text of a device file: {sector} bytes, slots of {slots}, {vendor}, {name!r}, boots {boots}"
         checks.expect(title, words, 0, out.encode(), parts_of(sector, slots))
     for sector, slots, told in NO_MAPS:
         out = f"refused map {told}\n".encode()

@@ -4,7 +4,7 @@ import hashlib
 import os
 import re
 
-from builders import area, device, header, image, little, version
+from builders import COUNTER, ON_FIRST, ON_SECOND, area, device, header, image, little, version
 from checking import EXAMPLES, ONE, read
 
 NEEDING, COUNTED = f"{EXAMPLES}/images/needing.img", f"{EXAMPLES}/images/counted.img"
@@ -13,10 +13,11 @@ NEEDING, COUNTED = f"{EXAMPLES}/images/needing.img", f"{EXAMPLES}/images/counted
 OF_ONE = "a3e71cf40711fbfbade5131cd38ef12419ade325218beabf515b5fa1df6d5c8c"
 
 
-def told_of(length, digest, own="1.0.0+0", counter=0, needs=()):
+def told_of(length, digest, own="1.0.0+0", counter=0, needs=(), groups=()):
     """What is printed of an image with these values."""
     lines = [f"version {own}", f"length {length}", f"counter {counter}", f"digest {digest}"]
-    return "\n".join([*lines, *(f"needs {it}" for it in needs), ""]).encode()
+    lines += [*(f"needs {it}" for it in needs), *(f"needs-one {it}" for it in groups)]
+    return "\n".join([*lines, ""]).encode()
 
 
 def needing(number):
@@ -32,6 +33,9 @@ def cases_of_intact_images():
     vendors = [(0xA1, b"\1\2\3"), (0x50, little(7, 4))]
     yield "a hash of a key and a signature", signed, told_of(186, OF_ONE)
     yield "a counter outside the hashed bytes", plain((0x50, little(7, 4))), told_of(84, OF_ONE)
+    yield "a group that is none outside the hashed bytes", plain((0xA0, b"\xff")), told_of(81, OF_ONE)
+    others = plain((0x20, bytes(5)), (0x40, bytes(12)))
+    yield "a dependency and another entry outside the hashed bytes", others, told_of(101, OF_ONE)
     digest = "679db1266140e6129b424ef7aa84467f1b7e7c43ab92c2ae016bf0f6006dfceb"
     of_vendor = image(vendors, own=version(1), more=[(0xFEA0, b"maker")])
     yield "entries of a vendor in both areas", of_vendor, told_of(104, digest, counter=7)
@@ -57,6 +61,7 @@ CHANGES = [
     # The sizes of the header, the body, the protected area, the other area and its entry, each at a limit of it.
     (ONE, 8, b"\xff\xff", "5 Truncated"),
     (ONE, 12, b"\xff\xff\xff\xff", "5 Truncated"),
+    (ONE, 32, b"\x40", "10 BadDigest"),
     (ONE, 10, b"\x03\x00", "6 BadTlvMagic"),
     (ONE, 38, b"\x29\x00", "5 Truncated"),
     (ONE, 38, b"\x27\x00", "7 BadTlvSize"),
@@ -94,6 +99,27 @@ def check_fronts(checks):
             told = b"refused 1 Short\n" if length < 32 else b"refused 5 Truncated\n"
             faults += [] if got == (1, told, b"") else [f"of {length} bytes: {got}"]
         checks.tell(f"each front of {os.path.basename(file)} is refused", faults[:5])
+
+
+def every_entry(count):
+    """An image with a filler, with entries of each kind but a group, and with so many bytes of body."""
+    entries = [COUNTER, *3 * [(0x40, ON_FIRST)]]
+    return image(entries, count * b"Z", filler=bytes(8), flags=0x10, own=version(3, 1, 4, 1))
+
+
+def told_of_every_entry(whole):
+    """What is printed of such an image. Its digest is its last entry."""
+    return told_of(len(whole), whole[-32:].hex(), own="3.1.4+1", counter=7, needs=3 * ["1 2.0.0+0"])
+
+
+def check_bodies(checks):
+    """An image with a body of any length is described."""
+    faults = []
+    for count in range(601):
+        whole = every_entry(count)
+        got = checks.run(["image", checks.file("image", whole)])
+        faults += [] if got == (0, told_of_every_entry(whole), b"") else [f"a body of {count} bytes: {got}"]
+    checks.tell("images with bodies of 0 to 600 bytes", faults[:5])
 
 
 NO_IMAGE = re.compile(rb"note: (turned-\d) is no intact image: \d+ \w+")
@@ -167,6 +193,36 @@ MADE = [
     ("of a megabyte", 2**20 * b"Z", [], 2**20 + 72, "1c28c7e321082b37da7db36be35437b1cded5b32b097788c22efc24cffe0bc91"),
 ]
 
+# The options of an image whose fields have another byte in each place, and the image, of the body `*`.
+EVERY_FIELD = ["--version=1.2.1027+134678021", "--load-address=305419896", "--flags=273"]
+OF_EVERY_FIELD = bytes.fromhex(
+    "3db8f396785634122000000001000000110100000102030405060708000000002a"
+    "0769280010002000e9885e5de50478b2504b848150b66588fab52fb12b37ea25ec691be78382dd77"
+)
+
+# The options of an image of a counter, a dependency and two groups, and its bytes behind the body: these three in their
+# order, up to the digest.
+IN_ORDER = ["--needs-one=2 2.0.0", "--needs=1 2.0.0", "--needs-one=1 2.0.0 2 2.0.0", "--counter=5", "--version=1.0.0"]
+OF_ORDER = bytes.fromhex(
+    "08694800" "500004000500000040000c00010000000200000000000000" "a0000c00020000000200000000000000"
+    "a0001800010000000200000000000000020000000200000000000000" "0769280010002000"
+)
+
+# The options of an image that needs as much as one may, and what is printed of it.
+FOUR = "1 2.0.0+0 2 2.0.0+0 1 2.0.0+0 2 2.0.0+0"
+THE_MOST = ["--version=1", "--counter=5", *16 * ["--needs=1 2.0.0"], *4 * [f"--needs-one={FOUR}"]]
+
+# The options of an image at each limit of its header, and what is printed of it where its body has three million bytes.
+LIMITS = ["--load-address=305419896", "--header-size=65535", "--flags=273", "--version=255.254.65533+4294967292"]
+LIMITS += ["--counter=4294967295", *16 * ["--needs=1 2.0.0"]]
+OF_LIMITS = told_of(
+    3065843,
+    "58d8c18dbecfc0547e7ab5a950269401a32499ba9e8c94571b9c847aec831792",
+    own="255.254.65533+4294967292",
+    counter=4294967295,
+    needs=16 * ["1 2.0.0+0"],
+)
+
 
 def expect_made(checks, name, words, body, wanted):
     """A check: `make-image` makes this image with these words, of a file and of standard input, whatever was there."""
@@ -198,7 +254,26 @@ def check_made_images(checks):
         checks.expect(f"new image: {name}: what it says", ["image", "made"], 0, told_of(length, digest))
 
 
+def check_fullest_images(checks):
+    """An image has each field of its header, its entries in their order, and as much of all as one may have."""
+    expect_made(checks, "with every field of its header", EVERY_FIELD, b"*", OF_EVERY_FIELD)
+    words = ["make-image", "made", checks.file("body", b"ABCD"), *IN_ORDER]
+    checks.expect("new image: with groups behind its dependency", words, 0, b"done\n")
+    made = read(f"{checks.folder}/made")
+    is_right = len(made) == 36 + len(OF_ORDER) + 32 and made[36:-32] == OF_ORDER
+    checks.tell("new image: with groups behind its dependency: its entries", [] if is_right else [made.hex()])
+    group = (0xA0, 2 * (ON_FIRST + ON_SECOND))
+    most = image([(0x50, little(5, 4)), *16 * [(0x40, ON_FIRST)], *4 * [group]], own=version(1))
+    expect_made(checks, "that needs as much as one may", THE_MOST, b"ABCD", most)
+    told = told_of(552, most[-32:].hex(), counter=5, needs=16 * ["1 2.0.0+0"], groups=4 * [FOUR])
+    checks.expect("new image: that needs as much as one may: what it says", ["image", "made"], 0, told)
+    body = checks.file("body", 3_000_000 * b"Z")
+    checks.expect("new image: of three megabytes, at each limit", ["make-image", "made", body, *LIMITS], 0, b"done\n")
+    checks.expect("new image: of three megabytes, at each limit: what it says", ["image", "made"], 0, OF_LIMITS)
+
+
 FIVE = "1 1 2 1 3 1 4 1 5 1"
+SEVENTEEN = 17 * ["--needs=1 2.0.0"]
 
 # Options of images that can't be, and the first check that fails.
 IMPOSSIBLE = [
@@ -209,6 +284,12 @@ IMPOSSIBLE = [
     ([f"--needs-one={FIVE}", "--flags=2"], "2 UnsupportedFlags"),
     ([f"--needs-one={FIVE}"], "6 BadGroups"),
     (5 * ["--needs-one=1 1"], "6 BadGroups"),
+    (["--needs-one=1 1", f"--needs-one={FIVE}"], "6 BadGroups"),
+    (SEVENTEEN, "3 TooManyDependencies"),
+    ([*SEVENTEEN, f"--needs-one={FIVE}"], "3 TooManyDependencies"),
+    ([*SEVENTEEN, "--flags=32"], "2 UnsupportedFlags"),
+    ([*SEVENTEEN, "--header-size=31"], "1 BadHeaderSize"),
+    ([*SEVENTEEN, "--header-size=31", "--flags=32"], "1 BadHeaderSize"),
 ]
 
 
@@ -218,7 +299,7 @@ def check_impossible_images(checks):
     if os.path.exists(f"{checks.folder}/new"):
         os.remove(f"{checks.folder}/new")
     for options, told in IMPOSSIBLE:
-        name = f"impossible image: {' '.join(options)}"
+        name = f"impossible image: {' '.join(options)}".replace(" ".join(SEVENTEEN), "seventeen dependencies")
         checks.expect(name, ["make-image", "new", "body", *options, "--version=1"], 1, f"refused {told}\n".encode())
         is_made = os.path.exists(f"{checks.folder}/new")
         checks.tell(f"{name}: nothing is made", ["something is"] if is_made else [])
@@ -227,7 +308,9 @@ def check_impossible_images(checks):
 CHECKS = (
     check_described_images,
     check_fronts,
+    check_bodies,
     check_turned_bits,
     check_made_images,
+    check_fullest_images,
     check_impossible_images,
 )
