@@ -4,8 +4,9 @@ import fcntl
 import os
 import re
 
-from builders import device
-from checking import EXAMPLES, PAIR, flash_of, read, short
+from builders import device, image, version
+from checking import EXAMPLES, ONE, PAIR, flash_of, read, short
+from images import changed, every_entry, told_of, told_of_every_entry
 from stories import IMAGES, PATIENT, UPLOADED, UPLOAD_REPLIES, WAITS
 from stories import changes, flash_in, keeping, new_device, other_than, run_of, runs, state, tell_story
 from worked import PLAIN, TRIED
@@ -142,6 +143,94 @@ def check_open_swaps(checks):
         checks.tell(f"slots: how far {name} came, cut at each write", faults)
 
 
+# Images with so many letters as their bodies.
+LETTERS = {count: image([], count * b"A", own=version(1)) for count in (214, 218, 952, 953)}
+# What stands in a secondary slot of 1024 bytes from its front on, and may go on behind it, and what is listed.
+OF_SLOTS = [
+    ("an image", IMAGES["counted.img"], described("counted")),
+    ("another image behind the image", IMAGES["one.img"] + IMAGES["counted.img"], ONE_RUNS),
+    ("a digest across byte 256", LETTERS[214],
+        told_of(286, "dc3fe232aa2b51fb85fdd72f93fda7548bb442c9027c85142ae324a164e0a80e")),
+    ("the head of an entry across byte 256", LETTERS[218],
+        told_of(290, "667d87696ae3e9778c5d081a0c8a29734dda07f89153ecfbb1210551eccdcbd4")),
+    ("an image that fills the slot", LETTERS[952], told_of(1024, LETTERS[952][-32:].hex())),
+    ("an image that goes on behind the slot", LETTERS[953], b"damaged 5 Truncated\n"),
+]  # fmt: skip
+
+# Where bytes of the image that runs are changed, to which, and what is listed of a slot with that.
+DAMAGED_SLOTS = [
+    (0, b"\x00", "2 BadMagic"),
+    (8, b"\x1f\x00", "3 BadHeaderSize"),
+    (8, b"\xff\xff", "5 Truncated"),
+    (10, b"\x03\x00", "6 BadTlvMagic"),
+    (12, b"\xff\xff\xff\xff", "5 Truncated"),
+    (16, b"\x20\x00\x00\x00", "4 UnsupportedFlags"),
+    (32, b"\x40", "10 BadDigest"),
+    (38, b"\x03\x00", "7 BadTlvSize"),
+    (38, b"\x27\x00", "7 BadTlvSize"),
+    # In a file this area passes the end. In a slot it doesn't, but its entry doesn't fill it.
+    (38, b"\x29\x00", "7 BadTlvSize"),
+    (42, b"\xff\xff", "7 BadTlvSize"),
+    (40, b"\x11\x00", "8 NoDigest"),
+]
+
+SECONDARY = re.compile(rb"^slot \d secondary\n(.*?)^request \d none\n", re.M | re.S)
+
+
+def eight_slots(checks, sector=512):
+    """Provisions a device of eight images with slots of two such sectors, and returns the bytes of its flash."""
+    return new_device(checks, checks.file("eight.json", device(sector=sector, sectors=8 * [2])), 8 * ("one.img",))
+
+
+def secondaries_of(checks, whole, contents, sector=512):
+    """What is listed of the secondary slots of that device where each of these bytes stands in one, eight at a time."""
+    for first in range(0, len(contents), 8):
+        flash = bytearray(whole)
+        for number, part in enumerate(contents[first : first + 8]):
+            at = 3 * (8 + number) * sector
+            flash[at : at + len(part)] = part
+        checks.file("flash", flash)
+        listed = SECONDARY.findall(checks.run(["slots", "eight.json", "flash"])[1])
+        yield from listed[: len(contents) - first]
+
+
+def tell_secondaries(checks, name, whole, cases, sector=512):
+    """A check: of a secondary slot with these bytes this is listed, and of none more."""
+    listed = [*secondaries_of(checks, whole, [part for part, _ in cases], sector)]
+    faults = [] if len(listed) == len(cases) else [f"{len(listed)} slots are listed, and not {len(cases)}"]
+    pairs = zip(cases, listed)
+    faults += [f"{short(part)}: {short(got)}, and not {wanted}" for (part, wanted), got in pairs if got != wanted]
+    checks.tell(f"slots: {name}", faults[:5])
+
+
+def check_secondaries(checks):
+    """A slot is described by what it begins with, up to its end and no further."""
+    whole = eight_slots(checks)
+    for name, part, wanted in OF_SLOTS:
+        tell_secondaries(checks, f"a slot with {name}", whole, [(part, wanted)])
+    damaged = [(changed(read(ONE), at, part), f"damaged {told}\n".encode()) for at, part, told in DAMAGED_SLOTS]
+    tell_secondaries(checks, "slots with a damaged image", whole, damaged)
+    for name in ("one", "needing", "counted"):
+        front, wanted = IMAGES[f"{name}.img"], []
+        for after in (b"\xff", b"\0"):
+            parts = [(front[:length] + 1024 * after)[:1024] for length in range(len(front))]
+            wanted += [it for it in secondaries_of(checks, whole, parts) if it == ERASED or it.startswith(b"damaged ")]
+        faults = [] if len(wanted) == 2 * len(front) else [f"{len(wanted)} are refused, and not {2 * len(front)}"]
+        checks.tell(f"slots: no front of {name}.img is listed as an image", faults)
+    for sector, name, after in [
+        (512, "erased bytes", lambda count: b"\xff"),
+        (512, "a byte again and again", lambda count: bytes([count % 256])),
+        (576, "bytes 0", lambda count: b"\0"),
+    ]:
+        whole = eight_slots(checks, sector)
+        cases = []
+        for count in range(601):
+            part = every_entry(count)
+            cases.append(((part + 2 * sector * after(count))[: 2 * sector], told_of_every_entry(part)))
+        title = f"images with bodies of 0 to 600 bytes, and {name} behind them, sectors of {sector} bytes"
+        tell_secondaries(checks, title, whole, cases, sector)
+
+
 def check_refused_lists(checks):
     """What is no flash of the device has no list, and a list changes nothing."""
     whole = flash_of(checks)
@@ -174,4 +263,4 @@ def check_refused_lists(checks):
         os.remove(f"{checks.folder}/{name}")
 
 
-CHECKS = (check_stories, check_most_images, check_open_swaps, check_refused_lists)
+CHECKS = (check_stories, check_most_images, check_open_swaps, check_secondaries, check_refused_lists)
