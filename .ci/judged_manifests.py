@@ -277,7 +277,7 @@ def answers_of(checks, texts):
     _, out, _ = checks.run(["run", PAIR, "flash", "-"], given=script.encode())
     shutil.rmtree(f"{checks.folder}/texts")
     booted = numbered([PLAIN]).decode()
-    return [line.split(" ", 1)[1] for line in out.decode().removeprefix(booted).splitlines()]
+    return [line.partition(" ")[2] for line in out.decode().removeprefix(booted).splitlines()]
 
 
 def is_answer(answer, code):

@@ -130,7 +130,7 @@ REFUSED = [
 
 
 def check_refused_uploads(checks):
-    """An upload that is refused is closed, and the next one begins anew; a file follows the image that runs alone."""
+    """An upload that is refused is closed, and the next one begins anew; what a file is to follow has to run."""
     closed = runs(", ".join(["boot", *(it[0] for it in REFUSED)]), [PLAIN, *(it[1] for it in REFUSED)], 1)
     shown = shows(state("steady", "-", 1, [0, 0], "none none"))
     tell_story(checks, "uploads: a refused one is closed", [closed, shown])
@@ -177,7 +177,7 @@ def left_by(checks, new, events, cut):
     checks.file("flash", new)
     got = run_of(checks, events, cuts=[cut])
     listed = checks.run(["slots", PAIR, "flash"])[1].decode()
-    return got, int(re.search(r"^sequence (\d+)$", listed, re.M)[1]), re.search(r"^request 0 (\w+)$", listed, re.M)[1]
+    return got, *re.findall(r"^(?:sequence|request 0) (\w+)$", listed, re.M)
 
 
 def check_cuts(checks):
@@ -196,7 +196,7 @@ def check_cuts(checks):
                 event, sequence, request = cut(write, torn, is_set)
                 rest = 5 - event
                 replies = [PLAIN, *(event - 1) * ["done"], "cut", *rest * [NOT_UP]]
-                wanted = (1 if rest else 3, numbered(replies), b""), sequence, request
+                wanted = (1 if rest else 3, numbered(replies), b""), str(sequence), request
                 got = left_by(checks, new, events, (write, torn))
                 faults += other_than(wanted, got, f"write {write}, {torn}")
                 checks.file("flash", new)
@@ -221,7 +221,7 @@ def finishes_of(checks, of, files):
     _, out, err = checks.run(["run", of, "flash", "-"], given=script_of(", ".join(events)))
     shutil.rmtree(f"{checks.folder}/files")
     lines = out.removeprefix(numbered([PLAIN])).decode().splitlines()
-    replies = [line.split(" ", 1)[1] for line in lines]
+    replies = [line.partition(" ")[2] for line in lines]
     is_right = len(replies) == 3 * len(files) and {*replies[::3], *replies[1::3]} == {"done"} and not err
     return replies[2::3] if is_right else [f"{short(out)} {err}"]
 

@@ -1,15 +1,10 @@
-//! What no clause says: images that are made, slots that say what they hold, manifests that are
-//! read where memory suffices, uploads on a flash in memory, and the texts of errors.
+//! What a caller of the library alone can see: how much of a flash is read, flashes that are off or
+//! longer than their map, values that no command can spell, what an image takes of memory, and the
+//! sentences of errors. All else is seen of the built program, in `.ci/`.
 mod errors;
-mod generated;
-mod groups;
-mod longer_flashes;
+mod flashes;
 mod making;
 mod manifests;
 mod reads;
-mod refusals;
-mod same;
-mod sample_manifest;
 mod samples;
-mod slot;
 mod uploads;

@@ -2,9 +2,7 @@
 
 ghost use Rattle.std.specs.Prelude.{◌≡◌};
 
-use crate::tests::same::same;
-use crate::tests::samples::{COUNTED, damaged, dependency, letters, spec};
-use crate::tests::slot::fault_of;
+use crate::tests::samples::{COUNTED, dependency, letters, spec};
 use flash_model::{Flash, FlashError, MemFlash};
 use sector_map::{SectorMap, Side};
 use std::alloc::Global;
@@ -13,6 +11,7 @@ use std::process::Abort;
 use std::sync::ledger::{Blank, Ledger};
 use std::test::Fail;
 use tlv::{ImageSpec, describe_slot, make_image};
+use version_order::Dependency;
 
 /// A flash that tells how many bytes were read of it, and how many at once at most.
 #[derive(Drop)]
@@ -58,25 +57,11 @@ impl<F: Flash> Flash for Counting<F> {
     }
 }
 
-/// The bytes of fourteen sectors that begin with an image.
-fn filled(alloc: Global, image: &[u8]) -> Result<Vec<u8>, Fail> {
-    let mut bytes = Vec::new(alloc);
-    bytes.extend_from_slice(image)?;
-    bytes.resize(7168, 0xff)?;
-    Ok(bytes)
-}
-
-/// Asserts that primary slot 0 is described.
-fn expect_described<F: Flash>(rt: &impl Abort, flash: &mut F) -> Result<(), Fail> {
+/// Describes primary slot 0.
+fn describe_first<F: Flash>(rt: &impl Abort, flash: &mut F) -> Result<(), Fail> {
     let map = SectorMap::new(512, &[2, 1])?;
-    assert!(rt; map.images == 2);
-    assert!(rt; map.fits(flash));
-    same(
-        rt,
-        "the fault of the slot",
-        &fault_of(&describe_slot(flash, &map, 0, Side::Primary)),
-        &0,
-    );
+    assert!(rt; map.images == 2 && map.fits(flash));
+    let _described = describe_slot(flash, &map, 0, Side::Primary)?;
     Ok(())
 }
 
@@ -92,14 +77,14 @@ fn counted<L: Ledger>(
     requires parts { blank.parts ≡ L.parts }
     requires two { L.parts ≡ 2 }
 {
-    let bytes = filled(alloc, image)?;
-    assert!(rt; bytes.len() == 7168);
+    let mut bytes = Vec::from_slice(alloc, image)?;
+    bytes.resize(7168, 0xff)?;
     let mut flash = Counting {
         flash: MemFlash::<L>::from_bytes(alloc, blank, 512, bytes),
         read: 0,
         most: 0,
     };
-    expect_described(rt, &mut flash)?;
+    describe_first(rt, &mut flash)?;
     Ok((flash.read, flash.most))
 }
 
@@ -107,65 +92,54 @@ fn bytes_read(rt: &impl Abort, alloc: Global, image: &[u8]) -> Result<(u64, usiz
     counted::<Brand>(rt, alloc, Blank::new(2), image)
 }
 
-/// Asserts how many bytes of a slot with this image are read, and how many at once at most.
-pub(super) fn expect_read(
-    rt: &impl Abort,
-    alloc: Global,
-    image: &[u8],
-    bytes: u64,
-    at_once: usize,
-) -> Result<(), Fail> {
-    let (read, most) = bytes_read(rt, alloc, image)?;
-    same(rt, "the bytes read", &read, &bytes);
-    same(rt, "the most at once", &most, &at_once);
-    Ok(())
-}
+/// Behind its digest the unprotected area of this image has an entry of type 0x20 and a dependency,
+/// which counts only in the other area.
+const UNASKED: [u8; 101] = [
+    0x3d, 0xb8, 0xf3, 0x96, 0x00, 0x00, 0x00, 0x00, 0x20, 0x00, 0x00, 0x00, 0x04, 0x00, 0x00, 0x00,
+    0x00, 0x00, 0x00, 0x00, 0x01, 0x00, 0x00, 0x00, 0x00, 0x00, 0x00, 0x00, 0x00, 0x00, 0x00, 0x00,
+    0x41, 0x42, 0x43, 0x44, 0x07, 0x69, 0x41, 0x00, 0x10, 0x00, 0x20, 0x00, 0xa3, 0xe7, 0x1c, 0xf4,
+    0x07, 0x11, 0xfb, 0xfb, 0xad, 0xe5, 0x13, 0x1c, 0xd3, 0x8e, 0xf1, 0x24, 0x19, 0xad, 0xe3, 0x25,
+    0x21, 0x8b, 0xea, 0xbf, 0x51, 0x5b, 0x5f, 0xa1, 0xdf, 0x6d, 0x5c, 0x8c, 0x20, 0x00, 0x05, 0x00,
+    0x01, 0x02, 0x03, 0x04, 0x05, 0x40, 0x00, 0x0c, 0x00, 0x00, 0x00, 0x00, 0x00, 0x00, 0x00, 0x00,
+    0x00, 0x00, 0x00, 0x00, 0x00,
+];
 
-// What is read: header, body and protected area once for the digest; and once more at most the
-// header, each area's head, the head of each entry, and the values of dependencies, digest and
-// security counter.
-#[test]
-fn header_and_body_are_read_once_for_the_digest(rt: HostRuntime) -> Result<(), Fail> {
-    let image = letters(rt.alloc(), 900)?;
-    let read = (32 + 900) + 32 + 4 + (4 + 32);
-    expect_read(&rt, rt.alloc(), image.as_slice(), read, 256)?;
-    let read = (32 + 4 + 28) + 32 + 4 + (4 + 4) + (4 + 12) + 4 + (4 + 32);
-    expect_read(&rt, rt.alloc(), &COUNTED, read, 64)
-}
-
-#[test]
-fn each_entry_is_read_once_beside_the_digest(rt: HostRuntime) -> Result<(), Fail> {
+/// An image with a counter, sixteen dependencies and these groups.
+fn needing(alloc: Global, groups: &[&[Dependency]]) -> Result<Vec<u8>, Fail> {
     let dependencies = [dependency(); 16];
     let asked = ImageSpec {
         counter: Some(5),
+        groups,
         ..spec(&dependencies)
     };
-    let image = make_image(rt.alloc(), &asked)?;
-    let (read, _most) = bytes_read(&rt, rt.alloc(), image.as_slice())?;
-    let protected = 4 + (4 + 4) + 16 * (4 + 12);
-    same(
-        &rt,
-        "the bytes read",
-        &read,
-        &((32 + 4 + protected) + 32 + protected + 4 + (4 + 32)),
-    );
-    Ok(())
+    Ok(make_image(alloc, &asked)?)
 }
 
-// Behind the digest the unprotected area has an entry of type 0x20 and a dependency, which counts
-// only in the other area.
+/// The length of the protected area of that image without groups.
+const PROTECTED: u64 = 4 + (4 + 4) + 16 * (4 + 12);
+
+// What is read: header, body and protected area once for the digest; and once more at most the
+// header, each area's head, the head of each entry, and the values of dependencies, groups, digest
+// and security counter. Other values aren't read.
 #[test]
-fn values_that_are_not_asked_for_are_not_read(rt: HostRuntime) -> Result<(), Fail> {
-    let mut image = damaged(&rt, rt.alloc(), 38, &[0x41, 0x00])?;
-    image.extend_from_slice(&[0x20, 0x00, 0x05, 0x00, 0x01, 0x02, 0x03, 0x04, 0x05])?;
-    image.extend_from_slice(&[0x40, 0x00, 0x0c, 0x00])?;
-    image.extend_from_slice(&[0x00; 12])?;
-    let (read, _most) = bytes_read(&rt, rt.alloc(), image.as_slice())?;
-    same(
-        &rt,
-        "the bytes read",
-        &read,
-        &((32 + 4) + 32 + 4 + (4 + 32) + 4 + 4),
+fn what_is_digested_is_read_once_and_each_entry_once_beside(rt: HostRuntime) -> Result<(), Fail> {
+    let (long, four) = (letters(rt.alloc(), 900)?, [dependency(); 4]);
+    let (many, most) = (
+        needing(rt.alloc(), &[])?,
+        needing(rt.alloc(), &[&four, &four, &four, &four])?,
     );
+    let slots: [(&[u8], (u64, usize)); 5] = [
+        (long.as_slice(), (32 + 900 + 32 + 40, 256)),
+        (&COUNTED, (32 + 4 + 28 + 32 + 28 + 40, 64)),
+        (many.as_slice(), (36 + PROTECTED + 32 + PROTECTED + 40, 256)),
+        (
+            most.as_slice(),
+            (36 + PROTECTED + 208 + 32 + PROTECTED + 208 + 40, 256),
+        ),
+        (&UNASKED, (36 + 32 + 40 + 4 + 4, 36)),
+    ];
+    for (image, wanted) in slots {
+        assert!(rt; bytes_read(&rt, rt.alloc(), image)? == wanted);
+    }
     Ok(())
 }
