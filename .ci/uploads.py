@@ -11,7 +11,7 @@ from checking import ONE, PAIR, read, short
 from images import OF_ONE, changed, every_entry
 from slots import DAMAGED_SLOTS, LETTERS
 from stories import IMAGES, flash_in, new_device, run_of, script_of
-from stories import manifest_of, other_than, runs, shows, state, tell_story
+from stories import holds, manifest_of, other_than, runs, shows, state, tell_story
 from worked import NOT_UP, PLAIN, numbered
 
 NEEDING, PARTNER = IMAGES["needing.img"], IMAGES["partner.img"]
@@ -138,6 +138,13 @@ def check_refused_uploads(checks):
         value = json.loads(manifest_of(1, "0 test needing.img"))
         value["components"][0]["precursor-digest"] = digest
         checks.file(name, json.dumps(value).encode())
+    sizes = [component(component_id=number, size=1024) for number in (1, 0)]
+    checks.file("fills.json", manifest(components=sizes))
+    pieces = "boot, accept fills.json, piece 1 slot.img, piece 0 slot.img, finish 1, piece 0 abc 0 1"
+    replies = [PLAIN, *3 * ["done"], "refused upload 6 DigestWrong", "refused upload 4 TooMuch"]
+    full = 1024 * b"Z" + ERASED
+    filled = [runs(pieces, replies, 1), holds(SECOND_SLOT, full), holds(FIRST_SLOT, full)]
+    tell_story(checks, "uploads: two files fill their slots", filled)
     replies = [PLAIN, "done", "refused upload 8 WrongPrecursor", "done", "done"]
     followed = runs("boot, accept right.json, accept wrong.json, piece 0 needing.img, finish 0", replies)
     tell_story(checks, "uploads: a file follows the image that runs", [followed])

@@ -58,14 +58,20 @@ const PLACES: [Option<SlotTlv>; 3] = [
     None,
 ];
 
+/// Two sectors in which these stand.
+fn two_sectors(alloc: Global) -> Result<Vec<u8>, Fail> {
+    let mut bytes = vec![in alloc; 0xff; 600]?;
+    bytes.extend_from_slice(&ENTRIES)?;
+    bytes.resize(1024, 0xff)?;
+    Ok(bytes)
+}
+
 fn walked<L: Ledger>(rt: &impl Abort, alloc: Global, blank: Blank) -> Result<(), Fail>
     requires name { blank.name ≡ L.name }
     requires parts { blank.parts ≡ L.parts }
     requires two { L.parts ≡ 2 }
 {
-    let mut bytes = vec![in alloc; 0xff; 600]?;
-    bytes.extend_from_slice(&ENTRIES)?;
-    bytes.resize(1024, 0xff)?;
+    let bytes = two_sectors(alloc)?;
     assert!(rt; bytes.len() == 1024);
     let mut flash = MemFlash::<L>::from_bytes(alloc, blank, 512, bytes);
     let mut entries = SlotTlvs::new(Span { at: 600, len: 13 });

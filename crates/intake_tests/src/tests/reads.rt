@@ -1,6 +1,6 @@
 //! How much of a flash is read to describe a slot of it.
 
-ghost use Rattle.std.specs.Prelude.{◌≡◌};
+ghost use Rattle.std.specs.Prelude.{◌≡◌, ◌≤◌};
 
 use crate::tests::samples::{COUNTED, dependency, letters, spec};
 use flash_model::{Flash, FlashError, MemFlash};
@@ -11,7 +11,6 @@ use std::process::Abort;
 use std::sync::ledger::{Blank, Ledger};
 use std::test::Fail;
 use tlv::{ImageSpec, describe_slot, make_image};
-use version_order::Dependency;
 
 /// A flash that tells how many bytes were read of it, and how many at once at most.
 #[derive(Drop)]
@@ -104,12 +103,15 @@ const UNASKED: [u8; 101] = [
     0x00, 0x00, 0x00, 0x00, 0x00,
 ];
 
-/// An image with a counter, sixteen dependencies and these groups.
-fn needing(alloc: Global, groups: &[&[Dependency]]) -> Result<Vec<u8>, Fail> {
-    let dependencies = [dependency(); 16];
+/// An image with a counter, sixteen dependencies and so many groups of four.
+fn needing(alloc: Global, groups: usize) -> Result<Vec<u8>, Fail>
+    requires { groups ≤ 4 }
+{
+    let (dependencies, four) = ([dependency(); 16], [dependency(); 4]);
+    let all = [four.as_slice(); 4];
     let asked = ImageSpec {
         counter: Some(5),
-        groups,
+        groups: &all[..groups],
         ..spec(&dependencies)
     };
     Ok(make_image(alloc, &asked)?)
@@ -118,28 +120,31 @@ fn needing(alloc: Global, groups: &[&[Dependency]]) -> Result<Vec<u8>, Fail> {
 /// The length of the protected area of that image without groups.
 const PROTECTED: u64 = 4 + (4 + 4) + 16 * (4 + 12);
 
+/// How many bytes are read of a slot with each of five images, and how many at once at most.
+const READ: [(u64, usize); 5] = [
+    (32 + 900 + 32 + 40, 256),
+    (32 + 4 + 28 + 32 + 28 + 40, 64),
+    (36 + PROTECTED + 32 + PROTECTED + 40, 256),
+    (36 + PROTECTED + 208 + 32 + PROTECTED + 208 + 40, 256),
+    (36 + 32 + 40 + 4 + 4, 36),
+];
+
 // What is read: header, body and protected area once for the digest; and once more at most the
 // header, each area's head, the head of each entry, and the values of dependencies, groups, digest
 // and security counter. Other values aren't read.
 #[test]
 fn what_is_digested_is_read_once_and_each_entry_once_beside(rt: HostRuntime) -> Result<(), Fail> {
-    let (long, four) = (letters(rt.alloc(), 900)?, [dependency(); 4]);
-    let (many, most) = (
-        needing(rt.alloc(), &[])?,
-        needing(rt.alloc(), &[&four, &four, &four, &four])?,
-    );
-    let slots: [(&[u8], (u64, usize)); 5] = [
-        (long.as_slice(), (32 + 900 + 32 + 40, 256)),
-        (&COUNTED, (32 + 4 + 28 + 32 + 28 + 40, 64)),
-        (many.as_slice(), (36 + PROTECTED + 32 + PROTECTED + 40, 256)),
-        (
-            most.as_slice(),
-            (36 + PROTECTED + 208 + 32 + PROTECTED + 208 + 40, 256),
-        ),
-        (&UNASKED, (36 + 32 + 40 + 4 + 4, 36)),
+    let (long, many) = (letters(rt.alloc(), 900)?, needing(rt.alloc(), 0)?);
+    let most = needing(rt.alloc(), 4)?;
+    let images: [&[u8]; 5] = [
+        long.as_slice(),
+        &COUNTED,
+        many.as_slice(),
+        most.as_slice(),
+        &UNASKED,
     ];
-    for (image, wanted) in slots {
-        assert!(rt; bytes_read(&rt, rt.alloc(), image)? == wanted);
+    for place in 0..5 {
+        assert!(rt; bytes_read(&rt, rt.alloc(), images[place])? == READ[place]);
     }
     Ok(())
 }
