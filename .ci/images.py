@@ -17,13 +17,30 @@ def told_of(length, digest, own="1.0.0+0", counter=0, needs=(), groups=()):
     """What is printed of an image with these values."""
     lines = [f"version {own}", f"length {length}", f"counter {counter}", f"digest {digest}"]
     lines += [*(f"needs {it}" for it in needs), *(f"needs-one {it}" for it in groups)]
-    return "\n".join([*lines, ""]).encode()
+    return "".join(f"{it}\n" for it in lines).encode()
 
 
 def needing(number):
     """An image that needs so many others, each at version 2.0.0+0."""
     entries = [(0x40, little(it, 4) + version(2)) for it in range(number)]
     return image(entries, own=version(1))
+
+
+# A header whose fields differ in each byte but those of the flags, and what it says: the lengths of itself, of the
+# protected area and of the body, and the version.
+FULL_HEADER = bytes.fromhex("3db8f3960203040506070809" "0a0b0c0110010000" "12131415161718191a1b1c1d")
+OF_HEADER, OF_AREA, OF_BODY, OF_VERSION = 0x0706, 0x0908, 0x010C0B0A, "18.19.5396+421009174"
+
+
+def with_full_header():
+    """An intact image with that header, whose protected area is filled by an entry that is skipped."""
+    inner = area(0x6908, [(0xA1, bytes(OF_AREA - 8))])
+    hashed = FULL_HEADER + bytes(OF_HEADER - 32) + bytes(OF_BODY) + inner
+    return hashed + area(0x6907, [(0x10, hashlib.sha256(hashed).digest())])
+
+
+# What an image needs with the greatest numbers, as it is printed and in its bytes.
+GREATEST, OF_GREATEST = "255 255.255.65535+4294967295", b"\xff\0\0\0" + 8 * b"\xff"
 
 
 def cases_of_intact_images():
@@ -45,6 +62,13 @@ def cases_of_intact_images():
     digest = "959b351f24e328aeda152a1f7cb19d2cc7e78d5dd8e5afdabc6b55d63dee11e8"
     long = image([], body=4194307 * b"Z", own=version(7, 8, 9, 10))
     yield "four megabytes", long, told_of(4194379, digest, own="7.8.9+10")
+    full = with_full_header()
+    length = OF_HEADER + OF_BODY + OF_AREA + 40
+    yield "a header of other bytes in each field", full, told_of(length, full[-32:].hex(), own=OF_VERSION)
+    greatest = image([(0x40, OF_GREATEST), (0xA0, 4 * OF_GREATEST)], own=version(1))
+    groups = [" ".join(4 * [GREATEST])]
+    told = told_of(148, greatest[-32:].hex(), needs=[GREATEST], groups=groups)
+    yield "a dependency and a group with the greatest numbers", greatest, told
 
 
 # Images of the examples that are changed: which one, the place, the new bytes, and what is told.
@@ -83,6 +107,8 @@ def check_described_images(checks):
         ("seventeen dependencies", needing(17), "12 TooManyDependencies"),
         ("two counters", twice, "14 BadCounter"),
         ("a byte behind it", read(ONE) + b"\0", "13 TrailingBytes"),
+        ("another magic number and a header of 31 bytes", image(magic=0x96F3B83C, header_size=31), "2 BadMagic"),
+        ("a header of 31 bytes and a flag", image(header_size=31, flags=0x20), "3 BadHeaderSize"),
         *((f"{os.path.basename(file)}, {bytes.hex()} at {place}", changed(read(file), place, bytes), told)
           for file, place, bytes, told in CHANGES),
     ]:

@@ -1,27 +1,36 @@
 """What is told of wrong lines of scripts and of wrong words for a device, and what standard input may be."""
 
+import hashlib
 import os
 
+from builders import component, manifest
 from checking import PAIR, read
-from stories import flash_in, manifest_of, new_device
-from worked import NOT_UP, PLAIN, numbered
+from stories import FILES, flash_in, holds, manifest_of, new_device, runs, tell_story
+from worked import BACK, NO_TRIAL, NOT_UP, PLAIN, TRIED, numbered
+
+TEXT, DEVICE = manifest_of(1, "0 test abc"), read(PAIR)
+NO_SESSION, NO_IMAGE = "refused upload 3 NoSession", "refused upload 7 NotAnImage 1"
 
 # Lines of scripts each of which is bad, where the file `abc` has three bytes.
 BAD_LINES = [
-    "frob", "Boot", "boot ", " boot", "boot now", "reset 1",
-    "accept", "accept ", "accept text.json again", "accept  text.json",
-    "piece 0", "piece abc", "piece 256 abc", "piece 00 abc", "piece +1 abc", "piece -1 abc", "piece 0x0 abc",
-    "piece  abc",
+    "frob", "#", " ", "Boot", "BOOT", "boot ", " boot", "boot now", "boot 0", "boot\r", "reset 1", "rese",
+    "accept", "accept ", "accept text.json again", "accept  text.json", " accept text.json", "accept text.json ",
+    "accept\ttext.json", "Accept text.json", "accepts text.json",
+    "piece", "piece 0", "piece 0 ", "piece 0  abc", "piece abc", "piece 256 abc", "piece 00 abc", "piece +1 abc",
+    "piece -1 abc", "piece 0x0 abc", "piece  abc",
     "finish", "finish 256", "finish 0 0", "finish 01",
-    "withdraw", "withdraw one", "withdraw 4294967296",
-    "confirm 1 1", "confirm 1.", "confirm 18446744073709551616",
-    "piece 0 abc 0", "piece 0 abc 0 1 2", "piece 0 absent 0",
+    "withdraw", "withdraw one", "withdraw -1", "withdraw 4294967296",
+    "confirm 1 1", "confirm 1 2", "confirm 1.", "confirm 18446744073709551616",
+    "piece 0 abc 0", "piece 0 abc 1", "piece 0 abc 1 ", "piece 0 abc  1", "piece 0 abc 0 1 2", "piece 0 abc 1 2 ",
+    "piece 0 absent 0",
     "piece 0 abc 0 4", "piece 0 abc 1 3", "piece 0 abc 4 0", "piece 0 abc 01 1", "piece 0 abc 0 01",
-    "piece 0 abc x 1", "piece 0 abc 0 ", "piece 0 abc -1 1",
+    "piece 0 abc x 1", "piece 0 abc 0 ", "piece 0 abc -1 1", "piece 0 abc 0 +1", "piece 0 abc 0 1x",
+    "piece 0 abc 1 18446744073709551615",
     "piece 0 abc 18446744073709551616 0", "piece 0 abc 0 18446744073709551616",
     "piece 0 abc 18446744073709551615 2", "piece 0 abc 2 18446744073709551615",
-    "cut", "cut 1", "cut keep", "cut 0 keep", "cut 01 keep", "cut 4294967296 keep", "cut 1 Keep", "cut 1 keep 2",
-    "cut 1 hex", "cut 1 hex:", "cut 1 hex:0", "cut 1 hex:000", "cut 1 hex:0g", "cut 1 hex: 00", "cut 1 00",
+    "cut", "cut 1", "cut keep", "cut 0 keep", "cut 01 keep", "cut 4294967296 keep", "cut 1 Keep", "cut 1 keep ",
+    "cut 1 keep 2", "cut 1 hex", "cut 1 hex:", "cut 1 hex:0", "cut 1 hex:000", "cut 1 hex:0g", "cut 1 hex: 00",
+    "cut 1 00", "cut 1 ff",
 ]
 
 
@@ -43,12 +52,17 @@ def tell_kept(checks, name, whole):
 
 # Scripts, and what is told of the first line of each that is wrong.
 FIRST_LINES = [
+    (b"\n", "script line 1"),
     (b"boot\n\n", "script line 2"),
     (b"boot\0\n", "script line 1"),
+    (b"accept \xff\n", "script line 1"),
+    (b"piece 0 \xff 1 2\n", "script line 1"),
     (b"accept text.json\xc3\n", "script line 1"),
     (b"piece 0 \xed\xa0\x80\n", "script line 1"),
     (b"accept \tabsent\n", "cannot read \\tabsent"),
     (b"cut 2 keep\ncut 1 done\n", "script line 2"),
+    (b"cut 3 keep\ncut 3 keep\n", "script line 2"),
+    (b"cut 3 keep\ncut 4 keep\nboot\ncut 5 keep\n", "script line 4"),
     (b"cut 1 keep\nboot\ncut 2 keep\n", "script line 3"),
     (b"boot\naccept absent\nfrob\n", "cannot read absent"),
     (b"accept absent\naccept missing\n", "cannot read absent"),
@@ -67,6 +81,58 @@ def check_first_lines(checks):
     tell_kept(checks, "the first wrong line of a script", whole)
 
 
+# Lines of a script on a new device, of which no cut is reached, and the replies. The name of the manifest is in UTF-8.
+GOOD_LINES = [
+    ("cut 3999999999 keep", None),
+    ("cut 4000000000 done", None),
+    ("cut 4294967295 hex:00fF9aA0", None),
+    ("boot", PLAIN),
+    ("accept gr\u00f6\u00dfe", "done"),
+    ("piece 255 needing.img", NO_SESSION),
+    ("piece 255 needing.img 0 40", NO_SESSION),
+    ("piece 0 needing.img 0 40", "done"),
+    ("piece 1 partner.img", "done"),
+    ("piece 0 needing.img 40 56", "done"),
+    ("finish 10", NO_SESSION),
+    ("finish 1", "done"),
+    ("finish 0", "done"),
+    ("withdraw 10", "refused upload 9 NothingRequested"),
+    ("boot", TRIED),
+    ("confirm 255", NO_TRIAL),
+    ("reset", "done"),
+    ("confirm 0", NOT_UP),
+    ("boot", BACK),
+    ("boot", PLAIN),
+]
+
+# What a cut of the first write of an upload leaves of a record of 56 bytes: of one of sequence number 1.
+TORN_RECORDS = [
+    ("keep", 56 * b"\xff"),
+    ("done", b"\1\0\0\0\1" + bytes(51)),
+    ("hex:00fF9aA0", 14 * b"\x00\xff\x9a\xa0"),
+]
+
+# Parts of a file of the bytes `abcdef`, and their bytes.
+PARTS = [("2 3", b"cde"), ("0 6", b"abcdef"), ("6 0", b"")]
+
+
+def check_good_lines(checks):
+    """Each kind of line does what it says: cuts, events, and the parts of files that they name."""
+    checks.file("gr\u00f6\u00dfe", FILES["trial.json"])
+    events, replies = ", ".join(line for line, _ in GOOD_LINES), [it for _, it in GOOD_LINES if it]
+    tell_story(checks, "a script with each kind of line", [runs(events, replies)])
+    for torn, left in TORN_RECORDS:
+        events = f"cut 1 {torn}, boot, accept text.json"
+        tell_story(checks, f"what a cut leaves: {torn}", [runs(events, [PLAIN, "cut"], 3), holds(6720, left)])
+    checks.file("six", b"abcdef")
+    for part, bytes in PARTS:
+        # The file that may come is this part, and no image.
+        whole = component(size=len(bytes), payload_digest=hashlib.sha256(bytes).hexdigest())
+        checks.file("part.json", manifest(components=[whole]))
+        events = f"boot, accept part.json, piece 0 six {part}, finish 0"
+        tell_story(checks, f"a part of a file: {part}", [runs(events, [PLAIN, "done", "done", NO_IMAGE], 1)])
+
+
 def check_parts_alone(checks):
     """Of a file that is too long to be read whole the parts alone are read that lines name."""
     new_device(checks)
@@ -80,7 +146,6 @@ def check_parts_alone(checks):
 
 
 BOOTED = numbered([PLAIN])
-TEXT, DEVICE = manifest_of(1, "0 test abc"), read(PAIR)
 
 # Commands that read standard input: the words, the script, standard input, the status, and what
 # stands on standard output and on standard error.
@@ -179,4 +244,12 @@ def check_usages(checks):
     tell_kept(checks, "no command", whole)
 
 
-CHECKS = (check_bad_lines, check_first_lines, check_parts_alone, check_inputs, check_first_words, check_usages)
+CHECKS = (
+    check_bad_lines,
+    check_first_lines,
+    check_good_lines,
+    check_parts_alone,
+    check_inputs,
+    check_first_words,
+    check_usages,
+)

@@ -21,7 +21,20 @@ CHAIN = (
 ITSELF = "image 0 1.0.0+0 0 0, request 2.0.0+0 0, needs 0 2.0.0+0"
 MISSING = "image 0 1.0.0+0 0 0, request 2.0.0+0 0, needs 7 1.0.0+0, image 1 1.0.0+0 0 0"
 OLDER = "image 0 1.0.0+0 0 0, request 0.9.0+0 0, image 1 1.0.0+0 0 0, request 0.9.0+0 0"
+OLDER_OF_ITSELF = "image 0 2.0.0+0 0 0, request 1.0.0+0 0, needs 0 1.5.0+0"
+DAMAGED = "image 0 1.0.0+0 0 0, damaged, image 1 1.0.0+0 0 0, damaged"
 TWO_RUN, THREE_RUN = "run 0 1.0.0+0, run 1 1.0.0+0", "run 0 1.0.0+0, run 1 1.0.0+0, run 2 1.0.0+0"
+
+# The greatest version, and the one before it.
+GREATEST, ALMOST = "255.255.65535+4294967295", "255.255.65535+4294967294"
+
+# A group of as many alternatives as may be, which no device has.
+FULL_GROUP = "needs-one" + 4 * f" 255 {GREATEST}"
+
+# An image whose request needs something, which follows; and others, which run or are requested.
+ASKING = "image 0 1.0.0+0 0 0, request 2.0.0+0 0"
+FIRST, SECOND = "image 1 1.0.0+0 0 0", "image 2 1.0.0+0 0 0"
+NEW_FIRST, NEW_SECOND = f"{FIRST}, request 2.0.0+0 0", f"{SECOND}, request 2.0.0+0 0"
 
 # What a table shows, its lines, and the report of the choice.
 CHOICES = [
@@ -56,15 +69,104 @@ CHOICES = [
     ),
 ]
 
-# The greatest version, and the one before it.
-GREATEST, ALMOST = "255.255.65535+4294967295", "255.255.65535+4294967294"
+# The same of tables with groups, whose alternatives are met or missed.
+GROUPS = [
+    (
+        "an alternative runs, the second one",
+        f"{ASKING}, needs-one 1 2.0.0+0 2 2.0.0+0, {FIRST}, image 2 2.0.0+0 0 0",
+        "take 0 2.0.0+0, run 1 1.0.0+0, run 2 2.0.0+0",
+    ),
+    (
+        "one isn't there, and the second one runs",
+        f"{ASKING}, needs-one 7 1.0.0+0 1 1.0.0+0, {FIRST}, image 2 2.0.0+0 0 0",
+        "take 0 2.0.0+0, run 1 1.0.0+0, run 2 2.0.0+0",
+    ),
+    (
+        "the last of four is requested",
+        f"{ASKING}, needs-one 9 1.0.0+0 8 1.0.0+0 7 1.0.0+0 1 2.0.0+0, {NEW_FIRST}",
+        "take 0 2.0.0+0, take 1 2.0.0+0",
+    ),
+    (
+        "no alternative is new enough",
+        f"{ASKING}, needs-one 1 2.0.0+0 2 2.0.0+0, {FIRST}, {SECOND}",
+        f"{THREE_RUN}, refuse 0 needs-one 1 2.0.0+0 2 2.0.0+0",
+    ),
+    (
+        "the only alternative isn't there, which is no missing image",
+        f"{ASKING}, needs-one 7 1.0.0+0, {FIRST}, image 2 2.0.0+0 0 0",
+        "run 0 1.0.0+0, run 1 1.0.0+0, run 2 2.0.0+0, refuse 0 needs-one 7 1.0.0+0",
+    ),
+    (
+        "the alternative that is taken is too old",
+        f"{ASKING}, needs-one 1 3.0.0+0, {NEW_FIRST}",
+        "run 0 1.0.0+0, take 1 2.0.0+0, refuse 0 needs-one 1 3.0.0+0",
+    ),
+    (
+        "an unmet dependency is told before an unmet group",
+        f"{ASKING}, needs 0 1.0.0+0, needs 1 2.0.0+0, needs-one 7 1.0.0+0, {FIRST}",
+        f"{TWO_RUN}, refuse 0 needs 1 2.0.0+0",
+    ),
+    (
+        "the first unmet group is told, behind one that is met",
+        f"{ASKING}, needs 1 1.0.0+0, needs-one 7 1.0.0+0 1 1.0.0+0, needs-one 1 2.0.0+0 6 1.0.0+0, "
+        f"needs-one 5 1.0.0+0, {FIRST}",
+        f"{TWO_RUN}, refuse 0 needs-one 1 2.0.0+0 6 1.0.0+0",
+    ),
+    (
+        "what runs has a group, which the new image meets too",
+        f"image 0 1.0.0+0 0 0, needs-one 1 1.0.0+0 2 1.0.0+0, {NEW_FIRST}, image 2 0.9.0+0 0 0",
+        "run 0 1.0.0+0, take 1 2.0.0+0, run 2 0.9.0+0",
+    ),
+    (
+        "an alternative is refused, and then what has it",
+        f"{ASKING}, needs-one 1 2.0.0+0 2 2.0.0+0, {FIRST}, {NEW_SECOND}, needs 1 2.0.0+0",
+        f"{THREE_RUN}, refuse 2 needs 1 2.0.0+0, refuse 0 needs-one 1 2.0.0+0 2 2.0.0+0",
+    ),
+    ("the greatest numbers", f"{ASKING}, {FULL_GROUP}", f"run 0 1.0.0+0, refuse 0 {FULL_GROUP}"),
+]
+
+
+def falling():
+    """A table whose eight requests fall one by one, from the last: each needs the next one, the last what can't come,
+    and all need each image as it runs, as often as there is room."""
+    rest = "".join(f", needs {it % 8} 1.0.0+0" for it in range(15))
+    first = [*(f"needs {it + 1} 2.0.0+0" for it in range(7)), "needs 0 3.0.0+0"]
+    return ", ".join(f"image {at} 1.0.0+0 0 0, request 2.0.0+0 0, {it}{rest}" for at, it in enumerate(first))
+
+
+# Tables in which a refusal leads to others.
+FALLS = [
+    (
+        "the reason is the first that holds when it is told",
+        f"{ASKING}, needs 1 2.0.0+0, {FIRST}, {NEW_SECOND}, needs 0 2.0.0+0, needs 1 2.0.0+0",
+        f"{THREE_RUN}, refuse 0 needs 1 2.0.0+0, refuse 2 needs 0 2.0.0+0",
+    ),
+    (
+        "what depends on a refused request comes before higher ones",
+        f"{ASKING}, needs 2 2.0.0+0, {FIRST}, {NEW_SECOND}, needs 1 2.0.0+0, "
+        "image 3 1.0.0+0 0 0, request 2.0.0+0 0, needs 1 2.0.0+0",
+        f"{THREE_RUN}, run 3 1.0.0+0, refuse 2 needs 1 2.0.0+0, refuse 0 needs 2 2.0.0+0, refuse 3 needs 1 2.0.0+0",
+    ),
+    (
+        "eight requests fall one by one",
+        falling(),
+        ", ".join(
+            [
+                *(f"run {it} 1.0.0+0" for it in range(8)),
+                "refuse 7 needs 0 3.0.0+0",
+                *(f"refuse {it} needs {it + 1} 2.0.0+0" for it in reversed(range(7))),
+            ]
+        ),
+    ),
+]
 
 
 def widest(running, needed):
     """A table of as many lines and as great numbers as may be: eight images of this version that need image 7 with it,
     and requests of the same version that need it with another one."""
-    image = f"image %d {running} 4294967295 4294967295" + 16 * f", needs 7 {running}"
-    request = f"request {running} 4294967295" + 16 * f", needs 7 {needed}"
+    needs = lambda version: 16 * f", needs 7 {version}" + 4 * (", needs-one" + 4 * f" 7 {version}")
+    image = f"image %d {running} 4294967295 4294967295{needs(running)}"
+    request = f"request {running} 4294967295{needs(needed)}"
     return ", ".join(f"{image % it}, {request}" for it in range(8))
 
 
@@ -76,12 +178,32 @@ def check_choices(checks):
         ("every limit at once, all taken", widest(GREATEST, GREATEST), ", ".join(taken)),
         ("every limit at once, all refused", widest(ALMOST, GREATEST), ", ".join(refused)),
     ]
-    for name, lines, wanted in CHOICES + limits:
+    groups = [(f"a group: {name}", *rest) for name, *rest in GROUPS]
+    for name, lines, wanted in [*CHOICES, *groups, *FALLS, *limits]:
         given, wanted = text_of(lines), text_of(wanted)
         checks.expect(f"choose: {name}", [], 0, wanted, given=given)
         files = [checks.file("table", given), checks.file("report", wanted)]
         checks.expect(f"choose: {name}: from a file", ["choose", "table"], 0, wanted)
         checks.expect(f"choose: {name}: its report is right", ["check", *files], 0, b"yes\n")
+
+
+# Versions, and before each one that is above it: the numbers are compared from left to right.
+ASCENDING = [
+    ("1.0.0+1", "1.0.0+0"),
+    ("1.0.1+0", "1.0.0+9"),
+    ("1.1.0+0", "1.0.65535+4294967295"),
+    ("2.0.0+0", "1.255.65535+4294967295"),
+    ("1.10.0+0", "1.9.0+0"),
+]
+
+
+def check_order(checks):
+    """The higher one of two versions is taken in place of the lower one, and not the other way round."""
+    for above, below in ASCENDING:
+        for running, wanted in [(below, f"take 0 {above}"), (above, f"run 0 {above}, refuse 0 older")]:
+            requested = above if running == below else below
+            given = text_of(f"image 0 {running} 0 0, request {requested} 0")
+            checks.expect(f"order: {requested} where {running} runs", [], 0, text_of(wanted), given=given)
 
 
 # Tables with a bad line, and its number.
@@ -112,6 +234,11 @@ BAD_LINES = [
 UNFIT = [
     ("an image that needs more of itself", b"image 0 1.0.0+0 0 0\nneeds 0 2.0.0+0\n"),
     ("an image that needs one that isn't there", b"image 0 1.0.0 0 0\nneeds 1 1.0.0\n"),
+    (
+        "a group whose alternatives are all older",
+        b"image 0 1.0.0+0 0 0\nneeds-one 1 1.0.0+1 2 1.0.0+0\nimage 1 1.0.0+0 0 0\nimage 2 0.9.0+0 0 0\n",
+    ),
+    ("a group whose alternative isn't there", b"image 0 1.0.0+0 0 0\nneeds-one 1 0.0.0+0\n"),
 ]
 
 
@@ -138,6 +265,20 @@ REPORTS = [
     ("short versions", PAIR, "take 0 2, take 1 2.0", True),
     ("the first version is another", PAIR, "take 0 2.0.0+1, take 1 2.0.0+0", False),
     ("the version of a refused request", OLDER, "run 0 0.9.0+0, run 1 1.0.0+0, refuse 0 older, refuse 1 older", False),
+    ("a missing image that isn't needed", MISSING, f"{TWO_RUN}, refuse 0 no-such-image 8", False),
+    ("an older request needs more of itself", OLDER_OF_ITSELF, "run 0 2.0.0+0, refuse 0 needs 0 1.5.0+0", True),
+    ("two damaged requests", DAMAGED, f"{TWO_RUN}, refuse 0 damaged, refuse 1 damaged", True),
+    ("they are refused in another order", DAMAGED, f"{TWO_RUN}, refuse 1 damaged, refuse 0 damaged", True),
+    ("one is refused once more", DAMAGED, f"{TWO_RUN}, refuse 0 damaged, refuse 1 damaged, refuse 0 damaged", False),
+    ("the first of them isn't refused", DAMAGED, f"{TWO_RUN}, refuse 1 damaged", False),
+    (
+        "every reason with the greatest numbers, of images that aren't there",
+        EIGHT_IMAGES,
+        ", ".join(f"{'take' if it % 2 else 'run'} {it} {GREATEST}" for it in range(8))
+        + ", refuse 255 damaged, refuse 254 older, refuse 253 counter, refuse 252 no-such-image 255, "
+        f"refuse 251 needs 255 {GREATEST}, refuse 250 {FULL_GROUP}, refuse 249 older, refuse 248 damaged",
+        False,
+    ),
 ]
 
 # Texts that are no reports, and the number of the first bad line.
@@ -174,4 +315,4 @@ def check_reports(checks):
         checks.expect(f"check: {name}", ["check", *words], 1, err=f"error: {told}\n".encode(), given=b"x")
 
 
-CHECKS = (check_choices, check_refused_tables, check_reports)
+CHECKS = (check_choices, check_order, check_refused_tables, check_reports)

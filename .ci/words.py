@@ -5,6 +5,7 @@ import os
 from builders import VENDOR
 from checking import EXAMPLES, ONE, PAIR, flash_of, read, report, shown, table
 from manifests import OF_ABC
+from texts import IMAGE_USAGE, UNREADABLE
 
 MANIFEST = f"{EXAMPLES}/manifests/abc.json"
 
@@ -249,6 +250,50 @@ def check_faults_of_usage(checks):
                 checks.expect(f"usage: {line!r}", words, 2, b"", err)
 
 
+# Texts of versions, and how each is printed.
+VERSIONS = [
+    ("1", "1.0.0+0"),
+    ("1.2", "1.2.0+0"),
+    ("1.2.3", "1.2.3+0"),
+    ("1.2.3+4", "1.2.3+4"),
+    ("0.0.0+0", "0.0.0+0"),
+    ("10.20.300+4000", "10.20.300+4000"),
+    ("255.255.65535+4294967295", "255.255.65535+4294967295"),
+]
+
+# Texts that spell no version.
+NO_VERSIONS = ["", "1.", "1+4", "1.2+3", "01", "1.02", "1.2.03", "1.2.3+04", "00", "256", "1.256", "1.2.65536"]
+NO_VERSIONS += ["1.2.3+4294967296", " 1", "1 ", "1.2.3.4", "+1", "-1", "1..2", ".1", "1.2.3+", "1.2.3+4+5", "1.a"]
+NO_VERSIONS += ["1.2.3+x", "v1", "1\n"]
+
+# Bytes that spell none, and are no ASCII.
+NO_ASCII = [b"1.\xff", b"\xc3\xa9"]
+
+OF_VERSION = next(it for it in UNREADABLE if it.startswith("`--version`"))
+
+
+def check_versions(checks):
+    """A version is read as it is spelled, in a word and in a table, and printed whole. Other texts are refused."""
+    body = checks.file("body", b"ABCD")
+    for text, whole in VERSIONS:
+        table = f"image 0 {text} 0 0\n".encode()
+        checks.expect(f"a version in a table: {text}", [], 0, f"run 0 {whole}\n".encode(), given=table)
+        words = ["make-image", "made", body, f"--version={text}"]
+        checks.expect(f"a version in a word: {text}", words, 0, b"done\n")
+        status, out, err = checks.run(["image", "made"])
+        is_so = (status, err) == (0, b"") and out.startswith(f"version {whole}\nlength 76\n".encode())
+        checks.tell(f"a version in a word: {text}: what the image says", [] if is_so else [f"{status} {out} {err}"])
+    for text in NO_VERSIONS:
+        err = f"error: {OF_VERSION}{IMAGE_USAGE}".encode()
+        words = ["make-image", "made", body, f"--version={text}"]
+        checks.expect(f"no version in a word: {text!r}", words, 2, err=err)
+    for text in [*(it.encode() for it in NO_VERSIONS), *NO_ASCII]:
+        given, err = b"image 0 %s 0 0\n" % text, b"error: table line 1\n"
+        checks.expect(f"no version in a table: {text!r}", [], 1, err=err, given=given)
+    for name in ("made", body):
+        os.remove(f"{checks.folder}/{name}")
+
+
 # Names of files that aren't there, and how they are told: as text what would change how a line is shown.
 ESCAPED = [
     ("a\nerror: \x1b[2J\t\x7f\x85\u00e9'\\", "a\\nerror: \\u{1b}[2J\\t\\u{7f}\\u{85}\u00e9'\\"),
@@ -266,4 +311,4 @@ def check_names(checks):
     checks.expect("the version, by its letter", ["-V"], 0, b"bootswap 0.1.0\n")
 
 
-CHECKS = (check_spellings, check_faults_of_usage, check_names)
+CHECKS = (check_spellings, check_faults_of_usage, check_versions, check_names)
