@@ -1,5 +1,5 @@
-//! Values, as one sees them who calls the crates that have them: texts, versions, headers, tables,
-//! reports, choices and lines of scripts.
+//! Values, as one sees them who calls the crates that have them: the steps of a choice, headers, and
+//! the texts of what no command prints.
 #![tactic(auto)]
 
 #[cfg(test)]

@@ -1,44 +1,96 @@
-//! Cuts, lines and numbers of ASCII text.
+//! Texts, numbers and names that no command prints.
 
-use super::same::same;
-use common::{ascii, lines};
+use certificate::{BadReport, BadTable, Table};
+use image_header::HeaderError;
+use std::test::Fail;
+use version_order::BadVersion;
 
-/// Texts, and what is before and behind the first full stop of each.
-const CUTS: [(&[u8], &[u8], Option<&[u8]>); 2] = [
-    (b"a.b.c", b"a", Some(b"b.c")),
-    (b"abc", b"abc", None),
-];
-
-/// Texts, and the first line of each and what follows it.
-const LINES: [(&[u8], &[u8], &[u8]); 2] = [
-    (b"one\ntwo\n", b"one", b"two\n"),
-    (b"two", b"two", b""),
-];
+/// What is said of a table from line 3 on, of a report from the last line on, of a text that spells
+/// no version, and of a header.
+const SAID: &str = "no table goes on from line 3\n\
+    no report goes on from line 18446744073709551615\n\
+    not a version: write major.minor.revision+build in decimal without leading zeros, as 1.4.0+7; \
+    parts may be left out from the right\n\
+    a header length below 32\n";
 
 #[test]
-fn a_text_is_cut_once(rt: HostRuntime) {
-    for (text, before, after) in CUTS {
-        let cut = ascii::cut(text, b'.');
-        same(&rt, "before", &cut.0, &before);
-        same(&rt, "after", &cut.1, &after);
-    }
+fn refusals_have_texts(rt: HostRuntime) -> Result<(), Fail> {
+    let table = BadTable(3);
+    let report = BadReport(18446744073709551615);
+    let header = HeaderError::BadHeaderSize;
+    let said = format!(in rt.alloc(); "{table}\n{report}\n{BadVersion}\n{header}\n")?;
+    assert!(rt; said.as_str() == SAID);
+    Ok(())
 }
 
 #[test]
-fn a_line_ends_at_its_line_feed(rt: HostRuntime) {
-    for (text, line, after) in LINES {
-        let first = lines::first_line(text);
-        same(&rt, "the line", &first.0, &line);
-        same(&rt, "after", &first.1, &after);
-    }
+fn faults_of_headers_have_numbers_and_names(rt: HostRuntime) {
+    let numbers = (
+        HeaderError::Short.code(),
+        HeaderError::UnsupportedFlags.code(),
+    );
+    assert!(rt; numbers == (1, 4) && HeaderError::BadMagic.name() == "BadMagic");
 }
 
+/// A table with each kind of line.
+const TABLE: &str = "image 0 1.0.0+0 5 4\n\
+    needs 1 1.0.0+0\n\
+    needs-one 1 3.0.0+0 255 255.255.65535+4294967295\n\
+    needs-one 1 4.0.0+0 255 255.255.65535+4294967295\n\
+    request 2.0.0+0 6\n\
+    needs 1 2.0.0+0\n\
+    needs-one 1 3.0.0+0 255 255.255.65535+4294967295\n\
+    needs-one 1 4.0.0+0 255 255.255.65535+4294967295\n\
+    image 1 255.254.65535+4294967295 4294967295 0\n\
+    damaged\n\
+    image 2 0.0.0+0 0 0\n";
+
 #[test]
-fn numbers_are_read_within_their_limits(rt: HostRuntime) {
-    same(&rt, "u32", &ascii::number(b"4294967295"), &Some(4294967295));
-    same(&rt, "above u32", &ascii::number(b"4294967296"), &None);
-    same(&rt, "u8", &ascii::number_u8(b"255"), &Some(255));
-    same(&rt, "above u8", &ascii::number_u8(b"256"), &None);
-    same(&rt, "u16", &ascii::number_u16(b"65535"), &Some(65535));
-    same(&rt, "above u16", &ascii::number_u16(b"65536"), &None);
+fn a_table_is_printed(rt: HostRuntime) -> Result<(), Fail> {
+    let text = Table::parse(TABLE.as_bytes())?.to_string(rt.alloc())?;
+    assert!(rt; text.as_str() == TABLE);
+    Ok(())
+}
+
+/// What runs of a full image, behind its number, and what is requested: the largest numbers.
+const RUNNING: &str = " 255.255.65535+4294967295 4294967295 4294967295\n";
+
+const REQUEST: &str = "request 255.255.65535+4294967295 4294967295\n";
+
+/// What each of them needs: as many dependencies and groups as there is room for.
+const NEEDS: &str = "needs 255 255.255.65535+4294967295\n\
+    needs 255 255.255.65535+4294967295\n\
+    needs 255 255.255.65535+4294967295\n\
+    needs 255 255.255.65535+4294967295\n\
+    needs 255 255.255.65535+4294967295\n\
+    needs 255 255.255.65535+4294967295\n\
+    needs 255 255.255.65535+4294967295\n\
+    needs 255 255.255.65535+4294967295\n\
+    needs 255 255.255.65535+4294967295\n\
+    needs 255 255.255.65535+4294967295\n\
+    needs 255 255.255.65535+4294967295\n\
+    needs 255 255.255.65535+4294967295\n\
+    needs 255 255.255.65535+4294967295\n\
+    needs 255 255.255.65535+4294967295\n\
+    needs 255 255.255.65535+4294967295\n\
+    needs 255 255.255.65535+4294967295\n\
+    needs-one 255 255.255.65535+4294967295 255 255.255.65535+4294967295 255 \
+    255.255.65535+4294967295 255 255.255.65535+4294967295\n\
+    needs-one 255 255.255.65535+4294967295 255 255.255.65535+4294967295 255 \
+    255.255.65535+4294967295 255 255.255.65535+4294967295\n\
+    needs-one 255 255.255.65535+4294967295 255 255.255.65535+4294967295 255 \
+    255.255.65535+4294967295 255 255.255.65535+4294967295\n\
+    needs-one 255 255.255.65535+4294967295 255 255.255.65535+4294967295 255 \
+    255.255.65535+4294967295 255 255.255.65535+4294967295\n";
+
+#[test]
+fn a_full_table_is_printed(rt: HostRuntime) -> Result<(), Fail> {
+    let image = format!(in rt.alloc(); "{RUNNING}{NEEDS}{REQUEST}{NEEDS}")?;
+    let full = format!(in rt.alloc();
+        "image 0{image}image 1{image}image 2{image}image 3{image}\
+        image 4{image}image 5{image}image 6{image}image 7{image}"
+    )?;
+    let printed = Table::parse(full.as_bytes())?.to_string(rt.alloc())?;
+    assert!(rt; printed.as_str() == full.as_str());
+    Ok(())
 }
