@@ -253,16 +253,19 @@ def is_run_after(fault, got, kept, flashes):
         return True
     told = max(at for at in range(len(USUAL)) if out.startswith(numbered(USUAL[:at])))
     # Each event whose reply was told is done, and so is the one whose reply could not be told, or
-    # not to its end.
-    is_stopped = kept == flashes[told + 1]
+    # not to its end. Memory may be refused for what the next event brings, too.
+    is_stopped = kept == flashes[told + 1] or fault == "memory" and kept == flashes[told]
     if fault == "memory":
         is_refused = (status, err) == (0, b"") and out in of_no_memory() and kept == flashes[0]
         return is_refused or got == (1, numbered(USUAL[:told]), b"error: memory\n") and is_stopped
     if fault != "fail":
         return False
     if status == 4:
-        return err == b"error: flash file\n" and out in set(of_no_file())
-    is_unread = err.startswith(b"error: cannot read ") and not out and kept == flashes[0]
+        # The last call that can fail is the sync at the end.
+        is_unsynced = (out, kept) == (numbered(USUAL), flashes[-1])
+        return err == b"error: flash file\n" and (is_unsynced or out in set(of_no_file()))
+    # A file that a line names is read once more as its event comes.
+    is_unread = err.startswith(b"error: cannot read ") and out == numbered(USUAL[:told]) and kept == flashes[told]
     return status == 1 and (is_unread or not err and numbered(USUAL).startswith(out) and is_stopped)
 
 
@@ -327,8 +330,8 @@ def is_other_end_after(fault, got, usual):
     if fault != "fail":
         return False
     is_untold = status == 1 and usual[1].startswith(out) and usual[2].startswith(err)
-    is_unread = status == 1 and err.startswith(b"error: cannot read ") and not out
-    is_unwritten = usual[0] == 3 and got == (4, usual[1], b"error: flash file\n")
+    is_unread = status == 1 and err.startswith(b"error: cannot read ") and is_beginning
+    is_unwritten = bool(out) and got == (4, usual[1], b"error: flash file\n")
     return is_untold or is_unread or is_unwritten
 
 

@@ -62,15 +62,15 @@ def check_block_devices(checks):
 
 
 def check_synced_block_devices(checks):
-    """Each write of a run to a block device is synced before the next one; to a plain file none is."""
+    """Each write of a run to a block device is synced before the next one; to a plain file the last one is."""
     new = new_device(checks)
-    for name, env, synced in [("a block device", as_block_device(checks, new), True), ("a plain file", {}, False)]:
+    for name, env, synced in [("a block device", as_block_device(checks, new), SUM_OF_WRITES), ("a plain file", {}, 1)]:
         checks.file("flash", new)
         env = {**pretending(checks, WRITE_COUNT=f"{checks.folder}/count"), **env}
         given = script_of(WORKED_EVENTS)
         checks.expect(f"a run on {name}", ["run", PAIR, "flash", "-"], 0, numbered(USUAL), given=given, env=env)
         counts = counted(checks)
-        is_right = counts == (SUM_OF_WRITES, synced * SUM_OF_WRITES)
+        is_right = counts == (SUM_OF_WRITES, synced)
         checks.tell(f"a run on {name}: its writes and syncs", [] if is_right else [f"{counts}"])
 
 

@@ -32,7 +32,7 @@ use Rattle.boot_cli.specs.declared.judging.Cut.{Cut}
 use Rattle.boot_cli.specs.declared.judging.Kept.{Kept}
 use Rattle.boot_cli.specs.declared.lines.Lines.{Lines}
 use Rattle.boot_cli.specs.Loading.{AddsCut, AreCutsOf, AreKept, Brings, BringsAll, BringsFirst, FirstCome, IsInputPiece, IsKept, IsNextLine, KeepsKept, Passes, ReadsNow, armed_in, armed_of, came_in, came_of}
-use Rattle.boot_cli.specs.Script.{AllCome, AllCut, Comes, IsCutBy, IsPieceOf, IsRead, IsScript, Known, ReadsFile, StaysKnown, known_after}
+use Rattle.boot_cli.specs.Script.{AllCome, AllCut, Comes, IsCutBy, IsRead, IsScript, Known, ReadsFile, StaysKnown, known_after}
 use Rattle.reading_commands.proofs.AnswerLaws.{Gives-kept}
 use Rattle.reading_commands.proofs.InputLaws.{kept_itself, kept_twice}
 

@@ -27,8 +27,7 @@ use Rattle.answers.proofs.ReplyLaws.{replies_text-push}
 use Rattle.common.specs.Lines.{lines_of}
 use Rattle.reading_commands.specs.Input.{FileBytes}
 use Rattle.boot_cli.specs.declared.judging.Kept.{Kept}
-use Rattle.boot_cli.specs.Loading.{BringsAll, BringsFirst}
-use Rattle.boot_cli.specs.RunEnd.{IsMadeOf, Plays, answer_after, answer_of, armed_chip}
+use Rattle.boot_cli.specs.RunEnd.{IsMadeOf, answer_after, answer_of, armed_chip}
 use Rattle.sweep.specs.Living.{setup_of}
 use Rattle.boot_cli.specs.Script.{came_by}
 use Rattle.boot_cli.specs.Telling.{BreaksEvent, BreaksText, PlaysText, TellsAll, TellsEvent, TellsFirst, TellsSome, TellsText}

@@ -1,5 +1,5 @@
 -- What telling the replies of a device one by one leaves: for the private contracts of `run`.
-use Rattle.std.specs.Prelude.{◌≡◌, ℕ, ◌+◌, ◌≤◌, List, [], ◌∷◌, ◌++◌, length, Option, Some, map, take}
+use Rattle.std.specs.Prelude.{◌≡◌, ℕ, ◌+◌, ◌≤◌, List, [], ◌++◌, length, Option, Some, map, take}
 use Rattle.std.specs.Io.KnownBytes.{Appends}
 use Rattle.common.specs.Lines.{lines_of}
 use Rattle.events.specs.declared.event.Event.{Event}

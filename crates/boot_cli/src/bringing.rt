@@ -152,10 +152,10 @@ fn file_part<'a, 'h, A: Allocator, H: Host>(
         part_at(heap, host, name, 0, 0)?;
         return Err(Refusal::ScriptLine(number));
     };
-    let Some(part) = part_at(heap, host, name, from, count)? else {
+    let Some(piece) = part_at(heap, host, name, from, count)? else {
         return Err(Refusal::ScriptLine(number));
     };
-    Ok(part)
+    Ok(piece)
 }
 
 /// So many bytes of a file from that number on, if it has them.

@@ -7,9 +7,8 @@ use crate::error::Refusal;
 use crate::host::Host;
 use command_line::{Escaped, STANDARD_INPUT};
 use std::alloc::Allocator;
-use std::fmt;
-use std::io;
 use std::io::ErrorKind;
+use std::{fmt, io};
 
 /// What a command reads.
 #[derive(Clone, Copy, Debug)]

@@ -1,4 +1,4 @@
-use Rattle.std.proofs.Common.{◌+◌, ◌∷◌, ◌++◌, [], eqb-true, subst, sym}
+use Rattle.std.proofs.Common.{◌+◌, eqb-true, subst, sym}
 use Rattle.boot_cli.specs.Loading.{came_in, came_of}
 use Rattle.boot_cli.proofs.ScriptLaws.{AreTaken, AreTaken-cut, AreTaken-event, AreTaken-none, BringsAll-taken, came_in-push}
 use Rattle.boot_cli.proofs.loading.bring_all.Goals as goal
