@@ -1,0 +1,106 @@
+//! Calls on trailers, on the log and on slots, on a flash in memory for two images of two sectors.
+
+ghost use Rattle.std.specs.Prelude.{◌≡◌};
+
+use super::states::STEADY;
+use flash_model::{Flash, FlashError, MemFlash, Torn};
+use sector_map::{SectorMap, Side, is_within};
+use set_log::{append, read_state, start};
+use std::alloc::Global;
+use std::marker::Brand;
+use std::process::Abort;
+use std::sync::ledger::{Blank, Ledger};
+use std::test::Fail;
+use swap_scratch::swap_set;
+use trailer::{Kind, Settling, clear, request, set_ok, settle, withdraw};
+
+/// A call, on a trailer or a slot of image 0 where it names none.
+#[derive(Clone, Copy)]
+pub(super) enum Call {
+    /// Clears the secondary trailer and requests the image.
+    Request(Kind),
+    Withdraw,
+    Confirm,
+    Settle(Settling),
+    /// Swaps a set of images.
+    Swap(u8),
+    Begin,
+    Append,
+}
+
+/// What calls leave: the answer of the last one, how many writes there were, and the bytes.
+pub(super) type Outcome = (Result<(), FlashError>, u64, Vec<u8>);
+
+/// Makes a call on a log.
+fn record<F: Flash>(
+    rt: &impl Abort,
+    flash: &mut F,
+    map: &SectorMap,
+    call: Call,
+) -> Result<(), FlashError> {
+    assert!(rt; map.fits(flash) && STEADY.fits(map.images));
+    match call {
+        Call::Append if read_state(flash, map).is_ok() => append(flash, map, &STEADY),
+        _ => start(flash, map, &STEADY),
+    }
+}
+
+/// Makes a call on trailers or slots.
+fn make<F: Flash>(
+    rt: &impl Abort,
+    flash: &mut F,
+    map: &SectorMap,
+    call: Call,
+) -> Result<(), FlashError> {
+    assert!(rt; map.images == 2 && map.fits(flash));
+    match call {
+        Call::Request(kind) => {
+            clear(flash, map, 0, Side::Secondary)?;
+            request(flash, map, 0, kind)
+        }
+        Call::Withdraw => withdraw(flash, map, 0),
+        Call::Confirm => set_ok(flash, map, 0),
+        Call::Settle(settling) => settle(flash, map, 0, settling),
+        Call::Swap(mask) => {
+            assert!(rt; is_within(map, mask));
+            swap_set(flash, map, mask, Side::Primary)
+        }
+        Call::Begin | Call::Append => record(rt, flash, map, call),
+    }
+}
+
+/// Makes calls on a flash of these bytes, whose write of this number is cut and changes nothing.
+fn made<L: Ledger>(
+    rt: &impl Abort,
+    alloc: Global,
+    blank: Blank,
+    bytes: Vec<u8>,
+    cut: u32,
+    calls: &[Call],
+) -> Result<Outcome, Fail>
+    requires name { blank.name ≡ L.name }
+    requires parts { blank.parts ≡ L.parts }
+    requires two { L.parts ≡ 2 }
+{
+    let map = SectorMap::new(512, &[2, 2])?;
+    assert!(rt; bytes.len() % 512 == 0 && bytes.len() < 65536);
+    let mut flash = MemFlash::<L>::from_bytes(alloc, blank, 512, bytes);
+    flash.arm(u64::from(cut), Torn::Keep)?;
+    let mut last = Ok(());
+    for call in calls {
+        last = make(rt, &mut flash, &map, *call);
+    }
+    Ok((last, flash.writes(), Vec::from_slice(alloc, flash.bytes())?))
+}
+
+/// What calls leave on a flash of these bytes, whose write of this number is cut and changes
+/// nothing. Writes are counted from 1.
+pub(super) fn outcome_of(
+    rt: &impl Abort,
+    alloc: Global,
+    bytes: Vec<u8>,
+    cut: u32,
+    calls: &[Call],
+) -> Result<Outcome, Fail> {
+    made::<Brand>(rt, alloc, Blank::new(2), bytes, cut, calls)
+}

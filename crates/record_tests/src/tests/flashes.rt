@@ -1,0 +1,118 @@
+//! Flashes that are longer than their map or off, logs begun on any bytes, and sets of no image. Of
+//! each image the primary trailer is in sector 2 or 5.
+
+use super::calls::{Call, outcome_of};
+use flash_model::FlashError;
+use std::alloc::Global;
+use std::test::Fail;
+use trailer::{Kind, Settling};
+
+/// So many bytes, none of which is 0xFF but those of sector 2 and of sector 5.
+fn odd_bytes(alloc: Global, count: u16) -> Result<Vec<u8>, Fail> {
+    let mut bytes = vec![in alloc; 0; 0]?;
+    for at in 0..count {
+        let is_erased = at / 512 == 2 || at / 512 == 5;
+        bytes.push(if is_erased { 0xff } else { (at % 251) as u8 })?;
+    }
+    Ok(bytes)
+}
+
+/// Every kind of call, with as many appends as pass through the whole ring.
+const EVERY: [Call; 33] = [
+    Call::Swap(0b11),
+    Call::Request(Kind::Test),
+    Call::Withdraw,
+    Call::Request(Kind::Permanent),
+    Call::Withdraw,
+    Call::Settle(Settling::Test),
+    Call::Confirm,
+    Call::Settle(Settling::Permanent),
+    Call::Settle(Settling::Back),
+    Call::Begin,
+    Call::Append,
+    Call::Append,
+    Call::Append,
+    Call::Append,
+    Call::Append,
+    Call::Append,
+    Call::Append,
+    Call::Append,
+    Call::Append,
+    Call::Append,
+    Call::Append,
+    Call::Append,
+    Call::Append,
+    Call::Append,
+    Call::Append,
+    Call::Append,
+    Call::Append,
+    Call::Append,
+    Call::Append,
+    Call::Append,
+    Call::Append,
+    Call::Append,
+    Call::Swap(0b11),
+];
+
+#[test]
+fn sectors_behind_those_of_the_map_stay(rt: HostRuntime) -> Result<(), Fail> {
+    let usual = outcome_of(&rt, rt.alloc(), odd_bytes(rt.alloc(), 8192)?, 0, &EVERY)?;
+    let longer = outcome_of(&rt, rt.alloc(), odd_bytes(rt.alloc(), 9728)?, 0, &EVERY)?;
+    let odd = odd_bytes(rt.alloc(), 9728)?;
+    let is_kept = longer.2.as_slice().starts_with(usual.2.as_slice())
+        && longer.2.as_slice().get(8192..) == odd.as_slice().get(8192..);
+    assert!(rt; is_kept && usual.1 > 100 && longer.0.is_ok() && longer.1 == usual.1);
+    Ok(())
+}
+
+/// The place of a log that has a steady state, and a closing unit that is set.
+const PLACE: [u8; 64] = [
+    1, 0, 0, 0, 1, 0, 0, 0, 0, 0, 0, 0, 5, 0, 0, 0, 0, 0, 0, 0, 0, 0, 0, 0, 0, 0, 0, 0, 0, 0, 0, 0,
+    0, 0, 0, 0, 0, 0, 0, 0, 0, 0, 0, 0, 0, 0, 0, 0, 0, 0, 0, 0, 0, 0, 0, 0, 1, 0xff, 0xff, 0xff,
+    0xff, 0xff, 0xff, 0xff,
+];
+
+#[test]
+fn a_log_is_begun_on_any_bytes(rt: HostRuntime) -> Result<(), Fail> {
+    let odd = odd_bytes(rt.alloc(), 8192)?;
+    let (last, writes, bytes) = outcome_of(
+        &rt,
+        rt.alloc(),
+        odd_bytes(rt.alloc(), 8192)?,
+        0,
+        &[Call::Begin],
+    )?;
+    let bytes = bytes.as_slice();
+    let is_begun = bytes.get(..6656) == odd.as_slice().get(..6656)
+        && bytes.get(6656..6720) == Some(&PLACE[..])
+        && bytes.get(6720..8184) == Some(&[0xff; 1464][..])
+        && bytes.get(8184..) == Some(&PLACE[56..]);
+    assert!(rt; is_begun && last.is_ok() && writes == 6);
+    Ok(())
+}
+
+#[test]
+fn a_swap_of_no_image_writes_nothing(rt: HostRuntime) -> Result<(), Fail> {
+    let bytes = odd_bytes(rt.alloc(), 8192)?;
+    let seen = outcome_of(&rt, rt.alloc(), bytes, 0, &[Call::Swap(0)])?;
+    assert!(rt; seen == (Ok(()), 0, odd_bytes(rt.alloc(), 8192)?));
+    Ok(())
+}
+
+/// Swaps one after the other.
+const SWAPS: [Call; 3] = [Call::Swap(0b01); 3];
+
+#[test]
+fn a_flash_that_is_off_stays_as_it_is(rt: HostRuntime) -> Result<(), Fail> {
+    for count in 1..4 {
+        let bytes = odd_bytes(rt.alloc(), 8192)?;
+        let seen = outcome_of(&rt, rt.alloc(), bytes, 1, &SWAPS[..count])?;
+        let error = if count == 1 {
+            FlashError::Cut
+        } else {
+            FlashError::Off
+        };
+        assert!(rt; seen == (Err(error), 1, odd_bytes(rt.alloc(), 8192)?));
+    }
+    Ok(())
+}
