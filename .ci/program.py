@@ -31,41 +31,43 @@ COST = "45 to 100 minutes of one processor, 1.4 GB of disk"
 # one takes.
 MEMORY, MEMORY_OF_JOB = 2_300_000_000, 800_000_000
 
-# The most processes that are of use to one check.
-MOST_JOBS = 4
+# The most processes that are of use to one check, and how many seconds of a processor a check takes
+# for which one more is of use. Each reads the libraries below for itself.
+MOST_JOBS, SECONDS_OF_JOB = 4, 80
 
 # What the proof of a crate took, in seconds of a processor, in a first build on 4 of them. It says
 # which crates others wait for longest, and nothing else. Lines are a poor guess of it: much of
 # `command_line` and `manifest` is what `clap` and JSON bring.
 SECONDS = {
-    "answers": 215,
-    "boot_cli": 320,
-    "boot_core": 318,
-    "bootswap": 99,
-    "certificate": 183,
-    "chooser": 68,
-    "command_line": 275,
-    "common": 19,
-    "decision": 25,
-    "events": 16,
-    "explaining_commands": 130,
-    "explanations": 125,
-    "file_flash": 31,
-    "flash_model": 66,
-    "image_header": 23,
-    "machine": 45,
-    "making_commands": 200,
-    "manifest": 72,
-    "reading_commands": 115,
-    "script": 48,
-    "sector_map": 30,
-    "set_log": 55,
-    "swap_scratch": 35,
-    "sweep": 100,
-    "tlv": 179,
-    "trailer": 118,
-    "upload": 110,
-    "version_order": 22,
+    "answers": 220,
+    "boot_cli": 481,
+    "boot_core": 378,
+    "bootswap": 136,
+    "certificate": 249,
+    "chooser": 79,
+    "command_line": 389,
+    "common": 24,
+    "decision": 45,
+    "events": 20,
+    "explaining_commands": 152,
+    "explanations": 418,
+    "file_flash": 34,
+    "flash_model": 92,
+    "image_header": 34,
+    "machine": 56,
+    "making_commands": 255,
+    "manifest": 119,
+    "random_numbers": 11,
+    "reading_commands": 171,
+    "script": 58,
+    "sector_map": 45,
+    "set_log": 83,
+    "swap_scratch": 70,
+    "sweep": 245,
+    "tlv": 217,
+    "trailer": 137,
+    "upload": 154,
+    "version_order": 35,
 }
 
 TARGET = "x86_64-unknown-linux-gnu"
@@ -234,7 +236,8 @@ class Build:
             return 0
         longest = max(self.behind[it] for it in [*self.left, *[it for it, _ in self.running.values()]])
         least = 2 if self.behind[crate] == longest and self.processors > 1 else 1
-        return min(MOST_JOBS, max(least, idle // waiting), 1 + int(room // MEMORY_OF_JOB))
+        most = min(MOST_JOBS, 1 + int(crate.seconds // SECONDS_OF_JOB))
+        return min(most, max(least, idle // waiting), 1 + int(room // MEMORY_OF_JOB))
 
     def build(self, crate, jobs):
         """Proves and builds a crate, and returns whether that was done, and what was said."""
