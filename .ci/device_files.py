@@ -20,6 +20,9 @@ NEW = [
     (512, [19], "a", "", [], "4f3f2898-69e3-5a0d-820a-c4e87987dbce", "d1859989-392f-583e-b1fb-abd4977c76ff"),
     (512, 8 * [1], "bootswap.example", "Ger\u00e4t \u00e9\n", [7],
      "048da9f4-c8c8-5402-b4a2-ffb7fe4fdef5", "23210da0-3012-5856-9371-8e50410f204d"),
+    (131072, [5459], "python.org", "sensor", [], VENDOR, SENSOR),
+    (131072, [5459, 5459, 5458, 1], "python.org", "sensor", [], VENDOR, SENSOR),
+    (576, [1], "python.org", "sensor", [], VENDOR, SENSOR),
     (131072, [5459, 5459, 5459], "x.y", "z", [1],
      "b0e7d13f-3549-5b81-8920-1afe47f5feee", "dd83b851-7982-5c1c-b108-0b01299c47ed"),
 ]
@@ -30,8 +33,21 @@ NO_MAPS = [
     (500, [0], "1 BadSector"),
     (0, [1], "1 BadSector"),
     (2**32 - 1, [1], "1 BadSector"),
+    (500, [1], "1 BadSector"),
+    (520, [1], "1 BadSector"),
+    (131136, [1], "1 BadSector"),
+    (500, 9 * [0], "1 BadSector"),
+    (512, [1, 0, 1], "2 BadCount"),
+    (512, 9 * [1], "2 BadCount"),
+    (512, [20, 0], "2 BadCount"),
     (512, [2, 20], "3 TrailerFull"),
+    (512, [20], "3 TrailerFull"),
     (512, [2**32 - 1], "3 TrailerFull"),
+    (131072, [5460], "3 TrailerFull"),
+    (131072, 8 * [2**32 - 1], "3 TrailerFull"),
+    # Every byte has an address: 32768 sectors of 131072 bytes are one byte too many.
+    (131072, 8 * [5459], "4 TooLarge"),
+    (131072, [5459, 5459, 5459, 1], "4 TooLarge"),
 ]
 
 
@@ -116,6 +132,7 @@ STILL_DEVICES = [
 ]
 NO_MAPS_OF_DEVICES = [
     (b'512, "sectors": [2, 2]', b'500, "sectors": []', b"refused map 1 BadSector\n"),
+    (b"[2, 2]", b"[]", b"refused map 2 BadCount\n"),
     (b"[2, 2]", b"[2, 20]", b"refused map 3 TrailerFull\n"),
 ]
 
