@@ -1,232 +1,220 @@
 //! What a flash leaves in bytes that are lent to it, seen once it is gone, by the bytes written
 //! out.
 
-ghost use Rattle.std.specs.Prelude.{◌≡◌, ◌+◌, ◌<◌, ◌≤◌, ◌⊎◌, ℕ, length, slice_index, IfOk, IsTrue};
+ghost use Rattle.std.specs.Prelude.{◌≡◌, ◌+◌, ◌<◌, ◌≤◌, ◌⊎◌, ℕ, length, slice_index, IsTrue};
 
-use crate::tests::same::same;
-use flash_model::{FLAG, Flash, FlashError, is_erased, set_unit};
+use crate::tests::calls::{
+    Answered, CUT, Call, DONE, ERASED, ERASED_1, ERASED_2, ERASED_12, OFF, OLD, PROGRAMMED,
+    PROGRAMMED_01, TORN_1, TORN_PROGRAM, are_answered,
+};
+use flash_model::{FLAG, is_erased, set_unit};
 use slice_flash::{Cut, Left, SliceFlash};
 use std::marker::Brand;
-use std::process::Abort;
 use std::sync::ledger::{Blank, Ledger};
 
-const SIXTEEN: [u8; 16] = [1, 2, 3, 4, 5, 6, 7, 8, 9, 10, 11, 12, 13, 14, 15, 16];
-
-/// What the bytes 5a a5 00 leave in sixteen bytes.
-const TORN: [u8; 16] = [
-    0x5a, 0xa5, 0x00, 0x5a, 0xa5, 0x00, 0x5a, 0xa5, 0x00, 0x5a, 0xa5, 0x00, 0x5a, 0xa5, 0x00, 0x5a,
-];
-
-const DONE: Result<(), FlashError> = Ok(());
-
-const CUT: Result<(), FlashError> = Err(FlashError::Cut);
-
-const OFF: Result<(), FlashError> = Err(FlashError::Off);
-
-/// A call on the flash, which has three sectors of sixteen bytes.
-#[derive(Clone, Copy)]
-enum Step {
-    /// Programs 1 to 16 at an address.
-    Program(u32),
-    Erase(u32),
-    Restart,
-}
-
-/// What comes of a step.
-fn answer<F: Flash>(rt: &impl Abort, flash: &mut F, step: Step) -> Result<(), FlashError> {
-    assert!(rt; flash.sector_size() == 16 && flash.sectors() == 3);
-    match step {
-        Step::Program(at) => {
-            assert!(rt; at % 8 == 0 && at <= 32);
-            assert!(rt; is_erased(flash, at, 16) == Ok(true));
-            flash.program(at, &SIXTEEN)
-        }
-        Step::Erase(sector) => {
-            assert!(rt; sector < 3);
-            flash.erase(sector)
-        }
-        Step::Restart => {
-            flash.restart();
-            Ok(())
-        }
-    }
-}
-
-/// Takes these steps on a flash over the bytes, each of which has to answer what stands beside it.
-fn play<L: Ledger>(
-    rt: &impl Abort,
-    blank: Blank,
-    bytes: &mut [u8],
-    table: &[Cut<'_>],
-    steps: &[(Step, Result<(), FlashError>)],
-)
+/// Makes these calls on a flash over the bytes, and tells whether each answered as it has to.
+fn play<L: Ledger>(blank: Blank, bytes: &mut [u8], table: &[Cut<'_>], calls: &[Answered]) -> bool
     requires name { blank.name ≡ L.name }
     requires parts { blank.parts ≡ L.parts }
     requires two { L.parts ≡ 2 }
     requires whole { length bytes.old ≡ 48 }
 {
     let mut flash = SliceFlash::<L>::new(blank, bytes, 16, table);
-    for (step, expected) in steps {
-        same(rt, "the answer", &answer(rt, &mut flash, *step), expected);
-    }
+    are_answered(&mut flash, calls)
 }
 
-/// 48 bytes that were all the same, after these steps.
-fn played(
-    rt: &impl Abort,
-    fill: u8,
-    table: &[Cut<'_>],
-    steps: &[(Step, Result<(), FlashError>)],
-) -> [u8; 48] {
-    let mut bytes = [fill; 48];
-    play::<Brand>(rt, Blank::new(2), &mut bytes, table, steps);
-    bytes
+/// Whether bytes are those wanted after these calls, each of which answered as it has to.
+fn are_left(before: &[u8; 48], table: &[Cut<'_>], calls: &[Answered], wanted: &[u8; 48]) -> bool {
+    let mut bytes = *before;
+    play::<Brand>(Blank::new(2), &mut bytes, table, calls) && bytes == *wanted
 }
 
-/// 48 bytes that are all the same but for sixteen in a row.
-fn around(all: u8, at: usize, range: &[u8; 16]) -> [u8; 48]
-    requires { at + 16 ≤ 48 }
-{
-    let mut bytes = [all; 48];
-    bytes[at..at + 16].copy_from_slice(range);
-    bytes
-}
+type Played = (
+    [u8; 48],
+    &'static [Cut<'static>],
+    &'static [Answered],
+    [u8; 48],
+);
 
-#[test]
-fn a_cut_program_leaves_what_the_table_says(rt: HostRuntime) {
-    for (left, bytes) in [
-        (Left::Keep, [0xff; 48]),
-        (Left::Done, around(0xff, 8, &SIXTEEN)),
-        (Left::Bytes(&[0x5a, 0xa5, 0x00]), around(0xff, 8, &TORN)),
-        (Left::Bytes(&[]), [0xff; 48]),
-    ] {
-        let seen = played(
-            &rt,
-            0xff,
-            &[Cut { write: 1, left }],
-            &[(Step::Program(8), CUT)],
-        );
-        same(&rt, "the bytes", &seen, &bytes);
-    }
-}
+const TORN: Left<'static> = Left::Bytes(&[0x5a, 0xa5, 0x00]);
 
-#[test]
-fn a_cut_erase_leaves_what_the_table_says(rt: HostRuntime) {
-    for (left, bytes) in [
-        (Left::Keep, [0x07; 48]),
-        (Left::Done, around(0x07, 16, &[0xff; 16])),
-        (Left::Bytes(&[0x5a, 0xa5, 0x00]), around(0x07, 16, &TORN)),
-        (Left::Bytes(&[]), [0x07; 48]),
-    ] {
-        let seen = played(
-            &rt,
-            0x07,
-            &[Cut { write: 1, left }],
-            &[(Step::Erase(1), CUT)],
-        );
-        same(&rt, "the bytes", &seen, &bytes);
-    }
-}
+const PROGRAM: &[Answered] = &[(Call::Program, CUT)];
 
-#[test]
-fn writes_that_the_table_does_not_name_are_done(rt: HostRuntime) {
-    let steps = [
-        (Step::Erase(0), DONE),
-        (Step::Program(0), DONE),
-        (Step::Erase(1), DONE),
-    ];
-    let table = [
-        Cut {
-            write: 0,
-            left: Left::Keep,
-        },
-        Cut {
-            write: 4,
-            left: Left::Keep,
-        },
-    ];
-    let mut bytes = around(0x07, 0, &SIXTEEN);
-    bytes[16..32].fill(0xff);
-    same(&rt, "the bytes", &played(&rt, 0x07, &table, &steps), &bytes);
-}
+const ERASE: &[Answered] = &[(Call::Erase(1), CUT)];
 
-#[test]
-fn a_write_that_is_refused_is_not_counted(rt: HostRuntime) {
-    let steps = [
-        (Step::Erase(0), CUT),
-        (Step::Erase(0), OFF),
-        (Step::Erase(2), OFF),
-        (Step::Restart, DONE),
-        (Step::Erase(2), CUT),
-        (Step::Restart, DONE),
-        (Step::Erase(1), DONE),
-    ];
-    let table = [
-        Cut {
+/// The bytes before, the table, the calls, and the bytes in the end: a program and an erase that are
+/// cut in each way; writes that the table doesn't name; writes that are refused; and two rows for a
+/// write.
+const PLAYED: [Played; 11] = [
+    (
+        ERASED,
+        &[Cut {
             write: 1,
             left: Left::Keep,
-        },
-        Cut {
-            write: 2,
-            left: Left::Done,
-        },
-    ];
-    let mut bytes = around(0x07, 16, &[0xff; 16]);
-    bytes[32..].fill(0xff);
-    same(&rt, "the bytes", &played(&rt, 0x07, &table, &steps), &bytes);
-}
-
-#[test]
-fn of_two_rows_for_a_write_the_first_counts(rt: HostRuntime) {
-    let table = [
-        Cut {
-            write: 2,
-            left: Left::Bytes(&[0]),
-        },
-        Cut {
+        }],
+        PROGRAM,
+        ERASED,
+    ),
+    (
+        ERASED,
+        &[Cut {
             write: 1,
             left: Left::Done,
-        },
-        Cut {
+        }],
+        PROGRAM,
+        PROGRAMMED,
+    ),
+    (
+        ERASED,
+        &[Cut {
+            write: 1,
+            left: TORN,
+        }],
+        PROGRAM,
+        TORN_PROGRAM,
+    ),
+    (
+        ERASED,
+        &[Cut {
+            write: 1,
+            left: Left::Bytes(&[]),
+        }],
+        PROGRAM,
+        ERASED,
+    ),
+    (
+        OLD,
+        &[Cut {
             write: 1,
             left: Left::Keep,
-        },
-    ];
-    let seen = played(&rt, 0x07, &table, &[(Step::Erase(2), CUT)]);
-    same(&rt, "the bytes", &seen, &around(0x07, 32, &[0xff; 16]));
+        }],
+        ERASE,
+        OLD,
+    ),
+    (
+        OLD,
+        &[Cut {
+            write: 1,
+            left: Left::Done,
+        }],
+        ERASE,
+        ERASED_1,
+    ),
+    (
+        OLD,
+        &[Cut {
+            write: 1,
+            left: TORN,
+        }],
+        ERASE,
+        TORN_1,
+    ),
+    (
+        OLD,
+        &[Cut {
+            write: 1,
+            left: Left::Bytes(&[]),
+        }],
+        ERASE,
+        OLD,
+    ),
+    (
+        OLD,
+        &[
+            Cut {
+                write: 0,
+                left: Left::Keep,
+            },
+            Cut {
+                write: 4,
+                left: Left::Keep,
+            },
+        ],
+        &[
+            (Call::Erase(0), DONE),
+            (Call::Erase(1), DONE),
+            (Call::Program, DONE),
+        ],
+        PROGRAMMED_01,
+    ),
+    (
+        OLD,
+        &[
+            Cut {
+                write: 1,
+                left: Left::Keep,
+            },
+            Cut {
+                write: 2,
+                left: Left::Done,
+            },
+        ],
+        &[
+            (Call::Erase(0), CUT),
+            (Call::Erase(0), OFF),
+            (Call::Erase(2), OFF),
+            (Call::Restart, DONE),
+            (Call::Erase(2), CUT),
+            (Call::Restart, DONE),
+            (Call::Erase(1), DONE),
+        ],
+        ERASED_12,
+    ),
+    (
+        OLD,
+        &[
+            Cut {
+                write: 2,
+                left: Left::Bytes(&[0]),
+            },
+            Cut {
+                write: 1,
+                left: Left::Done,
+            },
+            Cut {
+                write: 1,
+                left: Left::Keep,
+            },
+        ],
+        &[(Call::Erase(2), CUT)],
+        ERASED_2,
+    ),
+];
+
+#[test]
+fn writes_are_cut_as_the_first_row_for_them_says(rt: HostRuntime) {
+    let mut are_right = true;
+    for (before, table, calls, wanted) in &PLAYED {
+        are_right = are_left(before, table, calls, wanted) && are_right;
+    }
+    assert!(rt; are_right);
 }
 
-/// Sets the second unit of bytes that are lent, where it is erased. Both calls of the flash are
+/// Sets the second unit of bytes that are lent, where it is erased, and tells whether it did. Both calls of the flash are
 /// generic in it, and what they leave is known of the bytes once the flash is gone.
-fn set_second_unit<L: Ledger>(blank: Blank, bytes: &mut [u8]) -> Result<bool, FlashError>
+fn set_second_unit<L: Ledger>(blank: Blank, bytes: &mut [u8]) -> bool
     requires name { blank.name ≡ L.name }
     requires parts { blank.parts ≡ L.parts }
     requires two { L.parts ≡ 2 }
     requires whole { length bytes.old ≡ 48 }
     ensures beside { (k : ℕ) → (k < 8) ⊎ (16 ≤ k)
         → slice_index bytes.new k ≡ slice_index bytes.old k }
-    ensures set { IfOk result (λ yes. IsTrue yes → (i : ℕ) → i < 8
-        → slice_index bytes.new (8 + i) ≡ slice_index FLAG i) }
+    ensures set { IsTrue result → (i : ℕ) → i < 8
+        → slice_index bytes.new (8 + i) ≡ slice_index FLAG i }
 {
     let mut flash = SliceFlash::<L>::new(blank, bytes, 16, &[]);
-    let is_free = is_erased(&mut flash, 8, 8)?;
-    if is_free {
-        set_unit(&mut flash, 8)?;
-    }
-    Ok(is_free)
+    is_erased(&mut flash, 8, 8) == Ok(true) && set_unit(&mut flash, 8).is_ok()
 }
 
-fn second_unit_set(bytes: &mut [u8; 48]) -> Result<bool, FlashError> {
+fn second_unit_set(bytes: &mut [u8; 48]) -> bool {
     set_second_unit::<Brand>(Blank::new(2), bytes)
 }
 
 #[test]
 fn a_unit_is_set_in_bytes_that_are_lent(rt: HostRuntime) {
-    let mut bytes = [0xff; 48];
-    same(&rt, "the answer", &second_unit_set(&mut bytes), &Ok(true));
-    let mut wanted = [0xff; 48];
+    let mut bytes = ERASED;
+    let answers = [second_unit_set(&mut bytes), second_unit_set(&mut bytes)];
+    let mut wanted = ERASED;
     wanted[8] = 0x01;
-    same(&rt, "the bytes", &bytes, &wanted);
-    same(&rt, "the answer", &second_unit_set(&mut bytes), &Ok(false));
-    same(&rt, "the bytes", &bytes, &wanted);
+    assert!(rt; answers == [true, false] && bytes == wanted);
 }
