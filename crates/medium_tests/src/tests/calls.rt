@@ -1,4 +1,4 @@
-//! Calls on a flash of three sectors of sixteen bytes, one after the other, and what they leave.
+//! Calls on a flash of four sectors of eight bytes, one after the other, and what they leave.
 
 ghost use Rattle.std.specs.Prelude.{◌≡◌};
 
@@ -26,7 +26,7 @@ const SIXTEEN: [u8; 16] = [1, 2, 3, 4, 5, 6, 7, 8, 9, 10, 11, 12, 13, 14, 15, 16
 
 /// What comes of a call, where the flash may be asked for it.
 fn answer<F: Flash>(flash: &mut F, call: Call) -> Option<Result<(), FlashError>> {
-    if flash.sector_size() != 16 || flash.sectors() != 3 {
+    if flash.sector_size() != 8 || flash.sectors() != 4 {
         return None;
     }
     match call {
@@ -37,7 +37,7 @@ fn answer<F: Flash>(flash: &mut F, call: Call) -> Option<Result<(), FlashError>>
             Some(flash.program(8, &SIXTEEN))
         }
         Call::Erase(sector) => {
-            if sector > 2 {
+            if sector > 3 {
                 return None;
             }
             Some(flash.erase(sector))
@@ -58,56 +58,47 @@ pub fn are_answered<F: Flash>(flash: &mut F, calls: &[Answered]) -> bool {
     are_right
 }
 
-/// The flash where each byte is erased, and where each is another one.
-pub const ERASED: [u8; 48] = [0xff; 48];
+/// The bytes of a flash, eight in a number, the first one on top.
+pub fn words_of(bytes: &[u8]) -> [u64; 4] {
+    let mut words = [0; 4];
+    for (at, byte) in bytes.iter().enumerate() {
+        let word = &mut words[at / 8 % 4];
+        *word = *word << 8 | u64::from(*byte);
+    }
+    words
+}
 
-pub const OLD: [u8; 48] = [0x07; 48];
+/// A sector that is erased, and one that isn't; both that are programmed; and both that are torn
+/// into the bytes 5a a5 00.
+const FREE: u64 = 0xffff_ffff_ffff_ffff;
 
-/// An erased flash after a program, and after one that was torn into the bytes 5a a5 00.
-pub const PROGRAMMED: [u8; 48] = [
-    0xff, 0xff, 0xff, 0xff, 0xff, 0xff, 0xff, 0xff, 1, 2, 3, 4, 5, 6, 7, 8, 9, 10, 11, 12, 13, 14,
-    15, 16, 0xff, 0xff, 0xff, 0xff, 0xff, 0xff, 0xff, 0xff, 0xff, 0xff, 0xff, 0xff, 0xff, 0xff,
-    0xff, 0xff, 0xff, 0xff, 0xff, 0xff, 0xff, 0xff, 0xff, 0xff,
-];
+const USED: u64 = 0x0707_0707_0707_0707;
 
-pub const TORN_PROGRAM: [u8; 48] = [
-    0xff, 0xff, 0xff, 0xff, 0xff, 0xff, 0xff, 0xff, 0x5a, 0xa5, 0, 0x5a, 0xa5, 0, 0x5a, 0xa5, 0,
-    0x5a, 0xa5, 0, 0x5a, 0xa5, 0, 0x5a, 0xff, 0xff, 0xff, 0xff, 0xff, 0xff, 0xff, 0xff, 0xff, 0xff,
-    0xff, 0xff, 0xff, 0xff, 0xff, 0xff, 0xff, 0xff, 0xff, 0xff, 0xff, 0xff, 0xff, 0xff,
-];
+const FIRST: u64 = 0x0102_0304_0506_0708;
 
-/// The other flash after an erase of its sector 1, and after one that was torn so.
-pub const ERASED_1: [u8; 48] = [
-    7, 7, 7, 7, 7, 7, 7, 7, 7, 7, 7, 7, 7, 7, 7, 7, 0xff, 0xff, 0xff, 0xff, 0xff, 0xff, 0xff, 0xff,
-    0xff, 0xff, 0xff, 0xff, 0xff, 0xff, 0xff, 0xff, 7, 7, 7, 7, 7, 7, 7, 7, 7, 7, 7, 7, 7, 7, 7, 7,
-];
+const SECOND: u64 = 0x090a_0b0c_0d0e_0f10;
 
-pub const TORN_1: [u8; 48] = [
-    7, 7, 7, 7, 7, 7, 7, 7, 7, 7, 7, 7, 7, 7, 7, 7, 0x5a, 0xa5, 0, 0x5a, 0xa5, 0, 0x5a, 0xa5, 0,
-    0x5a, 0xa5, 0, 0x5a, 0xa5, 0, 0x5a, 7, 7, 7, 7, 7, 7, 7, 7, 7, 7, 7, 7, 7, 7, 7, 7,
-];
+const TORN: u64 = 0x5aa5_005a_a500_5aa5;
 
-/// The other flash after erases of its sectors 0 and 1, and after a program then.
-pub const ERASED_01: [u8; 48] = [
-    0xff, 0xff, 0xff, 0xff, 0xff, 0xff, 0xff, 0xff, 0xff, 0xff, 0xff, 0xff, 0xff, 0xff, 0xff, 0xff,
-    0xff, 0xff, 0xff, 0xff, 0xff, 0xff, 0xff, 0xff, 0xff, 0xff, 0xff, 0xff, 0xff, 0xff, 0xff, 0xff,
-    7, 7, 7, 7, 7, 7, 7, 7, 7, 7, 7, 7, 7, 7, 7, 7,
-];
+const TORN_TOO: u64 = 0x005a_a500_5aa5_005a;
 
-pub const PROGRAMMED_01: [u8; 48] = [
-    0xff, 0xff, 0xff, 0xff, 0xff, 0xff, 0xff, 0xff, 1, 2, 3, 4, 5, 6, 7, 8, 9, 10, 11, 12, 13, 14,
-    15, 16, 0xff, 0xff, 0xff, 0xff, 0xff, 0xff, 0xff, 0xff, 7, 7, 7, 7, 7, 7, 7, 7, 7, 7, 7, 7, 7,
-    7, 7, 7,
-];
+/// An erased flash, after a program, and after one that was torn.
+pub const ERASED: [u64; 4] = [FREE; 4];
 
-/// The other flash after erases of its sectors 1 and 2, and of sector 2 alone.
-pub const ERASED_12: [u8; 48] = [
-    7, 7, 7, 7, 7, 7, 7, 7, 7, 7, 7, 7, 7, 7, 7, 7, 0xff, 0xff, 0xff, 0xff, 0xff, 0xff, 0xff, 0xff,
-    0xff, 0xff, 0xff, 0xff, 0xff, 0xff, 0xff, 0xff, 0xff, 0xff, 0xff, 0xff, 0xff, 0xff, 0xff, 0xff,
-    0xff, 0xff, 0xff, 0xff, 0xff, 0xff, 0xff, 0xff,
-];
+pub const PROGRAMMED: [u64; 4] = [FREE, FIRST, SECOND, FREE];
 
-pub const ERASED_2: [u8; 48] = [
-    7, 7, 7, 7, 7, 7, 7, 7, 7, 7, 7, 7, 7, 7, 7, 7, 7, 7, 7, 7, 7, 7, 7, 7, 7, 7, 7, 7, 7, 7, 7, 7,
-    0xff, 0xff, 0xff, 0xff, 0xff, 0xff, 0xff, 0xff, 0xff, 0xff, 0xff, 0xff, 0xff, 0xff, 0xff, 0xff,
-];
+pub const TORN_PROGRAM: [u64; 4] = [FREE, TORN, TORN_TOO, FREE];
+
+/// A flash of which each byte is 7, after erases of some sectors, after one that was torn, and after
+/// a program.
+pub const OLD: [u64; 4] = [USED; 4];
+
+pub const ERASED_1: [u64; 4] = [USED, FREE, USED, USED];
+
+pub const ERASED_2: [u64; 4] = [USED, USED, FREE, USED];
+
+pub const ERASED_12: [u64; 4] = [USED, FREE, FREE, USED];
+
+pub const TORN_1: [u64; 4] = [USED, TORN, USED, USED];
+
+pub const PROGRAMMED_12: [u64; 4] = [USED, FIRST, SECOND, USED];

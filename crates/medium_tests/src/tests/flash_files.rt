@@ -4,7 +4,7 @@
 ghost use Rattle.std.specs.Prelude.{◌≡◌, ◌+◌, ◌≤◌, Some};
 
 use crate::tests::calls::{
-    Answered, CUT, Call, DONE, ERASED_01, ERASED_1, OFF, OLD, PROGRAMMED_01, are_answered,
+    Answered, CUT, Call, DONE, ERASED_1, ERASED_12, OFF, OLD, PROGRAMMED_12, are_answered, words_of,
 };
 use file_flash::{FileFlash, FlashFile};
 use flash_model::{MemFlash, Torn};
@@ -45,8 +45,8 @@ struct Story {
     cut: u8,
     failing: usize,
     calls: &'static [Answered],
-    memory: [u8; 48],
-    file: [u8; 48],
+    memory: [u64; 4],
+    file: [u64; 4],
     writes: [usize; 3],
 }
 
@@ -64,12 +64,12 @@ fn flash_of<L: Ledger, M: Ledger>(
     requires memory_two { M.parts ≡ 2 }
 {
     let file = RecordedFile {
-        bytes: Vec::from_slice(alloc, &OLD)?,
+        bytes: vec![in alloc; 0x07; 32]?,
         writes: [0; 3],
         failing: story.failing,
     };
-    let bytes = Vec::from_slice(alloc, &OLD)?;
-    let mut memory = MemFlash::<M>::from_bytes(alloc, blanks.1, 16, bytes);
+    let bytes = vec![in alloc; 0x07; 32]?;
+    let mut memory = MemFlash::<M>::from_bytes(alloc, blanks.1, 8, bytes);
     memory.arm(u64::from(story.cut), Torn::Done)?;
     Ok(FileFlash::over(memory, blanks.0, file))
 }
@@ -78,8 +78,8 @@ fn flash_of<L: Ledger, M: Ledger>(
 fn is_at_end<L: Ledger, M: Ledger>(flash: &FileFlash<RecordedFile, L, M>, story: &Story) -> bool {
     let file = flash.file();
     flash.has_failed() == (story.failing > 0)
-        && flash.bytes() == story.memory.as_slice()
-        && file.bytes.as_slice() == story.file.as_slice()
+        && words_of(flash.bytes()) == story.memory
+        && words_of(&file.bytes) == story.file
         && file.writes == story.writes
 }
 
@@ -114,25 +114,25 @@ const STORIES: [Story; 3] = [
             (Call::Erase(1), CUT),
             (Call::Erase(0), OFF),
             (Call::Restart, DONE),
-            (Call::Erase(0), DONE),
+            (Call::Erase(2), DONE),
         ],
-        memory: ERASED_01,
-        file: ERASED_01,
-        writes: [2, 0, 16],
+        memory: ERASED_12,
+        file: ERASED_12,
+        writes: [2, 16, 8],
     },
     Story {
         cut: 0,
         failing: 3,
         calls: &[
-            (Call::Erase(0), DONE),
             (Call::Erase(1), DONE),
+            (Call::Erase(2), DONE),
             (Call::Program, CUT),
-            (Call::Erase(2), OFF),
+            (Call::Erase(0), OFF),
             (Call::Restart, DONE),
-            (Call::Erase(2), CUT),
+            (Call::Erase(0), CUT),
         ],
-        memory: PROGRAMMED_01,
-        file: ERASED_01,
+        memory: PROGRAMMED_12,
+        file: ERASED_12,
         writes: [3, 8, 16],
     },
     Story {
@@ -146,7 +146,7 @@ const STORIES: [Story; 3] = [
         ],
         memory: ERASED_1,
         file: OLD,
-        writes: [1, 16, 16],
+        writes: [1, 8, 8],
     },
 ];
 

@@ -5,7 +5,7 @@ ghost use Rattle.std.specs.Prelude.{◌≡◌, ◌+◌, ◌<◌, ◌≤◌, ◌�
 
 use crate::tests::calls::{
     Answered, CUT, Call, DONE, ERASED, ERASED_1, ERASED_2, ERASED_12, OFF, OLD, PROGRAMMED,
-    PROGRAMMED_01, TORN_1, TORN_PROGRAM, are_answered,
+    PROGRAMMED_12, TORN_1, TORN_PROGRAM, are_answered, words_of,
 };
 use flash_model::{FLAG, is_erased, set_unit};
 use slice_flash::{Cut, Left, SliceFlash};
@@ -17,109 +17,60 @@ fn play<L: Ledger>(blank: Blank, bytes: &mut [u8], table: &[Cut<'_>], calls: &[A
     requires name { blank.name ≡ L.name }
     requires parts { blank.parts ≡ L.parts }
     requires two { L.parts ≡ 2 }
-    requires whole { length bytes.old ≡ 48 }
+    requires whole { length bytes.old ≡ 32 }
 {
-    let mut flash = SliceFlash::<L>::new(blank, bytes, 16, table);
+    let mut flash = SliceFlash::<L>::new(blank, bytes, 8, table);
     are_answered(&mut flash, calls)
 }
 
-/// Whether bytes are those wanted after these calls, each of which answered as it has to.
-fn are_left(before: &[u8; 48], table: &[Cut<'_>], calls: &[Answered], wanted: &[u8; 48]) -> bool {
-    let mut bytes = *before;
-    play::<Brand>(Blank::new(2), &mut bytes, table, calls) && bytes == *wanted
+/// Whether bytes that were all the same are those wanted after these calls, each of which answered
+/// as it has to.
+fn are_left(before: u8, table: &[Cut<'_>], calls: &[Answered], wanted: &[u64; 4]) -> bool {
+    let mut bytes = [before; 32];
+    play::<Brand>(Blank::new(2), &mut bytes, table, calls) && words_of(&bytes) == *wanted
 }
 
-type Played = (
-    [u8; 48],
-    &'static [Cut<'static>],
-    &'static [Answered],
-    [u8; 48],
-);
+/// Each byte before, the table, the calls, and the bytes in the end.
+type Played = (u8, &'static [Cut<'static>], &'static [Answered], [u64; 4]);
 
-const TORN: Left<'static> = Left::Bytes(&[0x5a, 0xa5, 0x00]);
+/// Each way to cut the first write.
+const KEPT: &[Cut<'static>] = &[Cut {
+    write: 1,
+    left: Left::Keep,
+}];
+
+const WHOLE: &[Cut<'static>] = &[Cut {
+    write: 1,
+    left: Left::Done,
+}];
+
+const TORN: &[Cut<'static>] = &[Cut {
+    write: 1,
+    left: Left::Bytes(&[0x5a, 0xa5, 0x00]),
+}];
+
+const NO_BYTES: &[Cut<'static>] = &[Cut {
+    write: 1,
+    left: Left::Bytes(&[]),
+}];
 
 const PROGRAM: &[Answered] = &[(Call::Program, CUT)];
 
 const ERASE: &[Answered] = &[(Call::Erase(1), CUT)];
 
-/// The bytes before, the table, the calls, and the bytes in the end: a program and an erase that are
-/// cut in each way; writes that the table doesn't name; writes that are refused; and two rows for a
+/// A program and an erase that are cut in each way; writes that the table doesn't name; writes that are refused; and two rows for a
 /// write.
 const PLAYED: [Played; 11] = [
+    (0xff, KEPT, PROGRAM, ERASED),
+    (0xff, WHOLE, PROGRAM, PROGRAMMED),
+    (0xff, TORN, PROGRAM, TORN_PROGRAM),
+    (0xff, NO_BYTES, PROGRAM, ERASED),
+    (0x07, KEPT, ERASE, OLD),
+    (0x07, WHOLE, ERASE, ERASED_1),
+    (0x07, TORN, ERASE, TORN_1),
+    (0x07, NO_BYTES, ERASE, OLD),
     (
-        ERASED,
-        &[Cut {
-            write: 1,
-            left: Left::Keep,
-        }],
-        PROGRAM,
-        ERASED,
-    ),
-    (
-        ERASED,
-        &[Cut {
-            write: 1,
-            left: Left::Done,
-        }],
-        PROGRAM,
-        PROGRAMMED,
-    ),
-    (
-        ERASED,
-        &[Cut {
-            write: 1,
-            left: TORN,
-        }],
-        PROGRAM,
-        TORN_PROGRAM,
-    ),
-    (
-        ERASED,
-        &[Cut {
-            write: 1,
-            left: Left::Bytes(&[]),
-        }],
-        PROGRAM,
-        ERASED,
-    ),
-    (
-        OLD,
-        &[Cut {
-            write: 1,
-            left: Left::Keep,
-        }],
-        ERASE,
-        OLD,
-    ),
-    (
-        OLD,
-        &[Cut {
-            write: 1,
-            left: Left::Done,
-        }],
-        ERASE,
-        ERASED_1,
-    ),
-    (
-        OLD,
-        &[Cut {
-            write: 1,
-            left: TORN,
-        }],
-        ERASE,
-        TORN_1,
-    ),
-    (
-        OLD,
-        &[Cut {
-            write: 1,
-            left: Left::Bytes(&[]),
-        }],
-        ERASE,
-        OLD,
-    ),
-    (
-        OLD,
+        0x07,
         &[
             Cut {
                 write: 0,
@@ -131,14 +82,14 @@ const PLAYED: [Played; 11] = [
             },
         ],
         &[
-            (Call::Erase(0), DONE),
+            (Call::Erase(2), DONE),
             (Call::Erase(1), DONE),
             (Call::Program, DONE),
         ],
-        PROGRAMMED_01,
+        PROGRAMMED_12,
     ),
     (
-        OLD,
+        0x07,
         &[
             Cut {
                 write: 1,
@@ -161,7 +112,7 @@ const PLAYED: [Played; 11] = [
         ERASED_12,
     ),
     (
-        OLD,
+        0x07,
         &[
             Cut {
                 write: 2,
@@ -185,7 +136,7 @@ const PLAYED: [Played; 11] = [
 fn writes_are_cut_as_the_first_row_for_them_says(rt: HostRuntime) {
     let mut are_right = true;
     for (before, table, calls, wanted) in &PLAYED {
-        are_right = are_left(before, table, calls, wanted) && are_right;
+        are_right = are_left(*before, table, calls, wanted) && are_right;
     }
     assert!(rt; are_right);
 }
@@ -196,25 +147,25 @@ fn set_second_unit<L: Ledger>(blank: Blank, bytes: &mut [u8]) -> bool
     requires name { blank.name ≡ L.name }
     requires parts { blank.parts ≡ L.parts }
     requires two { L.parts ≡ 2 }
-    requires whole { length bytes.old ≡ 48 }
+    requires whole { length bytes.old ≡ 32 }
     ensures beside { (k : ℕ) → (k < 8) ⊎ (16 ≤ k)
         → slice_index bytes.new k ≡ slice_index bytes.old k }
     ensures set { IsTrue result → (i : ℕ) → i < 8
         → slice_index bytes.new (8 + i) ≡ slice_index FLAG i }
 {
-    let mut flash = SliceFlash::<L>::new(blank, bytes, 16, &[]);
+    let mut flash = SliceFlash::<L>::new(blank, bytes, 8, &[]);
     is_erased(&mut flash, 8, 8) == Ok(true) && set_unit(&mut flash, 8).is_ok()
 }
 
-fn second_unit_set(bytes: &mut [u8; 48]) -> bool {
+fn second_unit_set(bytes: &mut [u8; 32]) -> bool {
     set_second_unit::<Brand>(Blank::new(2), bytes)
 }
 
 #[test]
 fn a_unit_is_set_in_bytes_that_are_lent(rt: HostRuntime) {
-    let mut bytes = ERASED;
+    let mut bytes = [0xff; 32];
     let answers = [second_unit_set(&mut bytes), second_unit_set(&mut bytes)];
-    let mut wanted = ERASED;
+    let mut wanted = [0xff; 32];
     wanted[8] = 0x01;
     assert!(rt; answers == [true, false] && bytes == wanted);
 }

@@ -4,20 +4,21 @@ ghost use Rattle.std.specs.Prelude.{◌≡◌};
 
 use crate::tests::calls::{
     Answered, CUT, Call, DONE, ERASED, ERASED_12, OFF, OLD, TORN_1, TORN_PROGRAM, are_answered,
+    words_of,
 };
 use flash_model::{MemFlash, Torn, is_erased};
 use std::alloc::{AllocError, Global};
 use std::marker::Brand;
 use std::sync::ledger::{Blank, Ledger};
 
-/// The bytes before, the writes that are done before any is armed, the writes that are armed then
+/// Each byte before, the writes that are done before any is armed, the writes that are armed then
 /// and the bytes that they leave, the calls, the bytes in the end, and the writes and erases in all.
 struct Story {
-    before: [u8; 48],
+    before: u8,
     done: &'static [Answered],
     armed: &'static [(u8, &'static [u8])],
     calls: &'static [Answered],
-    after: [u8; 48],
+    after: [u64; 4],
     counts: [u64; 2],
 }
 
@@ -39,13 +40,13 @@ fn is_told<L: Ledger>(alloc: Global, blank: Blank, story: &Story) -> Result<bool
     requires parts { blank.parts ≡ L.parts }
     requires two { L.parts ≡ 2 }
 {
-    let bytes = Vec::from_slice(alloc, &story.before)?;
-    let mut flash = MemFlash::<L>::from_bytes(alloc, blank, 16, bytes);
+    let bytes = vec![in alloc; story.before; 32]?;
+    let mut flash = MemFlash::<L>::from_bytes(alloc, blank, 8, bytes);
     let is_done = are_answered(&mut flash, story.done);
     arm(alloc, &mut flash, story.armed)?;
     let are_right = are_answered(&mut flash, story.calls) && is_done;
     let counts = [flash.writes(), flash.erases()];
-    Ok(are_right && counts == story.counts && flash.bytes() == story.after.as_slice())
+    Ok(are_right && counts == story.counts && words_of(flash.bytes()) == story.after)
 }
 
 fn is_seen(alloc: Global, story: &Story) -> Result<bool, AllocError> {
@@ -57,7 +58,7 @@ fn is_seen(alloc: Global, story: &Story) -> Result<bool, AllocError> {
 /// is refused and one more is done.
 const STORIES: [Story; 5] = [
     Story {
-        before: ERASED,
+        before: 0xff,
         done: &[],
         armed: &[(1, &[0x5a, 0xa5, 0x00])],
         calls: &[(Call::Program, CUT)],
@@ -65,7 +66,7 @@ const STORIES: [Story; 5] = [
         counts: [1, 0],
     },
     Story {
-        before: OLD,
+        before: 0x07,
         done: &[],
         armed: &[(1, &[0x5a, 0xa5, 0x00])],
         calls: &[(Call::Erase(1), CUT)],
@@ -73,7 +74,7 @@ const STORIES: [Story; 5] = [
         counts: [1, 0],
     },
     Story {
-        before: ERASED,
+        before: 0xff,
         done: &[],
         armed: &[(1, &[])],
         calls: &[(Call::Program, CUT)],
@@ -81,7 +82,7 @@ const STORIES: [Story; 5] = [
         counts: [1, 0],
     },
     Story {
-        before: OLD,
+        before: 0x07,
         done: &[],
         armed: &[(1, &[])],
         calls: &[(Call::Erase(1), CUT)],
@@ -89,7 +90,7 @@ const STORIES: [Story; 5] = [
         counts: [1, 0],
     },
     Story {
-        before: OLD,
+        before: 0x07,
         done: &[(Call::Erase(1), DONE)],
         armed: &[(2, &[]), (2, &[0]), (0, &[0]), (1, &[0])],
         calls: &[
