@@ -89,8 +89,8 @@ pub const PROGRAMMED: [u64; 4] = [FREE, FIRST, SECOND, FREE];
 
 pub const TORN_PROGRAM: [u64; 4] = [FREE, TORN, TORN_TOO, FREE];
 
-/// A flash of which each byte is 7, after erases of some sectors, after one that was torn, and after
-/// a program.
+/// A flash of which each byte is 7, after erases of the sectors named, after one that was torn, and
+/// after a program.
 pub const OLD: [u64; 4] = [USED; 4];
 
 pub const ERASED_1: [u64; 4] = [USED, FREE, USED, USED];

@@ -58,8 +58,8 @@ const PROGRAM: &[Answered] = &[(Call::Program, CUT)];
 
 const ERASE: &[Answered] = &[(Call::Erase(1), CUT)];
 
-/// A program and an erase that are cut in each way; writes that the table doesn't name; writes that are refused; and two rows for a
-/// write.
+/// A program and an erase that are cut in each way; writes that the table doesn't name; writes that
+/// are refused; and two rows for a write.
 const PLAYED: [Played; 11] = [
     (0xff, KEPT, PROGRAM, ERASED),
     (0xff, WHOLE, PROGRAM, PROGRAMMED),
@@ -141,8 +141,9 @@ fn writes_are_cut_as_the_first_row_for_them_says(rt: HostRuntime) {
     assert!(rt; are_right);
 }
 
-/// Sets the second unit of bytes that are lent, where it is erased, and tells whether it did. Both calls of the flash are
-/// generic in it, and what they leave is known of the bytes once the flash is gone.
+/// Sets the second unit of bytes that are lent, where it is erased, and tells whether it did. Both
+/// calls of the flash are generic in it, and what they leave is known of the bytes once the flash is
+/// gone.
 fn set_second_unit<L: Ledger>(blank: Blank, bytes: &mut [u8]) -> bool
     requires name { blank.name ≡ L.name }
     requires parts { blank.parts ≡ L.parts }
