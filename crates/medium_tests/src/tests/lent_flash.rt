@@ -142,8 +142,8 @@ fn writes_are_cut_as_the_first_row_for_them_says(rt: HostRuntime) {
 }
 
 /// Sets the second unit of bytes that are lent, where it is erased, and tells whether it did. Both
-/// calls of the flash are generic in it, and what they leave is known of the bytes once the flash is
-/// gone.
+/// calls of the flash are generic in it, and what they leave is known of the bytes once the flash
+/// is gone.
 fn set_second_unit<L: Ledger>(blank: Blank, bytes: &mut [u8]) -> bool
     requires name { blank.name ≡ L.name }
     requires parts { blank.parts ≡ L.parts }

@@ -11,7 +11,8 @@ use std::marker::Brand;
 use std::sync::ledger::{Blank, Ledger};
 
 /// Each byte before, the writes that are done before any is armed, the writes that are armed then
-/// and the bytes that they leave, the calls, the bytes in the end, and the writes and erases in all.
+/// and the bytes that they leave, the calls, the bytes in the end, and the writes and erases in
+/// all.
 struct Story {
     before: u8,
     done: &'static [Answered],
@@ -53,8 +54,8 @@ fn is_seen(alloc: Global, story: &Story) -> Result<bool, AllocError> {
 }
 
 /// An erase that is torn; a program and an erase that are torn into no bytes; and an erase of which
-/// the first of two arms counts, beside arms for no write and for one that is over, behind which one
-/// is refused and one more is done.
+/// the first of two arms counts, beside arms for no write and for one that is over, behind which
+/// one is refused and one more is done.
 const STORIES: [Story; 4] = [
     Story {
         before: 0x07,
