@@ -387,6 +387,40 @@ def check_scripts(checks):
     checks.expect("explained: no table", ["choose", "nothing", "--explain"], 1, b"", told)
 
 
+def check_uploads(checks):
+    """Of each upload that a run refuses, what the manifest says, and what the device has or what came."""
+    flash_of(checks)
+    abc, follows = component(), 64 * "0f"[:1]
+    for name, changes in [
+        ("first", {"sequence_number": 5, "components": [abc]}),
+        ("lower", {"sequence_number": 4, "components": [abc]}),
+        ("wide", {"sequence_number": 6, "components": [component(component_id=1, size=1025), abc]}),
+        ("after", {"sequence_number": 6, "components": [component(precursor_digest=follows)]}),
+    ]:
+        checks.file(name, manifest(**changes))
+    checks.file("abcd", b"abcd")
+    script = "boot\naccept first\naccept lower\naccept wide\naccept after\npiece 0 abcd\n"
+    script += "accept first\npiece 0 abcd 0 2\nfinish 0\naccept first\npiece 0 abcd 0 3\nfinish 0\n"
+    status, out, err = checks.run(["run", PAIR, "flash", "-", "--explain"], given=script.encode())
+    codes = [line.split()[4] for line in out.splitlines() if b" refused upload " in line]
+    wanted = noted(
+        b"of reply 3:",
+        b"the manifest has the sequence number 4, and one with a higher number was accepted",
+        b"of reply 4:",
+        b"the file for image 1 has 1025 bytes, and its slot 1024",
+        b"of reply 5:",
+        b"the file for image 0 follows the image %s" % follows.encode(),
+        b"of reply 6:",
+        b"the manifest says 3 bytes for image 0, and 4 came",
+        b"of reply 9:",
+        b"the manifest says 3 bytes for image 0, and 2 came",
+        b"of reply 12:",
+    )
+    names = b"OldSequence TooBig WrongPrecursor TooMuch SizeWrong NotAnImage".split()
+    is_good = (status, codes) == (1, names) and err.startswith(wanted) and err.count(b"\n") == wanted.count(b"\n") + 1
+    checks.tell("explained: uploads that a run refuses", [] if is_good else [repr((status, codes, err))])
+
+
 def check_replies(checks):
     """Of the replies of a run: a manifest that is refused, an upload whose bytes are others, and a request."""
     flash_of(checks)
@@ -416,6 +450,7 @@ def check_replies(checks):
     )
     is_good = status == 0 and out.count(b"refuse 1 older\n") == 1 and err == wanted
     checks.tell("explained: replies of a run", [] if is_good else [repr((status, out, err))])
+    check_uploads(checks)
     checks.file("needing", image(protected=(DEPENDENCY,), own=version(1)))
     told = noted(b"image 0: 1.0.0+0 needs image 1 from 2.3.4+5 on, which is 1.0.0+0")
     words = ["provision", PAIR, "unmade", "needing", ONE, "--explain"]

@@ -155,6 +155,19 @@ def check_little_is_read(checks):
         checks.tell(name, [] if taken == most else [f"{taken} bytes, and not {most}"])
 
 
+def check_pieces_are_read(checks):
+    """Of a plain file of which lines name parts these alone are read: to judge the line, and as its event comes."""
+    flash = len(flash_of(checks))
+    checks.file("long", 2_000_000 * b" ")
+    script = checks.file("script", b"boot\npiece 0 long 5 10\npiece 1 long 1999000 1000\n")
+    words = ["run", PAIR, "flash", script]
+    told = numbered([PLAIN, *2 * ["refused upload 3 NoSession"]])
+    checks.expect("how much is read: parts of a file: replies", words, 1, told, env=with_fault(checks, "none"))
+    most = os.path.getsize(PAIR) + flash + os.path.getsize(f"{checks.folder}/script") + 2 * (10 + 1000)
+    taken = told_in(checks, "taken")
+    checks.tell("how much is read: parts of a file", [] if taken == most else [f"{taken} bytes, and not {most}"])
+
+
 def is_made_after(fault, got, left, kept, made, refusal):
     """Whether a command that makes a file may end so and leave these files, where it found the first others, and makes
     the second. `refusal` is how it ends where its file can't be made."""
@@ -379,6 +392,7 @@ CHECKS = (
     check_explained_faults,
     check_failed_reads,
     check_little_is_read,
+    check_pieces_are_read,
     check_making_faults,
     check_run_faults,
     check_other_ends,

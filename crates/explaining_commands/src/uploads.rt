@@ -84,14 +84,27 @@ pub fn explain_opening<A: Allocator>(
     manifest: &Manifest,
     error: UploadError,
 ) -> Result<(), AllocError> {
-    if error == UploadError::OldSequence {
-        let sequence = manifest.sequence;
-        return writeln!(
-            notes,
-            "note: the manifest has the sequence number {sequence}, and one with a higher number \
-             was accepted"
-        );
+    match error {
+        UploadError::OldSequence => {
+            let sequence = manifest.sequence;
+            writeln!(
+                notes,
+                "note: the manifest has the sequence number {sequence}, and one with a higher \
+                 number was accepted"
+            )
+        }
+        UploadError::TooBig => explain_sizes(notes, map, manifest),
+        UploadError::WrongPrecursor => explain_precursors(notes, manifest),
+        _ => Ok(()),
     }
+}
+
+/// Adds which files are longer than their slots.
+fn explain_sizes<A: Allocator>(
+    notes: &mut String<&A>,
+    map: &SectorMap,
+    manifest: &Manifest,
+) -> Result<(), AllocError> {
     for component in manifest.components.as_slice() {
         let (image, size) = (component.image, component.size);
         if image < map.images && size > map.slot_length(image) {
@@ -100,6 +113,22 @@ pub fn explain_opening<A: Allocator>(
                 notes,
                 "note: the file for image {image} has {size} bytes, and its slot {most}"
             )?;
+        }
+    }
+    Ok(())
+}
+
+/// Adds which images have to run for the files of a manifest to come.
+fn explain_precursors<A: Allocator>(
+    notes: &mut String<&A>,
+    manifest: &Manifest,
+) -> Result<(), AllocError> {
+    for component in manifest.components.as_slice() {
+        if let Some(precursor) = component.precursor {
+            let image = component.image;
+            write!(notes, "note: the file for image {image} follows the image ")?;
+            add_digits(notes, precursor.as_slice())?;
+            writeln!(notes)?;
         }
     }
     Ok(())
@@ -130,14 +159,6 @@ fn explain_bytes<A: Allocator>(
             writeln!(notes)
         }
         UploadError::NotAnImage(fault) => explain_image(notes, upload.bytes.as_slice(), fault),
-        UploadError::WrongPrecursor => match upload.component.precursor {
-            Some(precursor) => {
-                write!(notes, "note: the file for image {image} follows the image ")?;
-                add_digits(notes, precursor.as_slice())?;
-                writeln!(notes)
-            }
-            None => Ok(()),
-        },
         _ => Ok(()),
     }
 }
