@@ -7,3 +7,4 @@ pub mod Withdrawal
 pub mod Marks
 pub mod SizeUnits
 pub mod StatusUnits
+pub mod BlankFields

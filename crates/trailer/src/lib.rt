@@ -7,6 +7,7 @@
 //! trailers through `boot_core` alone.
 #![tactic(auto)]
 
+mod blank;
 mod clearing;
 mod fields;
 mod format;
@@ -22,6 +23,7 @@ mod trailer_reading;
 mod units;
 mod withdrawing;
 
+pub use blank::is_blank;
 pub use clearing::clear;
 pub use format::MAGIC;
 pub use kinds::{Kind, Magic, Settling, SwapType, Trailer};

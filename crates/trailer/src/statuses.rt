@@ -14,7 +14,7 @@ use sector_map::{SectorMap, Side};
 
 /// How many status units a trailer has: three for each sector of the slot.
 #[tactic(auto, using(crate::proofs::StatusUnits::status_fit))]
-fn status_units(map: &SectorMap, image: u8) -> u32
+pub(crate) fn status_units(map: &SectorMap, image: u8) -> u32
     requires { image < map.now.images }
     ensures count { result ≡ 3 * slot_sectors map.now image }
     ensures fit { 8 * result + WITHDRAWN ≤ map.now.sector_size }

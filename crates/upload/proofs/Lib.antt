@@ -15,3 +15,4 @@ pub mod TakenRow
 pub mod Finished
 pub mod FinishRow
 pub mod Worn
+pub mod StandingLaws

@@ -17,3 +17,4 @@ pub mod Accepting
 pub mod Adding
 pub mod Finishing
 pub mod Withdrawing
+pub mod Standing

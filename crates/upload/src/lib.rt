@@ -17,6 +17,7 @@ mod opening;
 mod pieces;
 mod sessions;
 mod slots;
+mod standing;
 mod withdrawing;
 
 pub use error::UploadError;

@@ -1,0 +1,69 @@
+//! Whether a trailer says nothing.
+
+ghost use Rattle.std.specs.Prelude.{◌≡◌, ◌↔◌, IsTrue};
+ghost use Rattle.sector_map.specs.Map.{HasImage};
+ghost use Rattle.trailer.specs.Fields.{erased_fields, fields_at, trailer_of};
+ghost use Rattle.trailer.specs.Reads.{Decides, Tells};
+
+use crate::kinds::{Magic, Trailer};
+use crate::sizes::read_size;
+use crate::statuses::status_units;
+use crate::trailer_reading::read_trailer;
+use flash_model::{Flash, FlashError, UNIT, is_erased};
+use sector_map::{SectorMap, Side};
+
+/// Whether none of these fields is set.
+fn says_nothing(trailer: &Trailer) -> bool
+    ensures { IsTrue result ↔ (trailer.now ≡ trailer_of erased_fields) }
+{
+    matches!(
+        trailer,
+        Trailer {
+            magic: Magic::Unset,
+            copy_done: false,
+            image_ok: false,
+            withdrawn: false,
+        }
+    )
+}
+
+/// Whether the status units of a trailer are erased.
+#[tactic(auto, using(crate::proofs::Places::trailer_fits))]
+fn are_statuses_erased<F: Flash>(
+    flash: &mut F,
+    map: &SectorMap,
+    image: u8,
+    side: Side,
+) -> Result<bool, FlashError>
+    requires { HasImage map.now image (F.chip flash.old) }
+    ensures { Tells (fields_at map.now (F.chip flash.old) image side).is_fresh
+        (F.chip flash.old) (F.chip flash.new) result }
+{
+    let length = UNIT * status_units(map, image);
+    let erased = is_erased(flash, map.trailer_start(image, side), length)?;
+    Ok(erased)
+}
+
+/// Whether the trailer behind a slot reads as an erased one: no field of it is set, and no status
+/// unit. Bytes that belong to none of these are not looked at. Does not allocate.
+///
+/// The map is laid out on the flash, and has the image, which is told by its number from 0.
+///
+/// # Errors
+/// `Off` where the flash was off. Nothing changes in any case.
+#[tactic(auto, using(crate::proofs::BlankFields::blank_fields))]
+pub fn is_blank<F: Flash>(
+    flash: &mut F,
+    map: &SectorMap,
+    image: u8,
+    side: Side,
+) -> Result<bool, FlashError>
+    requires { HasImage map.now image (F.chip flash.old) }
+    ensures { Decides (fields_at map.now (F.chip flash.old) image side ≡ erased_fields)
+        (F.chip flash.old) (F.chip flash.new) result }
+{
+    let trailer = read_trailer(flash, map, image, side)?;
+    let size = read_size(flash, map, image, side)?;
+    let is_fresh = are_statuses_erased(flash, map, image, side)?;
+    Ok(is_fresh && size.is_none() && says_nothing(&trailer))
+}

@@ -1,0 +1,128 @@
+-- Uploads that were kept elsewhere, and what has to be so of the flash for them to stand.
+use Rattle.std.proofs.Common.{◌≡◌, ℕ, ◌+◌, ◌<◌, ◌↔◌, Bool, IsTrue, Option, Some, List, ◌++◌, length, take, drop, replicate, arith, sym, ◌∙◌, ap, subst, length-drop}
+use Rattle.std.proofs.lemmas.List.{ext_get_or, get_or-drop, get_or-replicate, length-replicate, length-take-le, take-append-drop}
+use Rattle.std.proofs.Math.Seq.{take-append_seam}
+use Rattle.flash_model.specs.Chip.{Chip, IsErased}
+use Rattle.sector_map.specs.declared.layout.SectorMap.{SectorMap}
+use Rattle.sector_map.specs.declared.layout.Side.TheVariants.{Secondary}
+use Rattle.sector_map.specs.Part.{Slot}
+use Rattle.sector_map.specs.Map.{IsLaidOut, length_of, start_of}
+use Rattle.sector_map.proofs.PartBytes.{length_part, part_erased_at}
+use Rattle.trailer.specs.Fields.{erased_fields, fields_at}
+use Rattle.trailer.specs.Standing.{incoming_slot}
+use Rattle.upload.specs.View.{View, view}
+use Rattle.upload.specs.Sessions.{IsOpenAt, IsUploadAt, IsWritten}
+use Rattle.upload.specs.Standing.{HasCounts}
+use Rattle.upload.specs.declared.sessions.Upload.{Upload}
+use Rattle.upload.proofs.Writing.{behind_erased}
+
+-- a slot that is erased from a place on is what it begins with, and erased behind it
+pub erased_is_written : (map : SectorMap) (chip : Chip) (image at n : ℕ) → IsLaidOut map chip
+    → at + n ≡ length_of map (Slot image Secondary)
+    → IsErased chip (start_of map (Slot image Secondary) + at) n
+    → IsWritten (incoming_slot map chip image) (take at (incoming_slot map chip image))
+erased_is_written map chip image at n laid whole erased =
+    let slot = incoming_slot map chip image in
+    let long : length slot ≡ length_of map (Slot image Secondary) = length_part map chip (Slot image Secondary) laid in
+    let tail_long : length (drop at slot) ≡ length (replicate n 0xff) =
+    length-drop at slot ∙ omega (arith, long, length-replicate {A = ℕ} n 0xff) in
+    let tail : drop at slot ≡ replicate n 0xff = ext_get_or 0 (drop at slot) (replicate n 0xff) tail_long (λ k lt.
+    let below : k < n = omega (arith, tail_long, length-replicate {A = ℕ} n 0xff) in
+    get_or-drop at slot k 0
+    ∙ part_erased_at map chip (Slot image Secondary) (start_of map (Slot image Secondary) + at) n (at + k) erased
+    (omega arith) (omega arith) (omega arith)
+    ∙ sym (get_or-replicate n k 0xff 0 below)) in
+    record { left = n; is = sym (take-append-drop at slot) ∙ ap (λ l. take at slot ++ l) tail }
+
+-- a test of the bytes behind a place is one of what the slot begins with
+pub tells_written : (map : SectorMap) (chip : Chip) (image at n : ℕ) (told : Bool) → IsLaidOut map chip
+    → at + n ≡ length_of map (Slot image Secondary)
+    → (IsTrue told ↔ IsErased chip (start_of map (Slot image Secondary) + at) n)
+    → IsTrue told ↔ IsWritten (incoming_slot map chip image) (take at (incoming_slot map chip image))
+tells_written map chip image at n told laid whole tells =
+    let slot = incoming_slot map chip image in
+    let long : length slot ≡ length_of map (Slot image Secondary) = length_part map chip (Slot image Secondary) laid in (
+      λ yes. erased_is_written map chip image at n laid whole (tells.0 yes),
+      λ written. tells.1 (behind_erased map chip image at n (take at slot) laid
+          (length-take-le at slot (omega (arith, long))) written (omega arith)),
+    )
+
+-- an upload of such counts stands where the slot is so and the trailer reads as an erased one
+pub counts_open : (map : SectorMap) (chip : Chip) (image written : ℕ) (upload : Upload) → IsLaidOut map chip
+    → HasCounts map image written upload
+    → IsWritten (incoming_slot map chip image) (take written (incoming_slot map chip image))
+    → fields_at map chip image Secondary ≡ erased_fields → IsOpenAt (view map chip) image upload
+counts_open map chip image written upload laid counts slot blank =
+    let bytes = incoming_slot map chip image in
+    let long : length bytes ≡ length_of map (Slot image Secondary) = length_part map chip (Slot image Secondary) laid in
+    let front : length (take written bytes) ≡ written =
+    length-take-le written bytes (omega (arith, long, counts.count, counts.fits, counts.room)) in (
+      take written bytes,
+      record {
+        there = counts.there;
+        units = (counts.units.0, front ∙ counts.units.1);
+        slot = slot;
+        trailer = blank;
+        few = counts.few;
+        count = counts.count ∙ ap (λ n. n + length upload.held.items) (sym front);
+        fits = counts.fits;
+        room = omega (arith, long, counts.room);
+      },
+    )
+
+-- and one that stands has such counts, ..
+pub open_counts : (map : SectorMap) (chip : Chip) (image : ℕ) (upload : Upload) (written : List ℕ) → IsLaidOut map chip
+    → IsUploadAt (view map chip) image upload written → HasCounts map image (length written) upload
+open_counts map chip image upload written laid stands = record {
+  there = stands.there;
+  few = stands.few;
+  count = stands.count;
+  units = stands.units;
+  fits = stands.fits;
+  room = omega (arith, stands.room, length_part map chip (Slot image Secondary) laid);
+}
+
+-- .. of which there is one, ..
+pub one_count : (map : SectorMap) (image a b : ℕ) (upload : Upload) → HasCounts map image a upload
+    → HasCounts map image b upload → a ≡ b
+one_count map image a b upload first second = omega (arith, first.count, second.count)
+
+-- .. and what is written of it is what the slot begins with
+pub written_front : (slot written : List ℕ) → IsWritten slot written → IsWritten slot (take (length written) slot)
+written_front slot written was =
+    let front : take (length written) slot ≡ written =
+    ap (λ l. take (length written) l) was.is ∙ take-append_seam written (replicate was.left 0xff) in
+    subst (λ l. IsWritten slot l) (sym front) was
+
+-- an upload stands where such counts, slot and trailer are found, and nowhere else
+pub tells_open : (map : SectorMap) (chip : Chip) (image written : ℕ) (upload : Upload) (erased blank : Bool)
+    → IsLaidOut map chip → HasCounts map image written upload
+    → (IsTrue erased ↔ IsWritten (incoming_slot map chip image) (take written (incoming_slot map chip image)))
+    → (IsTrue blank ↔ (fields_at map chip image Secondary ≡ erased_fields))
+    → (IsTrue erased → IsTrue blank → IsOpenAt (view map chip) image upload)
+    × (IsOpenAt (view map chip) image upload → IsTrue erased × IsTrue blank)
+tells_open map chip image written upload erased blank laid counts slot trailer = (
+  λ yes also. counts_open map chip image written upload laid counts (slot.0 yes) (trailer.0 also),
+  λ stands.
+      let same = one_count map image (length stands.0) written upload
+      (open_counts map chip image upload stands.0 laid stands.1) counts in (
+        slot.1 (subst (λ n. IsWritten (incoming_slot map chip image) (take n (incoming_slot map chip image))) same
+            (written_front (incoming_slot map chip image) stands.0 stands.1.slot)),
+        trailer.1 stands.1.trailer,
+      ),
+)
+
+-- an upload without such counts doesn't stand
+pub no_counts : (map : SectorMap) (chip : Chip) (image : ℕ) (upload : Upload) → IsLaidOut map chip
+    → ((written : ℕ) → HasCounts map image written upload → ⊥) → IsOpenAt (view map chip) image upload → ⊥
+no_counts map chip image upload laid never stands =
+    never (length stands.0) (open_counts map chip image upload stands.0 laid stands.1)
+
+-- of one upload, and of it if it is there
+pub tells_one : (w : View) (image : ℕ) (told : Option Upload) (upload : Upload) (answer : Bool) → told ≡ Some upload
+    → (IsTrue answer ↔ IsOpenAt w image upload)
+    → IsTrue answer ↔ ((u : Upload) → told ≡ Some u → IsOpenAt w image u)
+tells_one w image told upload answer is tells = (
+  λ said u same. subst (λ v. IsOpenAt w image v) (let e : Some upload ≡ Some u = sym is ∙ same in cc) (tells.0 said),
+  λ all. tells.1 (all upload is),
+)

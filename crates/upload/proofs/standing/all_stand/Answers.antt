@@ -1,0 +1,41 @@
+use Rattle.std.proofs.Common.{rules, ◌≡◌, ◌<◌, ◌≤◌, ◌↔◌, true, false, IsTrue, Some, None, length, refl, sym, ◌∙◌, subst, arith, ⊎_elim}
+use Rattle.std.proofs.lemmas.Bool.{cases_lt, false≢true}
+use Rattle.std.proofs.lemmas.List.{get_or_default, get_or_past}
+use Rattle.upload.specs.Sessions.{AllOpenAt, IsOpenAt, upload_at}
+use Rattle.upload.specs.View.{view}
+use Rattle.upload.specs.declared.sessions.Upload.{Upload}
+use Rattle.upload.proofs.standing.all_stand.Goals as goal
+
+none_some : (u : Upload) → None ≡ Some u → ⊥
+none_some u e = cc
+
+pub returns-then-not-is_standing : goal.returns-then-not-is_standing
+returns-then-not-is_standing g c =
+    let map = c.args.map.now in
+    let chip = g.F.Flash.chip c.args.flash.now in
+    let image = c.loop-image.image in
+    let ok : IsTrue false ↔ AllOpenAt (view map chip) c.args.sessions.now = (
+      λ e. absurd (false≢true e),
+      λ all.
+          let there : upload_at c.args.sessions.now image ≡ c.index-sessions-image.result =
+          get_or_default c.args.sessions.now image None _ (omega (arith, c.loop-image-test.true)) ∙ sym c.index-sessions-image.is in
+          let wrong : c.in_ok-is_standing.is_standing ≡ true = c.in_ok-is_standing.ensures.ok.1 (λ u e.
+          subst (λ k. IsOpenAt (view map k) image u) (sym c.loop-image.invariant.same)
+          (all image u (there ∙ e))) in
+          absurd (false≢true (sym c.if-not-is_standing.true ∙ wrong)),
+    ) in
+    search (rules, ok)
+
+pub returns : goal.returns
+returns g c =
+    let map = c.args.map.now in
+    let chip = g.F.Flash.chip c.args.flash.now in
+    let sessions = c.args.sessions.now in
+    let ok : IsTrue true ↔ AllOpenAt (view map chip) sessions = (
+      λ e i u is. ⊎_elim
+          (λ (lt : i < length sessions). c.loop-image.invariant.each i u (omega (arith, c.loop-image-test.false)) is)
+          (λ (ge : length sessions ≤ i). absurd (none_some u (sym (get_or_past sessions i None ge) ∙ is)))
+          (cases_lt i (length sessions)),
+      λ all. refl,
+    ) in
+    search (rules, ok)

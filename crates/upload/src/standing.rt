@@ -1,0 +1,138 @@
+//! Whether uploads that were kept elsewhere stand on a flash.
+
+ghost use Rattle.std.specs.Prelude.{◌≡◌, ◌↔◌, ◌≤◌, ℕ, IfOk, Some, IsTrue, length, take};
+ghost use Rattle.std.specs.Prelude.{IfSome, None};
+ghost use Rattle.sector_map.specs.Map.{HasImage, IsLaidOut, length_of};
+ghost use Rattle.sector_map.specs.Part.{Slot};
+ghost use Rattle.sector_map.specs.declared.layout.Side.TheVariants.{Secondary};
+ghost use Rattle.trailer.specs.Reads.{Decides};
+ghost use Rattle.trailer.specs.Standing.{incoming_slot};
+ghost use Rattle.upload.specs.Sessions.{AllOpenAt, IsOpenAt, IsWritten};
+ghost use Rattle.upload.specs.Standing.{HasCounts};
+ghost use Rattle.upload.specs.View.{view};
+ghost use Rattle.upload.specs.declared.sessions.Upload.{Upload};
+
+use crate::sessions::{UNIT, Upload, Uploads};
+use common::limits::MOST_IMAGES;
+use flash_model::{Flash, FlashError, is_erased};
+use sector_map::{SectorMap, Side};
+use trailer::is_blank;
+
+/// How many bytes of an upload are written, where its counts fit each other and the slot of its
+/// image.
+fn written_of(map: &SectorMap, image: u8, upload: &Upload) -> Option<u32>
+    ensures some { IfSome result (λ written. HasCounts map.now image written upload.now) }
+    ensures none { result ≡ None → (written : ℕ) → HasCounts map.now image written upload.now → ⊥ }
+{
+    let held = upload.held.len();
+    if image >= map.images || held >= UNIT || upload.received < held as u32 {
+        return None;
+    }
+    let written = upload.received - held as u32;
+    if written % UNIT as u32 != 0 || upload.size < upload.received {
+        return None;
+    }
+    if map.slot_length(image) < upload.size {
+        return None;
+    }
+    Some(written)
+}
+
+/// Whether a secondary slot is erased behind so many bytes.
+fn is_erased_behind<F: Flash>(
+    flash: &mut F,
+    map: &SectorMap,
+    image: u8,
+    at: u32,
+) -> Result<bool, FlashError>
+    requires image { HasImage map.now image (F.chip flash.old) }
+    requires within { at ≤ length_of map.now (Slot image Secondary) }
+    ensures { Decides (IsWritten (incoming_slot map.now (F.chip flash.old) image)
+        (take at (incoming_slot map.now (F.chip flash.old) image)))
+        (F.chip flash.old) (F.chip flash.new) result }
+{
+    let start = map.slot_start(image, Side::Secondary);
+    let erased = is_erased(flash, start + at, map.slot_length(image) - at)?;
+    Ok(erased)
+}
+
+/// Whether an upload of an image stands on the flash.
+fn stands<F: Flash>(
+    flash: &mut F,
+    map: &SectorMap,
+    image: u8,
+    upload: &Upload,
+) -> Result<bool, FlashError>
+    requires { IsLaidOut map.now (F.chip flash.old) }
+    ensures { Decides (IsOpenAt (view map.now (F.chip flash.old)) image upload.now)
+        (F.chip flash.old) (F.chip flash.new) result }
+{
+    let Some(written) = written_of(map, image, upload) else {
+        return Ok(false);
+    };
+    let is_erased = is_erased_behind(flash, map, image, written)?;
+    let is_blank = is_blank(flash, map, image, Side::Secondary)?;
+    Ok(is_erased && is_blank)
+}
+
+/// Whether the upload of an image stands on the flash, if one is open.
+#[tactic(auto, using(crate::proofs::StandingLaws::tells_one))]
+fn stands_if_open<F: Flash>(
+    flash: &mut F,
+    map: &SectorMap,
+    image: u8,
+    upload: &Option<Upload>,
+) -> Result<bool, FlashError>
+    requires { IsLaidOut map.now (F.chip flash.old) }
+    ensures { Decides ((u : Upload) → upload.now ≡ Some u
+        → IsOpenAt (view map.now (F.chip flash.old)) image u)
+        (F.chip flash.old) (F.chip flash.new) result }
+{
+    match upload {
+        Some(upload) => {
+            let is_standing = stands(flash, map, image, upload)?;
+            Ok(is_standing)
+        }
+        None => Ok(true),
+    }
+}
+
+/// Whether each open upload of a table, which has an entry an image, stands on the flash.
+fn all_stand<F: Flash>(
+    flash: &mut F,
+    map: &SectorMap,
+    sessions: &[Option<Upload>],
+) -> Result<bool, FlashError>
+    requires laid_out { IsLaidOut map.now (F.chip flash.old) }
+    requires few { length sessions.now ≤ MOST_IMAGES }
+    ensures { Decides (AllOpenAt (view map.now (F.chip flash.old)) sessions.now)
+        (F.chip flash.old) (F.chip flash.new) result }
+{
+    for image in 0..sessions.len() {
+        let is_standing = stands_if_open(flash, map, image as u8, &sessions[image])?;
+        if !is_standing {
+            return Ok(false);
+        }
+    }
+    Ok(true)
+}
+
+impl Uploads {
+    /// Whether each open upload stands on the flash as the calls that opened and filled it left it:
+    /// what was written is whole units of its image's secondary slot, the slot is erased behind
+    /// them, its trailer reads as an erased one, and the bytes that came fit the slot. It is for
+    /// who keeps uploads elsewhere between calls, and can't know what became of the flash.
+    ///
+    /// The map is laid out on the flash. It reads the slots of the open uploads behind what was
+    /// written. Does not allocate.
+    ///
+    /// # Errors
+    /// `Off` where the flash was off. Nothing changes in any case.
+    pub fn stand<F: Flash>(&self, flash: &mut F, map: &SectorMap) -> Result<bool, FlashError>
+        requires { IsLaidOut map.now (F.chip flash.old) }
+        ensures { Decides (AllOpenAt (view map.now (F.chip flash.old)) self.now.sessions)
+            (F.chip flash.old) (F.chip flash.new) result }
+    {
+        all_stand(flash, map, &self.sessions)
+    }
+}
