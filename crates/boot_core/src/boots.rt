@@ -92,8 +92,16 @@ pub(crate) fn conclude(reply: Reply, is_up: &mut bool) -> Result<Reply, Fault>
     }
 }
 
-/// Boots a device: its uploads end, and it is up where the boot answers.
-pub(crate) fn boot_device<F: Flash>(
+/// Boots a device, as `Device::boot`, with its errors: its uploads end, and it is up where the boot
+/// answers.
+///
+/// - `flash`, `map`: the map is laid out on the flash.
+/// - `uploads`: any, of which none is open then.
+/// - `is_up`: whether the device is up.
+/// - `left`: how many boots a trial that begins has after this one, 0 to 6.
+///
+/// Does not allocate.
+pub fn boot_device<F: Flash>(
     flash: &mut F,
     map: &SectorMap,
     uploads: &mut Uploads,

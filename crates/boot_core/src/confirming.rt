@@ -73,8 +73,16 @@ pub(crate) fn confirm<F: Flash>(
     }
 }
 
-/// Confirms an image of a device that is up.
-pub(crate) fn confirm_on<F: Flash>(
+/// Confirms an image of the set on trial, told by its number from 0, as `Device::confirm`, with its
+/// errors.
+///
+/// - `flash`, `map`: the map is laid out on the flash.
+/// - `uploads`: those that are open, which stand on the flash.
+/// - `is_up`: whether the device is up.
+///
+/// Where the flash stopped the call no upload is open then, and the device isn't up. Does not
+/// allocate.
+pub fn confirm_on<F: Flash>(
     flash: &mut F,
     map: &SectorMap,
     uploads: &mut Uploads,

@@ -157,8 +157,16 @@ pub(crate) fn accept<F: Flash>(
     open_uploads(flash, map, identity, uploads, is_up, &manifest)
 }
 
-/// Takes a manifest that was read already.
-pub(crate) fn accept_manifest<F: Flash>(
+/// Takes a manifest that was read already, as `Device::accept_manifest`, with its errors.
+///
+/// - `flash`, `map`: the map is laid out on the flash.
+/// - `identity`: has as many images as the map.
+/// - `uploads`: those that are open, which stand on the flash.
+/// - `is_up`: whether the device is up.
+///
+/// Where the flash stopped the call no upload is open then, and the device isn't up. Does not
+/// allocate.
+pub fn accept_manifest<F: Flash>(
     flash: &mut F,
     map: &SectorMap,
     identity: &Identity,
@@ -183,8 +191,9 @@ pub(crate) fn accept_manifest<F: Flash>(
     open_uploads(flash, map, identity, uploads, is_up, manifest)
 }
 
-/// Takes a piece of an upload.
-pub(crate) fn piece<F: Flash>(
+/// Takes a piece of the upload of an image, told by its number from 0, as `Device::piece`, with its
+/// errors. The other arguments are those of `accept_manifest`. Does not allocate.
+pub fn piece<F: Flash>(
     flash: &mut F,
     map: &SectorMap,
     uploads: &mut Uploads,
@@ -208,8 +217,9 @@ pub(crate) fn piece<F: Flash>(
     }
 }
 
-/// Finishes an upload.
-pub(crate) fn finish<F: Flash>(
+/// Finishes the upload of an image, told by its number from 0, as `Device::finish`, with its errors.
+/// The other arguments are those of `accept_manifest`. Does not allocate.
+pub fn finish<F: Flash>(
     flash: &mut F,
     map: &SectorMap,
     uploads: &mut Uploads,
@@ -232,8 +242,9 @@ pub(crate) fn finish<F: Flash>(
     }
 }
 
-/// Takes a request back.
-pub(crate) fn withdraw<F: Flash>(
+/// Takes the request of an image back, told by its number from 0, as `Device::withdraw`, with its
+/// errors. The other arguments are those of `accept_manifest`. Does not allocate.
+pub fn withdraw<F: Flash>(
     flash: &mut F,
     map: &SectorMap,
     uploads: &mut Uploads,

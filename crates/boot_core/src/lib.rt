@@ -9,6 +9,7 @@
 //! bootloaders may call it.
 #![tactic(auto)]
 
+pub mod apart;
 mod back;
 mod boots;
 mod confirming;

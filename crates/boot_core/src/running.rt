@@ -10,8 +10,8 @@ use machine::{Event, Fault, Reply};
 use std::alloc::{AllocError, Global};
 use upload::UploadError;
 
-/// The reply to a refused call: a cut is a reply of its own.
-fn reply_of(fault: Fault) -> Reply
+/// The reply to a refused call: a cut is a reply of its own. Does not allocate.
+pub fn reply_of(fault: Fault) -> Reply
     ensures { result ≡ fault_reply fault }
 {
     match fault {
@@ -21,8 +21,8 @@ fn reply_of(fault: Fault) -> Reply
     }
 }
 
-/// The reply to a call.
-fn answer(given: Result<(), Fault>) -> Reply
+/// The reply to a call that isn't a boot: `Done`, or that to its refusal. Does not allocate.
+pub fn answer(given: Result<(), Fault>) -> Reply
     ensures { result ≡ reply_of_result given }
 {
     match given {

@@ -39,8 +39,8 @@ use Rattle.machine.proofs.Confirming.{rest_stands}
 
 -- ---- power
 
--- what stands doesn't depend on power
-stands_logged : (map : SectorMap) (old new : Chip) (s : DeviceState) → IsLaidOut map old
+-- what stands doesn't depend on power and counts
+pub stands_logged : (map : SectorMap) (old new : Chip) (s : DeviceState) → IsLaidOut map old
     → Keeps map (only Log) old new → (view map new).log ≡ (view map old).log → Stands map old s → Stands map new s
 stands_logged map old new s laid keeps same (Rests was) = Rests (steady_logged map old new s keeps same was)
 stands_logged map old new s laid keeps same (Tries trial was) =

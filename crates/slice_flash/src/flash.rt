@@ -116,6 +116,13 @@ impl<'a, L: Ledger> SliceFlash<'a, L> {
         }
     }
 
+    /// How many writes were counted so far, up to 2^64 - 1.
+    pub fn writes(&self) -> u64
+        ensures { result ≡ (slice_of self.now).writes }
+    {
+        self.writes
+    }
+
     /// Counts a write, and tells what its cut leaves, where it is to be cut.
     fn count_write(&mut self) -> Option<Left<'a>>
         ensures left { result ≡ next_left (slice_of self.old) }
