@@ -1,0 +1,3 @@
+mod SameBytes
+mod StepLaws
+mod Provisioned

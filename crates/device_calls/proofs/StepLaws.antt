@@ -1,0 +1,271 @@
+-- A call on a device that is kept in bytes, from what these hold to what they hold then.
+use Rattle.std.proofs.Common.{◌≡◌, ℕ, ◌*◌, ◌/◌, ◌<◌, ◌≤◌, Bool, true, false, List, [], length, slice_index_or, Option, Some, None, refl, sym, ◌∙◌, ap, subst, arith}
+use Rattle.std.proofs.Math.Nat.{div-mul-le_self, le-div_iff_mul-le, mod-eq-sub-div-mul, mul-div_cancel}
+use Rattle.events.specs.declared.event.Event.TheVariants as event
+use Rattle.flash_model.specs.Chip.{Chip, Fixed, size_of}
+use Rattle.flash_model.specs.Memory.{new_chip}
+use Rattle.sector_map.specs.declared.layout.SectorMap.{SectorMap}
+use Rattle.sector_map.specs.Map.{IsLaidOut, IsMap, sectors_of}
+use Rattle.sector_map.proofs.Parts.{laid_out_by}
+use Rattle.manifest.specs.declared.identity.Identity.{Identity}
+use Rattle.trailer.specs.declared.kinds.Kind.{Kind}
+use Rattle.upload.specs.View.{view}
+use Rattle.upload.specs.Device.{Machine}
+use Rattle.upload.specs.Sessions.{AllClosed, AllOpenAt, upload_at}
+use Rattle.upload.specs.declared.sessions.Upload.{Upload}
+use Rattle.machine.specs.Holding.{DeviceView, Holds}
+use Rattle.machine.specs.Intake as device
+use Rattle.machine.specs.Passing.{StepsTo}
+use Rattle.machine.specs.Steps.{DeviceEvent}
+use Rattle.machine.specs.declared.reply.Reply.{Reply}
+use Rattle.boot_core.specs.Device.{StaysHeld, made, seen}
+use Rattle.device_calls.specs.declared.calls.Call.{Call}
+use Rattle.device_calls.specs.declared.calls.Call.TheVariants.{Accept, Piece, Finish, Withdraw, Confirm, Boot}
+use Rattle.device_calls.specs.declared.kept.Kept.{Kept}
+use Rattle.device_calls.specs.declared.kept.KeptUpload.{KeptUpload}
+use Rattle.device_calls.specs.declared.setup.Made.{Made}
+use Rattle.device_calls.specs.Calls.{IsStepOf, MakesCall, StepsOn}
+use Rattle.device_calls.specs.Setup.{HasRoom}
+use Rattle.device_calls.specs.Kept.{IsDeviceOf, IsFlashOf, IsKept, KeepsDevice, KeepsUpload, no_row, Up, Down}
+use Rattle.device_calls.proofs.SameBytes.{SameFlash, SameIfOpen, same_holds, upload_moved, upload_same}
+
+zero_one : (n : ℕ) → n ≡ 0 → n ≡ 1 → ⊥
+zero_one n zero one = omega (arith, zero, one)
+
+true_false : true ≡ false → ⊥
+true_false e = cc
+
+-- ---- what rows keep
+
+some_is : (a b : Kind) → Some a ≡ Some b → a ≡ b
+some_is a b e = cc
+
+same_row : (row : KeptUpload) (a b : Option Upload) → KeepsUpload row a → KeepsUpload row b → SameIfOpen a b
+same_row row None None first second = tt
+same_row row None (Some b) first second = absurd (zero_one row.is_open first second.is_open)
+same_row row (Some a) None first second = absurd (zero_one row.is_open second first.is_open)
+same_row row (Some a) (Some b) first second = record {
+  size = second.size ∙ sym first.size;
+  digest = second.digest ∙ sym first.digest;
+  kind = some_is b.kind a.kind (sym second.kind ∙ first.kind);
+  received = second.received ∙ sym first.received;
+  held = second.held ∙ sym first.held;
+}
+
+same_refl : (u : Option Upload) → SameIfOpen u u
+same_refl None = tt
+same_refl (Some u) = upload_same u
+
+-- open uploads stand on another flash of the same bytes
+moved : (map : SectorMap) (old new : Chip) → new.bytes ≡ old.bytes → (sessions : List (Option Upload))
+    → AllOpenAt (view map old) sessions → AllOpenAt (view map new) sessions
+moved map old new same sessions all i upload is =
+    let stands = all i upload is in (stands.0, upload_moved map old new same i upload upload (upload_same upload) stands.0 stands.1)
+
+-- ---- flashes
+
+-- a flash of these bytes
+flash_made : (map : SectorMap) (bytes : List ℕ) (chip : Chip) → IsMap map → HasRoom map bytes
+    → chip.sector_size ≡ map.sector_size → chip.sectors ≡ length bytes / map.sector_size → chip.bytes ≡ bytes
+    → chip.is_on ≡ true → IsFlashOf map bytes chip
+flash_made map bytes chip is_map room size count has on =
+    let e = map.sector_size in
+    let some : 0 < e = omega (arith, is_map.sector.least) in
+    let all : length bytes / e * e ≡ length bytes = omega (arith, room.whole, mod-eq-sub-div-mul (length bytes) e, div-mul-le_self (length bytes) e) in
+    let whole : size_of chip ≡ length bytes =
+    ap (λ n. n * chip.sector_size) count ∙ ap (λ s. length bytes / e * s) size ∙ all in
+    record {
+      laid_out = laid_out_by map chip is_map size
+          (subst (λ n. sectors_of map ≤ n) (sym count) ((le-div_iff_mul-le {k = e} some).1 room.room))
+          (ap (λ (l : List ℕ). length l) has ∙ sym whole) (omega (arith, whole, room.addressed));
+      has = has;
+      on = on;
+    }
+
+one_count : (a b e : ℕ) → 0 < e → a * e ≡ b * e → a ≡ b
+one_count a b e some same = sym (mul-div_cancel a some) ∙ ap (λ n. n / e) same ∙ mul-div_cancel b some
+
+-- two flashes of the same bytes
+pub laid_same : (map : SectorMap) (a b : Chip) → IsLaidOut map a → IsLaidOut map b → b.bytes ≡ a.bytes → SameFlash a b
+laid_same map a b first second same = record {
+  sector_size = second.sector_size ∙ sym first.sector_size;
+  sectors = one_count b.sectors a.sectors map.sector_size (omega (arith, first.is_map.sector.least)) (
+      ap (λ e. b.sectors * e) (sym second.sector_size) ∙ sym second.whole
+      ∙ ap (λ (l : List ℕ). length l) same ∙ first.whole
+      ∙ ap (λ e. a.sectors * e) first.sector_size);
+  bytes = same;
+}
+
+flash_same : (map : SectorMap) (bytes : List ℕ) (a b : Chip) → IsFlashOf map bytes a → IsFlashOf map bytes b
+    → SameFlash a b
+flash_same map bytes a b first second =
+    laid_same map a b first.laid_out second.laid_out (second.has ∙ sym first.has)
+
+-- ---- which device is kept
+
+up_same : (map : SectorMap) (bytes : List ℕ) (kept : Kept) (d e : DeviceView) → IsFlashOf map bytes d.flash
+    → IsFlashOf map bytes e.flash → IsKept map kept d → IsKept map kept e → e.up ≡ d.up
+up_same map bytes kept d e first second (Up on_is was) (Up also is) = also ∙ sym on_is
+up_same map bytes kept d e first second (Up on_is was) (Down off_is closed never) = absurd (never d.sessions (record {
+  up = was.up;
+  each = was.each;
+  stands = moved map d.flash e.flash (second.has ∙ sym first.has) d.sessions was.stands;
+}))
+up_same map bytes kept d e first second (Down off_is closed never) (Up on_is is) = absurd (never e.sessions (record {
+  up = is.up;
+  each = is.each;
+  stands = moved map e.flash d.flash (first.has ∙ sym second.has) e.sessions is.stands;
+}))
+up_same map bytes kept d e first second (Down off_is closed never) (Down also shut nowhere) = also ∙ sym off_is
+
+sessions_same : (map : SectorMap) (kept : Kept) (d e : DeviceView) → IsKept map kept d → IsKept map kept e
+    → e.up ≡ d.up → d.up ≡ true → (i : ℕ) → SameIfOpen (upload_at d.sessions i) (upload_at e.sessions i)
+sessions_same map kept d e (Up on_is was) (Up also is) up on i =
+    same_row (slice_index_or kept.uploads i no_row) (upload_at d.sessions i) (upload_at e.sessions i) (was.each i)
+    (is.each i)
+sessions_same map kept d e (Up on_is was) (Down off_is closed never) up on i = absurd (true_false (sym on ∙ sym up ∙ off_is))
+sessions_same map kept d e (Down off_is closed never) other up on i = absurd (true_false (sym on ∙ off_is))
+
+closed_down : (map : SectorMap) (kept : Kept) (e : DeviceView) → IsKept map kept e → e.up ≡ false → AllClosed e.sessions
+closed_down map kept e (Up on_is is) off_is = absurd (true_false (sym on_is ∙ off_is))
+closed_down map kept e (Down also closed never) off_is = closed
+
+-- what one device of the bytes holds, any other one holds
+kept_holds : (map : SectorMap) (bytes : List ℕ) (kept : Kept) (d e : DeviceView) → IsDeviceOf map bytes kept d
+    → IsDeviceOf map bytes kept e → (m : Machine) → Holds map d m → Holds map e m
+kept_holds map bytes kept d e first second =
+    let up = up_same map bytes kept d e first.flash second.flash first.kept second.kept in
+    same_holds map d e first.flash.laid_out (flash_same map bytes d.flash e.flash first.flash second.flash) up
+    (sessions_same map kept d e first.kept second.kept up)
+    (λ off_is. closed_down map kept e second.kept (up ∙ off_is))
+
+-- ---- what is kept after a call
+
+abbrev powered : Chip → Chip
+powered chip = record chip { is_on = true }
+
+laid_powered : (map : SectorMap) (chip : Chip) → IsLaidOut map chip → IsLaidOut map (powered chip)
+laid_powered map chip laid = record {
+  sector_size = laid.sector_size;
+  sectors = laid.sectors;
+  is_map = laid.is_map;
+  whole = laid.whole;
+  size = laid.size;
+}
+
+flash_powered : (map : SectorMap) (bytes : List ℕ) (chip : Chip) → IsLaidOut map chip → chip.bytes ≡ bytes
+    → IsFlashOf map bytes (powered chip)
+flash_powered map bytes chip laid is = record { laid_out = laid_powered map chip laid; has = is; on = refl }
+
+same_powered : (chip : Chip) → SameFlash chip (powered chip)
+same_powered chip = record { sector_size = refl; sectors = refl; bytes = refl }
+
+-- the device after a call: its flash has power again
+abbrev after : Chip → List (Option Upload) → Bool → DeviceView
+after chip sessions true = seen (powered chip) sessions true
+after chip sessions false = seen (powered chip) [] false
+
+none_open : AllClosed []
+none_open j = refl
+
+kept_after : (map : SectorMap) (bytes : List ℕ) (chip : Chip) (sessions : List (Option Upload)) (is_up : Bool)
+    (kept : Kept) → IsLaidOut map chip → chip.bytes ≡ bytes → AllOpenAt (view map chip) sessions
+    → KeepsDevice kept sessions is_up → IsDeviceOf map bytes kept (after chip sessions is_up)
+kept_after map bytes chip sessions true kept laid is opens keeps = record {
+  flash = flash_powered map bytes chip laid is;
+  kept = Up refl (record {
+    up = keeps.up refl;
+    each = keeps.each refl;
+    stands = moved map chip (powered chip) refl sessions opens;
+  });
+}
+kept_after map bytes chip sessions false kept laid is opens keeps = record {
+  flash = flash_powered map bytes chip laid is;
+  kept = Down refl none_open (λ others was. zero_one kept.is_up (keeps.down refl) was.up);
+}
+
+holds_after : (map : SectorMap) (chip : Chip) (sessions : List (Option Upload)) (is_up : Bool) → IsLaidOut map chip
+    → (m : Machine) → Holds map (seen chip sessions is_up) m → Holds map (after chip sessions is_up) m
+holds_after map chip sessions true laid =
+    same_holds map (seen chip sessions true) (seen (powered chip) sessions true) laid (same_powered chip) refl
+    (λ on i. same_refl (upload_at sessions i)) (λ off_is. absurd (true_false off_is))
+holds_after map chip sessions false laid =
+    same_holds map (seen chip sessions false) (seen (powered chip) [] false) laid (same_powered chip) refl
+    (λ on. absurd (true_false (sym on))) (λ off_is. none_open)
+
+-- ---- steps
+
+module _ (setup : device.Setup) (d a b e : DeviceView)
+    (before : (m : Machine) → Holds setup.map d m → Holds setup.map a m)
+    (behind : (m : Machine) → Holds setup.map b m → Holds setup.map e m) where
+  steps_moved : (happened : DeviceEvent) (reply : Reply) → StepsTo setup a b happened reply
+      → StepsTo setup d e happened reply
+  steps_moved happened reply steps m holds =
+      let next = steps m (before m holds) in (next.0, next.1, behind next.0 next.2)
+
+  held_moved : StaysHeld setup.map a b → StaysHeld setup.map d e
+  held_moved stays m holds = let next = stays m (before m holds) in (next.0, behind next.0 next.1)
+
+  step_moved : (call : Call) (reply : Reply) → IsStepOf setup call a b reply → IsStepOf setup call d e reply
+  step_moved (Accept manifest) reply step =
+      (λ text means. steps_moved (event.Accept text) reply (step.0 text means), held_moved step.1)
+  step_moved (Piece image more) reply step = steps_moved (event.Piece image more) reply step
+  step_moved (Finish image) reply step = steps_moved (event.Finish image) reply step
+  step_moved (Withdraw image) reply step = steps_moved (event.Withdraw image) reply step
+  step_moved (Confirm image) reply step = steps_moved (event.Confirm image) reply step
+  step_moved Boot reply step = steps_moved event.Boot reply step
+
+-- a call on a device that was held of these bytes is a step of each device that they are
+pub steps_on : (made_of : Made) (call : Call) (old new : List ℕ) (was is : Kept) (before behind : Chip)
+    (told left : List (Option Upload)) (was_up is_up : Bool) (reply : Reply)
+    → IsFlashOf made_of.map old before → IsKept made_of.map was (seen before told was_up)
+    → MakesCall made_of.map made_of.identity made_of.boots call (seen before told was_up) (seen behind left is_up) reply
+    → behind.bytes ≡ new → KeepsDevice is left is_up → StepsOn made_of call old was new is reply
+steps_on made_of call old new was is before behind told left was_up is_up reply flash kept makes bytes keeps = record {
+  each = λ device given. (
+    after behind left is_up,
+    kept_after made_of.map new behind left is_up is makes.laid bytes makes.opens keeps,
+    step_moved (made made_of.map made_of.identity made_of.boots) device (seen before told was_up)
+        (seen behind left is_up) (after behind left is_up)
+        (kept_holds made_of.map old was device (seen before told was_up) given (record { flash = flash; kept = kept }))
+        (holds_after made_of.map behind left is_up makes.laid) call reply makes.steps,
+  );
+}
+
+-- a call by another name of it and of its reply
+pub makes : (map : SectorMap) (identity : Identity) (boots : ℕ) (call given : Call) (old new : DeviceView)
+    (reply told : Reply) → call ≡ given → reply ≡ told → new.flash.fixed ≡ old.flash.fixed → IsLaidOut map new.flash
+    → AllOpenAt (view map new.flash) new.sessions → IsStepOf (made map identity boots) given old new told
+    → MakesCall map identity boots call old new reply
+makes map identity boots call given old new reply told is same fixed laid opens step = record {
+  fixed = fixed;
+  laid = laid;
+  opens = opens;
+  steps = subst (λ k. IsStepOf (made map identity boots) k old new reply) (sym is)
+      (subst (λ r. IsStepOf (made map identity boots) given old new r) (sym same) step);
+}
+
+none_some : (u : Upload) → None ≡ Some u → ⊥
+none_some u e = cc
+
+-- the uploads of a device that is kept stand on its flash
+pub kept_opens : (map : SectorMap) (kept : Kept) (d : DeviceView) → IsKept map kept d
+    → AllOpenAt (view map d.flash) d.sessions
+kept_opens map kept d (Up on_is is) = is.stands
+kept_opens map kept d (Down off_is closed never) =
+    λ i upload is. absurd (none_some upload (sym (closed i) ∙ is))
+
+-- a flash over lent bytes that was just made
+pub lent_flash : (map : SectorMap) (bytes : List ℕ) (chip : Chip) (fixed : Fixed) → IsMap map → HasRoom map bytes
+    → chip ≡ record (new_chip map.sector_size (length bytes / map.sector_size) bytes) { fixed = fixed }
+    → IsFlashOf map bytes chip
+lent_flash map bytes chip fixed is_map room is = flash_made map bytes chip is_map room
+    (ap (λ (c : Chip). c.sector_size) is) (ap (λ (c : Chip). c.sectors) is) (ap (λ (c : Chip). c.bytes) is)
+    (ap (λ (c : Chip). c.is_on) is)
+
+-- a step by other names of the bytes
+pub steps_over : (made_of : Made) (call : Call) (a b old new : List ℕ) (was is : Kept) (reply : Reply) → a ≡ old
+    → b ≡ new → StepsOn made_of call a was b is reply → StepsOn made_of call old was new is reply
+steps_over made_of call a b old new was is reply first second steps =
+    subst (λ l. StepsOn made_of call old was l is reply) second
+    (subst (λ l. StepsOn made_of call l was b is reply) first steps)

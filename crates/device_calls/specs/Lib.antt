@@ -1,0 +1,11 @@
+pub mod Setup
+pub mod Kept
+pub mod Calls
+pub mod Told
+pub mod Texts
+pub mod Manifests
+pub mod Answers
+pub mod Provisioning
+pub mod Description
+pub mod Choosing
+pub mod Slots

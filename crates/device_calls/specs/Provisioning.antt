@@ -1,0 +1,41 @@
+-- Making the bytes of a flash a device's.
+use Rattle.std.specs.Prelude.{◌≡◌, ℕ, List, Result, OnOk}
+use Rattle.flash_model.specs.Chip.{Chip}
+use Rattle.sector_map.specs.declared.layout.SectorMap.{SectorMap}
+use Rattle.upload.specs.Device.{DeviceState}
+use Rattle.machine.specs.Holding.{Stands}
+use Rattle.machine.specs.declared.error.Fault.{Fault}
+use Rattle.machine.specs.declared.reply.Reply.{Reply}
+use Rattle.boot_core.specs.Answers.{reply_of_result}
+use Rattle.boot_core.specs.Provisioned.{IsFirstState}
+use Rattle.boot_core.specs.Provisions.{Provisions}
+use Rattle.device_calls.specs.declared.setup.Made.{Made}
+use Rattle.device_calls.specs.declared.setup.Setup.{Setup}
+use Rattle.device_calls.specs.declared.told.Told.{Told}
+use Rattle.device_calls.specs.Calls.{IsRefusedBefore}
+use Rattle.device_calls.specs.Kept.{IsFlashOf}
+use Rattle.device_calls.specs.Setup.{IsMade}
+use Rattle.device_calls.specs.Told.{TellsReply, number_of}
+
+-- Bytes are made a device's.
+pub record ProvisionsOn (map : SectorMap) (old new : List ℕ) (reply : Reply) : Type 0 where
+  -- It is so of the flash that they are,
+  pub before : Chip
+  pub after : Chip
+  pub result : Result Unit Fault
+  pub is_before : IsFlashOf map old before
+  pub is_after : after.bytes ≡ new
+  pub provisions : Provisions map before after result
+  pub replies : reply ≡ reply_of_result result
+  -- and where that is done, the first state of a device stands on each flash of the new bytes.
+  pub stands : OnOk result ((state : DeviceState) × IsFirstState map before state
+      × ((chip : Chip) → IsFlashOf map new chip → Stands map chip state))
+
+-- What the call returns.
+pub data AnswersProvision (setup : Setup) (old new : List ℕ) (told : Told) (number : ℕ)
+    : Type 0 where
+  Replied : (made : Made) (reply : Reply) → IsMade setup old made
+      → ProvisionsOn made.map old new reply → TellsReply reply told
+      → number ≡ number_of reply → AnswersProvision setup old new told number
+  Unmade : IsRefusedBefore setup old number → new ≡ old
+      → AnswersProvision setup old new told number

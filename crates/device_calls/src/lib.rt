@@ -1,0 +1,28 @@
+//! A device behind names of C, over memory that the caller lends: for simulators, update servers
+//! and tests on a desk. `include/bootswap.h` declares what stands here.
+//!
+//! Promises: each call of a device is one step of the machine of whole images (`machine`), from
+//! what the caller's bytes hold to what they hold then, so that the calls in a row are a run of it.
+//! What a device keeps between two calls stands in the caller's memory too: what a call wrote there
+//! is what the next one reads, and any other bytes are a device that isn't up. Each call returns,
+//! on any contents, and none allocates. The caller answers for the lengths, and that nothing that
+//! is lent overlaps.
+//!
+//! A driver in C can't be called from here: the flash is bytes in memory.
+#![tactic(auto)]
+
+mod calls;
+mod choosing;
+mod cuts;
+mod describing;
+mod description;
+mod events;
+mod kept;
+mod lent;
+mod manifests;
+mod numbers;
+mod provisioning;
+mod setup;
+mod slots;
+mod texts;
+mod told;

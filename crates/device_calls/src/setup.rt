@@ -1,0 +1,97 @@
+//! How a device is set up.
+
+ghost use Rattle.std.specs.Prelude.{◌≡◌, ◌↔◌, IfErr, IfOk, IfSome, IsTrue, None};
+ghost use Rattle.device_calls.specs.Setup.{HasRoom, IsIdentityOf, IsMade, IsMapOf, IsUnmade, MakesNoMap};
+
+use crate::numbers::{NO_FLASH, NO_MAP, NO_TRIAL};
+use common::limits::{MOST_IMAGES, MOST_TRIAL_BOOTS};
+use manifest::Identity;
+use sector_map::SectorMap;
+use uuid::Uuid;
+
+/// How a device is set up: the sizes of its flash, how long its trials are, and what it is to those
+/// who send it updates.
+#[repr(C)]
+#[derive(Clone, Copy)]
+pub struct Setup {
+    /// The length of a sector in bytes: a multiple of 64 from 512 to 131072.
+    pub sector_size: u32,
+    /// How many images it has, 1 to 8.
+    pub images: u32,
+    /// How many sectors each slot of an image has. Those behind the last image aren't looked at.
+    pub sectors: [u32; MOST_IMAGES],
+    /// How many boots a trial has, 1 to 7.
+    pub trial_boots: u32,
+    /// Who makes it: the 16 bytes of a UUID, in the order of its text (RFC 9562).
+    pub vendor: [u8; 16],
+    /// Which class of devices of that vendor it is of, a UUID too.
+    pub class: [u8; 16],
+}
+
+/// What a setup makes over a flash of so many bytes.
+#[derive(Drop)]
+pub(crate) struct Made {
+    pub(crate) map: SectorMap,
+    pub(crate) identity: Identity,
+    pub(crate) boots: u8,
+}
+
+/// The map of a setup's sizes, if they make one.
+fn map_of(setup: &Setup) -> Option<SectorMap>
+    ensures some { IfSome result (IsMapOf setup.now) }
+    ensures none { result ≡ None → MakesNoMap setup.now }
+{
+    let images = setup.images as usize;
+    if images > MOST_IMAGES {
+        return None;
+    }
+    match SectorMap::new(setup.sector_size, &setup.sectors[..images]) {
+        Ok(map) => Some(map),
+        Err(_) => None,
+    }
+}
+
+/// The identity of a setup, for so many images.
+fn identity_of(setup: &Setup, images: u8) -> Identity
+    ensures { IsIdentityOf setup.now images result }
+{
+    Identity {
+        vendor: Uuid::from_bytes(setup.vendor),
+        class: Uuid::from_bytes(setup.class),
+        images,
+    }
+}
+
+/// Whether bytes are whole sectors of the map's size, as many at least as the map has, and fewer
+/// than 2^32.
+fn fits(map: &SectorMap, bytes: &[u8]) -> bool
+    ensures { IsTrue result ↔ HasRoom map.now bytes.now }
+{
+    bytes.len() % map.sector_size as usize == 0
+        && bytes.len() <= u32::MAX as usize
+        && bytes.len() >= map.bytes_in_all() as usize
+}
+
+/// What a setup makes over these bytes.
+///
+/// # Errors
+/// The number to return: of the sizes first, then of the trial, then of the bytes.
+pub(crate) fn make(setup: &Setup, bytes: &[u8]) -> Result<Made, u32>
+    ensures made { IfOk result (IsMade setup.now bytes.now) }
+    ensures unmade { IfErr result (IsUnmade setup.now bytes.now) }
+{
+    let Some(map) = map_of(setup) else {
+        return Err(NO_MAP);
+    };
+    if setup.trial_boots < 1 || setup.trial_boots > u32::from(MOST_TRIAL_BOOTS) {
+        return Err(NO_TRIAL);
+    }
+    if !fits(&map, bytes) {
+        return Err(NO_FLASH);
+    }
+    Ok(Made {
+        map,
+        identity: identity_of(setup, map.images),
+        boots: setup.trial_boots as u8,
+    })
+}
