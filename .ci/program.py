@@ -1,4 +1,4 @@
-"""Proves and builds the program `bootswap`, for the command of that name.
+"""Proves and builds the program `bootswap`, for the command of that name, and the static library of `bindings/build`.
 
 Each crate is proved by the toolchain's `rattle build`, over the statements of the crates below it. At most half again
 as many processes work at once as there are processors, and as many as memory allows. What is built stands in out/build:
@@ -25,7 +25,10 @@ LOG = f"{OUT}/bootswap.log"
 PROGRAM = f"{OUT}/bootswap"
 
 # What is told before a build: as measured on 4 processors, all of them taken.
-COST = "45 to 100 minutes of one processor, 1.4 GB of disk"
+COSTS = {
+    "bootswap": "the program: from nothing it takes 45 to 100 minutes of one processor, 1.4 GB of disk",
+    "device_calls": "the library: from nothing it takes 30 to 55 minutes of one processor, 1 GB of disk",
+}
 
 # The most memory that the check of a crate has taken, in bytes, and what each further process of
 # one takes.
@@ -48,6 +51,7 @@ SECONDS = {
     "command_line": 389,
     "common": 24,
     "decision": 45,
+    "device_calls": 187,
     "events": 20,
     "explaining_commands": 152,
     "explanations": 418,
@@ -62,6 +66,7 @@ SECONDS = {
     "script": 58,
     "sector_map": 45,
     "set_log": 83,
+    "slice_flash": 45,
     "swap_scratch": 70,
     "sweep": 245,
     "tlv": 217,
@@ -84,11 +89,11 @@ def tell(text):
 class Crate:
     """A crate of the repository, as crates.txt has it."""
 
-    def __init__(self, name, of_kit, own):
-        self.name, self.of_kit, self.own = name, of_kit, own
+    def __init__(self, name, of_kit, own, is_static):
+        self.name, self.of_kit, self.own, self.is_static = name, of_kit, own, is_static
         self.folder = f"{ROOT}/crates/{name}"
         self.is_program = os.path.isfile(f"{self.folder}/src/main.rt")
-        self.made = f"{BUILD}/{name}.o" if self.is_program else f"{BUILD}/{name}.rlib"
+        self.made = f"{BUILD}/{name}.{'o' if self.is_program else 'a' if is_static else 'rlib'}"
         self.stamp = f"{BUILD}/{name}.stamp"
         self.files = sorted(files_of(self.folder))
         lines = sum(contents.count(b"\n") for path, contents in self.files if path.endswith(".rt"))
@@ -122,10 +127,12 @@ class Crate:
             words += ["--extern", f"{name}={kit}/rlibs/{name}.rlib"]
         for crate in self.own:
             words += ["--extern", f"{crate.name}={crate.made}"]
-        words += ["-L", f"dependency={kit}/rlibs", "-L", f"dependency={BUILD}"]
+        for folder in sorted({f"{kit}/rlibs", *(os.path.dirname(it.made) for it in self.below())}):
+            words += ["-L", f"dependency={folder}"]
         words += ["--antt-project", f"{kit}/rattle/logic/antt-project.json", "--logic-built", f"{kit}/logic_built"]
         words += ["--jobs", str(jobs), "--links", f"{self.name}=", "-o", self.made]
-        if self.is_program:
+        words += ["--crate-type", "staticlib"] if self.is_static else []
+        if self.is_program or self.is_static:
             return [*words, "--toolchain", f"{kit}/toolchain", "--backend", "llvm"]
         return [*words, "--statements"]
 
@@ -148,22 +155,23 @@ def text_of(path):
         return None
 
 
-def crates_of_program():
-    """Returns the crates that the program stands on, and its own, lowest first."""
+def crates_of(last="bootswap"):
+    """Returns the crates that a program or a static library stands on, and its own, lowest first."""
     lines = [line.partition("#")[0] for line in (text_of(f"{ROOT}/crates.txt") or "").splitlines()]
-    rows = {name.split()[0]: below.split() for name, colon, below in (it.partition(":") for it in lines) if colon}
+    parts = [(name.split(), below.split()) for name, colon, below in (it.partition(":") for it in lines) if colon]
+    rows = {name: below for (name, *_), below in parts}
+    static = {name for (name, *kind), _ in parts if kind == ["staticlib"]}
     known = {}
 
     def crate_of(name):
         if name not in known:
             own = [crate_of(it) for it in rows[name] if it in rows]
-            known[name] = Crate(name, [it for it in rows[name] if it not in rows], own)
+            known[name] = Crate(name, [it for it in rows[name] if it not in rows], own, name in static)
         return known[name]
 
-    if "bootswap" not in rows:
-        raise NotBuilt(f"{ROOT}/crates.txt names no crate bootswap")
-    program = crate_of("bootswap")
-    return [*program.below(), program]
+    if last not in rows:
+        raise NotBuilt(f"{ROOT}/crates.txt names no crate {last}")
+    return [*crate_of(last).below(), crate_of(last)]
 
 
 def free_memory():
@@ -177,6 +185,7 @@ class Build:
 
     def __init__(self, crates, toolchain, kit, held):
         self.toolchain, self.kit, self.held, self.start = toolchain, kit, held, time.monotonic()
+        self.what = COSTS[crates[-1].name]
         self.left = [it for it in crates if not it.is_built(toolchain)]
         self.running, self.processes, self.is_stopped = {}, set(), False
         self.processors, self.memory = len(os.sched_getaffinity(0)), 0.9 * free_memory()
@@ -197,8 +206,8 @@ class Build:
         if not at_once:
             raise NotBuilt(f"a check takes up to {MEMORY / 1e9:.1f} GB of memory, and less is free")
         tell(
-            f"proving and building the program: {len(self.left)} crates, {at_once} side by side; from nothing it takes "
-            f"{COST}, and up to {at_once * MEMORY / 1e9:.1f} GB of memory"
+            f"proving and building {self.what}, and up to {at_once * MEMORY / 1e9:.1f} GB of memory; {len(self.left)} "
+            f"crates are left, {at_once} side by side"
         )
         with ThreadPoolExecutor(self.most) as pool:
             try:
@@ -315,7 +324,7 @@ def asked_of_rt(word):
 
 
 def build(crates, toolchain):
-    """Proves and builds the program of these crates, as out/bootswap."""
+    """Proves and builds these crates: a program as out/bootswap, a library as out/build/NAME.a."""
     try:
         os.makedirs(BUILD, exist_ok=True)
         held = open(f"{BUILD}/lock", "w", encoding="utf-8")

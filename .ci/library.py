@@ -1,0 +1,75 @@
+"""Checks of the library behind include/bootswap.h, for `./gate`: the program in C, and the tests of the Python names."""
+
+import os
+import subprocess
+import sys
+
+from checking import EXAMPLES, ROOT, short
+from program import asked_of_rt, crates_of
+
+LIFE = f"{ROOT}/bindings/c/life.c"
+STRICT = ["-std=c11", "-Wall", "-Wextra", "-Werror", "-I", f"{ROOT}/include"]
+
+# What life.c prints, whichever write of the boot is cut, behind the line that names the write.
+ENDS = b"permanent\ntake 0 1.1.0+0\n"
+
+# How many seconds the tests may take.
+LIMIT = 120
+
+
+def build_over_rt(folder):
+    """Builds the library over what `rt ci` left of the crates below it, and returns the words of the build."""
+    crates = crates_of("device_calls")
+    for crate in crates[:-1]:
+        crate.made = f"{crate.folder}/out/rlib/{crate.name}.rlib"
+    crates[-1].made = f"{folder}/libbootswap.a"
+    return crates[-1].words(os.path.dirname(asked_of_rt("doc")), len(os.sched_getaffinity(0))), crates[-1].folder
+
+
+def ran(words, **how):
+    """Runs a command, and returns what is wrong with it, if something is, and what it printed."""
+    done = subprocess.run(words, stdin=subprocess.DEVNULL, stdout=subprocess.PIPE, stderr=subprocess.STDOUT, **how)
+    return [f"status {done.returncode}: {short(done.stdout[-2000:])}"] if done.returncode else [], done.stdout
+
+
+def check_life(checks, archive):
+    """The program in C: it compiles without a warning, has fewer than 100 lines, and ends with the new image whichever
+    write is cut."""
+    program = f"{checks.folder}/life"
+    faults, _ = ran(["cc", *STRICT, LIFE, archive, "-o", program])
+    with open(LIFE, encoding="utf-8") as it:
+        lines = len(it.readlines())
+    checks.tell("life.c compiles", faults + [f"{lines} lines"] * (lines >= 100))
+    images = [f"{EXAMPLES}/images/{name}.img" for name in ("one", "patched")]
+    for write in () if faults else (1, 5, 9, 13, 17):
+        faults, said = ran([program, *images, str(write)])
+        wanted = b"power failed in write %d\n" % write + ENDS
+        checks.tell(f"life.c with a cut of write {write}", faults or [short(said)] * (said != wanted))
+
+
+def check_cpp(checks):
+    """The header is one of C++ too."""
+    file = f"{checks.folder}/{checks.file('header.cpp', b'#include <bootswap.h>')}"
+    faults, _ = ran(["cc", "-x", "c++", "-Wall", "-Wextra", "-Werror", "-I", f"{ROOT}/include", "-fsyntax-only", file])
+    checks.tell("the header compiles as C++", faults)
+
+
+def check_python(checks, archive):
+    """The tests of the Python names, over the library as it was built."""
+    shared = f"{checks.folder}/libbootswap.so"
+    faults, _ = ran(["cc", "-shared", "-o", shared, "-Wl,--whole-archive", archive, "-Wl,--no-whole-archive"])
+    if not faults:
+        words = [sys.executable, "-B", f"{ROOT}/bindings/python/test_bootswap.py"]
+        faults, _ = ran(words, env={**os.environ, "BOOTSWAP_LIBRARY": shared}, timeout=LIMIT)
+    checks.tell("the tests of the Python names", faults)
+
+
+def check_library(checks, words=None, folder=None):
+    """All checks of the library, which these words build, or `bindings/build`."""
+    archive = f"{checks.folder}/libbootswap.a" if words else f"{ROOT}/out/libbootswap.a"
+    faults, _ = ran(words or [f"{ROOT}/bindings/build"], cwd=folder)
+    checks.tell("the library builds", faults)
+    if not faults:
+        check_life(checks, archive)
+        check_cpp(checks)
+        check_python(checks, archive)

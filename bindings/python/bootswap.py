@@ -1,0 +1,470 @@
+"""bootswap for Python: a device whose flash is bytes in memory, by way of the proved library's C names.
+
+A `Device` has a flash (`flash`, a bytearray that the caller may look at and change) and what it keeps between two calls.
+Each of its calls is one step of a machine that knows whole images only, which is proved. `choose`, `check`, `describe`
+and `digest` need no device. `include/bootswap.h` says of each call what it returns, and this module what it raises.
+
+The library is `out/libbootswap.so` of the repository, which `bindings/build` makes, or the file that the environment
+names in BOOTSWAP_LIBRARY.
+"""
+
+from __future__ import annotations
+
+import ctypes
+import enum
+import os
+import uuid
+from collections.abc import Iterable, Sequence
+from ctypes import POINTER, byref, c_char, c_size_t, c_uint8, c_uint16, c_uint32, c_uint64
+from dataclasses import dataclass, field
+
+MOST_IMAGES = 8
+MOST_CUTS = 16
+TABLE_ROOM = 20480
+REPORT_ROOM = 2048
+
+
+class Number(enum.IntEnum):
+    """What a call returns."""
+
+    DONE = 0
+    BOOTED = 1
+    REVERTED = 2
+    TRIAL_AGAIN = 3
+    REFUSED = 4
+    CUT = 5
+    NO_MAP = 16
+    NO_TRIAL = 17
+    NO_FLASH = 18
+    NO_IMAGE = 19
+    TOO_MANY = 20
+    NO_TABLE = 24
+    NO_REPORT = 25
+    INVALID_SET = 26
+    WRONG = 27
+    NO_ROOM = 28
+
+
+class Fault(enum.IntEnum):
+    """Why a call is refused."""
+
+    NotBooted = 1
+    OnTrial = 2
+    NotOnTrial = 3
+    NotProvisioned = 4
+    RunningDamaged = 5
+    InvalidSet = 6
+    Manifest = 9
+    Upload = 10
+
+
+class UploadFault(enum.IntEnum):
+    """Why an upload is refused."""
+
+    OldSequence = 1
+    TooBig = 2
+    NoSession = 3
+    TooMuch = 4
+    SizeWrong = 5
+    DigestWrong = 6
+    NotAnImage = 7
+    WrongPrecursor = 8
+    NothingRequested = 9
+
+
+class Kind(enum.IntEnum):
+    """How an image is requested."""
+
+    TEST = 0
+    PERMANENT = 1
+
+
+class BootswapError(Exception):
+    """A call that couldn't be made: nothing changed. `number` says why, and `line` the bad line of a text, if it is
+    one."""
+
+    def __init__(self, number: Number, line: int = 0) -> None:
+        super().__init__(f"{number.name}{f' at line {line}' if line else ''}")
+        self.number, self.line = number, line
+
+
+class _Setup(ctypes.Structure):
+    _fields_ = [("sector_size", c_uint32), ("images", c_uint32), ("sectors", c_uint32 * MOST_IMAGES)]
+    _fields_ += [("trial_boots", c_uint32), ("vendor", c_uint8 * 16), ("class_id", c_uint8 * 16)]
+
+
+class _KeptUpload(ctypes.Structure):
+    _fields_ = [("size", c_uint32), ("received", c_uint32), ("is_open", c_uint8), ("kind", c_uint8)]
+    _fields_ += [("held_length", c_uint8), ("unused", c_uint8), ("held", c_uint8 * 8), ("digest", c_uint8 * 32)]
+
+
+class _Kept(ctypes.Structure):
+    _fields_ = [("is_up", c_uint8), ("unused", c_uint8 * 3), ("uploads", _KeptUpload * MOST_IMAGES)]
+
+
+class _Cut(ctypes.Structure):
+    _fields_ = [("write", c_uint64), ("left", c_uint32), ("pattern_length", c_uint32), ("pattern", c_uint8 * 8)]
+
+
+class _Version(ctypes.Structure):
+    _fields_ = [("major", c_uint8), ("minor", c_uint8), ("revision", c_uint16), ("build", c_uint32)]
+
+
+class _Need(ctypes.Structure):
+    _fields_ = [("image", c_uint32), ("minimum", _Version)]
+
+
+class _Refusal(ctypes.Structure):
+    _fields_ = [("image", c_uint32), ("reason", c_uint32), ("count", c_uint32), ("needs", _Need * 4)]
+
+
+class _Told(ctypes.Structure):
+    _fields_ = [("writes", c_uint64)]
+    _fields_ += [(name, c_uint32) for name in ("fault", "detail", "check", "set", "left", "permanent", "images")]
+    _fields_ += [(name, c_uint32) for name in ("refusals", "table_length", "report_length")]
+    _fields_ += [("versions", _Version * MOST_IMAGES), ("refused", _Refusal * MOST_IMAGES)]
+
+
+class _Component(ctypes.Structure):
+    _fields_ = [("size", c_uint32), ("image", c_uint8), ("is_permanent", c_uint8), ("has_precursor", c_uint8)]
+    _fields_ += [("unused", c_uint8), ("digest", c_uint8 * 32), ("precursor", c_uint8 * 32)]
+
+
+class _Manifest(ctypes.Structure):
+    _fields_ = [("sequence", c_uint32), ("count", c_uint32), ("components", _Component * MOST_IMAGES)]
+
+
+class _Group(ctypes.Structure):
+    _fields_ = [("count", c_uint32), ("alternatives", _Need * 4)]
+
+
+class _Description(ctypes.Structure):
+    _fields_ = [("length", c_uint64), ("version", _Version), ("counter", c_uint32), ("flags", c_uint32)]
+    _fields_ += [("needs_count", c_uint32), ("groups_count", c_uint32), ("needs", _Need * 16), ("groups", _Group * 4)]
+    _fields_ += [("digest", c_uint8 * 32)]
+
+
+class _Sha256(ctypes.Structure):
+    _fields_ = [("bytes", c_uint8 * 32)]
+
+
+def _load() -> ctypes.CDLL:
+    root = os.path.dirname(os.path.dirname(os.path.dirname(os.path.realpath(__file__))))
+    library = ctypes.CDLL(os.environ.get("BOOTSWAP_LIBRARY", f"{root}/out/libbootswap.so"))
+    flash, cuts, told = [POINTER(c_uint8), c_size_t], [POINTER(_Cut), c_size_t], [POINTER(_Told)]
+    text = [POINTER(c_char), c_size_t]
+    device = [POINTER(_Setup), *flash, POINTER(_Kept), *cuts]
+    of_image = [*device, c_uint8, *told]
+    arguments = {
+        "provision": [POINTER(_Setup), *flash, *cuts, *told],
+        "boot": [*device, *text, *text, *told],
+        "accept": [*device, POINTER(_Manifest), *told],
+        "piece": [*device, c_uint8, POINTER(c_uint8), c_size_t, *told],
+        "finish": of_image,
+        "withdraw": of_image,
+        "confirm": of_image,
+        "reset": [POINTER(_Kept)],
+        "slot": [POINTER(_Setup), *flash, c_uint8, c_uint8, POINTER(_Description)],
+        "describe": [*flash, POINTER(_Description)],
+        "digest": [*flash, POINTER(_Sha256)],
+        "choose": [*text, *text, POINTER(c_uint64)],
+        "check": [*text, *text, POINTER(c_uint64)],
+    }
+    for name, types in arguments.items():
+        call = getattr(library, f"bootswap_{name}")
+        call.argtypes, call.restype = types, None if name in ("reset", "digest") else c_uint32
+    return library
+
+
+_LIBRARY = _load()
+
+
+@dataclass(frozen=True, order=True)
+class Version:
+    """A version of an image, `major.minor.revision+build`."""
+
+    major: int = 0
+    minor: int = 0
+    revision: int = 0
+    build: int = 0
+
+    def __str__(self) -> str:
+        return f"{self.major}.{self.minor}.{self.revision}+{self.build}"
+
+
+@dataclass(frozen=True)
+class Need:
+    """An image in a version at least."""
+
+    image: int
+    minimum: Version
+
+
+@dataclass(frozen=True)
+class Refusal:
+    """A request that a boot refuses: the image, the number of the reason (1 damaged, 2 older, 3 counter, 4 no such
+    image, 5 needs, 6 needs one of several), and what it needs."""
+
+    image: int
+    reason: int
+    needs: tuple[Need, ...]
+
+
+@dataclass(frozen=True)
+class Cut:
+    """A write that is to be cut in a call: its number, counted from the beginning of the call, from 1, and what it
+    leaves: `"keep"` what stood there, `"done"` what it was to leave, or up to 8 bytes that are put over its range again
+    and again."""
+
+    write: int
+    left: str | bytes = "keep"
+
+
+@dataclass(frozen=True)
+class Component:
+    """One image that may come: its number, how it is requested, and how its file is known. `precursor` is the digest of
+    the image that has to run, where the file is for that image alone."""
+
+    image: int
+    size: int
+    digest: bytes
+    kind: Kind = Kind.TEST
+    precursor: bytes | None = None
+
+    @classmethod
+    def of(cls, image: int, file: bytes, kind: Kind = Kind.TEST, precursor: bytes | None = None) -> Component:
+        """The component of a file."""
+        return cls(image, len(file), digest(file), kind, precursor)
+
+
+@dataclass(frozen=True)
+class Description:
+    """What an image says of itself."""
+
+    version: Version
+    length: int
+    counter: int
+    flags: int
+    digest: bytes
+    needs: tuple[Need, ...]
+    groups: tuple[tuple[Need, ...], ...]
+
+
+@dataclass(frozen=True)
+class Reply:
+    """What a device replies to a call. `number` is DONE, BOOTED, REVERTED, TRIAL_AGAIN, REFUSED or CUT.
+
+    - `writes`: how many writes the call began
+    - `fault`, `detail`, `check`: of REFUSED, why
+    - `images`: which images a boot takes, brings back or tries again
+    - `left`: of TRIAL_AGAIN, how many boots more the trial lasts
+    - `permanent`: of BOOTED, whether what is taken stays without a trial
+    - `versions`, `refusals`, `table`, `report`: of BOOTED, the decision
+    """
+
+    number: Number
+    writes: int
+    fault: int = 0
+    detail: int = 0
+    check: int = 0
+    images: tuple[int, ...] = ()
+    left: int = 0
+    permanent: bool = False
+    versions: tuple[Version, ...] = ()
+    refusals: tuple[Refusal, ...] = ()
+    table: str = ""
+    report: str = ""
+
+
+def _version(told: _Version) -> Version:
+    return Version(told.major, told.minor, told.revision, told.build)
+
+
+def _needs(told: Sequence[_Need], count: int) -> tuple[Need, ...]:
+    return tuple(Need(it.image, _version(it.minimum)) for it in told[:count])
+
+
+def _description(told: _Description) -> Description:
+    groups = tuple(_needs(it.alternatives, it.count) for it in told.groups[: told.groups_count])
+    needs = _needs(told.needs, told.needs_count)
+    return Description(
+        _version(told.version), told.length, told.counter, told.flags, bytes(told.digest), needs, groups
+    )
+
+
+def _lent(given: bytes) -> ctypes.Array[c_uint8]:
+    return (c_uint8 * max(len(given), 1)).from_buffer_copy(given or b"\0")
+
+
+def _cuts(given: Sequence[Cut]) -> ctypes.Array[_Cut]:
+    rows = (_Cut * max(len(given), 1))()
+    for row, cut in zip(rows, given):
+        row.write, row.left = cut.write, {"keep": 0, "done": 1}.get(cut.left, 2) if isinstance(cut.left, str) else 2
+        if isinstance(cut.left, bytes):
+            row.pattern_length = len(cut.left)
+            row.pattern[: len(cut.left)] = cut.left
+        elif row.left == 2:
+            raise ValueError(f"a cut leaves 'keep', 'done' or bytes, and not {cut.left!r}")
+    return rows
+
+
+def _byte(image: int) -> int:
+    if not 0 <= image <= 255:
+        raise ValueError(f"the number of an image is 0 to 255, and not {image}")
+    return image
+
+
+@dataclass
+class Device:
+    """A device in memory, of `len(sectors)` images with so many sectors a slot. Its flash is erased at first, and
+    exactly as long as it has to be."""
+
+    sector_size: int
+    sectors: Sequence[int]
+    trial_boots: int = 1
+    vendor: uuid.UUID = uuid.UUID(int=0)
+    class_id: uuid.UUID = uuid.UUID(int=0)
+    flash: bytearray = field(default_factory=bytearray, repr=False)
+
+    def __post_init__(self) -> None:
+        if not 1 <= len(self.sectors) <= MOST_IMAGES:
+            raise ValueError(f"a device has 1 to {MOST_IMAGES} images, and not {len(self.sectors)}")
+        if not self.flash:
+            self.flash = bytearray(b"\xff" * self.sector_size * (2 * sum(it + 1 for it in self.sectors) + 4))
+        self._setup = _Setup(self.sector_size, len(self.sectors), trial_boots=self.trial_boots)
+        self._setup.sectors[: len(self.sectors)] = self.sectors
+        self._setup.vendor[:], self._setup.class_id[:] = self.vendor.bytes, self.class_id.bytes
+        self._kept = _Kept()
+
+    def place(self, image: int, side: int = 0) -> int:
+        """The address of an image's slot: side 0 is the primary one."""
+        before = sum(it + 1 for it in self.sectors[:image]) + side * sum(it + 1 for it in self.sectors)
+        return before * self.sector_size
+
+    def write(self, image: int, file: bytes, side: int = 0) -> None:
+        """Writes a file to the front of a slot, as a programmer does before the device is provisioned."""
+        self.flash[self.place(image, side) : self.place(image, side) + len(file)] = file
+
+    @property
+    def is_up(self) -> bool:
+        """Whether a boot answered, and neither a cut nor a reset came since."""
+        return self._kept.is_up == 1
+
+    def provision(self, cuts: Sequence[Cut] = ()) -> Reply:
+        """Makes the flash the device's: what the primary slots begin with runs."""
+        return self._call("provision", cuts)
+
+    def boot(self, cuts: Sequence[Cut] = ()) -> Reply:
+        """Boots."""
+        table, report = ctypes.create_string_buffer(TABLE_ROOM), ctypes.create_string_buffer(REPORT_ROOM)
+        return self._call("boot", cuts, table, TABLE_ROOM, report, REPORT_ROOM, texts=(table, report))
+
+    def accept(self, sequence: int, components: Iterable[Component], cuts: Sequence[Cut] = ()) -> Reply:
+        """Takes a manifest."""
+        rows = list(components)
+        if len(rows) > MOST_IMAGES:
+            raise BootswapError(Number.TOO_MANY)
+        manifest = _Manifest(sequence, len(rows))
+        for row, it in zip(manifest.components, rows):
+            row.size, row.image, row.is_permanent = it.size, _byte(it.image), it.kind == Kind.PERMANENT
+            row.digest[:] = it.digest
+            if it.precursor is not None:
+                row.has_precursor = 1
+                row.precursor[:] = it.precursor
+        return self._call("accept", cuts, byref(manifest))
+
+    def piece(self, image: int, more: bytes, cuts: Sequence[Cut] = ()) -> Reply:
+        """Takes the bytes of an image's upload that follow those before."""
+        return self._call("piece", cuts, _byte(image), _lent(more), len(more))
+
+    def finish(self, image: int, cuts: Sequence[Cut] = ()) -> Reply:
+        """Finishes the upload of an image, which is requested then."""
+        return self._call("finish", cuts, _byte(image))
+
+    def withdraw(self, image: int, cuts: Sequence[Cut] = ()) -> Reply:
+        """Takes the request of an image back."""
+        return self._call("withdraw", cuts, _byte(image))
+
+    def confirm(self, image: int, cuts: Sequence[Cut] = ()) -> Reply:
+        """Confirms an image of the set on trial."""
+        return self._call("confirm", cuts, _byte(image))
+
+    def reset(self) -> None:
+        """Resets the device: all uploads end, and it isn't up."""
+        _LIBRARY.bootswap_reset(byref(self._kept))
+
+    def slot(self, image: int, side: int = 0) -> Description | int:
+        """What the image says of itself that a slot begins with, or the number of the first check that fails."""
+        told, flash = _Description(), (c_uint8 * len(self.flash)).from_buffer(self.flash)
+        number = _LIBRARY.bootswap_slot(byref(self._setup), flash, len(flash), _byte(image), _byte(side), byref(told))
+        if number >= Number.NO_MAP:
+            raise BootswapError(Number(number))
+        return number or _description(told)
+
+    def _call(self, name: str, cuts: Sequence[Cut], *words: object, texts: tuple = ()) -> Reply:
+        if len(cuts) > MOST_CUTS:
+            raise BootswapError(Number.TOO_MANY)
+        told, flash = _Told(), (c_uint8 * len(self.flash)).from_buffer(self.flash)
+        kept = [] if name == "provision" else [byref(self._kept)]
+        call = getattr(_LIBRARY, f"bootswap_{name}")
+        number = Number(
+            call(byref(self._setup), flash, len(flash), *kept, _cuts(cuts), len(cuts), *words, byref(told))
+        )
+        if number >= Number.NO_MAP:
+            raise BootswapError(number)
+        return _reply(number, told, texts)
+
+
+def _reply(number: Number, told: _Told, texts: tuple) -> Reply:
+    images = tuple(i for i in range(MOST_IMAGES) if told.set >> i & 1)
+    refusals = (Refusal(it.image, it.reason, _needs(it.needs, it.count)) for it in told.refused[: told.refusals])
+    lengths = zip(texts, (told.table_length, told.report_length))
+    table, report = [it.raw[:length].decode() for it, length in lengths] or ("", "")
+    return Reply(
+        number,
+        told.writes,
+        told.fault,
+        told.detail,
+        told.check,
+        images,
+        told.left,
+        bool(told.permanent),
+        tuple(map(_version, told.versions[: told.images])),
+        tuple(refusals),
+        table,
+        report,
+    )
+
+
+def describe(image: bytes) -> Description | int:
+    """What an image says of itself that some bytes are, all of them, or the number of the first check that fails."""
+    told = _Description()
+    return _LIBRARY.bootswap_describe(_lent(image), len(image), byref(told)) or _description(told)
+
+
+def digest(file: bytes) -> bytes:
+    """The SHA-256 of a file, by which a manifest names it."""
+    told = _Sha256()
+    _LIBRARY.bootswap_digest(_lent(file), len(file), byref(told))
+    return bytes(told.bytes)
+
+
+def choose(table: str) -> str:
+    """The report of the choice among the requests of a table. Raises BootswapError where the text is no table, or the
+    running images don't fit each other."""
+    given, report, length = table.encode(), ctypes.create_string_buffer(REPORT_ROOM), c_uint64()
+    lent = ctypes.create_string_buffer(given, len(given) + 1)
+    number = Number(_LIBRARY.bootswap_choose(lent, len(given), report, REPORT_ROOM, byref(length)))
+    if number != Number.DONE:
+        raise BootswapError(number, length.value)
+    return report.raw[: length.value].decode()
+
+
+def check(table: str, report: str) -> bool:
+    """Whether a report is right for a table. Raises BootswapError where a text is none."""
+    first, second, line = table.encode(), report.encode(), c_uint64()
+    lent = [ctypes.create_string_buffer(it, len(it) + 1) for it in (first, second)]
+    number = Number(_LIBRARY.bootswap_check(lent[0], len(first), lent[1], len(second), byref(line)))
+    if number not in (Number.DONE, Number.WRONG):
+        raise BootswapError(number, line.value)
+    return number == Number.DONE

@@ -1,0 +1,223 @@
+"""Tests of the Python names, and of the library behind them: every example of the repository, a cut at each write of a
+boot, and contents that no call wrote. `python3 bindings/python/test_bootswap.py` runs them."""
+
+import json
+import os
+import random
+import unittest
+import uuid
+
+import bootswap
+from bootswap import Component, Cut, Device, Kind, Need, Number, UploadFault, Version
+
+EXAMPLES = f"{os.path.dirname(os.path.realpath(__file__))}/../../examples"
+
+
+def read(name):
+    with open(f"{EXAMPLES}/{name}", "rb") as it:
+        return it.read()
+
+
+def names_in(folder):
+    return sorted(os.path.splitext(it)[0] for it in os.listdir(f"{EXAMPLES}/{folder}"))
+
+
+def device_of(name):
+    """A device by its file, with the same image in all primary slots, provisioned."""
+    it = json.loads(read(f"devices/{name}.json"))
+    vendor, class_id = uuid.UUID(it["vendor-id"]), uuid.UUID(it["class-id"])
+    device = Device(it["sector"], it["sectors"], it.get("trial-boots", 1), vendor, class_id)
+    for image in range(len(it["sectors"])):
+        device.write(image, read("images/one.img"))
+    assert device.provision().number == Number.DONE
+    return device
+
+
+def components_of(manifest):
+    """The components of the JSON text of a manifest."""
+    for it in manifest["components"]:
+        kind = Kind.PERMANENT if it["kind"] == "permanent" else Kind.TEST
+        precursor = bytes.fromhex(it["precursor-digest"]) if "precursor-digest" in it else None
+        yield Component(it["component-id"], it["size"], bytes.fromhex(it["payload-digest"]), kind, precursor)
+
+
+class Script:
+    """What comes to a device, a line an event, and what the program `run` prints of each."""
+
+    def __init__(self, device):
+        self.device, self.armed, self.writes, self.lines, self.count = device, {}, 0, [], 0
+
+    def play(self, text):
+        for line in text.splitlines():
+            word, *words = line.split()
+            if word == "cut":
+                write, left = words
+                self.armed[int(write)] = bytes.fromhex(left[4:]) if left.startswith("hex:") else left
+                continue
+            self.count += 1
+            reply = self.call(word, words)
+            self.writes += reply.writes
+            self.lines += self.told(reply)
+        return "".join(f"{it}\n" for it in self.lines)
+
+    def call(self, word, words):
+        cuts = [Cut(write - self.writes, left) for write, left in self.armed.items() if write > self.writes]
+        if word == "boot":
+            return self.device.boot(cuts)
+        if word == "accept":
+            manifest = json.loads(read(words[0].removeprefix("examples/")))
+            return self.device.accept(manifest["sequence-number"], components_of(manifest), cuts)
+        if word == "piece":
+            file = read(words[1].removeprefix("examples/"))
+            at, length = map(int, words[2:]) if len(words) > 2 else (0, len(file))
+            return self.device.piece(int(words[0]), file[at : at + length], cuts)
+        return getattr(self.device, word)(int(words[0]), cuts)
+
+    def told(self, reply):
+        images = " ".join(map(str, reply.images))
+        if reply.number == Number.BOOTED:
+            kind = "permanent" if reply.permanent else "trial" if reply.images else "plain"
+            return [f"{self.count} {kind}", *reply.report.splitlines()]
+        if reply.number == Number.TRIAL_AGAIN:
+            return [f"{self.count} trial-again {images} left {reply.left}"]
+        if reply.number == Number.REVERTED:
+            return [f"{self.count} reverted {images}"]
+        if reply.number == Number.REFUSED:
+            return [f"{self.count} refused upload {reply.detail} {UploadFault(reply.detail).name}"]
+        return [f"{self.count} {reply.number.name.lower()}"]
+
+
+class Texts(unittest.TestCase):
+    def test_each_table_has_its_report(self):
+        for name in names_in("tables"):
+            table, report = read(f"tables/{name}.txt").decode(), read(f"reports/{name}.txt").decode()
+            self.assertEqual(bootswap.choose(table), report)
+            self.assertTrue(bootswap.check(table, report))
+
+    def test_a_report_of_another_table_is_wrong(self):
+        self.assertFalse(bootswap.check(read("tables/neither.txt").decode(), read("reports/either.txt").decode()))
+
+    def test_a_bad_line_is_named(self):
+        with self.assertRaises(bootswap.BootswapError) as caught:
+            bootswap.choose("image 0 1.0.0+0 0 0\nimage 2 1.0.0+0 0 0\n")
+        self.assertEqual((caught.exception.number, caught.exception.line), (Number.NO_TABLE, 2))
+        with self.assertRaises(bootswap.BootswapError) as caught:
+            bootswap.check("image 0 1.0.0+0 0 0\n", "run 0 1.0.0+0\nrun\n")
+        self.assertEqual((caught.exception.number, caught.exception.line), (Number.NO_REPORT, 2))
+
+    def test_running_images_that_do_not_fit_are_refused(self):
+        with self.assertRaises(bootswap.BootswapError) as caught:
+            bootswap.choose("image 0 1.0.0+0 0 0\nneeds 0 2.0.0+0\n")
+        self.assertEqual(caught.exception.number, Number.INVALID_SET)
+
+
+class Images(unittest.TestCase):
+    def test_each_image_has_its_description(self):
+        for name in names_in("images"):
+            told, lines = bootswap.describe(read(f"images/{name}.img")), []
+            if isinstance(told, int):
+                lines = [f"refused {told} "]
+            else:
+                lines += [f"version {told.version}", f"length {told.length}", f"counter {told.counter}"]
+                lines += [f"digest {told.digest.hex()}"]
+                lines += [f"needs {it.image} {it.minimum}" for it in told.needs]
+                lines += ["needs-one" + "".join(f" {it.image} {it.minimum}" for it in one) for one in told.groups]
+            wanted = read(f"descriptions/{name}.txt").decode()
+            self.assertTrue(wanted.startswith("\n".join(lines)), (name, lines, wanted))
+
+    def test_the_digest_of_abc(self):
+        wanted = "ba7816bf8f01cfea414140de5dae2223b00361a396177a9cb410ff61f20015ad"
+        self.assertEqual(bootswap.digest(b"abc").hex(), wanted)
+
+
+class Devices(unittest.TestCase):
+    def test_each_script_has_its_output(self):
+        for name in names_in("scripts"):
+            kind = name if name in names_in("devices") else "pair"
+            said = Script(device_of(kind)).play(read(f"scripts/{name}.txt").decode())
+            self.assertEqual(said, read(f"outputs/{name}.txt").decode(), name)
+
+    def requested(self):
+        """A device that is up, with a pair of images requested for good."""
+        device = device_of("pair")
+        device.boot()
+        needing, partner = read("images/needing.img"), read("images/partner.img")
+        device.accept(1, [Component.of(0, needing, Kind.PERMANENT), Component.of(1, partner, Kind.PERMANENT)])
+        for image, file in enumerate((needing, partner)):
+            for at in range(0, len(file), 5):
+                self.assertEqual(device.piece(image, file[at : at + 5]).number, Number.DONE)
+            self.assertEqual(device.finish(image).number, Number.DONE)
+        return device
+
+    def test_a_boot_that_is_cut_at_any_write_ends_with_the_same_set(self):
+        before = self.requested()
+        kept, flash = bytes(before._kept), bytes(before.flash)
+        writes = before.boot().writes
+        self.assertGreater(writes, 20)
+        new = Version(2)
+        for write in range(1, writes + 1):
+            device = Device(512, [2, 2], flash=bytearray(flash))
+            device._kept = type(device._kept).from_buffer_copy(kept)
+            self.assertEqual(device.boot([Cut(write, b"\x5a\x00")]).number, Number.CUT)
+            self.assertFalse(device.is_up)
+            reply = device.boot()
+            self.assertEqual((reply.number, reply.versions), (Number.BOOTED, (new, new)), write)
+            self.assertEqual([device.slot(image).version for image in (0, 1)], [new, new])
+            self.assertTrue(bootswap.check(reply.table, reply.report))
+
+    def test_what_a_boot_refuses_is_told_as_fields(self):
+        device = device_of("either")
+        Script(device).play("boot\naccept examples/manifests/either.json\npiece 0 examples/images/either.img\nfinish 0")
+        (refusal,) = device.boot().refusals
+        needs = (Need(1, Version(2)), Need(2, Version(2)))
+        self.assertEqual((refusal.image, refusal.reason, refusal.needs), (0, 6, needs))
+
+    def test_uploads_are_kept_between_calls_and_not_over_another_flash(self):
+        device = device_of("pair")
+        device.boot()
+        file = read("images/patched.img")
+        device.accept(1, [Component.of(0, file)])
+        device.piece(0, file[:13])
+        device.flash[device.place(0, 1) + 40] = 0
+        self.assertEqual(device.piece(0, file[13:]).fault, bootswap.Fault.NotBooted)
+        device.flash[device.place(0, 1) + 40] = 0xFF
+        self.assertFalse(device.is_up)
+
+    def test_any_contents_are_answered(self):
+        numbers, device = random.Random(7), device_of("pair")
+        for _ in range(3000):
+            kept = bytes([numbers.choice((0, 1, 2)), 0, 0, 0]) + numbers.randbytes(416)
+            if numbers.random() < 0.5:
+                kept = kept[:4] + bytes(numbers.choice((0, 0, 1, 255)) for _ in range(416))
+            device._kept = type(device._kept).from_buffer_copy(kept)
+            device.flash[numbers.randrange(len(device.flash))] = numbers.randrange(256)
+            call = numbers.choice((device.boot, lambda: device.piece(0, b"abcdefgh"), lambda: device.finish(1)))
+            self.assertIn(call().number, (Number.BOOTED, Number.DONE, Number.REFUSED))
+
+    def test_sizes_that_make_no_device_change_nothing(self):
+        for sector, sectors, boots, number in (
+            (500, [2], 1, Number.NO_MAP),
+            (512, [20], 1, Number.NO_MAP),
+            (512, [2], 0, Number.NO_TRIAL),
+            (512, [2], 8, Number.NO_TRIAL),
+        ):
+            device = Device(sector, sectors, boots)
+            with self.assertRaises(bootswap.BootswapError) as caught:
+                device.boot()
+            self.assertEqual(caught.exception.number, number)
+        for flash in (b"", b"\xff" * 512 * 9, b"\xff" * (512 * 10 + 1)):
+            device = Device(512, [2])
+            device.flash[:] = flash or b"\xff"
+            with self.assertRaises(bootswap.BootswapError) as caught:
+                device.boot()
+            self.assertEqual((caught.exception.number, device.flash.count(0xFF)), (Number.NO_FLASH, len(device.flash)))
+        with self.assertRaises(bootswap.BootswapError) as caught:
+            Device(512, [2]).slot(1)
+        self.assertEqual(caught.exception.number, Number.NO_IMAGE)
+        with self.assertRaises(bootswap.BootswapError) as caught:
+            Device(512, [2]).boot([Cut(1)] * 17)
+        self.assertEqual(caught.exception.number, Number.TOO_MANY)
+
+
+if __name__ == "__main__":
+    unittest.main()
