@@ -1,11 +1,12 @@
 """Checks of the library behind include/bootswap.h, for `./gate`: the program in C, and the tests of the Python names."""
 
 import os
+import shutil
 import subprocess
 import sys
 
 from checking import EXAMPLES, ROOT, short
-from program import asked_of_rt, crates_of
+from program import TARGET, NotBuilt, asked_of_rt, crates_of, static_library
 
 LIFE = f"{ROOT}/bindings/c/life.c"
 STRICT = ["-std=c11", "-Wall", "-Wextra", "-Werror", "-I", f"{ROOT}/include"]
@@ -17,13 +18,23 @@ ENDS = b"permanent\ntake 0 1.1.0+0\n"
 LIMIT = 120
 
 
-def build_over_rt(folder):
-    """Builds the library over what `rt ci` left of the crates below it, and returns the words of the build."""
+def build_over_rt(archive, target):
+    """Builds the library over what `rt ci` left of the crates below it, and returns what is wrong, if something is."""
     crates = crates_of("device_calls")
     for crate in crates[:-1]:
         crate.made = f"{crate.folder}/out/rlib/{crate.name}.rlib"
-    crates[-1].made = f"{folder}/libbootswap.a"
-    return crates[-1].words(os.path.dirname(asked_of_rt("doc")), len(os.sched_getaffinity(0))), crates[-1].folder
+    crates[-1].target, crates[-1].made = target, archive
+    words = crates[-1].words(os.path.dirname(asked_of_rt("doc")), len(os.sched_getaffinity(0)))
+    return ran(words, cwd=crates[-1].folder)[0]
+
+
+def build_alone(archive, target):
+    """Builds the library by way of out/build."""
+    try:
+        shutil.copyfile(static_library(target), archive)
+    except NotBuilt as error:
+        return [str(error)]
+    return []
 
 
 def ran(words, **how):
@@ -64,10 +75,10 @@ def check_python(checks, archive):
     checks.tell("the tests of the Python names", faults)
 
 
-def check_library(checks, words=None, folder=None):
-    """All checks of the library, which these words build, or `bindings/build`."""
-    archive = f"{checks.folder}/libbootswap.a" if words else f"{ROOT}/out/libbootswap.a"
-    faults, _ = ran(words or [f"{ROOT}/bindings/build"], cwd=folder)
+def check_library(checks, build):
+    """All checks of the library, as this builds it."""
+    archive = f"{checks.folder}/libbootswap.a"
+    faults = build(archive, TARGET)
     checks.tell("the library builds", faults)
     if not faults:
         check_life(checks, archive)

@@ -1,4 +1,5 @@
-"""Proves and builds the program `bootswap`, for the command of that name, and the static library of `bindings/build`.
+"""Proves and builds the program `bootswap`, for the command of that name, and the static library of `bindings/build` and
+`web/build`.
 
 Each crate is proved by the toolchain's `rattle build`, over the statements of the crates below it. At most half again
 as many processes work at once as there are processors, and as many as memory allows. What is built stands in out/build:
@@ -76,6 +77,7 @@ SECONDS = {
 }
 
 TARGET = "x86_64-unknown-linux-gnu"
+WEB_TARGET = "wasm64-unknown-unknown"
 
 
 class NotBuilt(Exception):
@@ -95,6 +97,7 @@ class Crate:
         self.is_program = os.path.isfile(f"{self.folder}/src/main.rt")
         self.made = f"{BUILD}/{name}.{'o' if self.is_program else 'a' if is_static else 'rlib'}"
         self.stamp = f"{BUILD}/{name}.stamp"
+        self.target = TARGET
         self.files = sorted(files_of(self.folder))
         lines = sum(contents.count(b"\n") for path, contents in self.files if path.endswith(".rt"))
         self.seconds = SECONDS.get(name, lines / 6)
@@ -110,7 +113,7 @@ class Crate:
     @functools.lru_cache(maxsize=None)
     def digest(self, toolchain):
         """Returns a digest of all that it is made of."""
-        sum = hashlib.sha256(repr((self.name, self.of_kit, toolchain, self.files)).encode())
+        sum = hashlib.sha256(repr((self.name, self.of_kit, toolchain, self.target, self.files)).encode())
         for crate in self.own:
             sum.update(crate.digest(toolchain).encode())
         return sum.hexdigest()
@@ -131,10 +134,15 @@ class Crate:
             words += ["-L", f"dependency={folder}"]
         words += ["--antt-project", f"{kit}/rattle/logic/antt-project.json", "--logic-built", f"{kit}/logic_built"]
         words += ["--jobs", str(jobs), "--links", f"{self.name}=", "-o", self.made]
-        words += ["--crate-type", "staticlib"] if self.is_static else []
+        words += ["--crate-type", "staticlib", "--target", self.target] if self.is_static else []
         if self.is_program or self.is_static:
             return [*words, "--toolchain", f"{kit}/toolchain", "--backend", "llvm"]
         return [*words, "--statements"]
+
+
+    def aim(self, target):
+        """Has a static library built for another target, beside the one for this processor."""
+        self.target, self.made, self.stamp = target, f"{BUILD}/{self.name}.{target}.a", f"{BUILD}/{self.name}.{target}.stamp"
 
 
 def files_of(folder):
@@ -344,3 +352,22 @@ def lock(held):
     except BlockingIOError:
         tell("waiting for another build here")
         fcntl.flock(held, fcntl.LOCK_EX)
+
+
+def static_library(target=TARGET):
+    """Proves and builds the library behind include/bootswap.h for a target, where that isn't done yet, and returns its
+    file."""
+    crates, toolchain = crates_of("device_calls"), asked_of_rt("version")
+    if target != TARGET:
+        crates[-1].aim(target)
+    if not crates[-1].is_built(toolchain):
+        build(crates, toolchain)
+    return crates[-1].made
+
+
+def link_for_web(archive, module):
+    """Links a static library to a module of WebAssembly, and returns whether that was done, and what was said."""
+    kit = os.path.dirname(asked_of_rt("doc"))
+    words = [f"{kit}/bin/rattle-link", "--target", WEB_TARGET, "--toolchain", f"{kit}/toolchain", "-o", module, archive]
+    ran = subprocess.run(words, stdin=subprocess.DEVNULL, stdout=subprocess.PIPE, stderr=subprocess.STDOUT)
+    return ran.returncode == 0, ran.stdout.decode(errors="replace")

@@ -1,0 +1,66 @@
+"""A browser without a window, driven over a pipe by Chromium's DevTools protocol, for the checks of the page."""
+
+import json
+import os
+import subprocess
+
+# How many seconds the browser may take for one answer.
+LIMIT = 60
+
+
+class Browser:
+    """A browser with one page. `call` is a command of the protocol, `run` an expression of the page's JavaScript."""
+
+    def __init__(self, command, folder, url):
+        theirs_in, self.to = os.pipe()
+        self.come_from, theirs_out = os.pipe()
+        words = [command, "--headless", "--no-sandbox", "--disable-gpu", "--remote-debugging-pipe", "--window-size=1240,1000"]
+        words += [f"--user-data-dir={folder}/browser", "about:blank"]
+        # The protocol's ends are the descriptors 3 and 4.
+        script = f'exec "$@" 3<&{theirs_in} 4>&{theirs_out}'
+        self.ran = subprocess.Popen(
+            ["bash", "-c", script, "", *words], pass_fds=[theirs_in, theirs_out], stdin=subprocess.DEVNULL,
+            stdout=subprocess.DEVNULL, stderr=subprocess.DEVNULL,
+        )
+        os.close(theirs_in)
+        os.close(theirs_out)
+        self.number, self.left, self.session, self.faults = 0, b"", None, []
+        target = self.call("Target.createTarget", url="about:blank")["targetId"]
+        self.session = self.call("Target.attachToTarget", targetId=target, flatten=True)["sessionId"]
+        self.call("Runtime.enable")
+        self.call("Page.enable")
+        self.call("Page.navigate", url=url)
+
+    def message(self):
+        """Returns the next message that the browser sends."""
+        while b"\0" not in self.left:
+            more = os.read(self.come_from, 65536)
+            if not more:
+                raise EOFError("the browser ended")
+            self.left += more
+        text, _, self.left = self.left.partition(b"\0")
+        return json.loads(text)
+
+    def call(self, method, **words):
+        self.number += 1
+        to_page = {"sessionId": self.session} if self.session else {}
+        os.write(self.to, json.dumps({"id": self.number, "method": method, "params": words, **to_page}).encode() + b"\0")
+        while True:
+            got = self.message()
+            if got.get("method") == "Runtime.exceptionThrown":
+                self.faults.append(got["params"]["exceptionDetails"].get("text", "a fault of the page"))
+            if got.get("id") == self.number:
+                return got["result"]
+
+    def run(self, code):
+        """Returns the value of an expression on the page."""
+        got = self.call("Runtime.evaluate", expression=code, returnByValue=True, awaitPromise=True)
+        if "exceptionDetails" in got:
+            raise ValueError(f"{code}: {got['exceptionDetails'].get('text')}")
+        return got["result"].get("value")
+
+    def close(self):
+        self.ran.kill()
+        self.ran.wait()
+        os.close(self.to)
+        os.close(self.come_from)

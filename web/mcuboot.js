@@ -1,0 +1,64 @@
+// MCUboot's rule for several images, as its design document tells it under "Multiple image boot" and "Dependency check":
+// each image has its own swap type; one that would be swapped in is left where something that it needs won't run; and one
+// on trial that wasn't confirmed goes back by itself. A model of versions, drawn beside the proved decision. No code of
+// MCUboot runs here.
+
+import { versionText } from "./library.js";
+
+const isBelow = (a, b) => {
+  const keys = ["major", "minor", "revision", "build"];
+  const key = keys.find((it) => a[it] !== b[it]);
+  return key !== undefined && a[key] < b[key];
+};
+
+export class PerImage {
+  /** A device that runs these images, each `{ version, needs }`. */
+  constructor(running) {
+    this.images = running.map((primary) => ({ primary, secondary: null, asked: null, onTrial: false }));
+  }
+
+  request(image, secondary, permanent) {
+    Object.assign(this.images[image], { secondary, asked: permanent ? "permanent" : "test" });
+  }
+
+  withdraw(image) {
+    this.images[image].asked = null;
+  }
+
+  confirm(image) {
+    this.images[image].onTrial = false;
+  }
+
+  boot() {
+    const types = this.images.map((it) => (it.onTrial ? "revert" : it.asked));
+    const runs = (i) => (types[i] ? this.images[i].secondary : this.images[i].primary);
+    for (let i = 0; i < types.length; i += 1) {
+      const isAsked = types[i] && types[i] !== "revert";
+      if (isAsked && !this.images[i].secondary.needs.every((it) => this.isMet(it, runs))) {
+        types[i] = null;
+        i = -1;
+      }
+    }
+    this.images.forEach((it, i) => types[i] && this.swap(it, types[i]));
+  }
+
+  swap(image, type) {
+    [image.primary, image.secondary] = [image.secondary, image.primary];
+    image.onTrial = type === "test";
+    image.asked = null;
+  }
+
+  isMet({ image, minimum }, runs) {
+    return image < this.images.length && !isBelow(runs(image).version, minimum);
+  }
+
+  /** What runs, and each dependency of it that isn't met. */
+  told() {
+    const broken = this.images.flatMap(({ primary }, i) =>
+      primary.needs
+        .filter((it) => !this.isMet(it, (j) => this.images[j].primary))
+        .map((it) => `image ${i} needs image ${it.image} at ${versionText(it.minimum)}`),
+    );
+    return { runs: this.images.map((it) => versionText(it.primary.version)), broken };
+  }
+}
