@@ -39,9 +39,9 @@ def check_scripts(checks):
 
 
 def quick_start():
-    """The first command of the README, and what it says that it prints: the next block that has no language."""
+    """The first command of the README, and what it says that it prints: the next block that begins with `done`."""
     text = read(f"{ROOT}/README.md").decode()
-    return re.search(r"^```sh\n(.*?)^\./gate$.*?^```\n.*?^```\n(.*?)^```$", text, re.M | re.S).groups()
+    return re.search(r"^```sh\n(.*?)^\./gate$.*?^```\n.*?^```\n(done\n.*?)^```$", text, re.M | re.S).groups()
 
 
 def formats_script():
