@@ -16,7 +16,7 @@ mod choosing;
 mod cuts;
 mod describing;
 mod description;
-mod events;
+mod exports;
 mod kept;
 mod lent;
 mod manifests;
