@@ -1,6 +1,7 @@
 """Checks of the page of web/, for `./gate`: a device's life is clicked through in a browser without a window, and what the
 page says is compared with what the program prints of the same events."""
 
+import contextlib
 import os
 import shutil
 import signal
@@ -40,15 +41,26 @@ class Page:
             env={**os.environ, "BOOTSWAP_MODULE": f"{folder}/bootswap.wasm"},
         )
         self.address = self.served.stdout.readline().decode().strip()
-        self.browser = Browser(BROWSER, folder, f"{self.address}/index.html")
+        self.browser = Browser(BROWSER)
+
+    def open(self):
+        self.browser.open(f"{self.address}/index.html")
         self.wait()
 
     def wait(self):
+        """Waits until the page shows a device. While it is loaded nothing on it can be asked."""
         until = time.monotonic() + 30
-        while self.browser.run(READY) != "yes":
-            if time.monotonic() > until:
-                raise ValueError("the page isn't ready after 30 seconds")
+        while time.monotonic() < until:
+            with contextlib.suppress(KeyError):
+                if self.browser.run(READY) == "yes":
+                    return
             time.sleep(0.05)
+        raise ValueError("the page isn't ready after 30 seconds")
+
+    def renew(self):
+        """Makes a new device on the page."""
+        self.browser.run("document.getElementById('setup').requestSubmit()")
+        self.wait()
 
     def close(self):
         self.browser.close()
@@ -81,9 +93,7 @@ def check_life(checks, page):
         run(step)
     got = run(EVENTS)
     checks.tell("the page says what the program prints", [f"{got}, and not {wanted}"] * (got != wanted or set(upload) != {"done"}))
-    run("document.getElementById('setup').requestSubmit()")
-    page.wait()
-    time.sleep(0.2)
+    page.renew()
     for step in (click("boot"), UPLOAD):
         run(step)
     writes = int(run("document.getElementById('write').max"))
@@ -104,7 +114,6 @@ def check_link(checks, page, wanted):
     link = page.browser.run("location.hash")
     page.browser.call("Page.navigate", url="about:blank")
     page.browser.call("Page.navigate", url=f"{page.address}/index.html{link}")
-    time.sleep(0.2)
     page.wait()
     got = page.browser.run(EVENTS)
     checks.tell("a link carries the scene", [f"{got}, and not {wanted}"] * (got != wanted))
@@ -113,9 +122,7 @@ def check_link(checks, page, wanted):
 def check_beside(checks, page):
     """A pair of which one image is confirmed: the device takes both back, and MCUboot's rule the other one alone."""
     run = page.browser.run
-    run("document.getElementById('setup').requestSubmit()")
-    time.sleep(0.2)
-    page.wait()
+    page.renew()
     for step in (click("beside"), click("boot"), UPLOAD, click("boot"), confirm(0), click("boot"), click("boot")):
         run(step)
     events, told = run(EVENTS), run("document.getElementById('mcuboot').textContent")
@@ -129,9 +136,7 @@ def check_refusal(checks, page):
     is no version is told."""
     run = page.browser.run
     run("document.getElementById('images').value = 3")
-    run("document.getElementById('setup').requestSubmit()")
-    time.sleep(0.2)
-    page.wait()
+    page.renew()
     tick = "document.querySelectorAll('#rows input[type=checkbox]')[{}].click()"
     for step in (click("boot"), tick.format(1), UPLOAD, click("boot")):
         run(step)
@@ -150,6 +155,10 @@ def check_refusal(checks, page):
     checks.tell("a text that is no version is told", [told] * (not told.startswith("image 1: a version") or len(run(EVENTS)) != count))
 
 
+def too_long(*_):
+    raise ValueError(f"not done after {LIMIT} seconds")
+
+
 def check_page(checks, build):
     """All checks of the page, over the library as this builds it."""
     archive, module = f"{checks.folder}/web.a", f"{checks.folder}/bootswap.wasm"
@@ -160,15 +169,17 @@ def check_page(checks, build):
     checks.tell("the library of the page builds", faults)
     if faults:
         return
+    signal.signal(signal.SIGALRM, too_long)
     signal.alarm(LIMIT)
     page = Page(checks.folder)
     try:
+        page.open()
         check_link(checks, page, check_life(checks, page))
         check_beside(checks, page)
         check_refusal(checks, page)
         checks.tell("the page has no fault", page.browser.faults)
-    except (EOFError, ValueError) as error:
-        checks.tell("the page is clicked through", [str(error)])
+    except (EOFError, KeyError, OSError, ValueError) as error:
+        checks.tell("the page is clicked through", [repr(error)])
     finally:
-        page.close()
         signal.alarm(0)
+        page.close()

@@ -248,11 +248,13 @@ function run(action) {
 }
 
 async function start(given) {
+  document.body.dataset.ready = "";
   scene = await Scene.load(module, given);
   $("images").value = scene.start.images;
   $("boots").value = scene.start.boots;
   $("rows").replaceChildren(...Array.from({ length: scene.start.images }, (_, i) => uploadRow(i)));
   drawScene();
+  document.body.dataset.ready = "yes";
 }
 
 function rowsOf(form) {
@@ -298,4 +300,3 @@ function sceneOfLink() {
 module = await WebAssembly.compile(await (await fetch("bootswap.wasm")).arrayBuffer());
 listen();
 await start(sceneOfLink());
-document.body.dataset.ready = "yes";
