@@ -13,6 +13,7 @@ import functools
 import hashlib
 import os
 import re
+import shutil
 import signal
 import subprocess
 import sys
@@ -24,6 +25,10 @@ OUT = f"{ROOT}/out"
 BUILD = f"{OUT}/build"
 LOG = f"{OUT}/bootswap.log"
 PROGRAM = f"{OUT}/bootswap"
+
+# Where out/build stands while `rt ci` runs, which stops at a source file that none of its checks reads, as those that a
+# built library has.
+ASIDE = f"{ROOT}/.git/bootswap-build"
 
 # What is told before a build: as measured on 4 processors, all of them taken.
 COSTS = {
@@ -333,6 +338,7 @@ def asked_of_rt(word):
 
 def build(crates, toolchain):
     """Proves and builds these crates: a program as out/bootswap, a library as out/build/NAME.a."""
+    put_build_back()
     try:
         os.makedirs(BUILD, exist_ok=True)
         held = open(f"{BUILD}/lock", "w", encoding="utf-8")
@@ -343,6 +349,23 @@ def build(crates, toolchain):
         open(LOG, "w", encoding="utf-8").close()
         signal.signal(signal.SIGTERM, lambda *_: sys.exit(128 + signal.SIGTERM))
         Build(crates, toolchain, os.path.dirname(asked_of_rt("doc")), held).run()
+
+
+def set_build_aside():
+    """Sets out/build aside, once no build goes on there."""
+    put_build_back()
+    if os.path.isdir(BUILD) and os.path.isdir(os.path.dirname(ASIDE)):
+        with open(f"{BUILD}/lock", "w", encoding="utf-8") as held:
+            lock(held)
+            os.rename(BUILD, ASIDE)
+
+
+def put_build_back():
+    """Puts back what was set aside, also by a run that was killed, unless something was built since."""
+    if os.path.isdir(ASIDE) and not os.path.isdir(BUILD):
+        os.makedirs(OUT, exist_ok=True)
+        os.rename(ASIDE, BUILD)
+    shutil.rmtree(ASIDE, ignore_errors=True)
 
 
 def lock(held):
