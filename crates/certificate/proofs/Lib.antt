@@ -1,9 +1,11 @@
 pub mod AlternativeLaws
 pub mod BestVersion
 pub mod CheckingRequests
+pub mod Comparisons
 pub mod Counts
 pub mod DependantLaws
 pub mod Greatest
+pub mod ImageLookups
 pub mod LineLaws
 pub mod Masks
 pub mod Members

@@ -1,13 +1,14 @@
 -- Printed lines, one loop's step at a time.
-use Rattle.std.proofs.Common.{◌≡◌, ℕ, ◌+◌, ◌<◌, List, [], ◌∷◌, ◌++◌, length, get_or, take, sym, ap, ◌∙◌, append-nil, arith}
-use Rattle.std.proofs.lemmas.List.{take_more, length-take-le, flat_map_more}
+use Rattle.std.proofs.Common.{◌≡◌, ℕ, ◌+◌, ◌<◌, List, [], ◌∷◌, ◌++◌, length, get_or, map, take, sym, ap, ◌∙◌, append-nil, arith}
+use Rattle.std.proofs.lemmas.List.{take_more, length-take-le, flat_map_more, map-append}
 use Rattle.std.proofs.lemmas.List.Concat.{flat_map-append}
 use Rattle.common.specs.Lines.{printed_lines}
 use Rattle.certificate.specs.declared.table.Image.{Image}
 use Rattle.certificate.specs.declared.report.ReportedImage.{ReportedImage}
 use Rattle.certificate.specs.declared.table_line.TableLine.{TableLine}
+use Rattle.certificate.specs.declared.table_line.TableLine.TheVariants as line
 use Rattle.certificate.specs.declared.report_line.ReportLine.{ReportLine}
-use Rattle.certificate.specs.TableText.{image_lines, table_line_text, table_lines}
+use Rattle.certificate.specs.TableText.{image_lines, needs_lines, request_lines, table_line_text, table_lines}
 use Rattle.certificate.specs.ReportText.{report_line_text, reported_line, reported_lines}
 use Rattle.certificate.proofs.ReportLaws.{reported_lines-append}
 use Rattle.certificate.proofs.TableLaws.{table_lines-append}
@@ -41,3 +42,26 @@ printed_reported_more xs i d said below is =
     ∙ ap (λ (line : ReportLine). reported_lines 0 (take i xs) ++ line ∷ []) (sym is) in
     flat_map_more (λ line. report_line_text line ++ 10 ∷ []) [] (reported_lines 0 (take i xs)) said
     ∙ ap (printed_lines report_line_text) (sym lines)
+
+-- An image is printed as its first line, what it needs, and what is requested.
+pub printed_image : (n : ℕ) (image : Image)
+    → (table_line_text (line.Image n image.running.version image.running.counter image.floor) ++ 10 ∷ [])
+    ++ (printed_lines table_line_text (needs_lines image.running)
+    ++ printed_lines table_line_text (request_lines image.request))
+    ≡ printed_lines table_line_text (image_lines n image)
+printed_image n image =
+    let text = λ (said : TableLine). table_line_text said ++ 10 ∷ [] in
+    let first = line.Image n image.running.version image.running.counter image.floor in
+    sym (ap (λ (more : List ℕ). text first ++ more)
+    (flat_map-append text (needs_lines image.running) (request_lines image.request)))
+
+-- One more thing is printed, on a line of its own, after the others.
+pub printed_more : {A B : Type 0} (text_of : B → List ℕ) (line_of : A → B) (xs : List A) (i : ℕ) (x : A)
+    → i < length xs → x ≡ get_or xs i x
+    → printed_lines text_of (map line_of (take i xs)) ++ (text_of (line_of x) ++ 10 ∷ [])
+    ≡ printed_lines text_of (map line_of (take (i + 1) xs))
+printed_more text_of line_of xs i x below is =
+    let more : take (i + 1) xs ≡ take i xs ++ x ∷ [] =
+    take_more xs i x below ∙ ap (λ y. take i xs ++ y ∷ []) (sym is) in
+    flat_map_more (λ thing. text_of thing ++ 10 ∷ []) [] (map line_of (take i xs)) (line_of x)
+    ∙ sym (ap (printed_lines text_of) (ap (map line_of) more ∙ map-append line_of (take i xs) (x ∷ [])))

@@ -1,0 +1,10 @@
+use Rattle.std.proofs.Common.{◌∙◌}
+use Rattle.certificate.proofs.ImageLookups.{image_at-found}
+use Rattle.certificate.proofs.Comparisons.{is_ge-not_lt}
+use Rattle.certificate.proofs.checking.reasons.is_in_reach.Goals as goal
+
+pub returns-in-Some : goal.returns-in-Some
+returns-in-Some c =
+    let at = image_at-found _ _ _ _ _ c.deref.ensures.0 c.from.ensures c.in-Some.ensures.lookup.0
+    c.in-Some.ensures.lookup.1 in
+    rw (at, ← c.best_version.ensures) (c.ge.ensures ∙ is_ge-not_lt _)
