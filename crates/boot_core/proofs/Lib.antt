@@ -10,8 +10,10 @@ pub mod Again
 pub mod Stopping
 pub mod Texts
 pub mod Given
+mod NotReady
 pub mod Steps
 mod Afresh
 mod OnMap
+mod Passed
 pub mod Measured
 pub mod Wears

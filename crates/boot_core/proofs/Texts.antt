@@ -1,5 +1,5 @@
 -- Texts that are no manifests for a device.
-use Rattle.std.proofs.Common.{◌≡◌, ◌≢◌, ℕ, Bool, true, List, Option, Some, sym, subst}
+use Rattle.std.proofs.Common.{◌≡◌, ◌≢◌, ℕ, Bool, true, List, Option, Some, refl, sym, subst}
 use Rattle.std.specs.Borrow.{Bor}
 use Rattle.events.specs.declared.event.Event.TheVariants as event
 use Rattle.flash_model.specs.Chip.{Chip}
@@ -18,9 +18,10 @@ use Rattle.machine.specs.declared.error.Fault.TheVariants as no
 use Rattle.machine.specs.declared.reply.Reply.{Reply}
 use Rattle.machine.specs.declared.reply.Reply.TheVariants.{Refused}
 use Rattle.machine.proofs.Uploading.{steps_bad_manifest, steps_no_memory}
-use Rattle.boot_core.specs.Answers.{fault_reply}
+use Rattle.boot_core.specs.Answers.{EndsCall, fault_reply}
 use Rattle.boot_core.specs.Device.{seen}
 use Rattle.boot_core.specs.Ready.{RefusesText, text_fault}
+use Rattle.boot_core.proofs.Stopping.{idle_ends}
 
 pub text_refused : (identity : Identity) (bytes : List ℕ) (error : ManifestError)
     → (error ≢ text.NoMemory → IsRefusal identity bytes error) → RefusesText identity bytes (text_fault error)
@@ -57,3 +58,20 @@ module _ (setup : Setup) (old mid : Chip) (told : List (Option Upload)) (up : Bo
   text_steps no.InvalidSet refused = absurd refused
   text_steps (no.Flash error) refused = absurd refused
   text_steps (no.Upload error) refused = absurd refused
+
+-- .. and how it ends
+pub text_ends : (identity : Identity) (bytes : List ℕ) (old mid : Chip) (told : List (Option Upload)) (up : Bool)
+    → mid ≡ old → (fault : Fault) → RefusesText identity bytes fault
+    → EndsCall (fault_reply fault) (seen old told up) (seen mid told up)
+text_ends identity bytes old mid told up same (no.Manifest error) refused =
+    idle_ends old mid told told up up (Refused (no.Manifest error)) refl refl same
+text_ends identity bytes old mid told up same no.NoMemory refused =
+    idle_ends old mid told told up up (Refused no.NoMemory) refl refl same
+text_ends identity bytes old mid told up same no.NotBooted refused = absurd refused
+text_ends identity bytes old mid told up same no.OnTrial refused = absurd refused
+text_ends identity bytes old mid told up same no.NotOnTrial refused = absurd refused
+text_ends identity bytes old mid told up same no.NotProvisioned refused = absurd refused
+text_ends identity bytes old mid told up same (no.RunningDamaged image) refused = absurd refused
+text_ends identity bytes old mid told up same no.InvalidSet refused = absurd refused
+text_ends identity bytes old mid told up same (no.Flash error) refused = absurd refused
+text_ends identity bytes old mid told up same (no.Upload error) refused = absurd refused

@@ -1,5 +1,7 @@
 use Rattle.std.proofs.Common.{rules, ◌≡◌, ◌+◌, Err, ap, inl, inr, sym, subst, ◌∙◌}
 use Rattle.events.specs.declared.event.Event.TheVariants as event
+use Rattle.upload.specs.View.{view}
+use Rattle.upload.proofs.OpenOnes.{open_none}
 use Rattle.machine.specs.Boots.{is_answer}
 use Rattle.machine.specs.Passing.{StepsTo}
 use Rattle.machine.specs.declared.error.Fault.TheVariants as no
@@ -7,16 +9,16 @@ use Rattle.machine.proofs.Stepping.{steps_boot}
 use Rattle.boot_core.specs.Answers.{IsBootReply}
 use Rattle.boot_core.specs.Device.{made, seen}
 use Rattle.boot_core.proofs.Stopping.{boot_stopped}
-use Rattle.boot_core.specs.Wear.{IsWorn}
+use Rattle.boot_core.specs.Wear.{IsWorn, TakesNothing}
 use Rattle.boot_core.proofs.Stops.{flash_stopped, flash_stopped_it, flash_unanswered}
 use Rattle.boot_core.proofs.boots.boot_device.Goals as goal
 
 pub returns : goal.returns
 returns g c = record {
-  laid = search rules;
-  on_map = search rules;
-  opens = search rules;
-  closed = search rules;
+  laid = c.boot.ensures.laid;
+  on_map = c.boot.ensures.on_map;
+  opens = open_none (view c.args.map.now (g.F.Flash.chip c.boot.new.flash)) c.new.result.sessions c.new.ensures;
+  closed = c.new.ensures;
   steps = λ identity on. subst
       (λ reply. StepsTo (made c.args.map.now identity (c.args.left + 1))
       (seen (g.F.Flash.chip c.args.flash.now) c.args.uploads.now.sessions c.args.is_up.now)
@@ -24,13 +26,13 @@ returns g c = record {
       (sym c.conclude.ensures.is)
       (steps_boot (made c.args.map.now identity (c.args.left + 1)) _ _ _ _ _ _ _ c.conclude.ensures.up c.new.ensures
       c.in_ok-reply.ensures.ok);
-  ok = search rules;
+  ok = c.conclude.ensures.answers;
   up = c.conclude.ensures.up ∙ sym (ap is_answer c.conclude.ensures.is);
   told = inl (subst (λ reply. IsBootReply reply) (sym c.conclude.ensures.is)
       c.in_ok-reply.ensures.told);
   answers = λ on uncut s stands sound.
       ap is_answer c.conclude.ensures.is ∙ c.in_ok-reply.ensures.answers s stands sound;
-  empty = search rules;
+  empty = c.boot.ensures.empty;
   refused = search rules;
   erases = λ on uncut state s stood stands. subst
       (λ reply. IsWorn c.args.map.now state.kind state.mask (g.F.Flash.chip c.args.flash.now)
@@ -38,7 +40,8 @@ returns g c = record {
       (sym c.conclude.ensures.is) (c.in_ok-reply.ensures.erases state s stood stands);
   stops = λ state finding permanent stood is.
       c.in_ok-reply.ensures.stops state finding permanent stood (sym c.conclude.ensures.is ∙ is);
-  idle = search rules;
+  idle = λ state stood kind takes. c.in_ok-reply.ensures.idle state stood kind
+      (subst (λ reply. TakesNothing reply) c.conclude.ensures.is takes);
   ends = search rules;
 }
 
@@ -46,18 +49,18 @@ pub returns-in_err-reply : goal.returns-in_err-reply
 returns-in_err-reply g c =
     let passed : c.from_residual.result ≡ Err (no.Flash c.in_err-reply.field-0.0) = search rules in
     rw passed (record {
-      laid = search rules;
-      on_map = search rules;
-      opens = search rules;
-      closed = search rules;
+      laid = c.boot.ensures.laid;
+      on_map = c.boot.ensures.on_map;
+      opens = open_none (view c.args.map.now (g.F.Flash.chip c.boot.new.flash)) c.new.result.sessions c.new.ensures;
+      closed = c.new.ensures;
       steps = λ identity on.
           boot_stopped (made c.args.map.now identity (c.args.left + 1)) _ _ _ _ _ c.new.ensures c.boot.ensures.stands
           c.in_err-reply.field-0.0 c.in_err-reply.ensures.ends on;
-      ok = search rules;
+      ok = tt;
       up = sym (flash_unanswered c.in_err-reply.field-0.0);
       told = inr (flash_stopped_it c.in_err-reply.field-0.0);
       answers = search rules;
-      empty = search rules;
+      empty = c.boot.ensures.empty;
       refused = search rules;
       erases = search rules;
       stops = λ state finding permanent stood is.

@@ -1,21 +1,32 @@
-use Rattle.std.proofs.Common.{rules, ◌≡◌, Err, sym, subst}
+use Rattle.std.proofs.Common.{rules, ◌≡◌, Err, refl, sym, subst}
+use Rattle.events.specs.declared.event.Event.TheVariants as event
+use Rattle.sector_map.specs.Map.{IsLaidOut}
+use Rattle.sector_map.specs.Part.{any_part}
+use Rattle.sector_map.proofs.Parts.{keeps_refl}
 use Rattle.upload.specs.Sessions.{AllOpenAt}
 use Rattle.upload.specs.View.{view}
 use Rattle.boot_core.specs.Device.{made, seen}
 use Rattle.boot_core.proofs.Given.{opened_after}
-use Rattle.boot_core.proofs.Texts.{text_steps}
+use Rattle.boot_core.proofs.NotReady.{declines, kept_after, not_down}
+use Rattle.boot_core.proofs.Texts.{text_ends, text_steps}
 use Rattle.boot_core.proofs.intake.accept.Goals as goal
 
 pub returns-in-Err : goal.returns-in-Err
-returns-in-Err g c = record {
-  laid = search rules;
-  opens = search rules;
-  steps = search rules;
-  outside = search rules;
-  down = search rules;
-  refused = search rules;
-  ends = search rules;
-}
+returns-in-Err g c =
+    let declined =
+    declines c.args.map.now (g.F.Flash.chip c.args.flash.now) (g.F.Flash.chip c.check_ready.new.flash)
+    c.args.uploads.now.sessions c.stop.new.uploads.sessions c.args.is_up.now c.stop.new.is_up c.in-Err.fault
+    c.stop.result c.in-Err.ensures c.stop.ensures any_part (event.Accept c.args.text) refl refl
+    c.requires.laid_out c.requires.opens in
+    record {
+      laid = declined.laid;
+      opens = declined.opens;
+      steps = declined.steps c.args.identity.now;
+      outside = declined.outside;
+      down = declined.down;
+      refused = declined.refused;
+      ends = declined.ends;
+    }
 
 pub open_uploads-requires-clause-opens : goal.open_uploads-requires-clause-opens
 open_uploads-requires-clause-opens g c =
@@ -35,24 +46,32 @@ returns g c =
       opens = opened.opens;
       steps = λ boots on. opened.steps boots c.args.text on c.in_ok-manifest.ensures.means;
       outside = opened.outside;
-      down = search rules;
+      down = not_down c.open_uploads.result (seen old c.args.uploads.now.sessions c.args.is_up.now)
+          (seen (g.F.Flash.chip c.open_uploads.new.flash) c.open_uploads.new.uploads.sessions c.open_uploads.new.is_up)
+          c.in-Ok.ensures.ready.0;
       refused = opened.refused;
       ends = opened.ends;
     }
 
 pub returns-in_err-manifest : goal.returns-in_err-manifest
 returns-in_err-manifest g c =
-    let passed : c.from_residual.result ≡ Err c.in_err-manifest.field-0.0 = search rules in
+    let map = c.args.map.now in
+    let old = g.F.Flash.chip c.args.flash.now in
+    let mid = g.F.Flash.chip c.check_ready.new.flash in
+    let told = c.args.uploads.now.sessions in
+    let up = c.args.is_up.now in
+    let fault = c.in_err-manifest.field-0.0 in
+    let same = c.check_ready.ensures.same in
+    let ready = c.in-Ok.ensures.ready in
+    let passed : c.from_residual.result ≡ Err fault = search rules in
     rw passed (record {
-      laid = search rules;
-      opens = search rules;
+      laid = subst (λ chip. IsLaidOut map chip) (sym same) c.requires.laid_out;
+      opens = subst (λ chip. AllOpenAt (view map chip) told) (sym same) c.requires.opens;
       steps = λ boots on.
-          let ready = c.in-Ok.ensures.ready in
-          text_steps (made c.args.map.now c.args.identity.now boots) (g.F.Flash.chip c.args.flash.now) _ _ _ ready.1.0
-          ready.0 ready.1.1 ready.1.2 c.args.text c.check_ready.ensures.same c.in_err-manifest.field-0.0
-          c.in_err-manifest.ensures.refused;
-      outside = search rules;
-      down = search rules;
-      refused = search rules;
-      ends = search rules;
+          text_steps (made map c.args.identity.now boots) old mid told up ready.1.0 ready.0 ready.1.1 ready.1.2
+          c.args.text same fault c.in_err-manifest.ensures.refused;
+      outside = kept_after map any_part old mid mid same (keeps_refl map any_part mid);
+      down = not_down (Err fault) (seen old told up) (seen mid told up) ready.0;
+      refused = λ own. same;
+      ends = text_ends c.args.identity.now c.args.text.now old mid told up same fault c.in_err-manifest.ensures.refused;
     })

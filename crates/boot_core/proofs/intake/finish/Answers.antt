@@ -1,6 +1,7 @@
-use Rattle.std.proofs.Common.{rules, ap, sym, subst, refl}
+use Rattle.std.proofs.Common.{ap, sym, subst, refl}
 use Rattle.std.proofs.Common.{Ok, Err}
 use Rattle.events.specs.declared.event.Event.TheVariants as event
+use Rattle.sector_map.specs.Part.{incoming_of}
 use Rattle.upload.specs.Finish.{FinishRow}
 use Rattle.upload.specs.Ending.{EndsUpload}
 use Rattle.upload.specs.Sessions.{AllOpenAt}
@@ -8,77 +9,81 @@ use Rattle.upload.specs.View.{view}
 use Rattle.machine.specs.declared.error.Fault.TheVariants as no
 use Rattle.machine.specs.declared.reply.Reply.TheVariants.{Done, Refused}
 use Rattle.machine.proofs.Uploading.{TakesRow, steps_finish, upload_refused}
-use Rattle.boot_core.specs.Device.{made}
-use Rattle.boot_core.proofs.Stopping.{failed, opens_stopped, finish_down}
+use Rattle.boot_core.specs.Device.{made, seen}
+use Rattle.boot_core.proofs.NotReady.{declines, kept_after, laid_after, not_down, stops}
+use Rattle.boot_core.proofs.Stopping.{done_ends, failed, failed_ends, opens_stopped, finish_down}
 use Rattle.boot_core.proofs.intake.finish.Goals as goal
 
 pub returns-in-Err : goal.returns-in-Err
-returns-in-Err g c = record {
-  laid = search rules;
-  opens = search rules;
-  steps = search rules;
-  outside = search rules;
-  down = search rules;
-  ends = search rules;
-}
+returns-in-Err g c = let declined =
+    declines c.args.map.now (g.F.Flash.chip c.args.flash.now) (g.F.Flash.chip c.check_ready.new.flash)
+    c.args.uploads.now.sessions c.stop.new.uploads.sessions c.args.is_up.now c.stop.new.is_up
+    c.in-Err.fault c.stop.result c.in-Err.ensures c.stop.ensures
+    (incoming_of c.args.image) (event.Finish c.args.image) refl refl c.requires.laid_out c.requires.opens in
+    record {
+      laid = declined.laid;
+      opens = declined.opens;
+      steps = declined.steps;
+      outside = declined.outside;
+      down = declined.down;
+      ends = declined.ends;
+    }
 
 pub returns-in-Ok-finish : goal.returns-in-Ok-finish
-returns-in-Ok-finish g c = record {
-  laid = search rules;
-  opens = c.finish.ensures.all_open
-      (subst (λ chip. AllOpenAt (view c.args.map.now chip) c.args.uploads.now.sessions)
-      (sym c.check_ready.ensures.same) c.requires.opens);
-  steps = λ identity boots on.
-      let ready = c.in-Ok.ensures.ready in
-      steps_finish (made c.args.map.now identity boots) (g.F.Flash.chip c.args.flash.now) _ _ ready.1.0 ready.0
-      ready.1.1 ready.1.2 (g.F.Flash.chip c.finish.new.flash) c.finish.new.self.sessions c.args.image (Ok tt) Done refl refl
-      (subst (λ chip. TakesRow c.args.map.now chip (g.F.Flash.chip c.finish.new.flash)
-      c.args.uploads.now.sessions c.finish.new.self.sessions (λ m. FinishRow m c.args.image) (Ok tt))
-      c.check_ready.ensures.same c.in-Ok-finish.ensures.row);
-  outside = search rules;
-  down = search rules;
-  ends = search rules;
-}
+returns-in-Ok-finish g c =
+    let map = c.args.map.now in
+    let old = g.F.Flash.chip c.args.flash.now in
+    let mid = g.F.Flash.chip c.check_ready.new.flash in
+    let new = g.F.Flash.chip c.finish.new.flash in
+    let same = c.check_ready.ensures.same in
+    let ready = c.in-Ok.ensures.ready in
+    record {
+      laid = laid_after map (incoming_of c.args.image) old mid new same c.requires.laid_out c.finish.ensures.outside;
+      opens = c.finish.ensures.all_open
+          (subst (λ chip. AllOpenAt (view map chip) c.args.uploads.now.sessions) (sym same) c.requires.opens);
+      steps = λ identity boots on.
+          steps_finish (made map identity boots) old c.args.uploads.now.sessions c.args.is_up.now ready.1.0 ready.0
+          ready.1.1 ready.1.2 new c.finish.new.self.sessions c.args.image (Ok tt) Done refl refl
+          (subst (λ chip. TakesRow map chip new c.args.uploads.now.sessions c.finish.new.self.sessions
+          (λ m. FinishRow m c.args.image) (Ok tt)) same c.in-Ok-finish.ensures.row);
+      outside = kept_after map (incoming_of c.args.image) old mid new same c.finish.ensures.outside;
+      down = not_down (Ok tt) (seen old c.args.uploads.now.sessions c.args.is_up.now)
+          (seen new c.finish.new.self.sessions c.args.is_up.now) ready.0;
+      ends = done_ends old mid new c.args.uploads.now.sessions c.finish.new.self.sessions c.args.is_up.now same
+          c.in-Ok-finish.ensures.ends;
+    }
 
 pub returns-in-Err-finish : goal.returns-in-Err-finish
-returns-in-Err-finish g c = record {
-  laid = search rules;
-  opens =
-      opens_stopped (view c.args.map.now (g.F.Flash.chip c.finish.new.flash)) (no.Upload c.in-Err-finish.error) _ _
-      c.args.is_up.now c.stop-in-Err-finish.new.is_up
-      (record {
-        down = c.stop-in-Err-finish.ensures.down;
-        closed = c.stop-in-Err-finish.ensures.closed;
-        stays = c.stop-in-Err-finish.ensures.up;
-        kept = c.stop-in-Err-finish.ensures.kept;
-      })
-      (c.finish.ensures.all_open (subst (λ chip. AllOpenAt (view c.args.map.now chip) c.args.uploads.now.sessions)
-      (sym c.check_ready.ensures.same) c.requires.opens));
-  steps = λ identity boots on.
-      let ready = c.in-Ok.ensures.ready in
-      let old = g.F.Flash.chip c.args.flash.now in
-      let new = g.F.Flash.chip c.finish.new.flash in
-      let error = c.in-Err-finish.error in
-      let takes = subst (λ chip. TakesRow c.args.map.now chip new
-      c.args.uploads.now.sessions c.finish.new.self.sessions (λ m. FinishRow m c.args.image) (Err error))
-      c.check_ready.ensures.same c.in-Err-finish.ensures.row in
-      failed (made c.args.map.now identity boots) old new c.args.uploads.now.sessions c.finish.new.self.sessions
-      c.stop-in-Err-finish.new.uploads.sessions c.args.is_up.now c.stop-in-Err-finish.new.is_up (event.Finish c.args.image) error on
-      (subst (λ chip. EndsUpload {T = Unit} (Err error) chip new) c.check_ready.ensures.same
-      c.in-Err-finish.ensures.ends)
-      (record {
-        down = c.stop-in-Err-finish.ensures.down;
-        closed = c.stop-in-Err-finish.ensures.closed;
-        stays = c.stop-in-Err-finish.ensures.up;
-        kept = c.stop-in-Err-finish.ensures.kept;
-      })
-      (λ none cut. finish_down (made c.args.map.now identity boots) old new c.args.uploads.now.sessions _
-      c.args.is_up.now ready.0 none ready.1.0 c.finish.new.self.sessions (Err error) ready.1.1 ready.1.2
-      (ap (λ e. Err e) cut) c.args.image takes)
-      (λ own. steps_finish (made c.args.map.now identity boots) old _ _ ready.1.0 ready.0 ready.1.1 ready.1.2 new
-      c.finish.new.self.sessions c.args.image (Err error) (Refused (no.Upload error)) (upload_refused error own) own takes)
-      c.stop-in-Err-finish.result c.stop-in-Err-finish.ensures.is;
-  outside = search rules;
-  down = search rules;
-  ends = search rules;
-}
+returns-in-Err-finish g c =
+    let map = c.args.map.now in
+    let old = g.F.Flash.chip c.args.flash.now in
+    let mid = g.F.Flash.chip c.check_ready.new.flash in
+    let new = g.F.Flash.chip c.finish.new.flash in
+    let told = c.args.uploads.now.sessions in
+    let tmid = c.finish.new.self.sessions in
+    let tnew = c.stop-in-Err-finish.new.uploads.sessions in
+    let up = c.args.is_up.now in
+    let upn = c.stop-in-Err-finish.new.is_up in
+    let error = c.in-Err-finish.error in
+    let same = c.check_ready.ensures.same in
+    let ready = c.in-Ok.ensures.ready in
+    let stopped = stops (no.Upload error) c.stop-in-Err-finish.result tmid tnew up upn c.stop-in-Err-finish.ensures in
+    record {
+      laid = laid_after map (incoming_of c.args.image) old mid new same c.requires.laid_out c.finish.ensures.outside;
+      opens = opens_stopped (view map new) (no.Upload error) tmid tnew up upn stopped
+          (c.finish.ensures.all_open (subst (λ chip. AllOpenAt (view map chip) told) (sym same) c.requires.opens));
+      steps = λ identity boots on.
+          let takes = subst (λ chip. TakesRow map chip new told tmid (λ m. FinishRow m c.args.image) (Err error)) same
+          c.in-Err-finish.ensures.row in
+          failed (made map identity boots) old new told tmid tnew up upn (event.Finish c.args.image) error on
+          (subst (λ chip. EndsUpload {T = Unit} (Err error) chip new) same c.in-Err-finish.ensures.ends) stopped
+          (λ none cut. finish_down (made map identity boots) old new told tnew up ready.0 none ready.1.0 tmid
+          (Err error) ready.1.1 ready.1.2 (ap (λ e. Err e) cut) c.args.image takes)
+          (λ own. steps_finish (made map identity boots) old told up ready.1.0 ready.0 ready.1.1 ready.1.2 new tmid
+          c.args.image (Err error) (Refused (no.Upload error)) (upload_refused error own) own takes)
+          c.stop-in-Err-finish.result c.stop-in-Err-finish.ensures.is;
+      outside = kept_after map (incoming_of c.args.image) old mid new same c.finish.ensures.outside;
+      down = not_down (Err c.stop-in-Err-finish.result) (seen old told up) (seen new tnew upn) ready.0;
+      ends = failed_ends old mid new told tmid tnew up upn error same c.in-Err-finish.ensures.ends stopped
+          c.stop-in-Err-finish.result c.stop-in-Err-finish.ensures.is;
+    }

@@ -1,7 +1,9 @@
-use Rattle.std.proofs.Common.{rules, ap, refl}
+use Rattle.std.proofs.Common.{ap, refl, sym, subst}
 use Rattle.std.proofs.Common.{Ok, Err}
 use Rattle.events.specs.declared.event.Event.TheVariants as event
-use Rattle.upload.specs.Accepted.{Accepts}
+use Rattle.sector_map.specs.Part.{any_part}
+use Rattle.sector_map.proofs.Parts.{keeps_refl, laid_out_kept}
+use Rattle.upload.specs.Accepted.{Accepts, accepted_parts}
 use Rattle.upload.specs.Device.{Machine}
 use Rattle.upload.specs.View.{view}
 use Rattle.machine.specs.Intake.{Row}
@@ -9,30 +11,41 @@ use Rattle.machine.specs.declared.error.Fault.TheVariants as no
 use Rattle.machine.specs.declared.reply.Reply.TheVariants.{Done, Refused}
 use Rattle.machine.proofs.Uploading.{steps_accept, upload_refused}
 use Rattle.boot_core.specs.Device.{made, seen}
+use Rattle.boot_core.specs.Ready.{RefusesManifest}
 use Rattle.boot_core.proofs.Given.{held_down, held_failed, held_up}
-use Rattle.boot_core.proofs.Stopping.{IsStopped, accept_down, failed, opens_stopped}
+use Rattle.boot_core.proofs.NotReady.{refused_after}
+use Rattle.boot_core.proofs.OnMap.{on_more}
+use Rattle.boot_core.proofs.Stopping.{IsStopped, accept_down, done_ends, failed, failed_ends, opens_stopped}
 use Rattle.boot_core.proofs.intake.open_uploads.Goals as goal
 
 pub returns-in-Ok : goal.returns-in-Ok
-returns-in-Ok g c = record {
-  laid = search rules;
-  opens = c.accept.ensures.all_open c.requires.opens;
-  steps = λ boots text on means.
-      steps_accept (made c.args.map.now c.args.identity.now boots) (g.F.Flash.chip c.args.flash.now) _ _
-      c.requires.rests.0 c.requires.up c.requires.rests.1 c.requires.rests.2 (g.F.Flash.chip c.accept.new.flash)
-      c.accept.new.self.sessions text c.args.manifest.now (Ok tt) Done refl refl means c.in-Ok.ensures.row;
-  holds = λ on. held_up c.args.map.now (g.F.Flash.chip c.args.flash.now) (g.F.Flash.chip c.accept.new.flash) _
-      c.accept.new.self.sessions _ c.requires.up c.requires.rests
-      (λ m. Accepts c.args.map.now m c.args.manifest.now.sequence c.args.manifest.now.components.items) (Ok tt)
-      c.in-Ok.ensures.row;
-  outside = search rules;
-  refused = search rules;
-  told = search rules;
-  ends = search rules;
-}
+returns-in-Ok g c =
+    let map = c.args.map.now in
+    let parts = accepted_parts c.args.manifest.now.components.items in
+    let old = g.F.Flash.chip c.args.flash.now in
+    let new = g.F.Flash.chip c.accept.new.flash in
+    record {
+      laid = laid_out_kept map parts old new c.requires.laid_out c.accept.ensures.outside;
+      opens = c.accept.ensures.all_open c.requires.opens;
+      steps = λ boots text on means.
+          steps_accept (made c.args.map.now c.args.identity.now boots) (g.F.Flash.chip c.args.flash.now) _ _
+          c.requires.rests.0 c.requires.up c.requires.rests.1 c.requires.rests.2 (g.F.Flash.chip c.accept.new.flash)
+          c.accept.new.self.sessions text c.args.manifest.now (Ok tt) Done refl refl means c.in-Ok.ensures.row;
+      holds = λ on. held_up c.args.map.now (g.F.Flash.chip c.args.flash.now) (g.F.Flash.chip c.accept.new.flash) _
+          c.accept.new.self.sessions _ c.requires.up c.requires.rests
+          (λ m. Accepts c.args.map.now m c.args.manifest.now.sequence c.args.manifest.now.components.items) (Ok tt)
+          c.in-Ok.ensures.row;
+      outside = on_more map parts old old new c.accept.ensures.outside (keeps_refl map any_part old);
+      refused = tt;
+      told = tt;
+      ends = done_ends old old new c.args.uploads.now.sessions c.accept.new.self.sessions c.args.is_up.now refl
+          c.in-Ok.ensures.ends;
+    }
 
 pub returns-in-Err : goal.returns-in-Err
 returns-in-Err g c =
+    let map = c.args.map.now in
+    let parts = accepted_parts c.args.manifest.now.components.items in
     let old = g.F.Flash.chip c.args.flash.now in
     let new = g.F.Flash.chip c.accept.new.flash in
     let error = c.in-Err.error in
@@ -44,7 +57,7 @@ returns-in-Err g c =
       kept = c.stop.ensures.kept;
     } in
     record {
-      laid = search rules;
+      laid = laid_out_kept map parts old new c.requires.laid_out c.accept.ensures.outside;
       opens = opens_stopped (view c.args.map.now new) (no.Upload error) _ _ c.args.is_up.now c.stop.new.is_up stopped
           (c.accept.ensures.all_open c.requires.opens);
       steps = λ boots text on means.
@@ -68,8 +81,11 @@ returns-in-Err g c =
           c.stop.new.uploads.sessions none)
           (held_up c.args.map.now old new c.args.uploads.now.sessions c.accept.new.self.sessions
           c.args.is_up.now c.requires.up c.requires.rests row (Err error) c.in-Err.ensures.row);
-      outside = search rules;
-      refused = search rules;
-      told = search rules;
-      ends = search rules;
+      outside = on_more map parts old old new c.accept.ensures.outside (keeps_refl map any_part old);
+      refused = refused_after old old new error c.stop.result c.stop.ensures.is refl
+          (rw c.in-Err.is at c.accept.ensures.nothing);
+      told = subst (λ fault. RefusesManifest c.args.identity.now c.args.manifest.now fault) (sym c.stop.ensures.is) tt;
+      ends = failed_ends old old new c.args.uploads.now.sessions c.accept.new.self.sessions
+          c.stop.new.uploads.sessions c.args.is_up.now c.stop.new.is_up error refl c.in-Err.ensures.ends stopped
+          c.stop.result c.stop.ensures.is;
     }

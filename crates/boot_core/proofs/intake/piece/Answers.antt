@@ -1,6 +1,8 @@
-use Rattle.std.proofs.Common.{rules, ap, sym, subst, refl}
+use Rattle.std.proofs.Common.{ap, sym, subst, refl}
 use Rattle.std.proofs.Common.{Ok, Err}
 use Rattle.events.specs.declared.event.Event.TheVariants as event
+use Rattle.sector_map.specs.Part.{Slot, only}
+use Rattle.sector_map.specs.declared.layout.Side.TheVariants.{Secondary}
 use Rattle.upload.specs.Piece.{Pieces}
 use Rattle.upload.specs.Ending.{EndsUpload}
 use Rattle.upload.specs.Sessions.{AllOpenAt}
@@ -8,80 +10,80 @@ use Rattle.upload.specs.View.{view}
 use Rattle.machine.specs.declared.error.Fault.TheVariants as no
 use Rattle.machine.specs.declared.reply.Reply.TheVariants.{Done, Refused}
 use Rattle.machine.proofs.Uploading.{TakesRow, steps_piece, upload_refused}
-use Rattle.boot_core.specs.Device.{made}
-use Rattle.boot_core.proofs.Stopping.{failed, opens_stopped, piece_down}
+use Rattle.boot_core.specs.Device.{made, seen}
+use Rattle.boot_core.proofs.NotReady.{declines, kept_after, laid_after, not_down, refused_after, stops}
+use Rattle.boot_core.proofs.Stopping.{done_ends, failed, failed_ends, opens_stopped, piece_down}
 use Rattle.boot_core.proofs.intake.piece.Goals as goal
 
 pub returns-in-Err : goal.returns-in-Err
-returns-in-Err g c = record {
-  laid = search rules;
-  opens = search rules;
-  steps = search rules;
-  outside = search rules;
-  down = search rules;
-  refused = search rules;
-  ends = search rules;
-}
+returns-in-Err g c =
+    declines c.args.map.now (g.F.Flash.chip c.args.flash.now) (g.F.Flash.chip c.check_ready.new.flash)
+    c.args.uploads.now.sessions c.stop.new.uploads.sessions c.args.is_up.now c.stop.new.is_up
+    c.in-Err.fault c.stop.result c.in-Err.ensures c.stop.ensures
+    (only (Slot c.args.image Secondary)) (event.Piece c.args.image c.args.more) refl refl c.requires.laid_out
+    c.requires.opens
 
 pub returns-in-Ok-piece : goal.returns-in-Ok-piece
-returns-in-Ok-piece g c = record {
-  laid = search rules;
-  opens = c.piece.ensures.all_open
-      (subst (λ chip. AllOpenAt (view c.args.map.now chip) c.args.uploads.now.sessions)
-      (sym c.check_ready.ensures.same) c.requires.opens);
-  steps = λ identity boots on.
-      let ready = c.in-Ok.ensures.ready in
-      steps_piece (made c.args.map.now identity boots) (g.F.Flash.chip c.args.flash.now) _ _ ready.1.0 ready.0
-      ready.1.1 ready.1.2 (g.F.Flash.chip c.piece.new.flash) c.piece.new.self.sessions c.args.image c.args.more (Ok tt) Done refl refl
-      (subst (λ chip. TakesRow c.args.map.now chip (g.F.Flash.chip c.piece.new.flash)
-      c.args.uploads.now.sessions c.piece.new.self.sessions (λ m. Pieces m c.args.image c.args.more.now) (Ok tt))
-      c.check_ready.ensures.same c.in-Ok-piece.ensures.row);
-  outside = search rules;
-  down = search rules;
-  refused = search rules;
-  ends = search rules;
-}
+returns-in-Ok-piece g c =
+    let map = c.args.map.now in
+    let old = g.F.Flash.chip c.args.flash.now in
+    let mid = g.F.Flash.chip c.check_ready.new.flash in
+    let new = g.F.Flash.chip c.piece.new.flash in
+    let same = c.check_ready.ensures.same in
+    let ready = c.in-Ok.ensures.ready in
+    record {
+      laid = laid_after map (only (Slot c.args.image Secondary)) old mid new same c.requires.laid_out
+          c.piece.ensures.outside;
+      opens = c.piece.ensures.all_open
+          (subst (λ chip. AllOpenAt (view map chip) c.args.uploads.now.sessions) (sym same) c.requires.opens);
+      steps = λ identity boots on.
+          steps_piece (made map identity boots) old c.args.uploads.now.sessions c.args.is_up.now ready.1.0 ready.0
+          ready.1.1 ready.1.2 new c.piece.new.self.sessions c.args.image c.args.more (Ok tt) Done refl refl
+          (subst (λ chip. TakesRow map chip new c.args.uploads.now.sessions c.piece.new.self.sessions
+          (λ m. Pieces m c.args.image c.args.more.now) (Ok tt)) same c.in-Ok-piece.ensures.row);
+      outside = kept_after map (only (Slot c.args.image Secondary)) old mid new same c.piece.ensures.outside;
+      down = not_down (Ok tt) (seen old c.args.uploads.now.sessions c.args.is_up.now)
+          (seen new c.piece.new.self.sessions c.args.is_up.now) ready.0;
+      refused = tt;
+      ends = done_ends old mid new c.args.uploads.now.sessions c.piece.new.self.sessions c.args.is_up.now same
+          c.in-Ok-piece.ensures.ends;
+    }
 
 pub returns-in-Err-piece : goal.returns-in-Err-piece
-returns-in-Err-piece g c = record {
-  laid = search rules;
-  opens =
-      opens_stopped (view c.args.map.now (g.F.Flash.chip c.piece.new.flash)) (no.Upload c.in-Err-piece.error) _ _
-      c.args.is_up.now c.stop-in-Err-piece.new.is_up
-      (record {
-        down = c.stop-in-Err-piece.ensures.down;
-        closed = c.stop-in-Err-piece.ensures.closed;
-        stays = c.stop-in-Err-piece.ensures.up;
-        kept = c.stop-in-Err-piece.ensures.kept;
-      })
-      (c.piece.ensures.all_open (subst (λ chip. AllOpenAt (view c.args.map.now chip) c.args.uploads.now.sessions)
-      (sym c.check_ready.ensures.same) c.requires.opens));
-  steps = λ identity boots on.
-      let ready = c.in-Ok.ensures.ready in
-      let old = g.F.Flash.chip c.args.flash.now in
-      let new = g.F.Flash.chip c.piece.new.flash in
-      let error = c.in-Err-piece.error in
-      let takes = subst (λ chip. TakesRow c.args.map.now chip new
-      c.args.uploads.now.sessions c.piece.new.self.sessions (λ m. Pieces m c.args.image c.args.more.now) (Err error))
-      c.check_ready.ensures.same c.in-Err-piece.ensures.row in
-      failed (made c.args.map.now identity boots) old new c.args.uploads.now.sessions c.piece.new.self.sessions
-      c.stop-in-Err-piece.new.uploads.sessions c.args.is_up.now c.stop-in-Err-piece.new.is_up (event.Piece c.args.image c.args.more) error on
-      (subst (λ chip. EndsUpload {T = Unit} (Err error) chip new) c.check_ready.ensures.same
-      c.in-Err-piece.ensures.ends)
-      (record {
-        down = c.stop-in-Err-piece.ensures.down;
-        closed = c.stop-in-Err-piece.ensures.closed;
-        stays = c.stop-in-Err-piece.ensures.up;
-        kept = c.stop-in-Err-piece.ensures.kept;
-      })
-      (λ none cut. piece_down (made c.args.map.now identity boots) old new c.args.uploads.now.sessions _
-      c.args.is_up.now ready.0 none ready.1.0 c.piece.new.self.sessions (Err error) ready.1.1 ready.1.2
-      (ap (λ e. Err e) cut) c.args.image c.args.more takes)
-      (λ own. steps_piece (made c.args.map.now identity boots) old _ _ ready.1.0 ready.0 ready.1.1 ready.1.2 new
-      c.piece.new.self.sessions c.args.image c.args.more (Err error) (Refused (no.Upload error)) (upload_refused error own) own takes)
-      c.stop-in-Err-piece.result c.stop-in-Err-piece.ensures.is;
-  outside = search rules;
-  down = search rules;
-  refused = search rules;
-  ends = search rules;
-}
+returns-in-Err-piece g c =
+    let map = c.args.map.now in
+    let old = g.F.Flash.chip c.args.flash.now in
+    let mid = g.F.Flash.chip c.check_ready.new.flash in
+    let new = g.F.Flash.chip c.piece.new.flash in
+    let told = c.args.uploads.now.sessions in
+    let tmid = c.piece.new.self.sessions in
+    let tnew = c.stop-in-Err-piece.new.uploads.sessions in
+    let up = c.args.is_up.now in
+    let upn = c.stop-in-Err-piece.new.is_up in
+    let error = c.in-Err-piece.error in
+    let same = c.check_ready.ensures.same in
+    let ready = c.in-Ok.ensures.ready in
+    let stopped = stops (no.Upload error) c.stop-in-Err-piece.result tmid tnew up upn c.stop-in-Err-piece.ensures in
+    record {
+      laid = laid_after map (only (Slot c.args.image Secondary)) old mid new same c.requires.laid_out
+          c.piece.ensures.outside;
+      opens = opens_stopped (view map new) (no.Upload error) tmid tnew up upn stopped
+          (c.piece.ensures.all_open (subst (λ chip. AllOpenAt (view map chip) told) (sym same) c.requires.opens));
+      steps = λ identity boots on.
+          let takes = subst (λ chip. TakesRow map chip new told tmid
+          (λ m. Pieces m c.args.image c.args.more.now) (Err error)) same
+          c.in-Err-piece.ensures.row in
+          failed (made map identity boots) old new told tmid tnew up upn (event.Piece c.args.image c.args.more) error on
+          (subst (λ chip. EndsUpload {T = Unit} (Err error) chip new) same c.in-Err-piece.ensures.ends) stopped
+          (λ none cut. piece_down (made map identity boots) old new told tnew up ready.0 none ready.1.0 tmid
+          (Err error) ready.1.1 ready.1.2 (ap (λ e. Err e) cut) c.args.image c.args.more takes)
+          (λ own. steps_piece (made map identity boots) old told up ready.1.0 ready.0 ready.1.1 ready.1.2 new tmid
+          c.args.image c.args.more (Err error) (Refused (no.Upload error)) (upload_refused error own) own takes)
+          c.stop-in-Err-piece.result c.stop-in-Err-piece.ensures.is;
+      outside = kept_after map (only (Slot c.args.image Secondary)) old mid new same c.piece.ensures.outside;
+      down = not_down (Err c.stop-in-Err-piece.result) (seen old told up) (seen new tnew upn) ready.0;
+      refused = refused_after old mid new error c.stop-in-Err-piece.result c.stop-in-Err-piece.ensures.is same
+          (rw c.in-Err-piece.is at c.piece.ensures.nothing);
+      ends = failed_ends old mid new told tmid tnew up upn error same c.in-Err-piece.ensures.ends stopped
+          c.stop-in-Err-piece.result c.stop-in-Err-piece.ensures.is;
+    }

@@ -1,8 +1,12 @@
 use Rattle.std.proofs.Common.{rules, ◌≡◌, sym, subst, true}
 use Rattle.std.proofs.lemmas.Result.{on_ok_weaker}
 use Rattle.flash_model.specs.Units.{are_erased}
+use Rattle.sector_map.specs.Map.{Keeps}
+use Rattle.sector_map.specs.Part.{TrailerOf, only}
+use Rattle.sector_map.proofs.Parts.{keeps_trans}
 use Rattle.trailer.specs.Fields.{bytes_at, fields_at, trailer_bytes}
 use Rattle.trailer.proofs.Erased.{erased_range}
+use Rattle.boot_core.proofs.Passed.{then_ends}
 use Rattle.boot_core.proofs.SwapSizes.{made_ready, sized}
 use Rattle.boot_core.proofs.preparing.prepare_image.Goals as goal
 
@@ -15,7 +19,9 @@ write_size-requires-clause-erased g c = subst
 
 pub returns : goal.returns
 returns g c = record {
-  outside = search rules;
+  outside = keeps_trans c.args.map.now (only (TrailerOf c.args.image c.args.side)) _ _ _ c.clear.ensures.outside
+      (subst (λ chip. Keeps c.args.map.now (only (TrailerOf c.args.image c.args.side)) chip
+      (g.F.Flash.chip c.write_size.new.flash)) c.swap_length.ensures.same c.write_size.ensures.outside);
   ok =
       let map = c.args.map.now in
       let mid = g.F.Flash.chip c.swap_length.new.flash in
@@ -29,5 +35,5 @@ returns g c = record {
       c.write_size.ensures.outside)
       c.write_size.ensures.ok;
   erases = search rules;
-  ends = search rules;
+  ends = then_ends (then_ends c.in_ok-clear.ensures.ends c.in_ok-size.ensures.ends) c.write_size.ensures.ends;
 }

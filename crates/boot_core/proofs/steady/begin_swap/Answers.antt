@@ -1,10 +1,12 @@
-use Rattle.std.proofs.Common.{rules, arith, inl, refl}
+use Rattle.std.proofs.Common.{rules, ◌≡◌, Err, arith, inl, refl}
 use Rattle.machine.proofs.Frames.{primary_aside, steady_kept}
 use Rattle.machine.proofs.Beginning.{begin_either, begin_ok}
 use Rattle.boot_core.proofs.Measured.{measured}
+use Rattle.sector_map.proofs.Parts.{laid_out_kept}
 use Rattle.sector_map.specs.declared.layout.Side.TheVariants.{Primary}
 use Rattle.boot_core.proofs.Records.{fits_swap, has_state, read_kept}
 use Rattle.boot_core.proofs.OnMap.{on_more}
+use Rattle.boot_core.proofs.Passed.{err_ends, then_err, then_ok}
 use Rattle.boot_core.proofs.steady.begin_swap.Goals as goal
 
 pub append-requires-clause-has_state : goal.append-requires-clause-has_state
@@ -18,48 +20,55 @@ append-requires-clause-fits g c = fits_swap c.args.map.now _ c.args.state.now c.
     c.requires.read (omega arith) c.requires.some c.requires.within
 
 pub returns-in_err-prepare_set : goal.returns-in_err-prepare_set
-returns-in_err-prepare_set g c = record {
-  laid = search rules;
-  on_map = λ start was.
-      on_more _ _ start _ _ c.prepare_set.ensures.outside was;
-  stands = λ s table was decision. inl
-      (steady_kept c.args.map.now _ _ _ s c.prepare_set.ensures.outside (primary_aside c.args.mask) was);
-  ok = search rules;
-  recorded = search rules;
-  is = search rules;
-  moves = search rules;
-  erases = search rules;
-  ends = search rules;
-}
+returns-in_err-prepare_set g c =
+    let passed : c.from_residual.result ≡ Err c.in_err-prepare_set.field-0.0 = search rules in
+    rw passed (record {
+      laid = laid_out_kept c.args.map.now _ _ _ c.requires.laid_out c.prepare_set.ensures.outside;
+      on_map = λ start was.
+          on_more _ _ start _ _ c.prepare_set.ensures.outside was;
+      stands = λ s table was decision. inl
+          (steady_kept c.args.map.now _ _ _ s c.prepare_set.ensures.outside (primary_aside c.args.mask) was);
+      ok = tt;
+      recorded = tt;
+      is = tt;
+      moves = tt;
+      erases = tt;
+      ends = err_ends c.in_err-prepare_set.ensures.ends;
+    })
 
 pub returns-in_err-append : goal.returns-in_err-append
-returns-in_err-append g c = record {
-  laid = search rules;
-  on_map = λ start was.
-      on_more _ _ start _ _ c.append.ensures.outside (on_more _ _ start _ _ c.prepare_set.ensures.outside was);
-  stands = begin_either c.args.map.now _ _ _ c.requires.laid_out _ _ _ c.requires.read
-      c.prepare_set.ensures.outside c.in_ok-prepare_set.ensures.ok c.append.ensures.outside c.append.ensures.either;
-  ok = search rules;
-  recorded = search rules;
-  is = search rules;
-  moves = search rules;
-  erases = search rules;
-  ends = search rules;
-}
+returns-in_err-append g c =
+    let passed : c.from_residual-in_err-append.result ≡ Err c.in_err-append.field-0.0 = search rules in
+    rw passed (record {
+      laid = laid_out_kept c.args.map.now _ _ _
+          (laid_out_kept c.args.map.now _ _ _ c.requires.laid_out c.prepare_set.ensures.outside)
+          c.append.ensures.outside;
+      on_map = λ start was.
+          on_more _ _ start _ _ c.append.ensures.outside (on_more _ _ start _ _ c.prepare_set.ensures.outside was);
+      stands = begin_either c.args.map.now _ _ _ c.requires.laid_out _ _ _ c.requires.read
+          c.prepare_set.ensures.outside c.in_ok-prepare_set.ensures.ok c.append.ensures.outside c.append.ensures.either;
+      ok = tt;
+      recorded = tt;
+      is = tt;
+      moves = tt;
+      erases = tt;
+      ends = then_err c.in_ok-prepare_set.ensures.ends c.in_err-append.ensures.ends;
+    })
 
 pub returns : goal.returns
 returns g c = record {
-  laid = search rules;
+  laid = laid_out_kept c.args.map.now _ _ _
+      (laid_out_kept c.args.map.now _ _ _ c.requires.laid_out c.prepare_set.ensures.outside) c.append.ensures.outside;
   on_map = λ start was.
       on_more _ _ start _ _ c.append.ensures.outside (on_more _ _ start _ _ c.prepare_set.ensures.outside was);
   stands = begin_either c.args.map.now _ _ _ c.requires.laid_out _ _ _ c.requires.read
       c.prepare_set.ensures.outside c.in_ok-prepare_set.ensures.ok c.append.ensures.outside c.append.ensures.either;
   ok = begin_ok c.args.map.now _ _ _ c.requires.laid_out _ _ _ c.requires.read
       c.prepare_set.ensures.outside c.in_ok-prepare_set.ensures.ok c.append.ensures.outside c.in_ok-append.ensures.ok;
-  recorded = search rules;
-  is = search rules;
+  recorded = c.in_ok-append.ensures.ok;
+  is = refl;
   moves = measured c.args.map.now _ _ _ Primary c.args.mask c.prepare_set.ensures.outside
       c.in_ok-prepare_set.ensures.ready c.append.ensures.outside;
   erases = search rules;
-  ends = search rules;
+  ends = then_ok c.in_ok-prepare_set.ensures.ends c.in_ok-append.ensures.ends;
 }

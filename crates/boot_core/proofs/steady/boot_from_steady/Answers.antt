@@ -1,33 +1,39 @@
-use Rattle.std.proofs.Common.{rules, ◌+◌, false, refl}
+use Rattle.std.proofs.Common.{rules, ◌≡◌, ◌+◌, false, Err, refl, subst, sym}
 use Rattle.std.proofs.lemmas.Result.{IfOk-weaker}
+use Rattle.sector_map.specs.Map.{IsLaidOut}
 use Rattle.machine.proofs.Steadying.{chosen_here, ends_damaged, ends_invalid, ends_plain}
 use Rattle.machine.proofs.Upgrading.{steady_cut}
 use Rattle.boot_core.proofs.Measured.{fresh_none, fresh_same}
+use Rattle.boot_core.proofs.Passed.{err_ends, ok_ends, then_ends}
 use Rattle.machine.specs.Wear.{IsSetIn}
 use Rattle.machine.specs.declared.error.Fault.TheVariants.{InvalidSet, RunningDamaged}
 use Rattle.machine.specs.declared.reply.Reply.TheVariants.{Booted, Refused}
 use Rattle.boot_core.proofs.steady.boot_from_steady.Goals as goal
 
 pub returns-in_err-image : goal.returns-in_err-image
-returns-in_err-image g c = record {
-  boot = record {
-    laid = search rules;
-    on_map = search rules;
-    stands = λ s was.
-        steady_cut c.args.map.now (c.args.left + 1) _ _ s c.find.ensures.same was;
-    ok = search rules;
-    erases = search rules;
-    told = search rules;
-    ends = search rules;
-  };
-  idle = search rules;
-}
+returns-in_err-image g c =
+    let passed : c.from_residual.result ≡ Err c.in_err-image.field-0.0 = search rules in
+    rw passed (record {
+      boot = record {
+        laid = subst (λ chip. IsLaidOut c.args.map.now chip) (sym c.find.ensures.same)
+            c.requires.recorded.laid_out;
+        on_map = λ start was. rw c.find.ensures.same was;
+        stands = λ s was.
+            steady_cut c.args.map.now (c.args.left + 1) _ _ s c.find.ensures.same was;
+        ok = tt;
+        erases = tt;
+        told = tt;
+        ends = err_ends c.in_err-image.ensures.ends;
+      };
+      idle = tt;
+    })
 
 pub returns-then-mask-eq0 : goal.returns-then-mask-eq0
 returns-then-mask-eq0 g c = record {
   boot = record {
-    laid = search rules;
-    on_map = search rules;
+    laid = subst (λ chip. IsLaidOut c.args.map.now chip) (sym c.find.ensures.same)
+        c.requires.recorded.laid_out;
+    on_map = λ start was. rw c.find.ensures.same was;
     stands = λ s was.
         steady_cut c.args.map.now (c.args.left + 1) _ _ s c.find.ensures.same was;
     ok = ends_plain c.args.map.now (c.args.left + 1) _ _ _ _ c.requires.recorded.read
@@ -38,17 +44,18 @@ returns-then-mask-eq0 g c = record {
         fresh_none c.args.map.now (g.F.Flash.chip c.args.flash.now) (g.F.Flash.chip c.find.new.flash)
         c.taken_mask-mask.result
         (Booted c.in-Decided.table c.in-Decided.report false) c.find.ensures.same is;
-    told = search rules;
-    ends = search rules;
+    told = tt;
+    ends = ok_ends c.in_ok-image.ensures.ends;
   };
-  idle = search rules;
+  idle = λ none. c.find.ensures.same;
 }
 
 pub returns-in-Damaged : goal.returns-in-Damaged
 returns-in-Damaged g c = record {
   boot = record {
-    laid = search rules;
-    on_map = search rules;
+    laid = subst (λ chip. IsLaidOut c.args.map.now chip) (sym c.find.ensures.same)
+        c.requires.recorded.laid_out;
+    on_map = λ start was. rw c.find.ensures.same was;
     stands = λ s was.
         steady_cut c.args.map.now (c.args.left + 1) _ _ s c.find.ensures.same was;
     ok = ends_damaged c.args.map.now (c.args.left + 1) _ _ _ _ c.requires.recorded.read
@@ -56,17 +63,18 @@ returns-in-Damaged g c = record {
     erases = λ s was.
         fresh_none c.args.map.now (g.F.Flash.chip c.args.flash.now) (g.F.Flash.chip c.find.new.flash) 0
         (Refused (RunningDamaged c.in-Damaged.image)) c.find.ensures.same refl;
-    told = search rules;
-    ends = search rules;
+    told = tt;
+    ends = ok_ends c.in_ok-image.ensures.ends;
   };
-  idle = search rules;
+  idle = λ none. c.find.ensures.same;
 }
 
 pub returns-in-Invalid : goal.returns-in-Invalid
 returns-in-Invalid g c = record {
   boot = record {
-    laid = search rules;
-    on_map = search rules;
+    laid = subst (λ chip. IsLaidOut c.args.map.now chip) (sym c.find.ensures.same)
+        c.requires.recorded.laid_out;
+    on_map = λ start was. rw c.find.ensures.same was;
     stands = λ s was.
         steady_cut c.args.map.now (c.args.left + 1) _ _ s c.find.ensures.same was;
     ok = ends_invalid c.args.map.now (c.args.left + 1) _ _ _ _ c.requires.recorded.read
@@ -74,17 +82,17 @@ returns-in-Invalid g c = record {
     erases = λ s was.
         fresh_none c.args.map.now (g.F.Flash.chip c.args.flash.now) (g.F.Flash.chip c.find.new.flash) 0
         (Refused InvalidSet) c.find.ensures.same refl;
-    told = search rules;
-    ends = search rules;
+    told = tt;
+    ends = ok_ends c.in_ok-image.ensures.ends;
   };
-  idle = search rules;
+  idle = λ none. c.find.ensures.same;
 }
 
 pub returns-else-mask-eq0 : goal.returns-else-mask-eq0
 returns-else-mask-eq0 g c = record {
   boot = record {
-    laid = search rules;
-    on_map = search rules;
+    laid = c.upgrade.ensures.boot.laid;
+    on_map = λ start was. c.upgrade.ensures.boot.on_map start (rw c.find.ensures.same was);
     stands = λ s was.
         let chosen = chosen_here c.args.map.now (c.args.left + 1) _ _ _ _ c.requires.recorded.read c.find.ensures.same
         c.in_ok-image.ensures.ok _ _ _ c.in-Decided.is c.in_ok-image.ensures.whole
@@ -102,8 +110,8 @@ returns-else-mask-eq0 g c = record {
         fresh_same c.args.map.now (g.F.Flash.chip c.args.flash.now) (g.F.Flash.chip c.find.new.flash)
         (g.F.Flash.chip c.upgrade.new.flash) 3 reply c.find.ensures.same
         (worn s (c.in-Decided.table, chosen.0, chosen.1))) c.upgrade.ensures.boot.erases;
-    told = search rules;
-    ends = search rules;
+    told = c.upgrade.ensures.boot.told;
+    ends = then_ends c.in_ok-image.ensures.ends c.upgrade.ensures.boot.ends;
   };
   idle = search rules;
 }

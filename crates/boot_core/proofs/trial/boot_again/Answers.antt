@@ -1,8 +1,10 @@
-use Rattle.std.proofs.Common.{rules, arith, ◌<◌}
+use Rattle.std.proofs.Common.{rules, arith, ◌≡◌, ◌<◌, Err}
+use Rattle.sector_map.proofs.Parts.{laid_out_kept}
 use Rattle.machine.proofs.Trying.{again_cut, again_ends}
 use Rattle.boot_core.proofs.Again.{fits_again}
 use Rattle.boot_core.proofs.Records.{has_state}
 use Rattle.boot_core.proofs.OnMap.{on_more}
+use Rattle.boot_core.proofs.Passed.{err_ends, ok_ends}
 use Rattle.boot_core.proofs.trial.boot_again.Goals as goal
 
 pub append-requires-clause-has_state : goal.append-requires-clause-has_state
@@ -13,23 +15,25 @@ append-requires-clause-fits g c = fits_again c.args.map.now _ c.args.state.now _
     (let more : 0 < c.args.state.now.left = c.requires.more in omega arith)
 
 pub returns-in_err-append : goal.returns-in_err-append
-returns-in_err-append g c = record {
-  laid = search rules;
-  on_map = λ start was.
-      on_more _ _ start _ _ c.append.ensures.outside was;
-  stands = λ boots s was.
-      let more : 0 < c.args.state.now.left = c.requires.more in
-      again_cut c.args.map.now _ _ c.args.state.now _ c.requires.recorded.read c.append.ensures.outside (omega arith)
-      c.append.ensures.either boots s was.0 was.1 was.2;
-  ok = search rules;
-  erases = search rules;
-  told = search rules;
-  ends = search rules;
-}
+returns-in_err-append g c =
+    let passed : c.from_residual.result ≡ Err c.in_err-append.field-0.0 = search rules in
+    rw passed (record {
+      laid = laid_out_kept c.args.map.now _ _ _ c.requires.recorded.laid_out c.append.ensures.outside;
+      on_map = λ start was.
+          on_more _ _ start _ _ c.append.ensures.outside was;
+      stands = λ boots s was.
+          let more : 0 < c.args.state.now.left = c.requires.more in
+          again_cut c.args.map.now _ _ c.args.state.now _ c.requires.recorded.read c.append.ensures.outside (omega arith)
+          c.append.ensures.either boots s was.0 was.1 was.2;
+      ok = tt;
+      erases = tt;
+      told = tt;
+      ends = err_ends c.in_err-append.ensures.ends;
+    })
 
 pub returns : goal.returns
 returns g c = record {
-  laid = search rules;
+  laid = laid_out_kept c.args.map.now _ _ _ c.requires.recorded.laid_out c.append.ensures.outside;
   on_map = λ start was.
       on_more _ _ start _ _ c.append.ensures.outside was;
   stands = λ boots s was.
@@ -41,6 +45,6 @@ returns g c = record {
       again_ends c.args.map.now _ _ c.args.state.now _ c.requires.recorded.read c.append.ensures.outside (omega arith)
       c.in_ok-append.ensures.ok boots s was.0 was.1 was.2;
   erases = search rules;
-  told = search rules;
-  ends = search rules;
+  told = tt;
+  ends = ok_ends c.in_ok-append.ensures.ends;
 }

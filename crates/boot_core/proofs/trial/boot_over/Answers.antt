@@ -1,9 +1,12 @@
-use Rattle.std.proofs.Common.{rules, ◌+◌, ap, ◌∙◌}
+use Rattle.std.proofs.Common.{rules, ◌≡◌, ◌+◌, Err, ap, subst, sym, ◌∙◌}
 use Rattle.std.proofs.lemmas.Result.{IfOk-weaker}
+use Rattle.sector_map.specs.Map.{IsLaidOut}
+use Rattle.sector_map.proofs.Parts.{laid_out_kept}
 use Rattle.set_log.specs.Log.{state_of}
 use Rattle.machine.proofs.Trying.{over_cut, over_ends, over_recorded, stands_open, trial_cut}
 use Rattle.boot_core.proofs.Wears.{over_worn}
 use Rattle.boot_core.proofs.OnMap.{on_more}
+use Rattle.boot_core.proofs.Passed.{err_ends, then_ends, then_err}
 use Rattle.boot_core.proofs.trial.boot_over.Goals as goal
 
 pub record_over-requires-clause-read : goal.record_over-requires-clause-read
@@ -11,36 +14,42 @@ record_over-requires-clause-read g c =
     ap (λ chip. state_of c.args.map.now chip) c.raise_running.ensures.same ∙ c.requires.recorded.read
 
 pub returns-in_err-floors : goal.returns-in_err-floors
-returns-in_err-floors g c = record {
-  laid = search rules;
-  on_map = search rules;
-  stands = λ s was.
-      trial_cut c.args.map.now (c.args.left + 1) _ _ s c.raise_running.ensures.same
-      (stands_open c.args.map.now _ s was.0 was.2);
-  ok = search rules;
-  erases = search rules;
-  told = search rules;
-  ends = search rules;
-}
+returns-in_err-floors g c =
+    let passed : c.from_residual.result ≡ Err c.in_err-floors.field-0.0 = search rules in
+    rw passed (record {
+      laid = subst (λ chip. IsLaidOut c.args.map.now chip) (sym c.raise_running.ensures.same)
+          c.requires.recorded.laid_out;
+      on_map = λ start was. rw c.raise_running.ensures.same was;
+      stands = λ s was.
+          trial_cut c.args.map.now (c.args.left + 1) _ _ s c.raise_running.ensures.same
+          (stands_open c.args.map.now _ s was.0 was.2);
+      ok = tt;
+      erases = tt;
+      told = tt;
+      ends = err_ends c.in_err-floors.ensures.ends;
+    })
 
 pub returns-in_err-steady : goal.returns-in_err-steady
-returns-in_err-steady g c = record {
-  laid = search rules;
-  on_map = λ start was.
-      on_more _ _ start _ _ c.record_over.ensures.outside (rw c.raise_running.ensures.same was);
-  stands = λ s was.
-      over_recorded c.args.map.now (c.args.left + 1) _ _ _ _ _
-      c.requires.recorded.read c.raise_running.ensures.same c.in_ok-floors.ensures.ok c.record_over.ensures.stands
-      s was.0 was.1 was.2;
-  ok = search rules;
-  erases = search rules;
-  told = search rules;
-  ends = search rules;
-}
+returns-in_err-steady g c =
+    let passed : c.from_residual-in_err-steady.result ≡ Err c.in_err-steady.field-0.0 = search rules in
+    rw passed (record {
+      laid = laid_out_kept c.args.map.now _ _ _ (subst (λ chip. IsLaidOut c.args.map.now chip) (sym c.raise_running.ensures.same)
+          c.requires.recorded.laid_out) c.record_over.ensures.outside;
+      on_map = λ start was.
+          on_more _ _ start _ _ c.record_over.ensures.outside (rw c.raise_running.ensures.same was);
+      stands = λ s was.
+          over_recorded c.args.map.now (c.args.left + 1) _ _ _ _ _
+          c.requires.recorded.read c.raise_running.ensures.same c.in_ok-floors.ensures.ok c.record_over.ensures.stands
+          s was.0 was.1 was.2;
+      ok = tt;
+      erases = tt;
+      told = tt;
+      ends = then_err c.in_ok-floors.ensures.ends c.in_err-steady.ensures.ends;
+    })
 
 pub returns : goal.returns
 returns g c = record {
-  laid = search rules;
+  laid = c.boot_from_steady.ensures.boot.laid;
   on_map = λ start was.
       c.boot_from_steady.ensures.boot.on_map start (on_more _ _ start _ _ c.record_over.ensures.outside (rw c.raise_running.ensures.same was));
   stands = λ s was.
@@ -57,6 +66,7 @@ returns g c = record {
       c.raise_running.ensures.same c.in_ok-steady.ensures.erases
       c.record_over.ensures.outside
       c.in_ok-steady.ensures.ok worn s was.0 was.1 was.2) c.boot_from_steady.ensures.boot.erases;
-  told = search rules;
-  ends = search rules;
+  told = c.boot_from_steady.ensures.boot.told;
+  ends = then_ends (then_ends c.in_ok-floors.ensures.ends c.in_ok-steady.ensures.ends)
+      c.boot_from_steady.ensures.boot.ends;
 }

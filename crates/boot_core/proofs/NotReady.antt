@@ -1,0 +1,98 @@
+-- What a call of uploads leaves of a device: one that takes none now, and one that takes them.
+use Rattle.std.proofs.Common.{◌≡◌, Bool, true, false, List, Option, Result, Err, refl, sym, ◌∙◌, ap, subst}
+use Rattle.flash_model.specs.Chip.{Chip}
+use Rattle.flash_model.specs.declared.error.FlashError.TheVariants as flash
+use Rattle.sector_map.specs.declared.layout.SectorMap.{SectorMap}
+use Rattle.sector_map.specs.Map.{IsLaidOut, Keeps}
+use Rattle.sector_map.specs.Part.{Part}
+use Rattle.sector_map.proofs.Parts.{keeps_refl, laid_out_kept}
+use Rattle.set_log.specs.declared.state.State.{State}
+use Rattle.set_log.specs.Log.{state_of}
+use Rattle.upload.specs.View.{view}
+use Rattle.upload.specs.Sessions.{AllOpenAt}
+use Rattle.upload.specs.Ending.{is_flash}
+use Rattle.upload.specs.declared.sessions.Upload.{Upload}
+use Rattle.upload.specs.declared.error.UploadError.{UploadError}
+use Rattle.machine.specs.Holding.{DeviceView}
+use Rattle.machine.specs.Passing.{needs_rest, needs_up}
+use Rattle.machine.specs.Steps.{DeviceEvent}
+use Rattle.machine.specs.declared.error.Fault.{Fault}
+use Rattle.machine.specs.declared.error.Fault.TheVariants as no
+use Rattle.boot_core.specs.Answers.{IsNotBooted, is_stop}
+use Rattle.boot_core.specs.Device.{made, seen}
+use Rattle.boot_core.specs.Ready.{IsReadiness}
+use Rattle.boot_core.specs.Taking.{ChecksReady, Stops, TakesHere}
+use Rattle.boot_core.proofs.Stopping.{IsStopped, not_ready, not_ready_ends, opens_stopped}
+
+true_false : true ≡ false → ⊥
+true_false e = cc
+
+-- a device that isn't up says so
+not_up : (fault : Fault) (up : Bool) (recorded : Option State) (on : Bool) → IsReadiness (Err fault) up recorded on
+    → up ≡ false → fault ≡ no.NotBooted
+not_up no.NotBooted up recorded on is down = refl
+not_up no.OnTrial up recorded on is down = absurd (true_false (sym is.0 ∙ down))
+not_up no.NotProvisioned up recorded on is down = absurd (true_false (sym is.0 ∙ down))
+not_up (no.Flash flash.Off) up recorded on is down = absurd (true_false (sym is.0 ∙ down))
+not_up (no.Flash flash.Cut) up recorded on is down = absurd is
+not_up no.NotOnTrial up recorded on is down = absurd is
+not_up (no.RunningDamaged image) up recorded on is down = absurd is
+not_up no.InvalidSet up recorded on is down = absurd is
+not_up no.NoMemory up recorded on is down = absurd is
+not_up (no.Manifest error) up recorded on is down = absurd is
+not_up (no.Upload error) up recorded on is down = absurd is
+
+-- what passing a refusal on leaves
+pub stops : (fault given : Fault) (told tnew : List (Option Upload)) (up upn : Bool)
+    → Stops fault told up tnew upn given → IsStopped fault told tnew up upn
+stops fault given told tnew up upn a = record { down = a.down; closed = a.closed; stays = a.up; kept = a.kept }
+
+module _ (map : SectorMap) (old mid : Chip) (told tnew : List (Option Upload)) (up upn : Bool) (fault given : Fault)
+    (asked : ChecksReady map up old mid (Err fault)) (after : Stops fault told up tnew upn given) where
+  seen_same : up ≡ false → seen mid tnew upn ≡ seen old told up
+  seen_same down =
+      let is : fault ≡ no.NotBooted = not_up fault up _ _ asked.ready down in
+      let flash : mid ≡ old = asked.same in
+      let table : tnew ≡ told = (subst (λ f. Stops f told up tnew upn given) is after).kept refl in
+      let awake : upn ≡ up = (subst (λ f. Stops f told up tnew upn given) is after).up refl in
+      cc
+
+  -- a call that is declined since no uploads are taken now
+  pub declines : (touched : Part → Bool) (happened : DeviceEvent) → needs_up happened ≡ true
+      → needs_rest happened ≡ true
+      → IsLaidOut map old → AllOpenAt (view map old) told
+      → TakesHere map happened touched (seen old told up) (seen mid tnew upn) (Err given)
+  declines touched happened needs rests laid opens = record {
+    laid = subst (λ chip. IsLaidOut map chip) (sym asked.same) laid;
+    opens = opens_stopped (view map mid) fault told tnew up upn (stops fault given told tnew up upn after)
+        (subst (λ chip. AllOpenAt (view map chip) told) (sym asked.same) opens);
+    steps = λ identity boots on. not_ready (made map identity boots) old mid told tnew up upn happened needs rests
+        asked.same given fault after.is asked.ready on (stops fault given told tnew up upn after);
+    outside = subst (λ chip. Keeps map touched old chip) (sym asked.same) (keeps_refl map touched old);
+    down = λ down. record {
+      is = ap (λ f. Err f) (after.is ∙ not_up fault up _ _ asked.ready down);
+      same = seen_same down;
+    };
+    refused = λ own. asked.same;
+    ends = not_ready_ends (state_of map old) old mid told tnew up upn asked.same given fault after.is asked.ready
+        (stops fault given told tnew up upn after);
+  }
+
+-- nothing is asked of a device that is up
+pub not_down : (result : Result Unit Fault) (old new : DeviceView) → old.up ≡ true → old.up ≡ false
+    → IsNotBooted result old new
+not_down result old new up down = absurd (true_false (sym up ∙ down))
+
+-- a call after one that left the flash as it was
+module _ (map : SectorMap) (touched : Part → Bool) (old mid new : Chip) (same : mid ≡ old) where
+  pub laid_after : IsLaidOut map old → Keeps map touched mid new → IsLaidOut map new
+  laid_after laid keeps =
+      laid_out_kept map touched mid new (subst (λ chip. IsLaidOut map chip) (sym same) laid) keeps
+
+  pub kept_after : Keeps map touched mid new → Keeps map touched old new
+  kept_after keeps = subst (λ chip. Keeps map touched chip new) same keeps
+
+-- .. which is refused, and not by the flash
+pub refused_after : (old mid new : Chip) (error : UploadError) (given : Fault) → given ≡ no.Upload error → mid ≡ old
+    → (is_flash {T = Unit} (Err error) ≡ false → new ≡ mid) → is_stop given ≡ false → new ≡ old
+refused_after old mid new error given is same nothing own = nothing (sym (ap is_stop is) ∙ own) ∙ same

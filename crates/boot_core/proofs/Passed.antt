@@ -1,0 +1,55 @@
+-- How a call ends that passes the error of another on, or comes after others.
+use Rattle.std.proofs.Common.{◌≡◌, Result, Ok, Err, IsErrOf, ap, refl}
+use Rattle.flash_model.specs.declared.error.FlashError.{FlashError}
+use Rattle.flash_model.specs.Chip.{Chip, Ends}
+use Rattle.flash_model.proofs.Ending.{ends_after, uncut_refl}
+
+err_as : {T U : Type 0} (error other : FlashError) → IsErrOf {T = T} (Err error) other
+    → IsErrOf {T = U} (Err error) other
+err_as error other is = let same : error ≡ other = cc in ap (λ e. Err e) same
+
+ok_no_err : {T : Type 0} (value : T) (other : FlashError) → IsErrOf (Ok value) other → ⊥
+ok_no_err value other is = cc
+
+-- an error that is passed on
+pub err_ends : {T U : Type 0} {error : FlashError} {old new : Chip} → Ends {T = T} (Err error) old new
+    → Ends {T = U} (Err error) old new
+err_ends {T} {U} {error} last = record {
+  asleep = last.asleep;
+  uncut = tt;
+  cut = λ is. last.cut (err_as {T = U} {U = T} error _ is);
+  off = λ is. last.off (err_as {T = U} {U = T} error _ is);
+}
+
+-- .. and a value that another is made of
+pub ok_ends : {T U : Type 0} {value : T} {other : U} {old new : Chip} → Ends (Ok value) old new
+    → Ends (Ok other) old new
+ok_ends {T} {U} {value} {other} last = record {
+  asleep = last.asleep;
+  uncut = last.uncut;
+  cut = λ is. absurd (ok_no_err other _ is);
+  off = λ is. absurd (ok_no_err other _ is);
+}
+
+-- no call at all
+pub here_ends : {T : Type 0} {value : T} {chip : Chip} → Ends (Ok value) chip chip
+here_ends {T} {value} {chip} = record {
+  asleep = λ off. refl;
+  uncut = uncut_refl chip;
+  cut = λ is. absurd (ok_no_err value _ is);
+  off = λ is. absurd (ok_no_err value _ is);
+}
+
+-- the same after a call that came to its end
+pub then_ends : {S T : Type 0} {value : S} {result : Result T FlashError} {old mid new : Chip}
+    → Ends (Ok value) old mid → Ends result mid new → Ends result old new
+then_ends {S} {T} {value} {result} {old} {mid} {new} first last =
+    ends_after result old mid new first.uncut first.asleep last
+
+pub then_err : {S T U : Type 0} {value : S} {error : FlashError} {old mid new : Chip} → Ends (Ok value) old mid
+    → Ends {T = T} (Err error) mid new → Ends {T = U} (Err error) old new
+then_err first last = err_ends (then_ends first last)
+
+pub then_ok : {S T U : Type 0} {value : S} {next : T} {other : U} {old mid new : Chip} → Ends (Ok value) old mid
+    → Ends (Ok next) mid new → Ends (Ok other) old new
+then_ok first last = ok_ends (then_ends first last)
