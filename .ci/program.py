@@ -44,6 +44,9 @@ MEMORY, MEMORY_OF_JOB = 2_300_000_000, 800_000_000
 # for which one more is of use. Each reads the libraries below for itself.
 MOST_JOBS, SECONDS_OF_JOB = 4, 80
 
+# How much less of a processor a check gets that little waits for, as a niceness.
+LEAST_URGENT = 10
+
 # What the proof of a crate took, in seconds of a processor, in a first build on 4 of them. It says
 # which crates others wait for longest, and nothing else. Lines are a poor guess of it: much of
 # `command_line` and `manifest` is what `clap` and JSON bring.
@@ -242,8 +245,9 @@ class Build:
             jobs = self.jobs_for(crate, len(ready) - place)
             if not jobs:
                 return
+            niceness = self.niceness_of(crate)
             self.left.remove(crate)
-            self.running[pool.submit(self.build, crate, jobs)] = crate, jobs
+            self.running[pool.submit(self.build, crate, jobs, niceness)] = crate, jobs
 
     def jobs_for(self, crate, waiting):
         """Returns how many processes a crate may have, behind which so many wait that are ready with it: none where
@@ -261,12 +265,12 @@ class Build:
         most = min(MOST_JOBS, 1 + int(crate.seconds // SECONDS_OF_JOB))
         return min(most, max(least, idle // waiting), 1 + int(room // MEMORY_OF_JOB))
 
-    def build(self, crate, jobs):
+    def build(self, crate, jobs, niceness):
         """Proves and builds a crate, and returns whether that was done, and what was said."""
         if os.path.isfile(crate.stamp):
             os.remove(crate.stamp)
         digest = crate.digest(self.toolchain)
-        status, said = self.call(crate.words(self.kit, jobs), crate.folder)
+        status, said = self.call(crate.words(self.kit, jobs), crate.folder, niceness)
         if status == -signal.SIGKILL and not self.is_stopped:
             # Most likely for memory, of which one process needs the least.
             status, said = self.call(crate.words(self.kit, 1), crate.folder)
@@ -278,7 +282,13 @@ class Build:
                 it.write(digest)
         return not status, said
 
-    def call(self, words, folder):
+    def niceness_of(self, crate):
+        """Returns how little the check of a crate matters: there are more processes than processors, and the crates that
+        the others wait for in the end go first."""
+        longest = max(self.behind[it] for it in [*self.left, *[it for it, _ in self.running.values()]])
+        return round(LEAST_URGENT * (1 - self.behind[crate] / longest))
+
+    def call(self, words, folder, niceness=0):
         """Runs a command of the toolchain, and returns its status and what it said.
 
         It holds the lock of the build too, so that no other build starts while it runs, should this one be killed.
@@ -287,6 +297,8 @@ class Build:
         start = time.monotonic()
         ran = subprocess.Popen(words, cwd=folder, pass_fds=[self.held.fileno()], **streams)
         self.processes.add(ran)
+        # Its own processes, which it starts later, have the same.
+        os.setpriority(os.PRIO_PROCESS, ran.pid, os.getpriority(os.PRIO_PROCESS, 0) + niceness)
         if self.is_stopped:
             kill(ran)
         with ran.stdout:
