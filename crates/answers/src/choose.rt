@@ -6,7 +6,7 @@ use crate::error::ReadError;
 use crate::streams::{read_all, write_all};
 use certificate::{Table, is_valid, right_reports_have_a_text};
 use chooser::choose;
-use std::alloc::Allocator;
+use std::alloc::Global;
 use std::io::{Read, Write};
 
 /// How a choice ended.
@@ -31,11 +31,7 @@ pub enum ChooseEnd {
 ///
 /// The input and the report are held in memory of `alloc`. Nothing is written but the report, and
 /// unless the end is `Done` or `WriteFailed` nothing at all.
-pub fn choose_over<A: Allocator, R: Read, W: Write>(
-    alloc: &A,
-    input: &mut R,
-    out: &mut W,
-) -> ChooseEnd
+pub fn choose_over<R: Read, W: Write>(alloc: Global, input: &mut R, out: &mut W) -> ChooseEnd
     ensures { (bytes : List ℕ)
         × Reads result (R.remaining input.old) (R.remaining input.new) bytes
         × Writes result bytes (W.contents out.old) (W.contents out.new) }
@@ -50,7 +46,7 @@ pub fn choose_over<A: Allocator, R: Read, W: Write>(
 
 /// Writes to `out` the report of the choice over the table that `bytes` spell, made in memory of
 /// `alloc`.
-fn write_choice<A: Allocator, W: Write>(alloc: &A, bytes: &[u8], out: &mut W) -> ChooseEnd
+fn write_choice<W: Write>(alloc: Global, bytes: &[u8], out: &mut W) -> ChooseEnd
     ensures written { Writes result bytes.now (W.contents out.old) (W.contents out.new) }
     ensures not_reading { result ≢ ChooseEnd.ReadFailed }
 {

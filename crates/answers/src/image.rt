@@ -9,7 +9,7 @@ ghost use Rattle.common.specs.Lines.{printed_lines};
 use crate::refusals::refused_text;
 use crate::streams::write_all;
 use certificate::{Needs, NeedsOne};
-use std::alloc::{AllocError, Allocator};
+use std::alloc::{AllocError, Global};
 use std::fmt;
 use std::io::Write;
 use tlv::{Desc, ImageError, describe};
@@ -31,7 +31,7 @@ pub enum DescribeEnd {
 /// Writes to `out` what the image says of itself that `bytes` are, or the first check that fails.
 ///
 /// The text is made in memory of `alloc` before it is written: where that runs out, nothing is.
-pub fn describe_over<A: Allocator, W: Write>(alloc: &A, bytes: &[u8], out: &mut W) -> DescribeEnd
+pub fn describe_over<W: Write>(alloc: Global, bytes: &[u8], out: &mut W) -> DescribeEnd
     ensures { Tells result bytes.now (W.contents out.old) (W.contents out.new) }
 {
     let (text, end) = match describe(bytes) {
@@ -48,10 +48,7 @@ pub fn describe_over<A: Allocator, W: Write>(alloc: &A, bytes: &[u8], out: &mut 
 }
 
 /// What an image says of itself.
-pub(crate) fn description_text<'a, A: Allocator>(
-    alloc: &'a A,
-    description: &Desc,
-) -> Result<String<&'a A>, AllocError>
+pub(crate) fn description_text(alloc: Global, description: &Desc) -> Result<String, AllocError>
     ensures { IfOk result (λ text. string_bytes text ≡ description_text description.now) }
 {
     let digest = hex::encode(alloc, description.digest.as_slice())?;
@@ -63,7 +60,7 @@ pub(crate) fn description_text<'a, A: Allocator>(
 }
 
 /// The first check that fails, by its number and its name.
-fn refusal_text<A: Allocator>(alloc: &A, fault: ImageError) -> Result<String<&A>, AllocError>
+fn refusal_text(alloc: Global, fault: ImageError) -> Result<String, AllocError>
     ensures { IfOk result (λ text. string_bytes text ≡ refusal_text fault) }
 {
     refused_text(alloc, fault.code(), fault.name())

@@ -29,7 +29,7 @@ pub use error::ReadError;
 pub use flash::flash_of;
 pub use image::{DescribeEnd, describe_over};
 pub use manifest_file::{ManifestEnd, tell_over};
-pub use refusals::map_refusal_text;
+pub use refusals::{map_refusal_text, refused_text};
 pub use replies::{refused_fault_text, reply_text};
 pub use show::{ShowEnd, show_over};
 pub use slots::{SlotsEnd, list_slots_over};

@@ -8,7 +8,7 @@ ghost use Rattle.manifest.specs.Component.{kind_text};
 use crate::refusals::refused_text;
 use crate::streams::write_all;
 use manifest::{Component, Identity, Manifest, ManifestError};
-use std::alloc::{AllocError, Allocator, Global};
+use std::alloc::{AllocError, Global};
 use std::io::Write;
 
 /// How reading a manifest ended.
@@ -27,11 +27,10 @@ pub enum ManifestEnd {
 /// Writes to `out` what the manifest says that `bytes` are to a device of this identity, or the
 /// lowest refusal that applies.
 ///
-/// The JSON value stands in memory of `alloc`. The text is made in memory of `heap` before it is
-/// written: where one of them runs out, nothing is.
-pub fn tell_over<A: Allocator, W: Write>(
+/// The JSON value and the text stand in memory of `alloc`. The text is made before it is written:
+/// where memory runs out, nothing is.
+pub fn tell_over<W: Write>(
     alloc: Global,
-    heap: &A,
     bytes: &[u8],
     identity: &Identity,
     out: &mut W,
@@ -40,8 +39,8 @@ pub fn tell_over<A: Allocator, W: Write>(
         (W.contents out.old) (W.contents out.new) }
 {
     let (text, end) = match Manifest::read(alloc, bytes, identity) {
-        Ok(manifest) => (manifest_text(heap, &manifest), ManifestEnd::Done),
-        Err(fault) => (refusal_text(heap, fault), ManifestEnd::Refused),
+        Ok(manifest) => (manifest_text(alloc, &manifest), ManifestEnd::Done),
+        Err(fault) => (refusal_text(alloc, fault), ManifestEnd::Refused),
     };
     let Ok(text) = text else {
         return ManifestEnd::NoMemory;
@@ -53,24 +52,21 @@ pub fn tell_over<A: Allocator, W: Write>(
 }
 
 /// What a manifest says.
-fn manifest_text<'a, A: Allocator>(
-    heap: &'a A,
-    manifest: &Manifest,
-) -> Result<String<&'a A>, AllocError>
+fn manifest_text(alloc: Global, manifest: &Manifest) -> Result<String, AllocError>
     ensures { IfOk result (λ text. string_bytes text ≡ manifest_text manifest.now) }
 {
     let sequence = manifest.sequence;
-    let mut text = format!(in heap; "sequence {sequence}\n")?;
+    let mut text = format!(in alloc; "sequence {sequence}\n")?;
     for component in manifest.components.as_slice() {
-        write_component(heap, &mut text, component)?;
+        write_component(alloc, &mut text, component)?;
     }
     Ok(text)
 }
 
 /// Adds to a text what a component says, as a line.
-fn write_component<A: Allocator>(
-    heap: &A,
-    text: &mut String<&A>,
+fn write_component(
+    alloc: Global,
+    text: &mut String,
     component: &Component,
 ) -> Result<(), AllocError>
     ensures { IfOk result (λ _. string_bytes text.new
@@ -79,8 +75,8 @@ fn write_component<A: Allocator>(
     let image = component.image;
     let size = component.size;
     let kind = kind_text(component.permanent);
-    let digest = hex::encode(heap, component.digest.as_slice())?;
-    let precursor = precursor_text(heap, component.precursor)?;
+    let digest = hex::encode(alloc, component.digest.as_slice())?;
+    let precursor = precursor_text(alloc, component.precursor)?;
     writeln!(text, "component {image} {size} {kind} {digest}{precursor}")
 }
 
@@ -92,29 +88,26 @@ fn kind_text(permanent: bool) -> &'static str
 }
 
 /// What follows a component: the digest of the image that has to run, where one is asked for.
-fn precursor_text<A: Allocator>(
-    heap: &A,
-    precursor: Option<[u8; 32]>,
-) -> Result<String<&A>, AllocError>
+fn precursor_text(alloc: Global, precursor: Option<[u8; 32]>) -> Result<String, AllocError>
     ensures { IfOk result (λ text. string_bytes text ≡ precursor_text precursor) }
 {
     match precursor {
-        None => Ok(String::new(heap)),
+        None => Ok(String::new(alloc)),
         Some(digest) => {
-            let digest = hex::encode(heap, digest.as_slice())?;
-            format!(in heap; " precursor {digest}")
+            let digest = hex::encode(alloc, digest.as_slice())?;
+            format!(in alloc; " precursor {digest}")
         }
     }
 }
 
 /// The lowest refusal that applies, by its number and its name. There is no text where memory ran
 /// out, for that says nothing of the manifest.
-fn refusal_text<A: Allocator>(heap: &A, fault: ManifestError) -> Result<String<&A>, AllocError>
+fn refusal_text(alloc: Global, fault: ManifestError) -> Result<String, AllocError>
     ensures { IfOk result (λ text. (fault ≢ ManifestError.NoMemory)
         × (string_bytes text ≡ refusal_text fault)) }
 {
     match fault {
         ManifestError::NoMemory => Err(AllocError),
-        _ => refused_text(heap, fault.code(), fault.name()),
+        _ => refused_text(alloc, fault.code(), fault.name()),
     }
 }

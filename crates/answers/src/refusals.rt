@@ -3,14 +3,14 @@ ghost use Rattle.std.specs.Prelude.{◌≡◌, IfOk, string_bytes};
 ghost use Rattle.answers.specs.AnswerText.{map_refusal_text, refused_group_text, refused_text};
 
 use sector_map::MapError;
-use std::alloc::{AllocError, Allocator};
+use std::alloc::{AllocError, Global};
 
-/// The text `refused CODE NAME`: the number and the name of what was wrong.
-pub fn refused_text<'a, A: Allocator>(
-    alloc: &'a A,
-    code: u8,
-    name: &str,
-) -> Result<String<&'a A>, AllocError>
+/// The line `refused CODE NAME`: the number and the name of what was wrong, as text in memory of
+/// `alloc`.
+///
+/// # Errors
+/// `AllocError` where that memory is refused.
+pub fn refused_text(alloc: Global, code: u8, name: &str) -> Result<String, AllocError>
     ensures { IfOk result (λ text. string_bytes text ≡ refused_text code name.now) }
 {
     format!(in alloc; "refused {code} {name}\n")
@@ -18,12 +18,12 @@ pub fn refused_text<'a, A: Allocator>(
 
 /// The text `refused GROUP CODE NAME`: what a layer below refused, by the layer's word, the number
 /// and the name.
-pub fn refused_group_text<'a, A: Allocator>(
-    alloc: &'a A,
+pub fn refused_group_text(
+    alloc: Global,
     group: &str,
     code: u8,
     name: &str,
-) -> Result<String<&'a A>, AllocError>
+) -> Result<String, AllocError>
     ensures { IfOk result
         (λ text. string_bytes text ≡ refused_group_text group.now code name.now) }
 {
@@ -31,12 +31,12 @@ pub fn refused_group_text<'a, A: Allocator>(
 }
 
 /// The line `refused map CODE NAME`: the first check of the sizes of a device file that fails, by
-/// its number and its name, as text in memory of `heap`.
+/// its number and its name, as text in memory of `alloc`.
 ///
 /// # Errors
 /// `AllocError` where that memory is refused.
-pub fn map_refusal_text<A: Allocator>(heap: &A, fault: MapError) -> Result<String<&A>, AllocError>
+pub fn map_refusal_text(alloc: Global, fault: MapError) -> Result<String, AllocError>
     ensures { IfOk result (λ text. string_bytes text ≡ map_refusal_text fault) }
 {
-    refused_group_text(heap, "map", fault.code(), fault.name())
+    refused_group_text(alloc, "map", fault.code(), fault.name())
 }

@@ -9,7 +9,7 @@ use certificate::{Report, ReportedImage};
 use common::limits::MOST_IMAGES;
 use machine::{Fault, Reply};
 use sector_map::is_member;
-use std::alloc::{AllocError, Allocator};
+use std::alloc::{AllocError, Global};
 use std::fmt;
 use upload::UploadError;
 
@@ -18,11 +18,7 @@ use upload::UploadError;
 ///
 /// # Errors
 /// `AllocError` where that memory is refused.
-pub fn reply_text<'a, A: Allocator>(
-    alloc: &'a A,
-    number: usize,
-    reply: &Reply,
-) -> Result<String<&'a A>, AllocError>
+pub fn reply_text(alloc: Global, number: usize, reply: &Reply) -> Result<String, AllocError>
     ensures { IfOk result (λ text. string_bytes text ≡ reply_text number reply.now) }
 {
     match reply {
@@ -101,7 +97,7 @@ fn write_members<W: fmt::Write>(f: &mut fmt::Formatter<W>, set: u8) -> fmt::Resu
 ///
 /// # Errors
 /// `AllocError` where that memory is refused.
-pub fn refused_fault_text<A: Allocator>(alloc: &A, fault: Fault) -> Result<String<&A>, AllocError>
+pub fn refused_fault_text(alloc: Global, fault: Fault) -> Result<String, AllocError>
     ensures { IfOk result (λ text. string_bytes text ≡ refused_fault_text fault) }
 {
     let reason = Reason(fault);

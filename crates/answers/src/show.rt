@@ -17,7 +17,7 @@ use flash_model::Flash;
 use machine::Fault;
 use sector_map::{SectorMap, Side};
 use set_log::{Kind, LogError, State, read_state};
-use std::alloc::{AllocError, Allocator, Global};
+use std::alloc::{AllocError, Global};
 use std::fmt;
 use std::io::Write;
 use std::sync::ledger::{Blank, Ledger};
@@ -38,11 +38,10 @@ pub enum ShowEnd {
 
 /// Writes to `out` what stands on the flash of these bytes.
 ///
-/// The text is made in memory of `heap` before it is written: where that runs out, nothing is. The
+/// The text is made in memory of `alloc` before it is written: where that runs out, nothing is. The
 /// ledger's token has two parts, as `Blank::new(2)` makes it.
-pub fn show_over<L: Ledger, A: Allocator, W: Write>(
+pub fn show_over<L: Ledger, W: Write>(
     alloc: Global,
-    heap: &A,
     blank: Blank,
     map: &SectorMap,
     bytes: Vec<u8>,
@@ -56,12 +55,12 @@ pub fn show_over<L: Ledger, A: Allocator, W: Write>(
         (W.contents out.old) (W.contents out.new) }
 {
     let mut flash = flash_of::<L>(alloc, blank, map, bytes);
-    show_flash(heap, &mut flash, map, out)
+    show_flash(alloc, &mut flash, map, out)
 }
 
 /// Writes to `out` what stands on a flash that has power.
-fn show_flash<A: Allocator, F: Flash, W: Write>(
-    heap: &A,
+fn show_flash<F: Flash, W: Write>(
+    alloc: Global,
     flash: &mut F,
     map: &SectorMap,
     out: &mut W,
@@ -71,7 +70,7 @@ fn show_flash<A: Allocator, F: Flash, W: Write>(
     ensures { Shows result map.now (F.chip flash.old) (W.contents out.old) (W.contents out.new) }
 {
     let state = state_on(flash, map);
-    let Ok(text) = stand_text(heap, flash, map, state) else {
+    let Ok(text) = stand_text(alloc, flash, map, state) else {
         return ShowEnd::NoMemory;
     };
     match (write_all(out, text.as_bytes()), state) {
@@ -96,25 +95,25 @@ pub(crate) fn state_on<F: Flash>(flash: &mut F, map: &SectorMap) -> Option<State
 }
 
 /// What is printed of a flash that has power, and whose log has this state, or none.
-pub(crate) fn stand_text<'a, A: Allocator, F: Flash>(
-    heap: &'a A,
+pub(crate) fn stand_text<F: Flash>(
+    alloc: Global,
     flash: &mut F,
     map: &SectorMap,
     state: Option<State>,
-) -> Result<String<&'a A>, AllocError>
+) -> Result<String, AllocError>
     requires laid_out { IsLaidOut map.now (F.chip flash.old) }
     requires on { (F.chip flash.old).is_on ≡ true }
     ensures { IfOk result
         (λ text. string_bytes text ≡ stand_text map.now (F.chip flash.old) state) }
 {
     let Some(state) = state else {
-        return refused_fault_text(heap, Fault::NotProvisioned);
+        return refused_fault_text(alloc, Fault::NotProvisioned);
     };
     let kind = kind_text(state.kind);
     let set = Images(state.mask);
     let left = Left(state.left);
     let sequence = state.sequence;
-    let mut text = format!(in heap; "state {kind}\nset{set}\n{left}sequence {sequence}\n")?;
+    let mut text = format!(in alloc; "state {kind}\nset{set}\n{left}sequence {sequence}\n")?;
     write_floors(&mut text, &state, map)?;
     write_swaps(&mut text, flash, map)?;
     Ok(text)
@@ -169,11 +168,7 @@ impl fmt::Display for Left {
 }
 
 /// Adds the floor of each image to a text, as a line.
-fn write_floors<A: Allocator>(
-    text: &mut String<A>,
-    state: &State,
-    map: &SectorMap,
-) -> Result<(), AllocError>
+fn write_floors(text: &mut String, state: &State, map: &SectorMap) -> Result<(), AllocError>
     ensures { IfOk result (λ _. string_bytes text.new
         ≡ string_bytes text.old ++ floor_lines map.now.images state.now) }
 {
@@ -186,8 +181,8 @@ fn write_floors<A: Allocator>(
 
 /// Adds to a text what the trailers of each image ask of a boot, as a line, on a flash that has
 /// power.
-fn write_swaps<A: Allocator, F: Flash>(
-    text: &mut String<A>,
+fn write_swaps<F: Flash>(
+    text: &mut String,
     flash: &mut F,
     map: &SectorMap,
 ) -> Result<(), AllocError>

@@ -14,7 +14,7 @@ use flash_model::Flash;
 use machine::Finding;
 use sector_map::SectorMap;
 use set_log::State;
-use std::alloc::{AllocError, Allocator, Global};
+use std::alloc::{AllocError, Global};
 use std::io::Write;
 use std::sync::ledger::{Blank, Ledger};
 
@@ -33,8 +33,8 @@ pub enum SlotsEnd {
 
 /// A list of the slots of a flash.
 #[derive(Drop)]
-struct Listing<'a, A: Allocator> {
-    text: String<&'a A>,
+struct Listing {
+    text: String,
     /// Whether a boot would be refused.
     refused: bool,
 }
@@ -43,11 +43,10 @@ struct Listing<'a, A: Allocator> {
 /// would decide, where the device is at rest: which images would run, and why each other request
 /// would be refused.
 ///
-/// The text is made in memory of `heap` before it is written: where that runs out, nothing is. The
+/// The text is made in memory of `alloc` before it is written: where that runs out, nothing is. The
 /// ledger's token has two parts, as `Blank::new(2)` makes it.
-pub fn list_slots_over<L: Ledger, A: Allocator, W: Write>(
+pub fn list_slots_over<L: Ledger, W: Write>(
     alloc: Global,
-    heap: &A,
     blank: Blank,
     map: &SectorMap,
     bytes: Vec<u8>,
@@ -61,12 +60,12 @@ pub fn list_slots_over<L: Ledger, A: Allocator, W: Write>(
         (W.contents out.old) (W.contents out.new) }
 {
     let mut flash = flash_of::<L>(alloc, blank, map, bytes);
-    list_flash(heap, &mut flash, map, out)
+    list_flash(alloc, &mut flash, map, out)
 }
 
 /// Writes to `out` the list of the slots of a flash that has power.
-fn list_flash<A: Allocator, F: Flash, W: Write>(
-    heap: &A,
+fn list_flash<F: Flash, W: Write>(
+    alloc: Global,
     flash: &mut F,
     map: &SectorMap,
     out: &mut W,
@@ -76,7 +75,7 @@ fn list_flash<A: Allocator, F: Flash, W: Write>(
     ensures { Lists result map.now (F.chip flash.old) (W.contents out.old) (W.contents out.new) }
 {
     let state = state_on(flash, map);
-    let Ok(listing) = listing_of(heap, flash, map, state) else {
+    let Ok(listing) = listing_of(alloc, flash, map, state) else {
         return SlotsEnd::NoMemory;
     };
     match write_all(out, listing.text.as_bytes()) {
@@ -87,27 +86,27 @@ fn list_flash<A: Allocator, F: Flash, W: Write>(
 }
 
 /// The list of the slots of a flash that has power, and whose log has this state, or none.
-fn listing_of<'a, A: Allocator, F: Flash>(
-    heap: &'a A,
+fn listing_of<F: Flash>(
+    alloc: Global,
     flash: &mut F,
     map: &SectorMap,
     state: Option<State>,
-) -> Result<Listing<'a, A>, AllocError>
+) -> Result<Listing, AllocError>
     requires laid_out { IsLaidOut map.now (F.chip flash.old) }
     requires on { (F.chip flash.old).is_on ≡ true }
     ensures { IfOk result (λ listing. IsListingFor map.now (F.chip flash.old) state
         (string_bytes listing.text) listing.refused) }
 {
     let Some(state) = state else {
-        let text = stand_text(heap, flash, map, None)?;
+        let text = stand_text(alloc, flash, map, None)?;
         return Ok(Listing {
             text,
             refused: true,
         });
     };
     let found = find_slots(flash, map, &state);
-    let mut text = stand_text(heap, flash, map, Some(state))?;
-    write_found(heap, &mut text, &found)?;
+    let mut text = stand_text(alloc, flash, map, Some(state))?;
+    write_found(alloc, &mut text, &found)?;
     let refused = is_refused(&found.decision);
     Ok(Listing { text, refused })
 }

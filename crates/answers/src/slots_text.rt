@@ -8,51 +8,43 @@ use crate::image::description_text;
 use crate::replies::refused_fault_text;
 use crate::slots_found::{ImageSlots, SlotContent, SlotsFound};
 use machine::{Fault, Finding};
-use std::alloc::{AllocError, Allocator};
+use std::alloc::{AllocError, Global};
 use std::fmt;
 use swap_scratch::Progress;
 use trailer::Kind;
 
 /// Adds to a text all that is found.
-pub(crate) fn write_found<A: Allocator>(
-    heap: &A,
-    text: &mut String<&A>,
+pub(crate) fn write_found(
+    alloc: Global,
+    text: &mut String,
     found: &SlotsFound,
 ) -> Result<(), AllocError>
     ensures { IfOk result (λ _. string_bytes text.new
         ≡ string_bytes text.old ++ found_text found.now) }
 {
-    write_images(heap, text, found.images.as_slice())?;
-    write_decision(heap, text, &found.decision)
+    write_images(alloc, text, found.images.as_slice())?;
+    write_decision(alloc, text, &found.decision)
 }
 
 /// Adds to a text what is found of each image.
-fn write_images<A: Allocator>(
-    heap: &A,
-    text: &mut String<&A>,
-    images: &[ImageSlots],
-) -> Result<(), AllocError>
+fn write_images(alloc: Global, text: &mut String, images: &[ImageSlots]) -> Result<(), AllocError>
     ensures { IfOk result (λ _. string_bytes text.new
         ≡ string_bytes text.old ++ flat_map image_text images.now) }
 {
     for slots in images {
-        write_image(heap, text, slots)?;
+        write_image(alloc, text, slots)?;
     }
     Ok(())
 }
 
 /// Adds to a text what is found of an image.
-fn write_image<A: Allocator>(
-    heap: &A,
-    text: &mut String<&A>,
-    slots: &ImageSlots,
-) -> Result<(), AllocError>
+fn write_image(alloc: Global, text: &mut String, slots: &ImageSlots) -> Result<(), AllocError>
     ensures { IfOk result (λ _. string_bytes text.new
         ≡ string_bytes text.old ++ image_text slots.now) }
 {
     let image = slots.image;
-    let primary = content_text(heap, &slots.primary)?;
-    let secondary = content_text(heap, &slots.secondary)?;
+    let primary = content_text(alloc, &slots.primary)?;
+    let secondary = content_text(alloc, &slots.secondary)?;
     let request = request_text(slots.request);
     let moved = Moved {
         image,
@@ -65,19 +57,16 @@ fn write_image<A: Allocator>(
 }
 
 /// What a slot begins with.
-fn content_text<'a, A: Allocator>(
-    heap: &'a A,
-    content: &SlotContent,
-) -> Result<String<&'a A>, AllocError>
+fn content_text(alloc: Global, content: &SlotContent) -> Result<String, AllocError>
     ensures { IfOk result (λ text. string_bytes text ≡ content_text content.now) }
 {
     match content {
-        SlotContent::Intact(description) => description_text(heap, description),
-        SlotContent::Erased => format!(in heap; "erased\n"),
+        SlotContent::Intact(description) => description_text(alloc, description),
+        SlotContent::Erased => format!(in alloc; "erased\n"),
         SlotContent::Damaged(fault) => {
             let code = fault.code();
             let name = fault.name();
-            format!(in heap; "damaged {code} {name}\n")
+            format!(in alloc; "damaged {code} {name}\n")
         }
     }
 }
@@ -113,9 +102,9 @@ impl fmt::Display for Moved {
 }
 
 /// Adds to a text what the next boot would answer of its decision.
-fn write_decision<A: Allocator>(
-    heap: &A,
-    text: &mut String<&A>,
+fn write_decision(
+    alloc: Global,
+    text: &mut String,
     decision: &Option<Finding>,
 ) -> Result<(), AllocError>
     ensures { IfOk result (λ _. string_bytes text.new
@@ -125,11 +114,11 @@ fn write_decision<A: Allocator>(
         None => Ok(()),
         Some(Finding::Decided { table: _, report }) => write!(text, "{report}"),
         Some(Finding::Damaged(image)) => {
-            let line = refused_fault_text(heap, Fault::RunningDamaged(*image))?;
+            let line = refused_fault_text(alloc, Fault::RunningDamaged(*image))?;
             write!(text, "{line}")
         }
         Some(Finding::Invalid) => {
-            let line = refused_fault_text(heap, Fault::InvalidSet)?;
+            let line = refused_fault_text(alloc, Fault::InvalidSet)?;
             write!(text, "{line}")
         }
     }

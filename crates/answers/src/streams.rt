@@ -3,7 +3,7 @@ ghost use Rattle.std.specs.Prelude.{ℕ, List, take, IfOk, OnOk, OnErr};
 ghost use Rattle.std.specs.Io.KnownBytes.{Appends, Consumes, IsAtEnd};
 
 use crate::error::ReadError;
-use std::alloc::Allocator;
+use std::alloc::Global;
 use std::io;
 use std::io::{ErrorKind, Read, Write};
 
@@ -14,7 +14,7 @@ use std::io::{ErrorKind, Read, Write};
 /// # Errors
 /// `NoMemory` where memory is refused, and `Failed` where a read fails. What was read so far is
 /// lost then.
-pub fn read_all<A: Allocator, R: Read>(alloc: A, input: &mut R) -> Result<Vec<u8, A>, ReadError>
+pub fn read_all<R: Read>(alloc: Global, input: &mut R) -> Result<Vec<u8>, ReadError>
     ensures bytes { IfOk result (λ bytes.
         Consumes (R.remaining input.old) (R.remaining input.new) bytes.items) }
     ensures end { OnOk result (IsAtEnd (R.remaining input.new)) }

@@ -162,26 +162,26 @@ IsInputPiece-kept part old new files piece kept is =
     (is.0, Gives-kept StandardInput old new files files is.0 kept (λ name. kept_itself (files name)) is.1, is.2)
 
 -- one more is kept
-AreKept-push : {A : Type 0} (kept : List (Kept A)) (item : Kept A) (input : Option (List ℕ)) (files : FileBytes)
+AreKept-push : (kept : List Kept) (item : Kept) (input : Option (List ℕ)) (files : FileBytes)
     → AreKept kept input files → IsKept item input files → AreKept (kept ++ item ∷ []) input files
 AreKept-push [] item input files all one = (one, tt)
 AreKept-push (first ∷ rest) item input files all one =
     (all.0, AreKept-push rest item input files all.1 one)
 
 -- each that is kept is
-AreKept-get : {A : Type 0} (kept : List (Kept A)) (place : ℕ) (input : Option (List ℕ)) (files : FileBytes)
+AreKept-get : (kept : List Kept) (place : ℕ) (input : Option (List ℕ)) (files : FileBytes)
     → AreKept kept input files → IfSome (slice_get kept place) (λ item. IsKept item input files)
 AreKept-get [] place input files all = tt
 AreKept-get (first ∷ rest) zero input files all = all.0
 AreKept-get (first ∷ rest) (suc place) input files all = AreKept-get rest place input files all.1
 
 -- nothing was kept, since it can be read again
-pub KeepsKept-none : {A : Type 0} (kept : List (Kept A)) (is_read : Bool) (input : Option (List ℕ))
+pub KeepsKept-none : (kept : List Kept) (is_read : Bool) (input : Option (List ℕ))
     (files : FileBytes) → KeepsKept kept kept is_read is_read input files input
 KeepsKept-none kept is_read input files = λ first_input first_files files_kept input_kept all. (all, input_kept)
 
 -- what a line names of a file was kept
-pub KeepsKept-file : {A : Type 0} (kept new : List (Kept A)) (item : Kept A) (is_read : Bool)
+pub KeepsKept-file : (kept new : List Kept) (item : Kept) (is_read : Bool)
     (input : Option (List ℕ)) (files : FileBytes) → new ≡ kept ++ item ∷ []
     → ReadsNow (said_file item.file) item.bytes.items files → KeepsKept kept new is_read is_read input files input
 KeepsKept-file kept new item is_read input files pushed read = λ first_input first_files files_kept input_kept all. (
@@ -191,7 +191,7 @@ KeepsKept-file kept new item is_read input files pushed read = λ first_input fi
 )
 
 -- what a line names of standard input was kept
-pub KeepsKept-input : {A : Type 0} (kept new : List (Kept A)) (item : Kept A) (was_read is_read : Bool)
+pub KeepsKept-input : (kept new : List Kept) (item : Kept) (was_read is_read : Bool)
     (input new_input : Option (List ℕ)) (files : FileBytes) → new ≡ kept ++ item ∷ []
     → item.file.name.now ≡ codes "-" → was_read ≡ false → is_read ≡ true
     → IsInputPiece (option_map part_words item.file.part) input item.bytes.items
@@ -207,7 +207,7 @@ KeepsKept-input kept new item was_read is_read input new_input files pushed name
     )
 
 -- what was kept is used
-pub Brings-kept : {A : Type 0} (kept : List (Kept A)) (files : FileBytes) (place : ℕ) (item : Kept A) (file : SaidFile)
+pub Brings-kept : (kept : List Kept) (files : FileBytes) (place : ℕ) (item : Kept) (file : SaidFile)
     → slice_get kept place ≡ Some item → said_file item.file ≡ file
     → Brings kept files (ReadsFile file item.bytes.items)
 Brings-kept kept files place item file found same = λ input first_files files_kept all.
@@ -216,19 +216,19 @@ Brings-kept kept files place item file found same = λ input first_files files_k
     subst (λ file. Passes (ReadsFile file item.bytes.items) input first_files input first_files) same is
 
 -- what is read now serves, whatever was kept
-pub Brings-now : {A : Type 0} (kept : List (Kept A)) (files : FileBytes) (file : SaidFile) (bytes : List ℕ)
+pub Brings-now : (kept : List Kept) (files : FileBytes) (file : SaidFile) (bytes : List ℕ)
     → ReadsNow file bytes files → Brings kept files (ReadsFile file bytes)
 Brings-now kept files file bytes read = λ input first_files files_kept all. read input first_files files_kept
 
 -- a manifest comes, of which all bytes are brought
-pub Brings-accept : {A : Type 0} (kept : List (Kept A)) (files : FileBytes) (file : SaidFile) (text : List ℕ)
+pub Brings-accept : (kept : List Kept) (files : FileBytes) (file : SaidFile) (text : List ℕ)
     → Brings kept files (ReadsFile file text)
     → Brings kept files (λ known after. Comes (event.Accept file) known (event.Accept text) after)
 Brings-accept kept files file text brings = λ input first_files files_kept held known stays.
     let then = brings input first_files files_kept held known stays in (then.0, (text, then.1, refl), then.2)
 
 -- a piece comes, of which all bytes are brought
-pub Brings-piece : {A : Type 0} (kept : List (Kept A)) (files : FileBytes) (image : ℕ) (file : SaidFile) (piece : List ℕ)
+pub Brings-piece : (kept : List Kept) (files : FileBytes) (image : ℕ) (file : SaidFile) (piece : List ℕ)
     → Brings kept files (ReadsFile file piece)
     → Brings kept files (λ known after. Comes (event.Piece image file) known (event.Piece image piece) after)
 Brings-piece kept files image file piece brings = λ input first_files files_kept held known stays.
@@ -251,7 +251,7 @@ not_input file source name named is = λ dash.
 
 -- a text was taken up to what is left of it: whatever follows, what came so far and what comes by
 -- the next lines comes by the first of all
-pub record AreTaken {A : Type 0} (text rest : List ℕ) (reading : Reading) (taken : ℕ) (kept : List (Kept A))
+pub record AreTaken (text rest : List ℕ) (reading : Reading) (taken : ℕ) (kept : List Kept)
     (files : FileBytes) (came : List (Event (List ℕ))) : Type 0 where
   pub count : taken + length (lines_of rest) ≡ length (lines_of text)
   pub goes_on : Brings kept files (λ known now. (n : ℕ) (lines : List Said) (more : List (Event (List ℕ)))
@@ -259,7 +259,7 @@ pub record AreTaken {A : Type 0} (text rest : List ℕ) (reading : Reading) (tak
       → FirstCome (taken + n) text known (came ++ more))
 
 -- nothing was taken
-pub AreTaken-none : {A : Type 0} (text rest : List ℕ) (reading : Reading) (kept : List (Kept A)) (files : FileBytes)
+pub AreTaken-none : (text rest : List ℕ) (reading : Reading) (kept : List Kept) (files : FileBytes)
     → rest ≡ text → ((lines : List Said) → CanFollow reading lines ↔ AreInOrder 0 lines)
     → AreTaken text rest reading 0 kept files []
 AreTaken-none text rest reading kept files all order = record {
@@ -281,8 +281,8 @@ AreTaken-none text rest reading kept files all order = record {
 }
 
 -- a line more, which cuts a write
-pub AreTaken-cut : {A : Type 0} (text : List ℕ) (old new : Lines) (write : ℕ) (torn : TornText) (taken : ℕ)
-    (kept : List (Kept A)) (files : FileBytes) (came : List (Event (List ℕ)))
+pub AreTaken-cut : (text : List ℕ) (old new : Lines) (write : ℕ) (torn : TornText) (taken : ℕ)
+    (kept : List Kept) (files : FileBytes) (came : List (Event (List ℕ)))
     → IsNextLine old new (line.Cut write torn)
     → AreTaken text old.rest.now old.reading taken kept files came
     → AreTaken text new.rest.now new.reading (taken + 1) kept files came
@@ -308,8 +308,8 @@ pub came_in-push : {A : Type 0} (old new : List (Event (Vec ℕ A))) (one : Even
 came_in-push old new one added = ap (λ events. came_in events) added ∙ map-append came_of old (one ∷ [])
 
 -- a line more, which is an event
-pub AreTaken-event : {A : Type 0} (text : List ℕ) (old new : Lines) (happened : ScriptEvent) (taken : ℕ)
-    (kept : List (Kept A)) (files : FileBytes) (came : List (Event (List ℕ))) (one_came : Event (List ℕ))
+pub AreTaken-event : (text : List ℕ) (old new : Lines) (happened : ScriptEvent) (taken : ℕ)
+    (kept : List Kept) (files : FileBytes) (came : List (Event (List ℕ))) (one_came : Event (List ℕ))
     → IsNextLine old new (line.Event happened)
     → Brings kept files (λ known after. Comes (event_map said_file happened) known one_came after)
     → AreTaken text old.rest.now old.reading taken kept files came
@@ -339,7 +339,7 @@ nothing_follows true last = tt
 nothing_follows false last = tt
 
 -- the lines that were taken are the first
-pub BringsFirst-taken : {A : Type 0} (text rest : List ℕ) (reading : Reading) (taken : ℕ) (kept : List (Kept A))
+pub BringsFirst-taken : (text rest : List ℕ) (reading : Reading) (taken : ℕ) (kept : List Kept)
     (files : FileBytes) (came : List (Event (List ℕ))) → AreTaken text rest reading taken kept files came
     → BringsFirst taken text kept files came
 BringsFirst-taken text rest reading taken kept files came are = λ input first_files files_kept held known stays.
@@ -353,13 +353,13 @@ BringsFirst-taken text rest reading taken kept files came are = λ input first_f
     )
 
 -- no line was taken
-pub BringsFirst-none : {A : Type 0} (text : List ℕ) (kept : List (Kept A)) (files : FileBytes)
+pub BringsFirst-none : (text : List ℕ) (kept : List Kept) (files : FileBytes)
     → BringsFirst 0 text kept files []
 BringsFirst-none text kept files = λ input first_files files_kept held known stays.
     (known, record { lines = []; say = tt; order = tt; come = refl }, stays)
 
 -- all lines were taken
-pub BringsAll-taken : {A : Type 0} (text rest : List ℕ) (reading : Reading) (taken : ℕ) (kept : List (Kept A))
+pub BringsAll-taken : (text rest : List ℕ) (reading : Reading) (taken : ℕ) (kept : List Kept)
     (files : FileBytes) (came : List (Event (List ℕ))) → length rest ≡ 0
     → AreTaken text rest reading taken kept files came → BringsAll text kept files came
 BringsAll-taken text [] reading taken kept files came none are =
@@ -437,8 +437,8 @@ no_cuts [] none = refl
 no_cuts (cut ∷ rest) none = absurd (omega (arith, none))
 
 -- a text is a script by which all comes that was brought by its lines
-pub IsScript-brought : {A : Type 0} (text : List ℕ) (cuts : List Armed) (came : List (Event (List ℕ)))
-    (kept : List (Kept A)) (input : Option (List ℕ)) (first_files files : FileBytes) → AreCutsOf text cuts
+pub IsScript-brought : (text : List ℕ) (cuts : List Armed) (came : List (Event (List ℕ)))
+    (kept : List Kept) (input : Option (List ℕ)) (first_files files : FileBytes) → AreCutsOf text cuts
     → BringsAll text kept files came → KeepsFiles first_files files → AreKept kept input first_files
     → (known : Known) → StaysKnown known input first_files → IsScript text known cuts came
 IsScript-brought text cuts came kept input first_files files cut brings files_kept held known stays =

@@ -138,8 +138,8 @@ TellsSome-all refusal setup old new came answer before after one told = record {
 }
 
 -- a run that broke off at some line
-pub BreaksText-some : {A : Type 0} (refusal : Refusal) (setup : Setup) (old new : DeviceView) (text rest : List ℕ)
-    (reading : Reading) (taken : ℕ) (kept : List (Kept A)) (files : FileBytes) (came : List (Event (List ℕ)))
+pub BreaksText-some : (refusal : Refusal) (setup : Setup) (old new : DeviceView) (text rest : List ℕ)
+    (reading : Reading) (taken : ℕ) (kept : List Kept) (files : FileBytes) (came : List (Event (List ℕ)))
     (before after : Option (List ℕ)) → AreTaken text rest reading taken kept files came
     → TellsSome refusal setup old new came before after
     → BreaksText refusal setup old new text kept files before after
@@ -151,8 +151,8 @@ BreaksText-some refusal setup old new text rest reading taken kept files came be
 }
 
 -- a device that was just made over a flash, and all was told
-pub PlaysText-told : {A : Type 0} (device : DeviceFile) (bytes : List ℕ) (cuts : List Armed) (text : List ℕ)
-    (kept : List (Kept A)) (files : FileBytes) (old new : DeviceView) (answer : Answer)
+pub PlaysText-told : (device : DeviceFile) (bytes : List ℕ) (cuts : List Armed) (text : List ℕ)
+    (kept : List Kept) (files : FileBytes) (old new : DeviceView) (answer : Answer)
     (before after : Option (List ℕ)) → IsMadeOf device.map bytes cuts old
     → TellsText answer (setup_of device) old new text kept files before after
     → PlaysText answer device bytes cuts text kept files before after
@@ -172,8 +172,8 @@ PlaysText-told device bytes cuts text kept files old new answer before after mad
     }
 
 -- .. or all was told, and the flash file failed
-pub TellsFirst-all : {A : Type 0} (device : DeviceFile) (bytes : List ℕ) (cuts : List Armed) (text : List ℕ)
-    (kept : List (Kept A)) (files : FileBytes) (old new : DeviceView) (answer : Answer)
+pub TellsFirst-all : (device : DeviceFile) (bytes : List ℕ) (cuts : List Armed) (text : List ℕ)
+    (kept : List Kept) (files : FileBytes) (old new : DeviceView) (answer : Answer)
     (before after : Option (List ℕ)) → IsMadeOf device.map bytes cuts old
     → TellsText answer (setup_of device) old new text kept files before after
     → TellsFirst FlashFile device bytes cuts text kept files before after
@@ -201,8 +201,8 @@ TellsFirst-all device bytes cuts text kept files old new answer before after mad
     }
 
 -- .. or only the first was told
-pub TellsFirst-some : {A : Type 0} (refusal : Refusal) (device : DeviceFile) (bytes : List ℕ) (cuts : List Armed)
-    (text : List ℕ) (kept : List (Kept A)) (files : FileBytes) (old new : DeviceView)
+pub TellsFirst-some : (refusal : Refusal) (device : DeviceFile) (bytes : List ℕ) (cuts : List Armed)
+    (text : List ℕ) (kept : List Kept) (files : FileBytes) (old new : DeviceView)
     (before after : Option (List ℕ)) → IsMadeOf device.map bytes cuts old
     → BreaksText refusal (setup_of device) old new text kept files before after
     → TellsFirst refusal device bytes cuts text kept files before after
@@ -224,8 +224,8 @@ TellsFirst-some refusal device bytes cuts text kept files old new before after m
     }
 
 -- .. or there was no memory for the flash
-pub TellsFirst-none : {A : Type 0} (device : DeviceFile) (bytes : List ℕ) (cuts : List Armed) (text : List ℕ)
-    (kept : List (Kept A)) (files : FileBytes) (written : Option (List ℕ))
+pub TellsFirst-none : (device : DeviceFile) (bytes : List ℕ) (cuts : List Armed) (text : List ℕ)
+    (kept : List Kept) (files : FileBytes) (written : Option (List ℕ))
     → TellsFirst NoMemory device bytes cuts text kept files written written
 TellsFirst-none device bytes cuts text kept files written =
     let here : DeviceView = seen (armed_chip device.map bytes cuts) [] false in

@@ -60,17 +60,17 @@ AreCutsOf text cuts =
     (lines : List Said) → AllZip IsLineText (lines_of text) lines → AllCut lines cuts
 
 -- What a line names was read of a host of which this is known, and is kept.
-abbrev pub IsKept : {A : Type 0} → Kept A → Option (List ℕ) → FileBytes → Type 0
+abbrev pub IsKept : Kept → Option (List ℕ) → FileBytes → Type 0
 IsKept item input files =
     Passes (ReadsFile (said_file item.file) item.bytes.items) input files input files
 
-abbrev pub AreKept : {A : Type 0} → List (Kept A) → Option (List ℕ) → FileBytes → Type 0
+abbrev pub AreKept : List Kept → Option (List ℕ) → FileBytes → Type 0
 AreKept [] input files = Unit {0}
 AreKept (item ∷ rest) input files = IsKept item input files × AreKept rest input files
 
 -- Of a host that was known before these files were, the same is kept as before, and what is left of
 -- its input stays known as long as none of it is read.
-abbrev pub KeepsKept : {A : Type 0} → List (Kept A) → List (Kept A) → Bool → Bool
+abbrev pub KeepsKept : List Kept → List Kept → Bool → Bool
     → Option (List ℕ) → FileBytes → Option (List ℕ) → Type 0
 KeepsKept old new was_read is_read input files new_input =
     (first_input : Option (List ℕ)) (first_files : FileBytes) → KeepsFiles first_files files
@@ -90,7 +90,7 @@ ReadsNow file bytes files = (input : Option (List ℕ)) (first_files : FileBytes
 
 -- This is said by what was kept and by these files, of each state of a host in which they were
 -- known.
-abbrev pub Brings : {A : Type 0} → List (Kept A) → FileBytes → (Known → Known → Type 0) → Type 0
+abbrev pub Brings : List Kept → FileBytes → (Known → Known → Type 0) → Type 0
 Brings kept files Says = (input : Option (List ℕ)) (first_files : FileBytes)
     → KeepsFiles first_files files → AreKept kept input first_files
     → Passes Says input first_files input first_files
@@ -104,12 +104,12 @@ pub record FirstCome (count : ℕ) (text : List ℕ) (known : Known)
   pub come : AllCome lines known came
 
 -- This comes by so many of the first lines of a text, by what was kept and by these files.
-abbrev pub BringsFirst : {A : Type 0} → ℕ → List ℕ → List (Kept A) → FileBytes
+abbrev pub BringsFirst : ℕ → List ℕ → List Kept → FileBytes
     → List (Event (List ℕ)) → Type 0
 BringsFirst count text kept files came =
     Brings kept files (λ known after. FirstCome count text known came)
 
 -- This comes by all lines of a text.
-abbrev pub BringsAll : {A : Type 0} → List ℕ → List (Kept A) → FileBytes
+abbrev pub BringsAll : List ℕ → List Kept → FileBytes
     → List (Event (List ℕ)) → Type 0
 BringsAll text kept files came = BringsFirst (length (lines_of text)) text kept files came

@@ -77,8 +77,8 @@ pub record TellsSome (refusal : Refusal) (setup : Setup) (old new : DeviceView)
   pub output : refusal ≡ FlashFile → ⊥
 
 -- All that comes by a text came, and a device replied to it, as it is told.
-pub record TellsText {A : Type 0} (answer : Answer) (setup : Setup) (old new : DeviceView)
-    (text : List ℕ) (kept : List (Kept A)) (files : FileBytes) (before after : Option (List ℕ))
+pub record TellsText (answer : Answer) (setup : Setup) (old new : DeviceView)
+    (text : List ℕ) (kept : List Kept) (files : FileBytes) (before after : Option (List ℕ))
     : Type 0 where
   pub came : List (Event (List ℕ))
   pub comes : BringsAll text kept files came
@@ -86,8 +86,8 @@ pub record TellsText {A : Type 0} (answer : Answer) (setup : Setup) (old new : D
 
 -- What comes by the first lines of a text came, and not all replies to it could be told, or the next
 -- line could not be read.
-pub record BreaksText {A : Type 0} (refusal : Refusal) (setup : Setup) (old new : DeviceView)
-    (text : List ℕ) (kept : List (Kept A)) (files : FileBytes) (before after : Option (List ℕ))
+pub record BreaksText (refusal : Refusal) (setup : Setup) (old new : DeviceView)
+    (text : List ℕ) (kept : List Kept) (files : FileBytes) (before after : Option (List ℕ))
     : Type 0 where
   pub lines : ℕ
   pub came : List (Event (List ℕ))
@@ -96,8 +96,8 @@ pub record BreaksText {A : Type 0} (refusal : Refusal) (setup : Setup) (old new 
 
 -- What is answered of a device of this file with these bytes on its flash, of whose writes these
 -- are to be cut, and to which all comes that comes by a text; and what a writer took: the replies.
-pub record PlaysText {A : Type 0} (answer : Answer) (device : DeviceFile) (bytes : List ℕ)
-    (cuts : List Armed) (text : List ℕ) (kept : List (Kept A)) (files : FileBytes)
+pub record PlaysText (answer : Answer) (device : DeviceFile) (bytes : List ℕ)
+    (cuts : List Armed) (text : List ℕ) (kept : List Kept) (files : FileBytes)
     (old new : Option (List ℕ)) : Type 0 where
   pub came : List (Event (List ℕ))
   pub comes : BringsAll text kept files came
@@ -106,8 +106,8 @@ pub record PlaysText {A : Type 0} (answer : Answer) (device : DeviceFile) (bytes
 -- What a writer took of a run that ended without an answer, of a device of this file with these
 -- bytes on its flash, of whose writes these are to be cut, and to which was to come what comes by a
 -- text.
-pub record TellsFirst {A : Type 0} (refusal : Refusal) (device : DeviceFile) (bytes : List ℕ)
-    (cuts : List Armed) (text : List ℕ) (kept : List (Kept A)) (files : FileBytes)
+pub record TellsFirst (refusal : Refusal) (device : DeviceFile) (bytes : List ℕ)
+    (cuts : List Armed) (text : List ℕ) (kept : List Kept) (files : FileBytes)
     (old new : Option (List ℕ)) : Type 0 where
   -- What comes by its first lines came, in these events, and nothing after them.
   pub lines : ℕ

@@ -3,7 +3,7 @@
 ghost use Rattle.std.specs.Prelude.{◌≡◌, ◌≤◌, IfOk, IfSome, length};
 ghost use Rattle.reading_commands.specs.Input.{IsKnownAs};
 
-use std::alloc::Allocator;
+use std::alloc::Global;
 use std::fs::{File, OpenFile};
 use std::io::Read;
 use std::os::unix::fs::FileExt;
@@ -12,12 +12,12 @@ use std::{fs, io};
 
 /// The bytes of the file of this name, in memory of `alloc`: all of them where it has at most
 /// `most`, and else one more than that, from its front.
-pub fn read_start<R: Files<File = File>, A: Allocator>(
+pub fn read_start<R: Files<File = File>>(
     runtime: &R,
-    alloc: A,
+    alloc: Global,
     name: &str,
     most: u32,
-) -> io::Result<Vec<u8, A>> {
+) -> io::Result<Vec<u8>> {
     let mut bytes = Vec::new(alloc);
     File::open(runtime, name)?
         .take(u64::from(most) + 1)
@@ -27,11 +27,7 @@ pub fn read_start<R: Files<File = File>, A: Allocator>(
 
 /// What an input has left, in memory of `alloc`: all of it where that is at most `most` bytes, and
 /// else one more than that.
-pub fn read_input<I: Read, A: Allocator>(
-    alloc: A,
-    input: &mut I,
-    most: u32,
-) -> io::Result<Vec<u8, A>>
+pub fn read_input<I: Read>(alloc: Global, input: &mut I, most: u32) -> io::Result<Vec<u8>>
     ensures { IfOk result (λ bytes. length bytes.items ≤ most
         → IsKnownAs (I.remaining input.old) bytes.items) }
 {
@@ -49,13 +45,13 @@ pub fn is_plain<R: Files>(runtime: &R, name: &str) -> io::Result<bool> {
 /// So many bytes of the file of this name, from its byte `from` on, in memory of `alloc`, where it
 /// has them. Of a plain file nothing else is read. A pipe or a device, whose length isn't known, is
 /// read from its front up to the end of the part.
-pub fn read_part<R: Files<File = File>, A: Allocator>(
+pub fn read_part<R: Files<File = File>>(
     runtime: &R,
-    alloc: A,
+    alloc: Global,
     name: &str,
     from: usize,
     count: usize,
-) -> io::Result<Option<Vec<u8, A>>>
+) -> io::Result<Option<Vec<u8>>>
     ensures many { IfOk result (λ read. IfSome read (λ part. length part.items ≡ count)) }
 {
     let file = File::open(runtime, name)?;
@@ -77,7 +73,7 @@ pub fn read_part<R: Files<File = File>, A: Allocator>(
 }
 
 /// So many of these bytes, from that number on, where there are as many.
-fn part_of<A: Allocator>(bytes: Vec<u8, A>, from: usize, count: usize) -> Option<Vec<u8, A>>
+fn part_of(bytes: Vec<u8>, from: usize, count: usize) -> Option<Vec<u8>>
     ensures { IfSome result (λ part. length part.items ≡ count) }
 {
     let mut bytes = bytes;

@@ -4,7 +4,7 @@ use crate::holding::HeldFile;
 use crate::{file_reading, holding, replacing};
 use file_flash::FlashFile;
 use reading_commands::{Access, FlashFault, Host};
-use std::alloc::Allocator;
+use std::alloc::Global;
 use std::fs::File;
 use std::io;
 use std::io::{ErrorKind, Read};
@@ -50,30 +50,25 @@ impl<'a, R: Files, I: Read> SystemHost<'a, R, I> {
 impl<R: Files<File = File> + Clock, I: Read> Host for SystemHost<'_, R, I> {
     ghost input = { λ host. I.remaining host.input };
 
-    fn read_file<A: Allocator>(
-        &mut self,
-        alloc: A,
-        name: &str,
-        most: u32,
-    ) -> io::Result<Vec<u8, A>> {
+    fn read_file(&mut self, alloc: Global, name: &str, most: u32) -> io::Result<Vec<u8>> {
         file_reading::read_start(self.runtime, alloc, name, most)
     }
 
-    fn read_input<A: Allocator>(&mut self, alloc: A, most: u32) -> io::Result<Vec<u8, A>> {
+    fn read_input(&mut self, alloc: Global, most: u32) -> io::Result<Vec<u8>> {
         file_reading::read_input(alloc, &mut self.input, most)
     }
 
-    fn read_again<A: Allocator>(&self, alloc: A, name: &str, most: u32) -> io::Result<Vec<u8, A>> {
+    fn read_again(&self, alloc: Global, name: &str, most: u32) -> io::Result<Vec<u8>> {
         file_reading::read_start(self.runtime, alloc, name, most)
     }
 
-    fn read_part<A: Allocator>(
+    fn read_part(
         &self,
-        alloc: A,
+        alloc: Global,
         name: &str,
         from: usize,
         count: usize,
-    ) -> io::Result<Option<Vec<u8, A>>> {
+    ) -> io::Result<Option<Vec<u8>>> {
         file_reading::read_part(self.runtime, alloc, name, from, count)
     }
 
@@ -85,13 +80,13 @@ impl<R: Files<File = File> + Clock, I: Read> Host for SystemHost<'_, R, I> {
         replacing::is_same_file(self.runtime, one, other)
     }
 
-    fn open_flash<A: Allocator>(
+    fn open_flash(
         &mut self,
-        alloc: A,
+        alloc: Global,
         name: &str,
         length: u64,
         access: Access,
-    ) -> Result<Vec<u8, A>, FlashFault> {
+    ) -> Result<Vec<u8>, FlashFault> {
         let held = holding::open(self.runtime, name, length, access)?;
         let Ok(mut bytes) = vec![in alloc; 0; length as usize] else {
             return Err(FlashFault::NoMemory);
@@ -121,13 +116,8 @@ impl<R: Files<File = File> + Clock, I: Read> Host for SystemHost<'_, R, I> {
         }
     }
 
-    fn replace_file<A: Allocator>(
-        &mut self,
-        alloc: A,
-        name: &str,
-        bytes: &[u8],
-    ) -> Result<(), FlashFault> {
-        replacing::replace_file(self.runtime, &alloc, name, bytes)
+    fn replace_file(&mut self, alloc: Global, name: &str, bytes: &[u8]) -> Result<(), FlashFault> {
+        replacing::replace_file(self.runtime, alloc, name, bytes)
     }
 
     fn watched_seconds(&self) -> Option<u64> {

@@ -12,7 +12,7 @@ use events::Event;
 use flash_model::Torn;
 use reading_commands::{Host, MOST_FILE, Refusal, Source};
 use script::{FileText, Line, TornText};
-use std::alloc::{Allocator, Global};
+use std::alloc::Global;
 
 /// A write of the flash that a script has cut.
 #[derive(Drop)]
@@ -26,42 +26,41 @@ pub struct Cut {
 /// What a line names of a file that can't be read again as its event comes: standard input, what is
 /// no plain file, or the file of the flash, which changes.
 #[derive(Drop)]
-pub struct Kept<'a, A: Allocator> {
+pub struct Kept<'a> {
     /// What the line names.
     pub file: FileText<'a>,
     /// The bytes of it.
-    pub bytes: Vec<u8, A>,
+    pub bytes: Vec<u8>,
 }
 
 /// What of a script is kept once its lines were judged.
 #[derive(Drop)]
-pub struct Judged<'a, A: Allocator> {
+pub struct Judged<'a> {
     /// The writes that are cut, by rising numbers.
     pub cuts: Vec<Cut>,
     /// What lines name that can't be read again, in the order of the lines.
-    pub kept: Vec<Kept<'a, A>, A>,
+    pub kept: Vec<Kept<'a>>,
     /// Whether standard input was read.
     pub is_input_read: bool,
 }
 
 /// Judges each line of a script's text, in order, and the file that it names, before the next one.
-/// Files are read from `host` into memory of `heap`, and let go again where they can be read as
+/// Files are read from `host` into memory of `alloc`, and let go again where they can be read as
 /// their events come: `flash` is the file that the run writes, if there is one. What cuts leave
-/// stands in memory of `alloc`. Standard input may have been read before: then no line may name it.
+/// stands there too. Standard input may have been read before: then no line may name it.
 ///
 /// # Errors
 /// Of the first line at which something is wrong: `ScriptLine` where the line is none of a script,
 /// stands where it may not, names standard input again, or a part that its file doesn't have;
 /// `CannotRead` where its file can't be read; `TooLong` where it is too long. `NoMemory` where
 /// memory ran out.
-pub fn judge<'a, 'h, A: Allocator, H: Host>(
+pub fn judge<'a, H: Host>(
     alloc: Global,
-    heap: &'h A,
     text: &'a [u8],
     flash: Option<&str>,
     is_input_read: bool,
     host: &mut H,
-) -> Result<Judged<'a, &'h A>, Refusal<'a>>
+) -> Result<Judged<'a>, Refusal<'a>>
     ensures cuts { IfOk result (λ judged. AreCutsOf text.now (armed_in judged.cuts.items)) }
     ensures kept { IfOk result (λ judged.
         AreKept judged.kept.items (H.input host.old) (H.file host.old)) }
@@ -69,23 +68,22 @@ pub fn judge<'a, 'h, A: Allocator, H: Host>(
 {
     let mut judged = Judged {
         cuts: Vec::new(alloc),
-        kept: Vec::new(heap),
+        kept: Vec::new(alloc),
         is_input_read,
     };
     let mut lines = Lines::of(text);
     while !lines.rest.is_empty() {
         let line = lines.next_line()?;
-        judge_line(alloc, heap, flash, &mut judged, host, lines.number, line)?;
+        judge_line(alloc, flash, &mut judged, host, lines.number, line)?;
     }
     Ok(judged)
 }
 
 /// Judges the line of this number, and keeps of it what has to be kept.
-fn judge_line<'a, 'h, A: Allocator, H: Host>(
+fn judge_line<'a, H: Host>(
     alloc: Global,
-    heap: &'h A,
     flash: Option<&str>,
-    judged: &mut Judged<'a, &'h A>,
+    judged: &mut Judged<'a>,
     host: &mut H,
     number: usize,
     line: Line<'a>,
@@ -103,7 +101,7 @@ fn judge_line<'a, 'h, A: Allocator, H: Host>(
             take_cut(&mut judged.cuts, cut)
         }
         Line::Event(event) => match file_of(event) {
-            Some(file) => judge_file(heap, flash, judged, host, number, file),
+            Some(file) => judge_file(alloc, flash, judged, host, number, file),
             None => Ok(()),
         },
     }
@@ -138,10 +136,10 @@ fn file_of(event: Event<FileText<'_>>) -> Option<FileText<'_>> {
 }
 
 /// Reads what the line of this number names of a file, and keeps it where it can't be read again.
-fn judge_file<'a, 'h, A: Allocator, H: Host>(
-    heap: &'h A,
+fn judge_file<'a, H: Host>(
+    alloc: Global,
     flash: Option<&str>,
-    judged: &mut Judged<'a, &'h A>,
+    judged: &mut Judged<'a>,
     host: &mut H,
     number: usize,
     file: FileText<'a>,
@@ -154,11 +152,11 @@ fn judge_file<'a, 'h, A: Allocator, H: Host>(
 {
     match Source::named(file.name) {
         Source::StandardInput => {
-            let bytes = input_part(heap, &mut judged.is_input_read, host, number, file)?;
+            let bytes = input_part(alloc, &mut judged.is_input_read, host, number, file)?;
             keep(&mut judged.kept, Kept { file, bytes })
         }
         Source::File(name) => {
-            let bytes = piece_of(heap, &*host, number, file)?;
+            let bytes = piece_of(alloc, &*host, number, file)?;
             if can_be_read_again(&*host, name, flash) {
                 return Ok(());
             }
@@ -168,10 +166,7 @@ fn judge_file<'a, 'h, A: Allocator, H: Host>(
 }
 
 /// Adds what is kept of a line to what was kept before.
-fn keep<'a, 'h, A: Allocator>(
-    kept: &mut Vec<Kept<'a, &'h A>, &'h A>,
-    one: Kept<'a, &'h A>,
-) -> Result<(), Refusal<'a>>
+fn keep<'a>(kept: &mut Vec<Kept<'a>>, one: Kept<'a>) -> Result<(), Refusal<'a>>
     ensures { OnOk result (kept.new.items ≡ kept.old.items ++ one.entry ∷ []) }
 {
     match kept.push(one) {
@@ -181,13 +176,13 @@ fn keep<'a, 'h, A: Allocator>(
 }
 
 /// What the line of this number names of standard input, which wasn't read before.
-fn input_part<'a, 'h, A: Allocator, H: Host>(
-    heap: &'h A,
+fn input_part<'a, H: Host>(
+    alloc: Global,
     is_read: &mut bool,
     host: &mut H,
     number: usize,
     file: FileText<'a>,
-) -> Result<Vec<u8, &'h A>, Refusal<'a>>
+) -> Result<Vec<u8>, Refusal<'a>>
     ensures first { OnOk result (is_read.old ≡ false) }
     ensures read { OnOk result (is_read.new ≡ true) }
     ensures piece { IfOk result (λ piece. IsInputPiece (option_map part_words file.entry.part)
@@ -198,8 +193,8 @@ fn input_part<'a, 'h, A: Allocator, H: Host>(
         return Err(Refusal::ScriptLine(number));
     }
     *is_read = true;
-    let bytes = Source::StandardInput.read(heap, host, MOST_FILE)?;
-    part_of(heap, number, bytes, file.part)
+    let bytes = Source::StandardInput.read(alloc, host, MOST_FILE)?;
+    part_of(alloc, number, bytes, file.part)
 }
 
 /// Whether what is read of a file is the same as its event comes: it is a plain one, and not that

@@ -10,24 +10,24 @@ use crate::lines::Lines;
 use events::Event;
 use reading_commands::{Host, MOST_SCRIPT, Refusal, Source};
 use script::Line;
-use std::alloc::{Allocator, Global};
+use std::alloc::Global;
 
-/// The text of a script, from `host`, in memory of `heap`.
+/// The text of a script, from `host`, in memory of `alloc`.
 ///
 /// # Errors
 /// `ScriptLine` where it is too long, with the line that goes past the most; `CannotRead` where it
 /// can't be read; `NoMemory`.
-pub fn read_script<'a, 'h, A: Allocator, H: Host>(
-    heap: &'h A,
+pub fn read_script<'a, H: Host>(
+    alloc: Global,
     script: Source<'a>,
     host: &mut H,
-) -> Result<Vec<u8, &'h A>, Refusal<'a>>
+) -> Result<Vec<u8>, Refusal<'a>>
     ensures bytes { IfOk result (λ bytes.
         Gives script.entry (H.input host.old) (H.file host.old) bytes.items) }
     ensures others { KeepsOthers script.entry (H.input host.old) (H.file host.old)
         (H.input host.new) (H.file host.new) }
 {
-    let start = script.read_start(heap, host, MOST_SCRIPT)?;
+    let start = script.read_start(alloc, host, MOST_SCRIPT)?;
     if start.len() <= MOST_SCRIPT as usize {
         return Ok(start);
     }
@@ -40,29 +40,28 @@ pub fn read_script<'a, 'h, A: Allocator, H: Host>(
 }
 
 /// The events of a script that cuts no write, from its text, with the bytes of the files that its
-/// lines name, which are read from `host`. All stand in memory of `heap`. Standard input may have
+/// lines name, which are read from `host`. All stand in memory of `alloc`. Standard input may have
 /// been read before: then no line may name it.
 ///
 /// # Errors
 /// Those of [`judge`], and `ScriptLine` of the first line where it cuts a write.
-pub fn load<'a, 'h, A: Allocator, H: Host>(
+pub fn load<'a, H: Host>(
     alloc: Global,
-    heap: &'h A,
     text: &'a [u8],
     is_input_read: bool,
     host: &mut H,
-) -> Result<Vec<Event<Vec<u8, &'h A>>, &'h A>, Refusal<'a>>
+) -> Result<Vec<Event<Vec<u8>>>, Refusal<'a>>
     ensures { IfOk result (λ events. (known : Known)
         → StaysKnown known (H.input host.old) (H.file host.old)
         → IsScript text.now known [] (came_in events.items)) }
 {
-    let judged = judge(alloc, heap, text, None, is_input_read, host)?;
+    let judged = judge(alloc, text, None, is_input_read, host)?;
     if !judged.cuts.as_slice().is_empty() {
         // Cuts stand before all else.
         return Err(Refusal::ScriptLine(1));
     }
     let sources = Sources {
-        heap,
+        alloc,
         host: &*host,
         kept: &judged.kept,
     };
@@ -70,14 +69,14 @@ pub fn load<'a, 'h, A: Allocator, H: Host>(
 }
 
 /// All events of a script that was judged.
-fn bring_all<'a, 'h, A: Allocator, H: Host>(
+fn bring_all<'a, H: Host>(
     text: &'a [u8],
-    sources: &Sources<'a, 'h, '_, '_, A, H>,
-) -> Result<Vec<Event<Vec<u8, &'h A>>, &'h A>, Refusal<'a>>
+    sources: &Sources<'a, '_, '_, H>,
+) -> Result<Vec<Event<Vec<u8>>>, Refusal<'a>>
     ensures { IfOk result (λ events. BringsAll text.now sources.now.kept.now
         (H.file sources.now.host.now) (came_in events.items)) }
 {
-    let mut events = Vec::new(sources.heap);
+    let mut events = Vec::new(sources.alloc);
     let mut lines = Lines::of(text);
     let mut used = 0;
     while !lines.rest.is_empty() {
@@ -90,9 +89,9 @@ fn bring_all<'a, 'h, A: Allocator, H: Host>(
 }
 
 /// Adds an event to those before.
-fn take_event<'a, A: Allocator>(
-    events: &mut Vec<Event<Vec<u8, A>>, A>,
-    event: Event<Vec<u8, A>>,
+fn take_event<'a>(
+    events: &mut Vec<Event<Vec<u8>>>,
+    event: Event<Vec<u8>>,
 ) -> Result<(), Refusal<'a>>
     ensures { OnOk result (events.new.items ≡ events.old.items ++ event ∷ []) }
 {

@@ -12,7 +12,7 @@ use reading_commands::{
     Access, Answer, Host, Refusal, Source, check, choose, codes, finish, image, manifest_file,
     refuse, show, slots, status_after,
 };
-use std::alloc::{Allocator, Global};
+use std::alloc::Global;
 use std::convert::AsStr;
 use std::io;
 use std::io::{ErrorKind, Write};
@@ -27,14 +27,12 @@ const USAGE: u8 = 2;
 /// failed last, 4 the flash file failed.
 ///
 /// The first word is the program's own name, and without another one the choice is made over
-/// standard input. The words and JSON texts are parsed in memory of `alloc`, where flashes and what
-/// runs on them stand too, and all else stands in memory of `heap`. Input comes from `host`, which
-/// keeps the file of a flash, and what is read where the answer is to be explained. Answers go to `out`, error lines and the words on a wrong usage to
-/// `err`, and both are flushed. After a write that failed nothing more is written, and the status
-/// is 1.
-pub fn cli<S: AsStr, A: Allocator, H: Host, O: Write, E: Write>(
+/// standard input. All stands in memory of `alloc`. Input comes from `host`, which keeps the file of
+/// a flash, and what is read where the answer is to be explained. Answers go to `out`, error lines
+/// and the words on a wrong usage to `err`, and both are flushed. After a write that failed nothing
+/// more is written, and the status is 1.
+pub fn cli<S: AsStr, H: Host, O: Write, E: Write>(
     alloc: Global,
-    heap: &A,
     words: &[S],
     host: &mut Remembering<H>,
     out: &mut O,
@@ -42,9 +40,9 @@ pub fn cli<S: AsStr, A: Allocator, H: Host, O: Write, E: Write>(
 ) -> u8 {
     match request_in(alloc, words) {
         Ok(request) if request.is_explained => {
-            run_explained(alloc, heap, words, request.order, host, out, err)
+            run_explained(alloc, words, request.order, host, out, err)
         }
-        Ok(request) => run_order(alloc, heap, request.order, host, out, err),
+        Ok(request) => run_order(alloc, request.order, host, out, err),
         Err(OrderError::NoMemory) => refuse(Refusal::NoMemory, err),
         Err(OrderError::Usage(answer)) => {
             if answer.use_stderr() {
@@ -72,9 +70,8 @@ fn request_in<'a, S: AsStr>(alloc: Global, words: &'a [S]) -> Result<Request<'a>
 /// Runs the command of an order to its exit status, as [`run_order`] does, and says on standard
 /// error why its answer is as it is. The order is what `words` ask for. The host keeps what is read,
 /// for that.
-fn run_explained<S: AsStr, A: Allocator, H: Host, O: Write, E: Write>(
+fn run_explained<S: AsStr, H: Host, O: Write, E: Write>(
     alloc: Global,
-    heap: &A,
     words: &[S],
     order: Order<'_>,
     host: &mut Remembering<H>,
@@ -84,22 +81,21 @@ fn run_explained<S: AsStr, A: Allocator, H: Host, O: Write, E: Write>(
     ensures { result ≡ 0 → AnswersOrder Answer.Done order.entry (H.input host.old.host)
         (H.file host.old.host) (H.file host.new.host) (O.contents out.old) (O.contents out.new) }
 {
-    let mut text = Vec::new(heap);
+    let mut text = Vec::new(alloc);
     let mut told = UntilFailed::over(err);
     host.kept.start();
-    let outcome = perform(alloc, heap, order, true, &mut text, host, out, &mut told);
+    let outcome = perform(alloc, order, true, &mut text, host, out, &mut told);
     let status = finish(outcome, out, &mut told);
     if let Ok(request) = request(alloc, words) {
-        explain_end(alloc, heap, &request.order, outcome, host, &mut told);
+        explain_end(alloc, &request.order, outcome, host, &mut told);
     }
     status
 }
 
 /// Runs the command of an order to its exit status: 0 only where the whole answer is written, and
 /// is a yes.
-pub fn run_order<A: Allocator, H: Host, O: Write, E: Write>(
+pub fn run_order<H: Host, O: Write, E: Write>(
     alloc: Global,
-    heap: &A,
     order: Order<'_>,
     host: &mut H,
     out: &mut O,
@@ -109,9 +105,9 @@ pub fn run_order<A: Allocator, H: Host, O: Write, E: Write>(
         (H.file host.new) (O.contents out.old) (O.contents out.new) }
 {
     // A script's text, in which a refusal may name a file.
-    let mut text = Vec::new(heap);
+    let mut text = Vec::new(alloc);
     finish(
-        perform(alloc, heap, order, false, &mut text, host, out, err),
+        perform(alloc, order, false, &mut text, host, out, err),
         out,
         err,
     )
@@ -119,12 +115,11 @@ pub fn run_order<A: Allocator, H: Host, O: Write, E: Write>(
 
 /// Runs the command of an order. What it tells on the way goes to `err`: why replies of a run are as
 /// they are only where that is asked for.
-fn perform<'a, 'h, A: Allocator, H: Host, O: Write, E: Write>(
+fn perform<'a, H: Host, O: Write, E: Write>(
     alloc: Global,
-    heap: &'h A,
     order: Order<'a>,
     is_explained: bool,
-    text: &'a mut Vec<u8, &'h A>,
+    text: &'a mut Vec<u8>,
     host: &mut H,
     out: &mut O,
     err: &mut E,
@@ -134,34 +129,34 @@ fn perform<'a, 'h, A: Allocator, H: Host, O: Write, E: Write>(
         (O.contents out.old) (O.contents out.new)) }
 {
     match order {
-        Order::Choose { table } => choose::perform(heap, Source::named(table), host, out),
+        Order::Choose { table } => choose::perform(alloc, Source::named(table), host, out),
         Order::Check { table, report } => {
-            let (table, report) = (Source::named(table), Source::named(report));
-            check::perform(heap, table, report, host, out)
+            check::perform(
+                alloc,
+                Source::named(table),
+                Source::named(report),
+                host,
+                out,
+            )
         }
-        Order::Image { file } => image::perform(heap, Source::named(file), host, out),
+        Order::Image { file } => image::perform(alloc, Source::named(file), host, out),
         Order::Manifest { device, file } => {
-            let (device, file) = (Source::named(device), Source::named(file));
-            manifest_file::perform(alloc, heap, device, file, host, out)
+            manifest_file::perform(alloc, Source::named(device), Source::named(file), host, out)
         }
-        Order::MakeDevice { device } => make_device::perform(alloc, heap, &device, out, err),
+        Order::MakeDevice { device } => make_device::perform(alloc, &device, out, err),
         Order::MakeImage {
             image,
             body,
             values,
-        } => make_image::perform(heap, image, Source::named(body), &values, host, out),
+        } => make_image::perform(alloc, image, Source::named(body), &values, host, out),
         Order::MakeManifest { device, manifest } => {
-            let device = Source::named(device);
-            make_manifest::perform(alloc, heap, device, &manifest, host, out, err)
+            make_manifest::perform(alloc, Source::named(device), &manifest, host, out, err)
         }
         Order::Provision {
             device,
             flash,
             images,
-        } => {
-            let device = Source::named(device);
-            provision::perform(alloc, heap, device, flash, &images, host, out)
-        }
+        } => { provision::perform(alloc, Source::named(device), flash, &images, host, out) }
         Order::Extract {
             device,
             flash,
@@ -169,21 +164,37 @@ fn perform<'a, 'h, A: Allocator, H: Host, O: Write, E: Write>(
             side,
             out: file,
         } => {
-            let (device, flash) = (Source::named(device), Source::named(flash));
             let copying = Copying {
                 image,
                 side,
                 out: file,
             };
-            extract::perform(alloc, heap, device, flash, copying, host, out)
+            extract::perform(
+                alloc,
+                Source::named(device),
+                Source::named(flash),
+                copying,
+                host,
+                out,
+            )
         }
         Order::Show { device, flash } => {
-            let (device, flash) = (Source::named(device), Source::named(flash));
-            show::perform(alloc, heap, device, flash, host, out)
+            show::perform(
+                alloc,
+                Source::named(device),
+                Source::named(flash),
+                host,
+                out,
+            )
         }
         Order::Slots { device, flash } => {
-            let (device, flash) = (Source::named(device), Source::named(flash));
-            slots::perform(alloc, heap, device, flash, host, out)
+            slots::perform(
+                alloc,
+                Source::named(device),
+                Source::named(flash),
+                host,
+                out,
+            )
         }
         Order::Run {
             device,
@@ -191,11 +202,17 @@ fn perform<'a, 'h, A: Allocator, H: Host, O: Write, E: Write>(
             script,
             durable,
         } => {
-            let (device, script) = (Source::named(device), Source::named(script));
-            let access = access_of(durable);
             let why = is_explained.then_some(err);
             playing::perform(
-                alloc, heap, device, flash, access, script, text, host, out, why,
+                alloc,
+                Source::named(device),
+                flash,
+                access_of(durable),
+                Source::named(script),
+                text,
+                host,
+                out,
+                why,
             )
         }
         Order::Sweep {
@@ -204,13 +221,12 @@ fn perform<'a, 'h, A: Allocator, H: Host, O: Write, E: Write>(
             images,
             choices,
         } => {
-            let (device, script) = (Source::named(device), Source::named(script));
             let named = Named {
-                device,
-                script,
+                device: Source::named(device),
+                script: Source::named(script),
                 images: &images,
             };
-            sweeping::perform(alloc, heap, named, &choices, text, host, out, err)
+            sweeping::perform(alloc, named, &choices, text, host, out, err)
         }
         Order::Codes => codes::perform(out),
     }

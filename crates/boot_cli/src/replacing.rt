@@ -4,7 +4,7 @@
 use crate::holding;
 use crate::holding::{hold, is_one_file};
 use reading_commands::{Access, FlashFault};
-use std::alloc::{AllocError, Allocator};
+use std::alloc::Global;
 use std::fs::{File, Metadata, OpenFile, OpenOptions, Permissions};
 use std::io::{ErrorKind, Write};
 use std::os::unix::fs::{FileExt, FileTypeExt};
@@ -41,9 +41,9 @@ fn found<R: Files>(runtime: &R, name: &str) -> io::Result<Option<Metadata>> {
 /// the disk. Where that fails the new file is removed. A file that is replaced has to be a plain
 /// one that can be written, and it is held meanwhile. Its permissions stay; a symbolic link to it
 /// stays too, and one that leads nowhere is refused. A block device is written by [`write_device`].
-pub fn replace_file<R: Files<File = File>, A: Allocator>(
+pub fn replace_file<R: Files<File = File>>(
     runtime: &R,
-    alloc: &A,
+    alloc: Global,
     name: &str,
     bytes: &[u8],
 ) -> Result<(), FlashFault> {
@@ -104,9 +104,9 @@ fn open_old<R: Files<File = File>>(
 }
 
 /// Puts a file in the place of one that is there, where it stands, not where a link to it does.
-fn put_over<R: Files, A: Allocator>(
+fn put_over<R: Files>(
     runtime: &R,
-    alloc: &A,
+    alloc: Global,
     name: &str,
     permissions: Permissions,
     bytes: &[u8],
@@ -116,12 +116,7 @@ fn put_over<R: Files, A: Allocator>(
 }
 
 /// Makes a file where there is none.
-fn put_first<R: Files, A: Allocator>(
-    runtime: &R,
-    alloc: &A,
-    name: &str,
-    bytes: &[u8],
-) -> io::Result<()> {
+fn put_first<R: Files>(runtime: &R, alloc: Global, name: &str, bytes: &[u8]) -> io::Result<()> {
     if fs::symlink_metadata(runtime, name).is_ok() {
         return Err(io::Error::from(ErrorKind::NotFound));
     }
@@ -130,9 +125,9 @@ fn put_first<R: Files, A: Allocator>(
 
 /// Writes a new file of these bytes and has it take this name. It has these permissions, or else
 /// those of any new file.
-fn put_file<R: Files, A: Allocator>(
+fn put_file<R: Files>(
     runtime: &R,
-    alloc: &A,
+    alloc: Global,
     name: &str,
     permissions: Option<Permissions>,
     bytes: &[u8],
@@ -150,11 +145,7 @@ fn put_file<R: Files, A: Allocator>(
 }
 
 /// An empty file that was not there, beside the one of this name, and its own name.
-fn new_file<'a, R: Files, A: Allocator>(
-    runtime: &R,
-    alloc: &'a A,
-    name: &str,
-) -> io::Result<(R::File, String<&'a A>)> {
+fn new_file<R: Files>(runtime: &R, alloc: Global, name: &str) -> io::Result<(R::File, String)> {
     for number in 0..MOST_NAMES {
         let new = format!(in alloc; "{name}.new-{number}")?;
         let made = OpenOptions::new()

@@ -23,14 +23,7 @@ fn main(rt: HostRuntime) -> ExitCode {
             }
             let system = SystemHost::new(&rt, input, err.is_terminal());
             let mut host = Remembering::over(alloc, system);
-            cli(
-                alloc,
-                &alloc,
-                words.as_slice(),
-                &mut host,
-                &mut out,
-                &mut err,
-            )
+            cli(alloc, words.as_slice(), &mut host, &mut out, &mut err)
         }
         Err(error) => refuse_words(alloc, &error, &mut rt.stderr()),
     };

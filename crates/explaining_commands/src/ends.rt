@@ -13,15 +13,14 @@ use explanations::{
 };
 use reading_commands::{Answer, Host, Refusal, Source};
 use script::{Event, Line, line_of};
-use std::alloc::{AllocError, Allocator, Global};
+use std::alloc::{AllocError, Global};
 use std::io::Write;
 
 /// Writes to `err` why a command ended so: the command of `order`, which was run over `host`. The
-/// notes are made in memory of `heap`, JSON values stand in that of `alloc`. There are none where
-/// there was no memory to keep what was read.
-pub fn explain_end<A: Allocator, H: Host, E: Write>(
+/// notes are made in memory of `alloc`. There are none where there was no memory to keep what was
+/// read.
+pub fn explain_end<H: Host, E: Write>(
     alloc: Global,
-    heap: &A,
     order: &Order<'_>,
     outcome: Result<Answer, Refusal<'_>>,
     host: &Remembering<H>,
@@ -30,7 +29,7 @@ pub fn explain_end<A: Allocator, H: Host, E: Write>(
     if !host.kept.is_whole() {
         return;
     }
-    let mut notes = String::new(heap);
+    let mut notes = String::new(alloc);
     let inputs = inputs_of(order);
     // Where memory runs out, what is noted so far is told.
     let _ = match outcome {
@@ -45,9 +44,9 @@ pub fn explain_end<A: Allocator, H: Host, E: Write>(
 }
 
 /// Adds why a command refuses.
-fn explain_refusal<A: Allocator, H: Host>(
+fn explain_refusal<H: Host>(
     alloc: Global,
-    notes: &mut String<&A>,
+    notes: &mut String,
     order: &Order<'_>,
     inputs: Inputs<'_>,
     refusal: Refusal<'_>,
@@ -88,8 +87,8 @@ pub fn read<'r, H: Host>(host: &'r Remembering<H>, source: Option<Source<'_>>) -
 }
 
 /// Adds the system's reason for which a file can't be read or written.
-fn explain_error<A: Allocator, H: Host>(
-    notes: &mut String<&A>,
+fn explain_error<H: Host>(
+    notes: &mut String,
     source: Source<'_>,
     host: &Remembering<H>,
 ) -> Result<(), AllocError> {
@@ -100,8 +99,8 @@ fn explain_error<A: Allocator, H: Host>(
 }
 
 /// Adds the system's reason for which the file of a flash can't be made or written.
-fn explain_flash<A: Allocator, H: Host>(
-    notes: &mut String<&A>,
+fn explain_flash<H: Host>(
+    notes: &mut String,
     order: &Order<'_>,
     host: &Remembering<H>,
 ) -> Result<(), AllocError> {
@@ -114,11 +113,7 @@ fn explain_flash<A: Allocator, H: Host>(
 }
 
 /// Adds the line of a script that names a file first, if one does.
-fn explain_place<A: Allocator>(
-    notes: &mut String<&A>,
-    source: Source<'_>,
-    script: &[u8],
-) -> Result<(), AllocError> {
+fn explain_place(notes: &mut String, source: Source<'_>, script: &[u8]) -> Result<(), AllocError> {
     let Source::File(name) = source else {
         return Ok(());
     };
@@ -146,9 +141,9 @@ fn names_file(line: &[u8], name: &str) -> bool {
 }
 
 /// Adds the size that is asked for by the device file.
-fn explain_size<A: Allocator, H: Host>(
+fn explain_size<H: Host>(
     alloc: Global,
-    notes: &mut String<&A>,
+    notes: &mut String,
     inputs: Inputs<'_>,
     refusal: Refusal<'_>,
     host: &Remembering<H>,

@@ -17,16 +17,16 @@ use explanations::{
 };
 use reading_commands::{Host, Source, table_on};
 use sector_map::{SectorMap, Side};
-use std::alloc::{AllocError, Allocator, Global};
+use std::alloc::{AllocError, Global};
 use std::marker::Brand;
 use std::sync::ledger::{Blank, Ledger};
 use tlv::{ImageError, describe};
 
 /// Adds why each request is refused by the choice that was told: that over a table, or over that of
 /// a flash.
-pub fn explain_choice<A: Allocator, H: Host>(
+pub fn explain_choice<H: Host>(
     alloc: Global,
-    notes: &mut String<&A>,
+    notes: &mut String,
     order: &Order<'_>,
     inputs: Inputs<'_>,
     host: &Remembering<H>,
@@ -43,9 +43,9 @@ pub fn explain_choice<A: Allocator, H: Host>(
 }
 
 /// Adds why an answer is a no or a refusal.
-pub fn explain_answer<A: Allocator, H: Host>(
+pub fn explain_answer<H: Host>(
     alloc: Global,
-    notes: &mut String<&A>,
+    notes: &mut String,
     order: &Order<'_>,
     inputs: Inputs<'_>,
     host: &Remembering<H>,
@@ -86,8 +86,8 @@ pub fn explain_answer<A: Allocator, H: Host>(
 }
 
 /// Adds why a report isn't right for a table.
-fn explain_verdict<A: Allocator, H: Host>(
-    notes: &mut String<&A>,
+fn explain_verdict<H: Host>(
+    notes: &mut String,
     inputs: Inputs<'_>,
     host: &Remembering<H>,
 ) -> Result<(), AllocError> {
@@ -100,7 +100,7 @@ fn explain_verdict<A: Allocator, H: Host>(
 }
 
 /// Adds why bytes are no intact image, where they are none.
-fn explain_file<A: Allocator>(notes: &mut String<&A>, bytes: &[u8]) -> Result<(), AllocError> {
+fn explain_file(notes: &mut String, bytes: &[u8]) -> Result<(), AllocError> {
     match describe(bytes) {
         Ok(_) => Ok(()),
         Err(fault) => explain_image(notes, bytes, fault),
@@ -121,8 +121,8 @@ fn slot_of<'f>(map: &SectorMap, flash: &'f [u8], image: u8, side: Side) -> &'f [
 }
 
 /// Adds why files are no images that run together.
-fn explain_images<A: Allocator, H: Host>(
-    notes: &mut String<&A>,
+fn explain_images<H: Host>(
+    notes: &mut String,
     images: &[&str],
     host: &Remembering<H>,
 ) -> Result<(), AllocError> {

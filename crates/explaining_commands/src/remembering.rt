@@ -2,7 +2,7 @@
 
 use crate::kept::Kept;
 use reading_commands::{Access, FlashFault, Host, Source};
-use std::alloc::{Allocator, Global};
+use std::alloc::Global;
 use std::cell::Cell;
 use std::io;
 
@@ -43,12 +43,7 @@ impl<H: Host> Host for Remembering<H> {
 
     ghost file = { λ it. H.file it.host };
 
-    fn read_file<A: Allocator>(
-        &mut self,
-        alloc: A,
-        name: &str,
-        most: u32,
-    ) -> io::Result<Vec<u8, A>> {
+    fn read_file(&mut self, alloc: Global, name: &str, most: u32) -> io::Result<Vec<u8>> {
         let read = self.host.read_file(alloc, name, most);
         match &read {
             Ok(bytes) => self.kept.keep_file(name, bytes),
@@ -57,7 +52,7 @@ impl<H: Host> Host for Remembering<H> {
         read
     }
 
-    fn read_input<A: Allocator>(&mut self, alloc: A, most: u32) -> io::Result<Vec<u8, A>> {
+    fn read_input(&mut self, alloc: Global, most: u32) -> io::Result<Vec<u8>> {
         let read = self.host.read_input(alloc, most);
         match &read {
             Ok(bytes) => self.kept.keep_input(bytes),
@@ -66,7 +61,7 @@ impl<H: Host> Host for Remembering<H> {
         read
     }
 
-    fn read_again<A: Allocator>(&self, alloc: A, name: &str, most: u32) -> io::Result<Vec<u8, A>> {
+    fn read_again(&self, alloc: Global, name: &str, most: u32) -> io::Result<Vec<u8>> {
         let read = self.host.read_again(alloc, name, most);
         if let Err(error) = &read {
             self.error.set(Some(*error));
@@ -74,13 +69,13 @@ impl<H: Host> Host for Remembering<H> {
         read
     }
 
-    fn read_part<A: Allocator>(
+    fn read_part(
         &self,
-        alloc: A,
+        alloc: Global,
         name: &str,
         from: usize,
         count: usize,
-    ) -> io::Result<Option<Vec<u8, A>>> {
+    ) -> io::Result<Option<Vec<u8>>> {
         let read = self.host.read_part(alloc, name, from, count);
         if let Err(error) = &read {
             self.error.set(Some(*error));
@@ -96,13 +91,13 @@ impl<H: Host> Host for Remembering<H> {
         self.host.is_same_file(one, other)
     }
 
-    fn open_flash<A: Allocator>(
+    fn open_flash(
         &mut self,
-        alloc: A,
+        alloc: Global,
         name: &str,
         length: u64,
         access: Access,
-    ) -> Result<Vec<u8, A>, FlashFault> {
+    ) -> Result<Vec<u8>, FlashFault> {
         let opened = self.host.open_flash(alloc, name, length, access);
         match &opened {
             Ok(bytes) => self.kept.keep_file(name, bytes),
@@ -128,12 +123,7 @@ impl<H: Host> Host for Remembering<H> {
         synced
     }
 
-    fn replace_file<A: Allocator>(
-        &mut self,
-        alloc: A,
-        name: &str,
-        bytes: &[u8],
-    ) -> Result<(), FlashFault> {
+    fn replace_file(&mut self, alloc: Global, name: &str, bytes: &[u8]) -> Result<(), FlashFault> {
         let replaced = self.host.replace_file(alloc, name, bytes);
         if let Err(FlashFault::Failed(error)) = &replaced {
             self.error.set(Some(*error));

@@ -6,27 +6,25 @@ use events::Event;
 use explanations::{explain_manifest, explain_refusals};
 use machine::{Fault, Reply};
 use manifest::Manifest;
-use std::alloc::{AllocError, Allocator, Global};
+use std::alloc::{AllocError, Global};
 use std::io::Write;
 
 /// Says on standard error why replies of a run are as they are, where that is asked for.
 #[derive(Drop)]
-pub struct ReplyNotes<'h, 'd, 'e, A, E> {
+pub struct ReplyNotes<'d, 'e, E> {
     alloc: Global,
-    heap: &'h A,
     device: &'d DeviceFile,
     uploads: Uploads,
     err: Option<&'e mut E>,
 }
 
-impl<'h, 'd, 'e, A: Allocator, E: Write> ReplyNotes<'h, 'd, 'e, A, E> {
-    /// The notes of a run on this device. They are made in memory of `heap`; JSON values stand in
-    /// that of `alloc`, and so do the bytes of open uploads. `err` is where the notes are written,
-    /// if they are asked for.
-    pub fn new(alloc: Global, heap: &'h A, device: &'d DeviceFile, err: Option<&'e mut E>) -> Self {
+impl<'d, 'e, E: Write> ReplyNotes<'d, 'e, E> {
+    /// The notes of a run on this device. They are made in memory of `alloc`, where JSON values and
+    /// the bytes of open uploads stand too. `err` is where the notes are written, if they are asked
+    /// for.
+    pub fn new(alloc: Global, device: &'d DeviceFile, err: Option<&'e mut E>) -> Self {
         ReplyNotes {
             alloc,
-            heap,
             device,
             uploads: Uploads::new(alloc),
             err,
@@ -34,11 +32,11 @@ impl<'h, 'd, 'e, A: Allocator, E: Write> ReplyNotes<'h, 'd, 'e, A, E> {
     }
 
     /// Writes why this is the reply to the event of this number, where there is something to say.
-    pub fn tell<B: Allocator>(&mut self, number: usize, event: &Event<Vec<u8, B>>, reply: &Reply) {
+    pub fn tell(&mut self, number: usize, event: &Event<Vec<u8>>, reply: &Reply) {
         if self.err.is_none() {
             return;
         }
-        let mut notes = String::new(self.heap);
+        let mut notes = String::new(self.alloc);
         // Where memory runs out, what is noted so far is told.
         let _ = self.explain(&mut notes, event, reply);
         if notes.is_empty() {
@@ -53,10 +51,10 @@ impl<'h, 'd, 'e, A: Allocator, E: Write> ReplyNotes<'h, 'd, 'e, A, E> {
     }
 
     /// Adds why this is the reply to the event, and keeps what comes in it for later ones.
-    fn explain<B: Allocator>(
+    fn explain(
         &mut self,
-        notes: &mut String<&A>,
-        event: &Event<Vec<u8, B>>,
+        notes: &mut String,
+        event: &Event<Vec<u8>>,
         reply: &Reply,
     ) -> Result<(), AllocError> {
         match (event, reply) {

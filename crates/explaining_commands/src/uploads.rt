@@ -5,7 +5,7 @@ use explanations::{add_digits, explain_image};
 use manifest::{Component, Manifest};
 use sector_map::SectorMap;
 use sha2::{Digest, Sha256};
-use std::alloc::{AllocError, Allocator, Global};
+use std::alloc::{AllocError, Global};
 use upload::UploadError;
 
 /// What an upload is to be, and what came of it so far.
@@ -55,9 +55,9 @@ impl Uploads {
     }
 
     /// Adds why the upload of an image is refused.
-    pub fn explain<A: Allocator>(
+    pub fn explain(
         &self,
-        notes: &mut String<&A>,
+        notes: &mut String,
         image: u8,
         error: UploadError,
     ) -> Result<(), AllocError> {
@@ -78,8 +78,8 @@ impl Uploads {
 }
 
 /// Adds why a manifest opens no uploads.
-pub fn explain_opening<A: Allocator>(
-    notes: &mut String<&A>,
+pub fn explain_opening(
+    notes: &mut String,
     map: &SectorMap,
     manifest: &Manifest,
     error: UploadError,
@@ -100,8 +100,8 @@ pub fn explain_opening<A: Allocator>(
 }
 
 /// Adds which files are longer than their slots.
-fn explain_sizes<A: Allocator>(
-    notes: &mut String<&A>,
+fn explain_sizes(
+    notes: &mut String,
     map: &SectorMap,
     manifest: &Manifest,
 ) -> Result<(), AllocError> {
@@ -119,10 +119,7 @@ fn explain_sizes<A: Allocator>(
 }
 
 /// Adds which images have to run for the files of a manifest to come.
-fn explain_precursors<A: Allocator>(
-    notes: &mut String<&A>,
-    manifest: &Manifest,
-) -> Result<(), AllocError> {
+fn explain_precursors(notes: &mut String, manifest: &Manifest) -> Result<(), AllocError> {
     for component in manifest.components.as_slice() {
         if let Some(precursor) = component.precursor {
             let image = component.image;
@@ -135,8 +132,8 @@ fn explain_precursors<A: Allocator>(
 }
 
 /// Adds what is wrong with the bytes of an upload.
-fn explain_bytes<A: Allocator>(
-    notes: &mut String<&A>,
+fn explain_bytes(
+    notes: &mut String,
     upload: &Upload,
     error: UploadError,
 ) -> Result<(), AllocError> {

@@ -5,7 +5,7 @@ use common::limits::{MOST_IMAGES, MOST_TRIAL_BOOTS};
 use manifest::json::{array, json_of, number, number_of};
 use sector_map::MapError;
 use serde_json::Value;
-use std::alloc::{AllocError, Allocator, Global};
+use std::alloc::{AllocError, Global};
 
 /// The keys of a device file.
 const KEYS: [Key; 5] = [
@@ -19,11 +19,7 @@ const KEYS: [Key; 5] = [
 /// Adds why bytes are no device file: where they stop being JSON, which keys are missing or not
 /// known, or what stands at a key and what may stand there. The JSON value stands in memory of
 /// `alloc` meanwhile.
-pub fn explain_device<A: Allocator>(
-    notes: &mut String<&A>,
-    alloc: Global,
-    bytes: &[u8],
-) -> Result<(), AllocError> {
+pub fn explain_device(notes: &mut String, alloc: Global, bytes: &[u8]) -> Result<(), AllocError> {
     let Ok(value) = json_of(alloc, bytes) else {
         return explain_text(notes, alloc, bytes);
     };
@@ -34,11 +30,7 @@ pub fn explain_device<A: Allocator>(
 }
 
 /// Adds the entries of `sectors` that are no numbers.
-fn explain_sectors<A: Allocator>(
-    notes: &mut String<&A>,
-    alloc: Global,
-    value: &Value,
-) -> Result<(), AllocError> {
+fn explain_sectors(notes: &mut String, alloc: Global, value: &Value) -> Result<(), AllocError> {
     let Some(sectors) = array(value, "sectors") else {
         return Ok(());
     };
@@ -56,10 +48,7 @@ fn explain_sectors<A: Allocator>(
 }
 
 /// Adds that a trial has too few boots or too many, where it has.
-fn explain_trial_boots<A: Allocator>(
-    notes: &mut String<&A>,
-    value: &Value,
-) -> Result<(), AllocError> {
+fn explain_trial_boots(notes: &mut String, value: &Value) -> Result<(), AllocError> {
     match number(value, "trial-boots") {
         Some(boots) if boots < 1 || boots > u32::from(MOST_TRIAL_BOOTS) => writeln!(
             notes,
@@ -71,8 +60,8 @@ fn explain_trial_boots<A: Allocator>(
 
 /// Adds which sizes of a device file make no map. Its JSON value stands in memory of `alloc`
 /// meanwhile.
-pub fn explain_map<A: Allocator>(
-    notes: &mut String<&A>,
+pub fn explain_map(
+    notes: &mut String,
     alloc: Global,
     bytes: &[u8],
     fault: MapError,
@@ -98,10 +87,7 @@ pub fn explain_map<A: Allocator>(
 }
 
 /// Adds that there are too few images or too many, or which of them has no sectors.
-fn explain_count<A: Allocator>(
-    notes: &mut String<&A>,
-    sectors: &[Value],
-) -> Result<(), AllocError> {
+fn explain_count(notes: &mut String, sectors: &[Value]) -> Result<(), AllocError> {
     let count = sectors.len();
     if count == 0 || count > MOST_IMAGES {
         writeln!(
@@ -121,11 +107,7 @@ fn explain_count<A: Allocator>(
 }
 
 /// Adds the images whose trailers don't fit into a sector.
-fn explain_trailers<A: Allocator>(
-    notes: &mut String<&A>,
-    sector: u32,
-    sectors: &[Value],
-) -> Result<(), AllocError> {
+fn explain_trailers(notes: &mut String, sector: u32, sectors: &[Value]) -> Result<(), AllocError> {
     for (image, sectors) in sectors.iter().enumerate() {
         let count = number_of(sectors).unwrap_or_default();
         let trailer = u64::from(count) * 24 + 56;

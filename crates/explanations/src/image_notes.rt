@@ -6,12 +6,12 @@ use crate::image_areas::{
 };
 use image_header::{ACCEPTED_FLAGS, HEADER_LENGTH, Header};
 use sha2::{Digest, Sha256};
-use std::alloc::{AllocError, Allocator};
+use std::alloc::AllocError;
 use tlv::ImageError;
 
 /// Adds where bytes fail this check of an image, and what stands there. Bytes are numbered from 0.
-pub fn explain_image<A: Allocator>(
-    notes: &mut String<&A>,
+pub fn explain_image(
+    notes: &mut String,
     bytes: &[u8],
     fault: ImageError,
 ) -> Result<(), AllocError> {
@@ -54,8 +54,8 @@ pub fn explain_image<A: Allocator>(
 }
 
 /// Adds where bytes with this header fail a check of an image's areas.
-fn explain_areas<A: Allocator>(
-    notes: &mut String<&A>,
+fn explain_areas(
+    notes: &mut String,
     bytes: &[u8],
     header: &Header,
     fault: ImageError,
@@ -95,11 +95,7 @@ fn explain_areas<A: Allocator>(
 }
 
 /// Adds where the bytes end, and where they would have to.
-fn explain_end<A: Allocator>(
-    notes: &mut String<&A>,
-    bytes: &[u8],
-    header: &Header,
-) -> Result<(), AllocError> {
+fn explain_end(notes: &mut String, bytes: &[u8], header: &Header) -> Result<(), AllocError> {
     let length = bytes.len();
     let body = end_of_body(header);
     let (header_size, body_size) = (header.header_size, header.body_size);
@@ -115,12 +111,7 @@ fn explain_end<A: Allocator>(
 }
 
 /// Adds where an area begins, and where it ends if it says it.
-fn add_area<A: Allocator>(
-    notes: &mut String<&A>,
-    bytes: &[u8],
-    kind: &str,
-    area: Area,
-) -> Result<(), AllocError> {
+fn add_area(notes: &mut String, bytes: &[u8], kind: &str, area: Area) -> Result<(), AllocError> {
     let place = area.place;
     match area.own_length(bytes) {
         Some(length) => writeln!(
@@ -135,11 +126,7 @@ fn add_area<A: Allocator>(
 }
 
 /// Adds the magic number that an area begins with.
-fn explain_magic<A: Allocator>(
-    notes: &mut String<&A>,
-    bytes: &[u8],
-    area: Area,
-) -> Result<(), AllocError> {
+fn explain_magic(notes: &mut String, bytes: &[u8], area: Area) -> Result<(), AllocError> {
     let (place, magic) = (area.place, area.magic);
     let found = area.own_magic(bytes).unwrap_or_default();
     writeln!(
@@ -154,11 +141,7 @@ fn has_its_length(bytes: &[u8], area: Area) -> bool {
 }
 
 /// Adds the length that an area has, and what is wrong with it.
-fn explain_length<A: Allocator>(
-    notes: &mut String<&A>,
-    bytes: &[u8],
-    area: Area,
-) -> Result<(), AllocError> {
+fn explain_length(notes: &mut String, bytes: &[u8], area: Area) -> Result<(), AllocError> {
     let place = area.place.saturating_add(2);
     let length = area.own_length(bytes).unwrap_or_default();
     match area.said {
@@ -186,11 +169,7 @@ fn explain_length<A: Allocator>(
 }
 
 /// Adds what is wrong with the digest of an image.
-fn explain_digest<A: Allocator>(
-    notes: &mut String<&A>,
-    bytes: &[u8],
-    area: Area,
-) -> Result<(), AllocError> {
+fn explain_digest(notes: &mut String, bytes: &[u8], area: Area) -> Result<(), AllocError> {
     let Some(first) = area.find(bytes, Sought::Kind(DIGEST), 0) else {
         let place = area.place;
         return writeln!(
@@ -217,8 +196,8 @@ fn explain_digest<A: Allocator>(
 }
 
 /// Adds the digest that stands in an entry, and that of the bytes before `end`.
-fn explain_hash<A: Allocator>(
-    notes: &mut String<&A>,
+fn explain_hash(
+    notes: &mut String,
     bytes: &[u8],
     end: usize,
     entry: &EntryAt<'_>,
@@ -237,7 +216,7 @@ fn explain_hash<A: Allocator>(
 }
 
 /// Adds bytes as hexadecimal digits.
-pub fn add_digits<A: Allocator>(notes: &mut String<&A>, bytes: &[u8]) -> Result<(), AllocError> {
+pub fn add_digits(notes: &mut String, bytes: &[u8]) -> Result<(), AllocError> {
     for byte in bytes {
         write!(notes, "{byte:02x}")?;
     }
@@ -245,8 +224,8 @@ pub fn add_digits<A: Allocator>(notes: &mut String<&A>, bytes: &[u8]) -> Result<
 }
 
 /// Adds which entry of a protected area fails a check.
-fn explain_entries<A: Allocator>(
-    notes: &mut String<&A>,
+fn explain_entries(
+    notes: &mut String,
     bytes: &[u8],
     area: Area,
     fault: ImageError,
@@ -284,11 +263,7 @@ fn explain_entries<A: Allocator>(
 }
 
 /// Adds what is wrong with an entry.
-fn add_entry<A: Allocator>(
-    notes: &mut String<&A>,
-    entry: &EntryAt<'_>,
-    text: &str,
-) -> Result<(), AllocError> {
+fn add_entry(notes: &mut String, entry: &EntryAt<'_>, text: &str) -> Result<(), AllocError> {
     let (place, kind, length) = (entry.place, entry.kind, entry.value.len());
     writeln!(
         notes,

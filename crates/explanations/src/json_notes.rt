@@ -3,7 +3,7 @@
 use crate::shown::Shown;
 use manifest::json::{array, digest, number, text, uuid};
 use serde_json::Value;
-use std::alloc::{AllocError, Allocator, Global};
+use std::alloc::{AllocError, Global};
 
 /// What has to stand at a key.
 #[derive(Clone, Copy)]
@@ -75,11 +75,7 @@ impl Key {
 }
 
 /// Adds where a text stops being JSON.
-pub fn explain_text<A: Allocator>(
-    notes: &mut String<&A>,
-    alloc: Global,
-    bytes: &[u8],
-) -> Result<(), AllocError> {
+pub fn explain_text(notes: &mut String, alloc: Global, bytes: &[u8]) -> Result<(), AllocError> {
     match Value::from_slice(alloc, bytes) {
         Err(error) if !error.is_memory() => writeln!(notes, "note: {error}"),
         _ => Ok(()),
@@ -88,8 +84,8 @@ pub fn explain_text<A: Allocator>(
 
 /// Adds the keys that are missing in an object, and those that aren't known. `owner` is what the
 /// object is called.
-pub fn explain_keys<A: Allocator>(
-    notes: &mut String<&A>,
+pub fn explain_keys(
+    notes: &mut String,
     owner: &str,
     value: &Value,
     keys: &[Key],
@@ -123,8 +119,8 @@ fn is_known(name: &str, keys: &[Key]) -> bool {
 }
 
 /// Adds the keys of an object at which something else stands than has to.
-pub fn explain_values<A: Allocator>(
-    notes: &mut String<&A>,
+pub fn explain_values(
+    notes: &mut String,
     alloc: Global,
     owner: &str,
     value: &Value,
@@ -145,11 +141,7 @@ pub fn explain_values<A: Allocator>(
 }
 
 /// Adds a value as JSON.
-pub fn add_value<A: Allocator>(
-    notes: &mut String<&A>,
-    alloc: Global,
-    value: &Value,
-) -> Result<(), AllocError> {
+pub fn add_value(notes: &mut String, alloc: Global, value: &Value) -> Result<(), AllocError> {
     let text = value.to_string(alloc)?;
     let shown = Shown(text.as_bytes());
     write!(notes, "{shown}")

@@ -4,7 +4,7 @@ use crate::json_notes::{Key, Wanted, explain_keys, explain_text, explain_values}
 use manifest::json::{array, json_of, number, uuid};
 use manifest::{Identity, MOST_COMPONENTS};
 use serde_json::Value;
-use std::alloc::{AllocError, Allocator, Global};
+use std::alloc::{AllocError, Global};
 use uuid::Uuid;
 
 /// The keys of a manifest.
@@ -28,8 +28,8 @@ const COMPONENT_KEYS: [Key; 5] = [
 /// Adds why bytes are no manifest for a device of this identity: where they stop being JSON, which
 /// keys are missing or not known, what stands at a key and what may stand there, or which device
 /// the manifest is for. The JSON value stands in memory of `alloc` meanwhile.
-pub fn explain_manifest<A: Allocator>(
-    notes: &mut String<&A>,
+pub fn explain_manifest(
+    notes: &mut String,
     alloc: Global,
     bytes: &[u8],
     identity: &Identity,
@@ -58,8 +58,8 @@ pub fn explain_manifest<A: Allocator>(
 }
 
 /// Adds that an identifier isn't the device's, where it is another one.
-fn explain_identifier<A: Allocator>(
-    notes: &mut String<&A>,
+fn explain_identifier(
+    notes: &mut String,
     value: &Value,
     key: &str,
     own: Uuid,
@@ -73,8 +73,8 @@ fn explain_identifier<A: Allocator>(
 }
 
 /// Adds what is wrong with the components of a manifest.
-fn explain_components<A: Allocator>(
-    notes: &mut String<&A>,
+fn explain_components(
+    notes: &mut String,
     alloc: Global,
     components: &[Value],
     images: u8,
@@ -94,8 +94,8 @@ fn explain_components<A: Allocator>(
 }
 
 /// Adds what is wrong with a component behind others.
-fn explain_component<A: Allocator>(
-    notes: &mut String<&A>,
+fn explain_component(
+    notes: &mut String,
     alloc: Global,
     before: &[Value],
     component: &Value,

@@ -2,24 +2,17 @@
 
 use crate::versions::{Versions, is_taken};
 use certificate::{Entry, Request, Table};
-use std::alloc::{AllocError, Allocator};
+use std::alloc::AllocError;
 
 /// Adds a sentence for each dependency and group of the running images of a table that the running
 /// versions don't meet.
-pub fn explain_running<A: Allocator>(
-    notes: &mut String<&A>,
-    table: &Table,
-) -> Result<(), AllocError> {
+pub fn explain_running(notes: &mut String, table: &Table) -> Result<(), AllocError> {
     explain_set(notes, table, 0)
 }
 
 /// Adds a sentence for each dependency and group that a set of the images of a table doesn't meet:
 /// bit i of `taken` stands for the request of image i.
-pub fn explain_set<A: Allocator>(
-    notes: &mut String<&A>,
-    table: &Table,
-    taken: u8,
-) -> Result<(), AllocError> {
+pub fn explain_set(notes: &mut String, table: &Table, taken: u8) -> Result<(), AllocError> {
     let versions = Versions::of_set(table, taken);
     for (number, image) in table.images.iter().enumerate() {
         let entry = match &image.request {
@@ -33,8 +26,8 @@ pub fn explain_set<A: Allocator>(
 }
 
 /// Adds the dependencies of an image that versions don't meet.
-fn explain_dependencies<A: Allocator>(
-    notes: &mut String<&A>,
+fn explain_dependencies(
+    notes: &mut String,
     versions: &Versions,
     number: usize,
     entry: &Entry,
@@ -51,8 +44,8 @@ fn explain_dependencies<A: Allocator>(
 }
 
 /// Adds the groups of an image that versions don't meet.
-fn explain_groups<A: Allocator>(
-    notes: &mut String<&A>,
+fn explain_groups(
+    notes: &mut String,
     versions: &Versions,
     number: usize,
     entry: &Entry,

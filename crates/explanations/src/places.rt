@@ -2,7 +2,7 @@
 
 use crate::shown::Shown;
 use common::lines::first_line;
-use std::alloc::{AllocError, Allocator};
+use std::alloc::AllocError;
 
 /// A line of a text, and what stands before it.
 #[derive(Clone, Copy)]
@@ -31,8 +31,8 @@ pub fn line_at(text: &[u8], number: usize) -> Option<Place<'_>> {
 }
 
 /// Adds what a line says, of a text of this kind.
-pub fn add_line<A: Allocator>(
-    notes: &mut String<&A>,
+pub fn add_line(
+    notes: &mut String,
     kind: &str,
     number: usize,
     line: &[u8],

@@ -2,12 +2,12 @@
 
 use crate::versions::Versions;
 use certificate::{Image, Reason, Refusal, Report, Request, Table};
-use std::alloc::{AllocError, Allocator};
+use std::alloc::AllocError;
 use version_order::Dependency;
 
 /// Adds a sentence for each request that a report refuses, with the versions that it is about.
-pub fn explain_refusals<A: Allocator>(
-    notes: &mut String<&A>,
+pub fn explain_refusals(
+    notes: &mut String,
     table: &Table,
     report: &Report,
 ) -> Result<(), AllocError> {
@@ -22,8 +22,8 @@ pub fn explain_refusals<A: Allocator>(
 }
 
 /// Adds why the request of an image is refused after others.
-fn explain_refusal<A: Allocator>(
-    notes: &mut String<&A>,
+fn explain_refusal(
+    notes: &mut String,
     table: &Table,
     before: &[Refusal],
     image: &Image,

@@ -4,7 +4,7 @@ use crate::places::{add_line, line_at};
 use crate::table_notes::WORDS;
 use certificate::{MOST_REFUSALS, Report};
 use common::limits::MOST_IMAGES;
-use std::alloc::{AllocError, Allocator};
+use std::alloc::AllocError;
 
 /// What stands behind `refuse I`.
 const REASONS: &str =
@@ -14,8 +14,8 @@ note: one to four pairs J VERSION
 
 /// Adds what the line of this number says, counted from 1, from which no report goes on, and what
 /// could stand there.
-pub fn explain_report_line<A: Allocator>(
-    notes: &mut String<&A>,
+pub fn explain_report_line(
+    notes: &mut String,
     text: &[u8],
     number: usize,
 ) -> Result<(), AllocError> {
@@ -36,7 +36,7 @@ pub fn explain_report_line<A: Allocator>(
 }
 
 /// Adds what may follow a report.
-fn add_choices<A: Allocator>(notes: &mut String<&A>, report: &Report) -> Result<(), AllocError> {
+fn add_choices(notes: &mut String, report: &Report) -> Result<(), AllocError> {
     let count = report.images.len();
     if count < MOST_IMAGES && report.refusals.is_empty() {
         write!(notes, " `run {count} VERSION`, `take {count} VERSION`")?;

@@ -5,7 +5,7 @@ use crate::shown::Shown;
 use common::ascii::{cut, number, number_u8};
 use common::lines::first_line;
 use script::{Event, FileText, Line, PartText, line_of};
-use std::alloc::{AllocError, Allocator};
+use std::alloc::AllocError;
 
 /// The words that lines begin with.
 const WORDS: &str = "cut, accept, piece, finish, withdraw, confirm, boot and reset";
@@ -13,8 +13,8 @@ const WORDS: &str = "cut, accept, piece, finish, withdraw, confirm, boot and res
 /// Adds what the line of this number says, counted from 1, and why no script has it there: how it
 /// is spelled, where it stands, or what it names of a file. `may_cut` says whether the script may
 /// cut writes.
-pub fn explain_script_line<A: Allocator>(
-    notes: &mut String<&A>,
+pub fn explain_script_line(
+    notes: &mut String,
     text: &[u8],
     number: usize,
     may_cut: bool,
@@ -35,11 +35,7 @@ pub fn explain_script_line<A: Allocator>(
 }
 
 /// Adds why a cut of this write may not stand behind these lines.
-fn explain_order<A: Allocator>(
-    notes: &mut String<&A>,
-    before: &[u8],
-    write: u32,
-) -> Result<(), AllocError> {
+fn explain_order(notes: &mut String, before: &[u8], write: u32) -> Result<(), AllocError> {
     let mut rest = before;
     let mut last = 0;
     for _ in 0..before.len() {
@@ -60,10 +56,7 @@ fn explain_order<A: Allocator>(
 }
 
 /// Adds what is wrong with what an event names of a file.
-fn explain_event<A: Allocator>(
-    notes: &mut String<&A>,
-    event: Event<FileText<'_>>,
-) -> Result<(), AllocError> {
+fn explain_event(notes: &mut String, event: Event<FileText<'_>>) -> Result<(), AllocError> {
     let (Event::Accept(file) | Event::Piece(_, file)) = event else {
         return Ok(());
     };
@@ -80,11 +73,7 @@ fn explain_event<A: Allocator>(
 }
 
 /// Adds what is wrong with the part of a file.
-fn explain_part<A: Allocator>(
-    notes: &mut String<&A>,
-    name: &str,
-    part: PartText<'_>,
-) -> Result<(), AllocError> {
+fn explain_part(notes: &mut String, name: &str, part: PartText<'_>) -> Result<(), AllocError> {
     let name = Shown(name.as_bytes());
     match part.numbers() {
         Some((from, count)) => writeln!(
@@ -100,7 +89,7 @@ fn explain_part<A: Allocator>(
 }
 
 /// Adds why a line is spelled as none.
-fn explain_spelling<A: Allocator>(notes: &mut String<&A>, line: &[u8]) -> Result<(), AllocError> {
+fn explain_spelling(notes: &mut String, line: &[u8]) -> Result<(), AllocError> {
     let (word, fields) = cut(line, b' ');
     let rest = fields.unwrap_or_default();
     match str::from_utf8(word) {
@@ -123,7 +112,7 @@ fn explain_spelling<A: Allocator>(notes: &mut String<&A>, line: &[u8]) -> Result
 }
 
 /// Adds what is wrong behind `cut`.
-fn explain_cut<A: Allocator>(notes: &mut String<&A>, fields: &[u8]) -> Result<(), AllocError> {
+fn explain_cut(notes: &mut String, fields: &[u8]) -> Result<(), AllocError> {
     let (write, torn) = cut(fields, b' ');
     match number(write) {
         Some(1..) => {}
@@ -145,7 +134,7 @@ fn explain_cut<A: Allocator>(notes: &mut String<&A>, fields: &[u8]) -> Result<()
 }
 
 /// Adds what is wrong behind `piece`.
-fn explain_piece<A: Allocator>(notes: &mut String<&A>, fields: &[u8]) -> Result<(), AllocError> {
+fn explain_piece(notes: &mut String, fields: &[u8]) -> Result<(), AllocError> {
     let (image, _) = cut(fields, b' ');
     if number_u8(image).is_none() {
         return explain_number(notes, image);
@@ -158,7 +147,7 @@ fn explain_piece<A: Allocator>(notes: &mut String<&A>, fields: &[u8]) -> Result<
 }
 
 /// Adds that a word is no number of an image.
-fn explain_number<A: Allocator>(notes: &mut String<&A>, word: &[u8]) -> Result<(), AllocError> {
+fn explain_number(notes: &mut String, word: &[u8]) -> Result<(), AllocError> {
     let word = Shown(word);
     writeln!(
         notes,

@@ -3,7 +3,7 @@
 use crate::places::{add_line, line_at};
 use certificate::{Entry, Request, Table};
 use common::limits::{MOST_DEPENDENCIES, MOST_GROUPS, MOST_IMAGES};
-use std::alloc::{AllocError, Allocator};
+use std::alloc::AllocError;
 
 /// How words of tables and reports are written.
 pub const WORDS: &str =
@@ -13,8 +13,8 @@ note: decimal, without leading zeros; one space parts two words
 
 /// Adds what the line of this number says, counted from 1, from which no table goes on, and what
 /// could stand there.
-pub fn explain_table_line<A: Allocator>(
-    notes: &mut String<&A>,
+pub fn explain_table_line(
+    notes: &mut String,
     text: &[u8],
     number: usize,
 ) -> Result<(), AllocError> {
@@ -32,7 +32,7 @@ pub fn explain_table_line<A: Allocator>(
 }
 
 /// Adds what may follow a table.
-fn add_choices<A: Allocator>(notes: &mut String<&A>, table: &Table) -> Result<(), AllocError> {
+fn add_choices(notes: &mut String, table: &Table) -> Result<(), AllocError> {
     let images = table.images.as_slice();
     if let Some(image) = images.last() {
         match &image.request {
@@ -56,7 +56,7 @@ fn add_choices<A: Allocator>(notes: &mut String<&A>, table: &Table) -> Result<()
 }
 
 /// Adds what may follow what an entry asks for.
-fn add_needs<A: Allocator>(notes: &mut String<&A>, entry: &Entry) -> Result<(), AllocError> {
+fn add_needs(notes: &mut String, entry: &Entry) -> Result<(), AllocError> {
     if entry.groups.is_empty() && entry.dependencies.len() < MOST_DEPENDENCIES {
         write!(notes, " `needs J VERSION`,")?;
     }

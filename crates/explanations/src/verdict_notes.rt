@@ -3,17 +3,13 @@
 use crate::needs_notes::explain_set;
 use crate::versions::{Versions, is_taken, version_in};
 use certificate::{Entry, Image, Reason, Refusal, Report, Request, Table};
-use std::alloc::{AllocError, Allocator};
+use std::alloc::AllocError;
 use version_order::Dependency;
 
 /// Adds the first thing that makes a report wrong for a table: the number of its images, a version,
 /// a request that isn't decided once, a set that isn't valid, or a reason that doesn't hold. A line
 /// of the report is named by its number, from 1.
-pub fn explain_no<A: Allocator>(
-    notes: &mut String<&A>,
-    table: &Table,
-    report: &Report,
-) -> Result<(), AllocError> {
+pub fn explain_no(notes: &mut String, table: &Table, report: &Report) -> Result<(), AllocError> {
     let empty = notes.len();
     explain_count(notes, table, report)?;
     if notes.len() == empty {
@@ -46,11 +42,7 @@ fn taken_in(report: &Report) -> u8 {
 }
 
 /// Adds that the numbers of images differ, where they do.
-fn explain_count<A: Allocator>(
-    notes: &mut String<&A>,
-    table: &Table,
-    report: &Report,
-) -> Result<(), AllocError> {
+fn explain_count(notes: &mut String, table: &Table, report: &Report) -> Result<(), AllocError> {
     let (here, there) = (table.images.len(), report.images.len());
     if here == there {
         return Ok(());
@@ -62,11 +54,7 @@ fn explain_count<A: Allocator>(
 }
 
 /// Adds the versions that aren't those of the table.
-fn explain_versions<A: Allocator>(
-    notes: &mut String<&A>,
-    table: &Table,
-    report: &Report,
-) -> Result<(), AllocError> {
+fn explain_versions(notes: &mut String, table: &Table, report: &Report) -> Result<(), AllocError> {
     let taken = taken_in(report);
     for (number, (image, reported)) in table.images.iter().zip(report.images.iter()).enumerate() {
         let (told, version) = (reported.version, version_in(image, is_taken(taken, number)));
@@ -82,11 +70,7 @@ fn explain_versions<A: Allocator>(
 }
 
 /// Adds the requests that aren't taken or refused once.
-fn explain_requests<A: Allocator>(
-    notes: &mut String<&A>,
-    table: &Table,
-    report: &Report,
-) -> Result<(), AllocError> {
+fn explain_requests(notes: &mut String, table: &Table, report: &Report) -> Result<(), AllocError> {
     explain_strangers(notes, table, report)?;
     let taken = taken_in(report);
     for (number, image) in table.images.iter().enumerate() {
@@ -114,11 +98,7 @@ fn explain_requests<A: Allocator>(
 }
 
 /// Adds the refusals of images that the table doesn't have.
-fn explain_strangers<A: Allocator>(
-    notes: &mut String<&A>,
-    table: &Table,
-    report: &Report,
-) -> Result<(), AllocError> {
+fn explain_strangers(notes: &mut String, table: &Table, report: &Report) -> Result<(), AllocError> {
     let count = table.images.len();
     for (place, refusal) in report.refusals.iter().enumerate() {
         let image = refusal.image;
@@ -150,11 +130,7 @@ fn line_of(report: &Report, place: usize) -> usize {
 }
 
 /// Adds the requests that are taken and may not be.
-fn explain_members<A: Allocator>(
-    notes: &mut String<&A>,
-    table: &Table,
-    report: &Report,
-) -> Result<(), AllocError> {
+fn explain_members(notes: &mut String, table: &Table, report: &Report) -> Result<(), AllocError> {
     let taken = taken_in(report);
     for (number, image) in table.images.iter().enumerate() {
         if is_taken(taken, number) {
@@ -165,11 +141,7 @@ fn explain_members<A: Allocator>(
 }
 
 /// Adds why the request of an image may not be taken, where it may not.
-fn explain_member<A: Allocator>(
-    notes: &mut String<&A>,
-    number: usize,
-    image: &Image,
-) -> Result<(), AllocError> {
+fn explain_member(notes: &mut String, number: usize, image: &Image) -> Result<(), AllocError> {
     let line = number.saturating_add(1);
     let Request::Entry(entry) = &image.request else {
         return writeln!(
@@ -195,11 +167,7 @@ fn explain_member<A: Allocator>(
 }
 
 /// Adds the first reason that doesn't hold at its place.
-fn explain_reasons<A: Allocator>(
-    notes: &mut String<&A>,
-    table: &Table,
-    report: &Report,
-) -> Result<(), AllocError> {
+fn explain_reasons(notes: &mut String, table: &Table, report: &Report) -> Result<(), AllocError> {
     let refusals = report.refusals.as_slice();
     for (place, refusal) in refusals.iter().enumerate() {
         let before = refusals.get(..place).unwrap_or_default();

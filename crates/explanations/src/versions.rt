@@ -2,7 +2,7 @@
 
 use certificate::{Image, Refusal, Request, Table};
 use common::limits::MOST_IMAGES;
-use std::alloc::{AllocError, Allocator};
+use std::alloc::AllocError;
 use version_order::{Dependency, Group, Version};
 
 /// A version for each image of a device, none where there is no such image.
@@ -69,9 +69,9 @@ impl Versions {
     }
 
     /// Adds what a dependency asks for, and the version there.
-    pub fn add_need<A: Allocator>(
+    pub fn add_need(
         &self,
-        notes: &mut String<&A>,
+        notes: &mut String,
         need: &Dependency,
         is_hope: bool,
     ) -> Result<(), AllocError> {
@@ -90,9 +90,9 @@ impl Versions {
     }
 
     /// Adds what a group asks for, and the versions there.
-    pub fn add_group<A: Allocator>(
+    pub fn add_group(
         &self,
-        notes: &mut String<&A>,
+        notes: &mut String,
         group: &Group,
         is_hope: bool,
     ) -> Result<(), AllocError> {

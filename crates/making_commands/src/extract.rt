@@ -14,11 +14,11 @@ ghost use Rattle.tlv.specs.Slot.{slot_bytes};
 
 use crate::image_file::{refuse_input, replace};
 use crate::telling::tell;
-use answers::flash_of;
+use answers::{flash_of, refused_text};
 use flash_model::Flash;
 use reading_commands::{Access, Answer, Host, Refusal, Source, read_device, read_flash};
 use sector_map::{SectorMap, Side};
-use std::alloc::{AllocError, Allocator, Global};
+use std::alloc::{AllocError, Global};
 use std::io::Write;
 use std::marker::Brand;
 use std::sync::ledger::{Blank, Ledger};
@@ -46,14 +46,12 @@ pub enum Copied {
 
 /// Reads a device file and the flash of the device from `host`, and copies the intact image that a
 /// slot begins with into a file, which is made or replaced. Writes to `out` that it is done, or why
-/// there is no image. The flash stands in memory of `alloc`, and so does what the device file is as
-/// a JSON value; all else stands in memory of `heap`.
+/// there is no image. All stands in memory of `alloc`.
 ///
 /// The file is none of those that are read. Unless the answer is `Done`, or can't be written, it is
 /// as it was.
-pub fn perform<'a, A: Allocator, H: Host, O: Write>(
+pub fn perform<'a, H: Host, O: Write>(
     alloc: Global,
-    heap: &A,
     device: Source<'a>,
     flash: Source<'a>,
     copying: Copying<'a>,
@@ -67,7 +65,7 @@ pub fn perform<'a, A: Allocator, H: Host, O: Write>(
     ensures kept { EndsUnmade result
         → LeavesBoth device.entry flash.entry (H.file host.old) (H.file host.new) }
 {
-    let Some(of_device) = read_device(alloc, heap, device, host, out)? else {
+    let Some(of_device) = read_device(alloc, device, host, out)? else {
         return Ok(Answer::Refused);
     };
     let map = &of_device.map;
@@ -77,14 +75,13 @@ pub fn perform<'a, A: Allocator, H: Host, O: Write>(
     let bytes = read_flash(alloc, flash, map, Access::Read, host)?;
     refuse_input(host, copying.out, device)?;
     refuse_input(host, copying.out, flash)?;
-    let copied = copy::<Brand, _, _>(alloc, heap, Blank::new(2), map, bytes, copying, host)?;
-    tell_copied(heap, copied, out)
+    let copied = copy::<Brand, _>(alloc, Blank::new(2), map, bytes, copying, host)?;
+    tell_copied(alloc, copied, out)
 }
 
 /// Copies the image that a slot of a flash of these bytes begins with into a file.
-fn copy<'a, L: Ledger, A: Allocator, H: Host>(
+fn copy<'a, L: Ledger, H: Host>(
     alloc: Global,
-    heap: &A,
     blank: Blank,
     map: &SectorMap,
     bytes: Vec<u8>,
@@ -109,7 +106,7 @@ fn copy<'a, L: Ledger, A: Allocator, H: Host>(
         Err(fault) => return Ok(Copied::Refused(fault)),
     };
     let at = map.slot_start(copying.image, copying.side) as usize;
-    replace(heap, copying.out, &flash.bytes()[at..at + length], host)?;
+    replace(alloc, copying.out, &flash.bytes()[at..at + length], host)?;
     Ok(Copied::Done)
 }
 
@@ -140,8 +137,8 @@ fn image_length<F: Flash>(
 }
 
 /// Writes to `out` what came of copying. Of an image that is copied it takes no memory to tell.
-fn tell_copied<'a, A: Allocator, O: Write>(
-    heap: &A,
+fn tell_copied<'a, O: Write>(
+    alloc: Global,
     copied: Copied,
     out: &mut O,
 ) -> Result<Answer, Refusal<'a>>
@@ -155,7 +152,7 @@ fn tell_copied<'a, A: Allocator, O: Write>(
             Ok(Answer::Done)
         }
         Copied::Refused(fault) => {
-            let Ok(text) = fault_text(heap, fault) else {
+            let Ok(text) = fault_text(alloc, fault) else {
                 return Err(Refusal::NoMemory);
             };
             tell(text.as_bytes(), out)?;
@@ -165,10 +162,9 @@ fn tell_copied<'a, A: Allocator, O: Write>(
 }
 
 /// Why there is no image, by the number and the name of the first check that fails.
-fn fault_text<A: Allocator>(heap: &A, fault: ImageError) -> Result<String<&A>, AllocError>
+fn fault_text(alloc: Global, fault: ImageError) -> Result<String, AllocError>
     ensures { IfOk result (λ text. string_bytes text
         ≡ refused_text (code_of fault) (name_of fault)) }
 {
-    let (code, name) = (fault.code(), fault.name());
-    format!(in heap; "refused {code} {name}\n")
+    refused_text(alloc, fault.code(), fault.name())
 }

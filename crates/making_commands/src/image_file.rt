@@ -4,7 +4,7 @@ ghost use Rattle.std.specs.Prelude.{IfErr, OnOk};
 ghost use Rattle.reading_commands.specs.Input.{IsKnownAs, KeepsFiles};
 
 use reading_commands::{FlashFault, Host, Refusal, Source};
-use std::alloc::Allocator;
+use std::alloc::Global;
 
 /// Refuses an image whose file is what is read here, by whatever name.
 pub fn refuse_input<'a, H: Host>(
@@ -26,8 +26,8 @@ pub fn refuse_input<'a, H: Host>(
 }
 
 /// Makes or replaces the file of an image.
-pub fn replace<'a, A: Allocator, H: Host>(
-    heap: &A,
+pub fn replace<'a, H: Host>(
+    alloc: Global,
     name: &'a str,
     bytes: &[u8],
     host: &mut H,
@@ -35,7 +35,7 @@ pub fn replace<'a, A: Allocator, H: Host>(
     ensures done { OnOk result (IsKnownAs (H.file host.new name.now) bytes.now) }
     ensures failed { IfErr result (λ _. KeepsFiles (H.file host.old) (H.file host.new)) }
 {
-    match host.replace_file(heap, name, bytes) {
+    match host.replace_file(alloc, name, bytes) {
         Ok(()) => Ok(()),
         Err(FlashFault::InUse) => Err(Refusal::ImageInUse),
         Err(FlashFault::NoMemory) => Err(Refusal::NoMemory),

@@ -13,7 +13,7 @@ use command_line::NewDevice;
 use manifest::{Identity, class_id, vendor_id};
 use reading_commands::{Answer, Refusal};
 use sector_map::{MapError, SectorMap};
-use std::alloc::{AllocError, Allocator, Global};
+use std::alloc::{AllocError, Global};
 use std::io::Write;
 
 /// How many boots a trial has where the words don't say it, nor the device file.
@@ -22,12 +22,11 @@ const USUAL_TRIAL_BOOTS: u8 = 1;
 /// Writes to `out` the device file of the device that is asked for, and then to `err` where the
 /// parts of its flash lie; where its sizes make no map, it writes to `out` why.
 ///
-/// The texts are made in memory of `heap` before one is written, and the device file is read back,
-/// for which its JSON value stands in memory of `alloc`. What is written is flushed, so that
+/// The texts are made in memory of `alloc` before one is written, and the device file is read back,
+/// for which its JSON value stands there too. What is written is flushed, so that
 /// nothing is told of a file that couldn't be written.
-pub fn perform<'a, A: Allocator, O: Write, E: Write>(
+pub fn perform<'a, O: Write, E: Write>(
     alloc: Global,
-    heap: &A,
     asked: &NewDevice<'_>,
     out: &mut O,
     err: &mut E,
@@ -38,15 +37,15 @@ pub fn perform<'a, A: Allocator, O: Write, E: Write>(
     let map = match SectorMap::new(asked.sector_size, asked.sectors.as_slice()) {
         Ok(map) => map,
         Err(fault) => {
-            refuse_sizes(heap, fault, out)?;
+            refuse_sizes(alloc, fault, out)?;
             return Ok(Answer::Refused);
         }
     };
     let device = device_of(asked, map);
-    let Ok(text) = device_text(heap, asked, &device.identity) else {
+    let Ok(text) = device_text(alloc, asked, &device.identity) else {
         return Err(Refusal::NoMemory);
     };
-    let Ok(parts) = map_text(heap, &map) else {
+    let Ok(parts) = map_text(alloc, &map) else {
         return Err(Refusal::NoMemory);
     };
     expect_file(alloc, text.as_bytes(), &device)?;
@@ -56,15 +55,15 @@ pub fn perform<'a, A: Allocator, O: Write, E: Write>(
 }
 
 /// Writes to `out` why sizes make no map.
-fn refuse_sizes<'a, A: Allocator, O: Write>(
-    heap: &A,
+fn refuse_sizes<'a, O: Write>(
+    alloc: Global,
     fault: MapError,
     out: &mut O,
 ) -> Result<(), Refusal<'a>>
     ensures { OnOk result (Appends (O.contents out.old) (O.contents out.new)
         (map_refusal_text fault)) }
 {
-    let Ok(text) = map_refusal_text(heap, fault) else {
+    let Ok(text) = map_refusal_text(alloc, fault) else {
         return Err(Refusal::NoMemory);
     };
     tell(text.as_bytes(), out)
@@ -88,14 +87,14 @@ fn device_of(asked: &NewDevice<'_>, map: SectorMap) -> DeviceFile
 }
 
 /// The text of the device file.
-fn device_text<'h, A: Allocator>(
-    heap: &'h A,
+fn device_text(
+    alloc: Global,
     asked: &NewDevice<'_>,
     identity: &Identity,
-) -> Result<String<&'h A>, AllocError> {
+) -> Result<String, AllocError> {
     let sector_size = asked.sector_size;
     let (vendor, class) = (identity.vendor, identity.class);
-    let mut text = format!(in heap; "{{\"sector\":{sector_size},\"sectors\":")?;
+    let mut text = format!(in alloc; "{{\"sector\":{sector_size},\"sectors\":")?;
     write_list(&mut text, asked.sectors.as_slice())?;
     write!(
         text,
@@ -109,7 +108,7 @@ fn device_text<'h, A: Allocator>(
 }
 
 /// Adds to a text the JSON list of these numbers.
-fn write_list<A: Allocator>(text: &mut String<&A>, numbers: &[u32]) -> Result<(), AllocError> {
+fn write_list(text: &mut String, numbers: &[u32]) -> Result<(), AllocError> {
     let mut before = '[';
     for number in numbers {
         write!(text, "{before}{number}")?;

@@ -7,9 +7,10 @@ ghost use Rattle.making_commands.specs.NewImageEnd.{AnswersMade, AnswersNewImage
 
 use crate::image_file::{refuse_input, replace};
 use crate::telling::tell;
+use answers::refused_text;
 use command_line::NewImage;
 use reading_commands::{Answer, Host, MOST_FILE, Refusal, Source};
-use std::alloc::{AllocError, Allocator};
+use std::alloc::{AllocError, Global};
 use std::io::Write;
 use tlv::{ImageSpec, MakeError, make_image};
 use version_order::Dependency;
@@ -19,12 +20,12 @@ const USUAL_HEADER_SIZE: u16 = 32;
 
 /// Reads the body of an image from `host`, makes the image that is asked for, and then makes or
 /// replaces its file. Writes to `out` that it is done, or why there is no such image. All stands in
-/// memory of `heap`.
+/// memory of `alloc`.
 ///
 /// The image is made before its file is touched, which isn't that of the body. Unless the answer is
 /// `Done`, or can't be written, the file is as it was.
-pub fn perform<'a, A: Allocator, H: Host, O: Write>(
-    heap: &A,
+pub fn perform<'a, H: Host, O: Write>(
+    alloc: Global,
     image: &'a str,
     body: Source<'a>,
     asked: &NewImage,
@@ -38,14 +39,14 @@ pub fn perform<'a, A: Allocator, H: Host, O: Write>(
         → LeavesFiles body.entry (H.file host.old) (H.file host.new) }
 {
     let source = body;
-    let body = source.read(heap, host, MOST_FILE)?;
+    let body = source.read(alloc, host, MOST_FILE)?;
     refuse_input(host, image, source)?;
-    make(heap, image, asked, &body, host, out)
+    make(alloc, image, asked, &body, host, out)
 }
 
 /// Makes the image that is asked for, with this body, and then makes or replaces its file.
-fn make<'a, A: Allocator, H: Host, O: Write>(
-    heap: &A,
+fn make<'a, H: Host, O: Write>(
+    alloc: Global,
     image: &'a str,
     asked: &NewImage,
     body: &[u8],
@@ -56,31 +57,27 @@ fn make<'a, A: Allocator, H: Host, O: Write>(
         (H.file host.new image.now) (O.contents out.old) (O.contents out.new)) }
     ensures kept { EndsUnmade result → KeepsFiles (H.file host.old) (H.file host.new) }
 {
-    match image_of(heap, asked, body) {
+    match image_of(alloc, asked, body) {
         Ok(bytes) => {
-            replace(heap, image, &bytes, host)?;
+            replace(alloc, image, &bytes, host)?;
             tell(b"done\n", out)?;
             Ok(Answer::Done)
         }
         Err(MakeError::NoMemory) => Err(Refusal::NoMemory),
         Err(fault) => {
-            refuse(heap, fault, out)?;
+            refuse(alloc, fault, out)?;
             Ok(Answer::Refused)
         }
     }
 }
 
 /// The image that is asked for, with this body.
-fn image_of<'h, A: Allocator>(
-    heap: &'h A,
-    asked: &NewImage,
-    body: &[u8],
-) -> Result<Vec<u8, &'h A>, MakeError>
+fn image_of(alloc: Global, asked: &NewImage, body: &[u8]) -> Result<Vec<u8>, MakeError>
     ensures made { IfOk result (λ bytes. IsImageFor asked.now body.now bytes.items) }
     ensures refused { IfErr result (λ fault. (fault ≢ MakeError.NoMemory)
         → RefusesImage asked.now body.now fault) }
 {
-    let groups = slices_of(heap, asked.groups.as_slice())?;
+    let groups = slices_of(alloc, asked.groups.as_slice())?;
     let spec = ImageSpec {
         load_address: asked.load_address.unwrap_or(0),
         header_size: asked.header_size.unwrap_or(USUAL_HEADER_SIZE),
@@ -91,18 +88,18 @@ fn image_of<'h, A: Allocator>(
         groups: groups.as_slice(),
         body,
     };
-    make_image(heap, &spec)
+    make_image(alloc, &spec)
 }
 
 /// The alternatives of each of these groups.
-fn slices_of<'g, 'h, A: Allocator>(
-    heap: &'h A,
+fn slices_of<'g>(
+    alloc: Global,
     groups: &'g [Vec<Dependency>],
-) -> Result<Vec<&'g [Dependency], &'h A>, AllocError>
+) -> Result<Vec<&'g [Dependency]>, AllocError>
     ensures { IfOk result (λ slices.
         AllZip AreAlternatives (map (λ group. group.items) groups.now) slices.items) }
 {
-    let mut slices = Vec::new(heap);
+    let mut slices = Vec::new(alloc);
     for group in groups {
         slices.push(group.as_slice())?;
     }
@@ -110,23 +107,18 @@ fn slices_of<'g, 'h, A: Allocator>(
 }
 
 /// Writes to `out` why there is no image.
-fn refuse<'a, A: Allocator, O: Write>(
-    heap: &A,
-    fault: MakeError,
-    out: &mut O,
-) -> Result<(), Refusal<'a>>
+fn refuse<'a, O: Write>(alloc: Global, fault: MakeError, out: &mut O) -> Result<(), Refusal<'a>>
     ensures { OnOk result (Appends (O.contents out.old) (O.contents out.new) (fault_text fault)) }
 {
-    let Ok(text) = fault_text(heap, fault) else {
+    let Ok(text) = fault_text(alloc, fault) else {
         return Err(Refusal::NoMemory);
     };
     tell(text.as_bytes(), out)
 }
 
 /// Why there is no image, by the number and the name of the first check that fails.
-fn fault_text<A: Allocator>(heap: &A, fault: MakeError) -> Result<String<&A>, AllocError>
+fn fault_text(alloc: Global, fault: MakeError) -> Result<String, AllocError>
     ensures { IfOk result (λ text. string_bytes text ≡ fault_text fault) }
 {
-    let (code, name) = (fault.code(), fault.name());
-    format!(in heap; "refused {code} {name}\n")
+    refused_text(alloc, fault.code(), fault.name())
 }

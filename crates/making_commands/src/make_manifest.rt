@@ -15,12 +15,12 @@ use crate::new_components::read_components;
 use crate::next_boot::write_refusals;
 use crate::precursors::{Precursors, Running, read_precursors};
 use crate::telling::tell;
-use answers::{DeviceFile, refused_fault_text};
+use answers::{DeviceFile, refused_fault_text, refused_text};
 use command_line::{NewComponent, NewManifest};
 use machine::Fault;
 use manifest::{Identity, Manifest, ManifestError};
 use reading_commands::{Answer, Host, Refusal, Source, read_device};
-use std::alloc::{AllocError, Allocator, Global};
+use std::alloc::{AllocError, Global};
 use std::io::Write;
 
 /// Reads a device file, the flash whose images have to run, where one is asked for, and each file
@@ -28,13 +28,12 @@ use std::io::Write;
 /// for; where there is no such manifest for the device, it writes to `out` why. Then it writes to
 /// `err` which of the files the device will not take.
 ///
-/// The manifest is made in memory of `heap`, where the device file and one file after the other
-/// stand too, and read back before it is written, for which its JSON value stands in memory of
-/// `alloc`. So does the flash. What is written is flushed, so that nothing is told of a manifest
+/// The manifest is made in memory of `alloc`, where the device file and one file after the other
+/// stand too, as does the flash, and read back before it is written, for which its JSON value stands
+/// there. What is written is flushed, so that nothing is told of a manifest
 /// that couldn't be written.
-pub fn perform<'a, A: Allocator, H: Host, O: Write, E: Write>(
+pub fn perform<'a, H: Host, O: Write, E: Write>(
     alloc: Global,
-    heap: &A,
     device: Source<'a>,
     asked: &NewManifest<'a>,
     host: &mut H,
@@ -44,20 +43,20 @@ pub fn perform<'a, A: Allocator, H: Host, O: Write, E: Write>(
     ensures { IfOk result (λ answer. AnswersNewManifest answer device.entry asked.now
         (H.input host.old) (H.file host.old) (O.contents out.old) (O.contents out.new)) }
 {
-    let Some(of_device) = read_device(alloc, heap, device, host, out)? else {
+    let Some(of_device) = read_device(alloc, device, host, out)? else {
         return Ok(Answer::Refused);
     };
     if let Some(fault) = fault_in(&asked.components, of_device.map.images) {
-        refuse(heap, fault, out)?;
+        refuse(alloc, fault, out)?;
         return Ok(Answer::Refused);
     }
     match read_precursors(alloc, &of_device.map, asked, host)? {
         Precursors::Are(running) => {
-            write_manifest(alloc, heap, &of_device, asked, running, host, out, err)?;
+            write_manifest(alloc, &of_device, asked, running, host, out, err)?;
             Ok(Answer::Done)
         }
         Precursors::DamagedAt(image) => {
-            refuse_running(heap, image, out)?;
+            refuse_running(alloc, image, out)?;
             Ok(Answer::Refused)
         }
     }
@@ -105,9 +104,8 @@ pub(crate) fn is_named(asked: &[NewComponent<'_>], image: u8) -> bool
 
 /// Reads the files that may come, and writes to `out` the manifest that lets them come where these
 /// images run, and to `err` which of them the device, or its next boot, will not take.
-fn write_manifest<'a, A: Allocator, H: Host, O: Write, E: Write>(
+fn write_manifest<'a, H: Host, O: Write, E: Write>(
     alloc: Global,
-    heap: &A,
     device: &DeviceFile,
     asked: &NewManifest<'a>,
     running: Running,
@@ -120,10 +118,10 @@ fn write_manifest<'a, A: Allocator, H: Host, O: Write, E: Write>(
     ensures { OnOk result (Writes device.now asked.now running.digests.items
         (H.input host.old) (H.file host.old) (O.contents out.old) (O.contents out.new)) }
 {
-    let mut notes = String::new(heap);
+    let mut notes = String::new(alloc);
     let Running { digests, mut table } = running;
     let (map, files, follow) = (&device.map, asked.components.as_slice(), digests.as_slice());
-    let components = read_components(heap, map, files, follow, host, &mut table, &mut notes)?;
+    let components = read_components(alloc, map, files, follow, host, &mut table, &mut notes)?;
     if write_refusals(&mut notes, files, &table).is_err() {
         return Err(Refusal::NoMemory);
     }
@@ -131,7 +129,7 @@ fn write_manifest<'a, A: Allocator, H: Host, O: Write, E: Write>(
         sequence: asked.sequence,
         components,
     };
-    let Ok(text) = manifest_json(heap, &device.identity, &manifest) else {
+    let Ok(text) = manifest_json(alloc, &device.identity, &manifest) else {
         return Err(Refusal::NoMemory);
     };
     expect_manifest(alloc, text.as_bytes(), &device.identity, &manifest)?;
@@ -159,38 +157,29 @@ fn expect_manifest<'a>(
 }
 
 /// Writes to `out` why there is no manifest, by the number and the name of the refusal.
-fn refuse<'a, A: Allocator, O: Write>(
-    heap: &A,
-    fault: ManifestError,
-    out: &mut O,
-) -> Result<(), Refusal<'a>>
+fn refuse<'a, O: Write>(alloc: Global, fault: ManifestError, out: &mut O) -> Result<(), Refusal<'a>>
     ensures { OnOk result (Appends (O.contents out.old) (O.contents out.new)
         (refused_text (code_of fault) (name_of fault))) }
 {
-    let Ok(text) = fault_text(heap, fault) else {
+    let Ok(text) = fault_text(alloc, fault) else {
         return Err(Refusal::NoMemory);
     };
     tell(text.as_bytes(), out)
 }
 
-fn fault_text<A: Allocator>(heap: &A, fault: ManifestError) -> Result<String<&A>, AllocError>
+fn fault_text(alloc: Global, fault: ManifestError) -> Result<String, AllocError>
     ensures { IfOk result (λ text. string_bytes text
         ≡ refused_text (code_of fault) (name_of fault)) }
 {
-    let (code, name) = (fault.code(), fault.name());
-    format!(in heap; "refused {code} {name}\n")
+    refused_text(alloc, fault.code(), fault.name())
 }
 
 /// Writes to `out` that no intact image of this number runs.
-fn refuse_running<'a, A: Allocator, O: Write>(
-    heap: &A,
-    image: u8,
-    out: &mut O,
-) -> Result<(), Refusal<'a>>
+fn refuse_running<'a, O: Write>(alloc: Global, image: u8, out: &mut O) -> Result<(), Refusal<'a>>
     ensures { OnOk result (Appends (O.contents out.old) (O.contents out.new)
         (refused_fault_text (RunningDamaged image))) }
 {
-    let Ok(text) = refused_fault_text(heap, Fault::RunningDamaged(image)) else {
+    let Ok(text) = refused_fault_text(alloc, Fault::RunningDamaged(image)) else {
         return Err(Refusal::NoMemory);
     };
     tell(text.as_bytes(), out)

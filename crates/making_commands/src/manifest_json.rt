@@ -1,25 +1,25 @@
 //! The JSON text of a manifest.
 
 use manifest::{Component, Identity, Manifest};
-use std::alloc::{AllocError, Allocator};
+use std::alloc::{AllocError, Global};
 
-/// The text of a manifest for devices of this identity, in memory of `heap`: a JSON object whose
+/// The text of a manifest for devices of this identity, in memory of `alloc`: a JSON object whose
 /// keys stand in the order in which they are described, a component to two lines.
-pub fn manifest_json<'h, A: Allocator>(
-    heap: &'h A,
+pub fn manifest_json(
+    alloc: Global,
     identity: &Identity,
     manifest: &Manifest,
-) -> Result<String<&'h A>, AllocError> {
+) -> Result<String, AllocError> {
     let sequence = manifest.sequence;
     let (vendor, class) = (identity.vendor, identity.class);
-    let mut text = format!(in heap;
+    let mut text = format!(in alloc;
         "{{\"manifest-version\":1,\"sequence-number\":{sequence},\n \"vendor-id\":\"{vendor}\",\n"
     )?;
     write!(text, " \"class-id\":\"{class}\",\n \"components\":[")?;
     let mut before = "";
     for component in manifest.components.as_slice() {
         write!(text, "{before}\n")?;
-        write_component(heap, &mut text, component)?;
+        write_component(alloc, &mut text, component)?;
         before = ",";
     }
     writeln!(text, "]}}")?;
@@ -27,9 +27,9 @@ pub fn manifest_json<'h, A: Allocator>(
 }
 
 /// Adds a component to the text of a manifest.
-fn write_component<A: Allocator>(
-    heap: &A,
-    text: &mut String<&A>,
+fn write_component(
+    alloc: Global,
+    text: &mut String,
     component: &Component,
 ) -> Result<(), AllocError> {
     let (image, size) = (component.image, component.size);
@@ -38,14 +38,14 @@ fn write_component<A: Allocator>(
     } else {
         "test"
     };
-    let digest = hex::encode(heap, component.digest.as_slice())?;
+    let digest = hex::encode(alloc, component.digest.as_slice())?;
     write!(
         text,
         "  {{\"component-id\":{image},\"kind\":\"{kind}\",\"size\":{size},\n"
     )?;
     write!(text, "   \"payload-digest\":\"{digest}\"")?;
     if let Some(precursor) = component.precursor {
-        let precursor = hex::encode(heap, precursor.as_slice())?;
+        let precursor = hex::encode(alloc, precursor.as_slice())?;
         write!(text, ",\n   \"precursor-digest\":\"{precursor}\"")?;
     }
     write!(text, "}}")

@@ -1,18 +1,15 @@
 //! Where the parts of a device's flash lie, for people.
 
 use sector_map::{SectorMap, Side};
-use std::alloc::{AllocError, Allocator};
+use std::alloc::{AllocError, Global};
 
-/// The text of a map, in memory of `heap`: a line for each part, in the order of their addresses,
+/// The text of a map, in memory of `alloc`: a line for each part, in the order of their addresses,
 /// with its first byte and its length; then how many bytes an image may have at most, and the
 /// length of the whole flash.
-pub fn map_text<'h, A: Allocator>(
-    heap: &'h A,
-    map: &SectorMap,
-) -> Result<String<&'h A>, AllocError> {
+pub fn map_text(alloc: Global, map: &SectorMap) -> Result<String, AllocError> {
     let (scratch, sector) = (map.scratch_start(), map.sector_size);
     let log = map.sector_start(map.log_sector(0));
-    let mut text = String::new(heap);
+    let mut text = String::new(alloc);
     write_side(&mut text, map, Side::Primary, "primary")?;
     write_side(&mut text, map, Side::Secondary, "secondary")?;
     writeln!(text, "scratch {scratch} {sector}")?;
@@ -23,8 +20,8 @@ pub fn map_text<'h, A: Allocator>(
 }
 
 /// Adds the slots of a side, each with its trailer.
-fn write_side<A: Allocator>(
-    text: &mut String<&A>,
+fn write_side(
+    text: &mut String,
     map: &SectorMap,
     side: Side,
     name: &str,
@@ -40,7 +37,7 @@ fn write_side<A: Allocator>(
 }
 
 /// Adds how many bytes each image may have at most: its slot, for a trailer has its own sector.
-fn write_largest<A: Allocator>(text: &mut String<&A>, map: &SectorMap) -> Result<(), AllocError> {
+fn write_largest(text: &mut String, map: &SectorMap) -> Result<(), AllocError> {
     for image in 0..map.images {
         let length = map.slot_length(image);
         writeln!(text, "largest {image} {length}")?;

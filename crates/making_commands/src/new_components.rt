@@ -11,20 +11,20 @@ use manifest::{Component, MOST_COMPONENTS};
 use reading_commands::{Host, MOST_FILE, Refusal, Source};
 use sector_map::SectorMap;
 use sha2::{Digest, Sha256};
-use std::alloc::{AllocError, Allocator};
+use std::alloc::{AllocError, Global};
 use tlv::{Desc, ImageError, describe};
 
 /// The components of a manifest for these files, which are read from `host` one after the other
-/// into memory of `heap`, where these images have to run. Adds to `notes` which files a device with
+/// into memory of `alloc`, where these images have to run. Adds to `notes` which files a device with
 /// this map will not take, and requests them in `table`, where there is one.
-pub fn read_components<'a, A: Allocator, H: Host>(
-    heap: &A,
+pub fn read_components<'a, H: Host>(
+    alloc: Global,
     map: &SectorMap,
     asked: &[NewComponent<'a>],
     precursors: &[Option<[u8; 32]>],
     host: &mut H,
     table: &mut Option<Table>,
-    notes: &mut String<&A>,
+    notes: &mut String,
 ) -> Result<ArrayVec<Component, MOST_COMPONENTS>, Refusal<'a>>
     requires same { length precursors.now ≡ length asked.now }
     requires there { HaveImages map.now.images asked.now }
@@ -34,7 +34,7 @@ pub fn read_components<'a, A: Allocator, H: Host>(
     let mut components = ArrayVec::new();
     for place in 0..asked.len() {
         let (asked, precursor) = (&asked[place], precursors[place]);
-        let component = read_component(heap, map, asked, precursor, host, table, notes)?;
+        let component = read_component(alloc, map, asked, precursor, host, table, notes)?;
         if components.is_full() {
             return Err(Refusal::Manifest);
         }
@@ -44,21 +44,21 @@ pub fn read_components<'a, A: Allocator, H: Host>(
 }
 
 /// The component for this file, which is read from `host`, where this image has to run.
-fn read_component<'a, A: Allocator, H: Host>(
-    heap: &A,
+fn read_component<'a, H: Host>(
+    alloc: Global,
     map: &SectorMap,
     asked: &NewComponent<'a>,
     precursor: Option<[u8; 32]>,
     host: &mut H,
     table: &mut Option<Table>,
-    notes: &mut String<&A>,
+    notes: &mut String,
 ) -> Result<Component, Refusal<'a>>
     requires { asked.now.image < map.now.images }
     ensures { IfOk result (ReadsComponent asked.now precursor (H.input host.old) (H.file host.old)
         (H.input host.new) (H.file host.new)) }
 {
     let source = Source::named(asked.file);
-    let file = source.read(heap, host, MOST_FILE)?;
+    let file = source.read(alloc, host, MOST_FILE)?;
     let Ok(size) = u32::try_from(file.len()) else {
         return Err(Refusal::TooLong(source, MOST_FILE));
     };
@@ -78,8 +78,8 @@ fn read_component<'a, A: Allocator, H: Host>(
 
 /// Adds to notes why a device with this map will not take a file for an image, a line for each
 /// reason.
-fn write_notes<A: Allocator>(
-    notes: &mut String<&A>,
+fn write_notes(
+    notes: &mut String,
     map: &SectorMap,
     image: u8,
     source: Source<'_>,

@@ -5,7 +5,7 @@ use certificate::{Reason, Request, Table, is_valid};
 use chooser::choose;
 use command_line::NewComponent;
 use decision::entry_of;
-use std::alloc::{AllocError, Allocator};
+use std::alloc::AllocError;
 use tlv::{Desc, ImageError};
 
 /// Requests for an image of a table, if there is one, what a file says of itself.
@@ -24,8 +24,8 @@ pub fn request(table: &mut Option<Table>, image: u8, file: Result<Desc, ImageErr
 
 /// Adds to notes which of the images that are asked for a boot by this table would refuse, a line
 /// for each, with the reason.
-pub fn write_refusals<A: Allocator>(
-    notes: &mut String<&A>,
+pub fn write_refusals(
+    notes: &mut String,
     asked: &[NewComponent<'_>],
     table: &Option<Table>,
 ) -> Result<(), AllocError> {

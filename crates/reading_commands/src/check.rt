@@ -9,13 +9,13 @@ use crate::source::Source;
 use crate::table_input::{Text, read_text};
 use answers::{CheckEnd, check_over};
 use certificate::Table;
-use std::alloc::Allocator;
+use std::alloc::Global;
 use std::io::Write;
 
-/// Reads both texts from `host` into memory of `heap`, and writes the verdict to `out`. The table
+/// Reads both texts from `host` into memory of `alloc`, and writes the verdict to `out`. The table
 /// is judged before the report is read.
-pub fn perform<'a, A: Allocator, H: Host, O: Write>(
-    heap: &A,
+pub fn perform<'a, H: Host, O: Write>(
+    alloc: Global,
     table: Source<'a>,
     report: Source<'a>,
     host: &mut H,
@@ -24,11 +24,11 @@ pub fn perform<'a, A: Allocator, H: Host, O: Write>(
     ensures { IfOk result (λ answer. AnswersCheck answer table.entry report.entry
         (H.input host.old) (H.file host.old) (O.contents out.old) (O.contents out.new)) }
 {
-    let table = read_text(heap, Text::Table, table, host)?;
+    let table = read_text(alloc, Text::Table, table, host)?;
     if let Err(bad) = Table::parse(&table) {
         return Err(Refusal::TableLine(bad.0));
     }
-    let report = read_text(heap, Text::Report, report, host)?;
+    let report = read_text(alloc, Text::Report, report, host)?;
     match check_over(&table, &report, out) {
         CheckEnd::Yes => Ok(Answer::Done),
         CheckEnd::No => Ok(Answer::Refused),

@@ -8,13 +8,13 @@ use crate::host::Host;
 use crate::source::Source;
 use crate::table_input::{Text, read_text};
 use answers::{ChooseEnd, choose_over};
-use std::alloc::Allocator;
+use std::alloc::Global;
 use std::io::Write;
 
-/// Reads a table from `host` into memory of `heap`, and writes the report of the choice over it to
+/// Reads a table from `host` into memory of `alloc`, and writes the report of the choice over it to
 /// `out`.
-pub fn perform<'a, A: Allocator, H: Host, O: Write>(
-    heap: &A,
+pub fn perform<'a, H: Host, O: Write>(
+    alloc: Global,
     table: Source<'a>,
     host: &mut H,
     out: &mut O,
@@ -22,8 +22,8 @@ pub fn perform<'a, A: Allocator, H: Host, O: Write>(
     ensures { IfOk result (λ answer. AnswersChoice answer table.entry
         (H.input host.old) (H.file host.old) (O.contents out.old) (O.contents out.new)) }
 {
-    let bytes = read_text(heap, Text::Table, table, host)?;
-    match choose_over(heap, &mut bytes.as_slice(), out) {
+    let bytes = read_text(alloc, Text::Table, table, host)?;
+    match choose_over(alloc, &mut bytes.as_slice(), out) {
         ChooseEnd::Done => Ok(Answer::Done),
         ChooseEnd::BadLine(line) => Err(Refusal::TableLine(line)),
         ChooseEnd::NotValid => Err(Refusal::NotValid),

@@ -12,15 +12,14 @@ use crate::limits::MOST_JSON;
 use crate::source::Source;
 use answers::{DeviceFault, DeviceFile, map_refusal_text, write_all};
 use sector_map::{MapError, SectorMap};
-use std::alloc::{Allocator, Global};
+use std::alloc::Global;
 use std::io::Write;
 
-/// The device of a device file, which is read from `host` into memory of `heap`. What the file is
-/// as a JSON value stands in memory of `alloc`. There is none where its sizes make no map: then
+/// The device of a device file, which is read from `host` into memory of `alloc`, where what it is
+/// as a JSON value stands too. There is none where its sizes make no map: then
 /// `out` is told why.
-pub fn read_device<'a, A: Allocator, H: Host, O: Write>(
+pub fn read_device<'a, H: Host, O: Write>(
     alloc: Global,
-    heap: &A,
     device: Source<'a>,
     host: &mut H,
     out: &mut O,
@@ -30,7 +29,7 @@ pub fn read_device<'a, A: Allocator, H: Host, O: Write>(
     ensures others { KeepsOthers device.entry (H.input host.old) (H.file host.old)
         (H.input host.new) (H.file host.new) }
 {
-    let bytes = device.read_start(heap, host, MOST_JSON)?;
+    let bytes = device.read_start(alloc, host, MOST_JSON)?;
     if bytes.len() > MOST_JSON as usize {
         return Err(Refusal::DeviceFile);
     }
@@ -39,22 +38,18 @@ pub fn read_device<'a, A: Allocator, H: Host, O: Write>(
         Err(DeviceFault::Malformed) => Err(Refusal::DeviceFile),
         Err(DeviceFault::NoMemory) => Err(Refusal::NoMemory),
         Err(DeviceFault::Map(fault)) => {
-            tell_map(heap, fault, out)?;
+            tell_map(alloc, fault, out)?;
             Ok(None)
         }
     }
 }
 
 /// Writes to `out` why the sizes of a device file make no map.
-fn tell_map<'a, A: Allocator, O: Write>(
-    heap: &A,
-    fault: MapError,
-    out: &mut O,
-) -> Result<(), Refusal<'a>>
+fn tell_map<'a, O: Write>(alloc: Global, fault: MapError, out: &mut O) -> Result<(), Refusal<'a>>
     ensures { IfOk result (λ _. Appends (O.contents out.old) (O.contents out.new)
         (map_refusal_text fault)) }
 {
-    let Ok(text) = map_refusal_text(heap, fault) else {
+    let Ok(text) = map_refusal_text(alloc, fault) else {
         return Err(Refusal::NoMemory);
     };
     match write_all(out, text.as_bytes()) {

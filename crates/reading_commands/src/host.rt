@@ -4,7 +4,7 @@ ghost use Rattle.std.specs.Prelude.{◌≤◌, IfErr, IfOk, IfSome, List, ℕ, N
 ghost use Rattle.std.specs.Io.KnownBytes.{Keeps};
 ghost use Rattle.reading_commands.specs.Input.{IsKnownAs, IsKnownPart, KeepsFiles};
 
-use std::alloc::Allocator;
+use std::alloc::Global;
 use std::io;
 
 /// What the file of a flash is opened for.
@@ -50,7 +50,7 @@ pub trait Host {
 
     /// The bytes of the file of this name, in memory of `alloc`: all of them where it has at most
     /// `most`, and else one more than that, from its front. No others are read.
-    fn read_file<A: Allocator>(&mut self, alloc: A, name: &str, most: u32) -> io::Result<Vec<u8, A>>
+    fn read_file(&mut self, alloc: Global, name: &str, most: u32) -> io::Result<Vec<u8>>
         ensures bytes { IfOk result (λ bytes. length bytes.items ≤ most
             → IsKnownAs (file self.old name.now) bytes.items) }
         ensures files { KeepsFiles (file self.old) (file self.new) }
@@ -58,25 +58,25 @@ pub trait Host {
 
     /// What is left of standard input, in memory of `alloc`: all of it where that is at most `most`
     /// bytes, and else one more than that. No more is read.
-    fn read_input<A: Allocator>(&mut self, alloc: A, most: u32) -> io::Result<Vec<u8, A>>
+    fn read_input(&mut self, alloc: Global, most: u32) -> io::Result<Vec<u8>>
         ensures bytes { IfOk result (λ bytes. length bytes.items ≤ most
             → IsKnownAs (input self.old) bytes.items) }
         ensures files { KeepsFiles (file self.old) (file self.new) };
 
     /// The same as `read_file`, while the host is lent to others too.
-    fn read_again<A: Allocator>(&self, alloc: A, name: &str, most: u32) -> io::Result<Vec<u8, A>>
+    fn read_again(&self, alloc: Global, name: &str, most: u32) -> io::Result<Vec<u8>>
         ensures { IfOk result (λ bytes. length bytes.items ≤ most
             → IsKnownAs (file self.now name.now) bytes.items) };
 
     /// So many bytes of the file of this name, from its byte `from` on, in memory of `alloc`. No
     /// other byte of a plain file is read. There are none where the file doesn't have them.
-    fn read_part<A: Allocator>(
+    fn read_part(
         &self,
-        alloc: A,
+        alloc: Global,
         name: &str,
         from: usize,
         count: usize,
-    ) -> io::Result<Option<Vec<u8, A>>>
+    ) -> io::Result<Option<Vec<u8>>>
         ensures { IfOk result (λ read. IfSome read (λ part.
             IsKnownPart (file self.now name.now) from count part.items)) };
 
@@ -90,13 +90,13 @@ pub trait Host {
     /// Opens the file of this name, which is that of a flash of so many bytes, and returns them, in
     /// memory of `alloc`. It is held until the host is dropped, or the next one is opened. Its
     /// length is compared before a byte is read.
-    fn open_flash<A: Allocator>(
+    fn open_flash(
         &mut self,
-        alloc: A,
+        alloc: Global,
         name: &str,
         length: u64,
         access: Access,
-    ) -> Result<Vec<u8, A>, FlashFault>
+    ) -> Result<Vec<u8>, FlashFault>
         ensures bytes { IfOk result (λ bytes. IsKnownAs (file self.old name.now) bytes.items) }
         ensures files { KeepsFiles (file self.old) (file self.new) }
         ensures input { Keeps (input self.old) (input self.new) };
@@ -115,12 +115,7 @@ pub trait Host {
     ///
     /// A block device has nothing beside it that could take its place. One that is as long as
     /// `bytes` is written from its first byte on; where a write fails it holds a part of them.
-    fn replace_file<A: Allocator>(
-        &mut self,
-        alloc: A,
-        name: &str,
-        bytes: &[u8],
-    ) -> Result<(), FlashFault>
+    fn replace_file(&mut self, alloc: Global, name: &str, bytes: &[u8]) -> Result<(), FlashFault>
         ensures done { OnOk result (IsKnownAs (file self.new name.now) bytes.now) }
         ensures failed { IfErr result (λ _. KeepsFiles (file self.old) (file self.new)) }
         ensures input { Keeps (input self.old) (input self.new) };

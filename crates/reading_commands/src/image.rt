@@ -8,13 +8,13 @@ use crate::host::Host;
 use crate::limits::MOST_FILE;
 use crate::source::Source;
 use answers::{DescribeEnd, describe_over};
-use std::alloc::Allocator;
+use std::alloc::Global;
 use std::io::Write;
 
-/// Reads an image from `host` into memory of `heap`, and writes to `out` what it says of itself, or
+/// Reads an image from `host` into memory of `alloc`, and writes to `out` what it says of itself, or
 /// the first check that fails.
-pub fn perform<'a, A: Allocator, H: Host, O: Write>(
-    heap: &A,
+pub fn perform<'a, H: Host, O: Write>(
+    alloc: Global,
     image: Source<'a>,
     host: &mut H,
     out: &mut O,
@@ -22,8 +22,8 @@ pub fn perform<'a, A: Allocator, H: Host, O: Write>(
     ensures { IfOk result (λ answer. AnswersDescription answer image.entry
         (H.input host.old) (H.file host.old) (O.contents out.old) (O.contents out.new)) }
 {
-    let bytes = image.read(heap, host, MOST_FILE)?;
-    match describe_over(heap, &bytes, out) {
+    let bytes = image.read(alloc, host, MOST_FILE)?;
+    match describe_over(alloc, &bytes, out) {
         DescribeEnd::Done => Ok(Answer::Done),
         DescribeEnd::Refused => Ok(Answer::Refused),
         DescribeEnd::NoMemory => Err(Refusal::NoMemory),

@@ -10,16 +10,15 @@ use crate::host::Host;
 use crate::limits::MOST_JSON;
 use crate::source::Source;
 use answers::{ManifestEnd, tell_over};
-use std::alloc::{Allocator, Global};
+use std::alloc::Global;
 use std::io::Write;
 
-/// Reads a device file and a manifest from `host` into memory of `heap`, and writes to `out` what
+/// Reads a device file and a manifest from `host` into memory of `alloc`, and writes to `out` what
 /// the manifest says to the device, or why it is none for it. What the files are as JSON values
-/// stands in memory of `alloc`. The device file is judged before the manifest is read: where its
+/// stands there too. The device file is judged before the manifest is read: where its
 /// sizes make no map, that is written.
-pub fn perform<'a, A: Allocator, H: Host, O: Write>(
+pub fn perform<'a, H: Host, O: Write>(
     alloc: Global,
-    heap: &A,
     device: Source<'a>,
     file: Source<'a>,
     host: &mut H,
@@ -28,11 +27,11 @@ pub fn perform<'a, A: Allocator, H: Host, O: Write>(
     ensures { IfOk result (λ answer. AnswersManifest answer device.entry file.entry
         (H.input host.old) (H.file host.old) (O.contents out.old) (O.contents out.new)) }
 {
-    let Some(of_device) = read_device(alloc, heap, device, host, out)? else {
+    let Some(of_device) = read_device(alloc, device, host, out)? else {
         return Ok(Answer::Refused);
     };
-    let bytes = file.read(heap, host, MOST_JSON)?;
-    match tell_over(alloc, heap, &bytes, &of_device.identity, out) {
+    let bytes = file.read(alloc, host, MOST_JSON)?;
+    match tell_over(alloc, &bytes, &of_device.identity, out) {
         ManifestEnd::Done => Ok(Answer::Done),
         ManifestEnd::Refused => Ok(Answer::Refused),
         ManifestEnd::NoMemory => Err(Refusal::NoMemory),

@@ -8,17 +8,16 @@ use crate::error::Refusal;
 use crate::host::{Access, Host};
 use crate::source::Source;
 use answers::{ShowEnd, show_over};
-use std::alloc::{Allocator, Global};
+use std::alloc::Global;
 use std::io::Write;
 use std::marker::Brand;
 use std::sync::ledger::Blank;
 
-/// Reads a device file from `host` into memory of `heap`, and the bytes of the device's flash into
-/// memory of `alloc`, and writes to `out` what stands there. The device file is judged before the
+/// Reads a device file and the bytes of the device's flash from `host` into memory of `alloc`, and
+/// writes to `out` what stands there. The device file is judged before the
 /// flash is read: where its sizes make no map, that is written. Nothing is changed.
-pub fn perform<'a, A: Allocator, H: Host, O: Write>(
+pub fn perform<'a, H: Host, O: Write>(
     alloc: Global,
-    heap: &A,
     device: Source<'a>,
     flash: Source<'a>,
     host: &mut H,
@@ -27,11 +26,11 @@ pub fn perform<'a, A: Allocator, H: Host, O: Write>(
     ensures { IfOk result (λ answer. AnswersShow answer device.entry flash.entry
         (H.input host.old) (H.file host.old) (O.contents out.old) (O.contents out.new)) }
 {
-    let Some(of_device) = read_device(alloc, heap, device, host, out)? else {
+    let Some(of_device) = read_device(alloc, device, host, out)? else {
         return Ok(Answer::Refused);
     };
     let bytes = read_flash(alloc, flash, &of_device.map, Access::Read, host)?;
-    match show_over::<Brand, A, O>(alloc, heap, Blank::new(2), &of_device.map, bytes, out) {
+    match show_over::<Brand, O>(alloc, Blank::new(2), &of_device.map, bytes, out) {
         ShowEnd::Done => Ok(Answer::Done),
         ShowEnd::Refused => Ok(Answer::Refused),
         ShowEnd::NoMemory => Err(Refusal::NoMemory),

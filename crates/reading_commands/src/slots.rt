@@ -8,18 +8,16 @@ use crate::error::Refusal;
 use crate::host::{Access, Host};
 use crate::source::Source;
 use answers::{SlotsEnd, list_slots_over};
-use std::alloc::{Allocator, Global};
+use std::alloc::Global;
 use std::io::Write;
 use std::marker::Brand;
 use std::sync::ledger::Blank;
 
-/// Reads a device file from `host` into memory of `heap`, and the bytes of the device's flash into
-/// memory of `alloc`, and writes to `out` what stands in its slots, and what the next boot would
-/// decide. The device file is judged before the flash is read: where its sizes make no map, that is
+/// Reads a device file and the bytes of the device's flash from `host` into memory of `alloc`, and
+/// writes to `out` what stands in its slots, and what the next boot would decide. The device file is judged before the flash is read: where its sizes make no map, that is
 /// written. Nothing is changed.
-pub fn perform<'a, A: Allocator, H: Host, O: Write>(
+pub fn perform<'a, H: Host, O: Write>(
     alloc: Global,
-    heap: &A,
     device: Source<'a>,
     flash: Source<'a>,
     host: &mut H,
@@ -28,11 +26,11 @@ pub fn perform<'a, A: Allocator, H: Host, O: Write>(
     ensures { IfOk result (λ answer. AnswersSlots answer device.entry flash.entry
         (H.input host.old) (H.file host.old) (O.contents out.old) (O.contents out.new)) }
 {
-    let Some(of_device) = read_device(alloc, heap, device, host, out)? else {
+    let Some(of_device) = read_device(alloc, device, host, out)? else {
         return Ok(Answer::Refused);
     };
     let bytes = read_flash(alloc, flash, &of_device.map, Access::Read, host)?;
-    match list_slots_over::<Brand, A, O>(alloc, heap, Blank::new(2), &of_device.map, bytes, out) {
+    match list_slots_over::<Brand, O>(alloc, Blank::new(2), &of_device.map, bytes, out) {
         SlotsEnd::Done => Ok(Answer::Done),
         SlotsEnd::Refused => Ok(Answer::Refused),
         SlotsEnd::NoMemory => Err(Refusal::NoMemory),

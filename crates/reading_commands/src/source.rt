@@ -6,7 +6,7 @@ ghost use Rattle.reading_commands.specs.Status.{status_of_refusal};
 use crate::error::Refusal;
 use crate::host::Host;
 use command_line::{Escaped, STANDARD_INPUT};
-use std::alloc::Allocator;
+use std::alloc::Global;
 use std::io::ErrorKind;
 use std::{fmt, io};
 
@@ -37,12 +37,12 @@ impl<'a> Source<'a> {
     }
 
     /// All its bytes, of which there may be at most `most`, from `host`, in memory of `alloc`.
-    pub fn read<A: Allocator, H: Host>(
+    pub fn read<H: Host>(
         self,
-        alloc: A,
+        alloc: Global,
         host: &mut H,
         most: u32,
-    ) -> Result<Vec<u8, A>, Refusal<'a>>
+    ) -> Result<Vec<u8>, Refusal<'a>>
         ensures bytes { IfOk result (λ bytes.
             Gives self.entry (H.input host.old) (H.file host.old) bytes.items) }
         ensures others { KeepsOthers self.entry (H.input host.old) (H.file host.old)
@@ -58,12 +58,12 @@ impl<'a> Source<'a> {
 
     /// Its bytes, from `host`, in memory of `alloc`: all of them where there are at most `most`,
     /// and else one more than that, from their front. No others are read.
-    pub fn read_start<A: Allocator, H: Host>(
+    pub fn read_start<H: Host>(
         self,
-        alloc: A,
+        alloc: Global,
         host: &mut H,
         most: u32,
-    ) -> Result<Vec<u8, A>, Refusal<'a>>
+    ) -> Result<Vec<u8>, Refusal<'a>>
         ensures bytes { IfOk result (λ bytes. length bytes.items ≤ most
             → Gives self.entry (H.input host.old) (H.file host.old) bytes.items) }
         ensures others { KeepsOthers self.entry (H.input host.old) (H.file host.old)

@@ -7,7 +7,7 @@ use crate::host::Host;
 use crate::limits::MOST_TABLE;
 use crate::source::Source;
 use certificate::{Report, Table};
-use std::alloc::Allocator;
+use std::alloc::Global;
 
 /// What a text is to be.
 #[derive(Clone, Copy)]
@@ -35,24 +35,24 @@ impl Text {
     }
 }
 
-/// A text, from `host`, in memory of `heap`. One that is longer than any is refused as all of it
+/// A text, from `host`, in memory of `alloc`. One that is longer than any is refused as all of it
 /// would be, for a line at its front.
 ///
 /// # Errors
 /// `TableLine` or `ReportLine` for the first line that is wrong of a text that is too long;
 /// `CannotRead` where it can't be read; `NoMemory`.
-pub fn read_text<'a, 'h, A: Allocator, H: Host>(
-    heap: &'h A,
+pub fn read_text<'a, H: Host>(
+    alloc: Global,
     text: Text,
     source: Source<'a>,
     host: &mut H,
-) -> Result<Vec<u8, &'h A>, Refusal<'a>>
+) -> Result<Vec<u8>, Refusal<'a>>
     ensures bytes { IfOk result (λ bytes.
         Gives source.entry (H.input host.old) (H.file host.old) bytes.items) }
     ensures others { KeepsOthers source.entry (H.input host.old) (H.file host.old)
         (H.input host.new) (H.file host.new) }
 {
-    let start = source.read_start(heap, host, MOST_TABLE)?;
+    let start = source.read_start(alloc, host, MOST_TABLE)?;
     if start.len() <= MOST_TABLE as usize {
         return Ok(start);
     }

@@ -84,13 +84,13 @@ HaveVersions map chip (Some versions) =
     AllZip (HasVersion map chip) (range_with_len 0 map.images) versions
 
 -- All that comes in a life.
-abbrev pub all_of : {A : Type 0} → Life A → List (Event (List ℕ))
+abbrev pub all_of : Life → List (Event (List ℕ))
 all_of life = held_in life.events.now ++ held_in life.between.now ++ held_in life.more.now
 
 -- A life that was lived with these cuts, and how it ended: a device that was just made over the
 -- flash, with those writes armed and no others, went through all that comes, and these images run
 -- then.
-pub record IsLived {A : Type 0} (life : Life A) (cuts : List Cut) (end : LifeEnd) : Type 0 where
+pub record IsLived (life : Life) (cuts : List Cut) (end : LifeEnd) : Type 0 where
   pub armed : List Armed
   pub old : DeviceView
   pub new : DeviceView

@@ -4,7 +4,7 @@ use crate::cuts::Cuts;
 use crate::notes::{LifeEnd, Said};
 use arrayvec::ArrayVec;
 use common::limits::MOST_IMAGES;
-use std::alloc::{AllocError, Allocator};
+use std::alloc::AllocError;
 use version_order::Version;
 
 /// What the boots behind the cuts of one write said.
@@ -38,14 +38,14 @@ pub struct SetTally {
 
 /// What a sweep finds.
 #[derive(Drop)]
-pub struct Found<A: Allocator> {
+pub struct Found {
     /// For each event the number of writes that were made when it was over, without a cut.
-    pub writes: Vec<u32, A>,
+    pub writes: Vec<u32>,
     /// What was said of each write.
-    pub marks: Vec<Mark, A>,
+    pub marks: Vec<Mark>,
     /// The sets that ran at the end of a run, in the order in which they were found. The first is
     /// that of the run without a cut.
-    pub sets: Vec<SetTally, A>,
+    pub sets: Vec<SetTally>,
     /// All runs.
     pub all: Tally,
     /// The runs that ended neither as the run without a cut nor as if power had failed beside the
@@ -90,7 +90,7 @@ impl Tally {
     }
 }
 
-impl<A: Allocator> Found<A> {
+impl Found {
     /// Whether each boot gave an answer, and each run ended as the run without a cut, or as if power
     /// had failed beside the event in which a write was cut, or that event were left out.
     pub fn is_good(&self) -> bool {

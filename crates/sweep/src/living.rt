@@ -16,23 +16,23 @@ use boot_core::{Device, step};
 use events::Event;
 use flash_model::{Flash, MemFlash};
 use machine::Reply;
-use std::alloc::{AllocError, Allocator, Global};
+use std::alloc::{AllocError, Global};
 use std::marker::Brand;
 use std::sync::ledger::{Blank, Ledger};
 
 /// What comes to a device.
 #[derive(Drop)]
-pub struct Life<'a, A: Allocator> {
+pub struct Life<'a> {
     /// The device, which isn't up before the first event.
     pub device: &'a DeviceFile,
     /// The bytes of its flash then, as many as its map has.
     pub bytes: &'a [u8],
     /// What comes, in order,
-    pub events: &'a [Event<Vec<u8, A>>],
+    pub events: &'a [Event<Vec<u8>>],
     /// what is put in behind that,
-    pub between: &'a [Event<Vec<u8, A>>],
+    pub between: &'a [Event<Vec<u8>>],
     /// and what comes then.
-    pub more: &'a [Event<Vec<u8, A>>],
+    pub more: &'a [Event<Vec<u8>>],
 }
 
 /// Lives this life with these writes cut, and boots the device behind each cut until a boot isn't
@@ -40,23 +40,19 @@ pub struct Life<'a, A: Allocator> {
 ///
 /// # Errors
 /// `AllocError` where memory is refused.
-pub fn live<A: Allocator>(
-    alloc: Global,
-    life: &Life<'_, A>,
-    cuts: &[Cut],
-) -> Result<LifeEnd, AllocError>
+pub fn live(alloc: Global, life: &Life<'_>, cuts: &[Cut]) -> Result<LifeEnd, AllocError>
     requires device { IsOfFile life.now.device.now }
     requires whole { IsFlashOf life.now.device.now.map life.now.bytes.now }
     ensures { IfOk result (IsLived life.now cuts.now) }
 {
-    live_on::<Brand, A>(alloc, Blank::new(2), life, cuts)
+    live_on::<Brand>(alloc, Blank::new(2), life, cuts)
 }
 
 /// The same, with the token that the flash counts by.
-fn live_on<L: Ledger, A: Allocator>(
+fn live_on<L: Ledger>(
     alloc: Global,
     blank: Blank,
-    life: &Life<'_, A>,
+    life: &Life<'_>,
     cuts: &[Cut],
 ) -> Result<LifeEnd, AllocError>
     requires name { blank.name ≡ L.name }
@@ -100,10 +96,10 @@ fn arm_all<L: Ledger>(
 
 /// Has these events come to a device whose flash has power, in order. Behind each in which a write
 /// is cut the device boots until a boot isn't cut, at most so many times.
-fn go_through<L: Ledger, A: Allocator>(
+fn go_through<L: Ledger>(
     alloc: Global,
     device: &mut Device<MemFlash<L>>,
-    events: &[Event<Vec<u8, A>>],
+    events: &[Event<Vec<u8>>],
     most: usize,
     notes: &mut Notes,
 ) -> Result<(), AllocError>

@@ -5,7 +5,7 @@ use crate::living::Life;
 use crate::notes::Said;
 use crate::text::write_event;
 use events::Event;
-use std::alloc::{AllocError, Allocator};
+use std::alloc::{AllocError, Global};
 
 /// How far right the squares begin, how wide one is and how high a row, in pixels.
 const LEFT: u64 = 150;
@@ -26,16 +26,12 @@ const MARKS: [Mark; 8] = [
     Mark::NotTried,
 ];
 
-/// A sweep as a picture in SVG, in memory of `heap`.
+/// A sweep as a picture in SVG, in memory of `alloc`.
 ///
 /// # Errors
 /// `AllocError` where that memory is refused.
-pub fn picture_of<'h, A: Allocator, B: Allocator>(
-    heap: &'h A,
-    life: &Life<'_, B>,
-    found: &Found<&'h A>,
-) -> Result<String<&'h A>, AllocError> {
-    let mut text = String::new(heap);
+pub fn picture_of(alloc: Global, life: &Life<'_>, found: &Found) -> Result<String, AllocError> {
+    let mut text = String::new(alloc);
     let width = width_of(&found.writes);
     let rows = life.events.len() as u64;
     let height = height_of(rows.saturating_add(MARKS.len() as u64 + 1));
@@ -73,10 +69,10 @@ fn height_of(row: u64) -> u64 {
 }
 
 /// Draws the rows of the events.
-fn draw_events<A: Allocator, B: Allocator>(
-    text: &mut String<&A>,
-    events: &[Event<Vec<u8, B>>],
-    found: &Found<&A>,
+fn draw_events(
+    text: &mut String,
+    events: &[Event<Vec<u8>>],
+    found: &Found,
 ) -> Result<(), AllocError> {
     let mut before = 0;
     for (place, event) in events.iter().enumerate() {
@@ -95,8 +91,8 @@ fn draw_events<A: Allocator, B: Allocator>(
 
 /// Draws a square for each write behind the first `before` of all, up to the one of the number
 /// `end`.
-fn draw_writes<A: Allocator>(
-    text: &mut String<&A>,
+fn draw_writes(
+    text: &mut String,
     marks: &[Mark],
     before: u32,
     end: u32,
@@ -118,12 +114,7 @@ fn draw_writes<A: Allocator>(
 }
 
 /// Begins a square.
-fn draw_square<A: Allocator>(
-    text: &mut String<&A>,
-    mark: Mark,
-    left: u64,
-    top: u64,
-) -> Result<(), AllocError> {
+fn draw_square(text: &mut String, mark: Mark, left: u64, top: u64) -> Result<(), AllocError> {
     let color = color_of(mark);
     write!(
         text,
@@ -136,7 +127,7 @@ fn draw_square<A: Allocator>(
 }
 
 /// Draws what the squares stand for, from this row on.
-fn draw_legend<A: Allocator>(text: &mut String<&A>, row: u64) -> Result<(), AllocError> {
+fn draw_legend(text: &mut String, row: u64) -> Result<(), AllocError> {
     let mut row = row;
     for mark in &MARKS {
         let top = height_of(row);

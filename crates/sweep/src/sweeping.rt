@@ -16,7 +16,7 @@ use boot_core::step;
 use common::limits::MOST_IMAGES;
 use events::Event;
 use random_numbers::Random;
-use std::alloc::{AllocError, Allocator, Global};
+use std::alloc::{AllocError, Global};
 use std::marker::Brand;
 use std::sync::ledger::{Blank, Ledger};
 use version_order::Version;
@@ -38,29 +38,27 @@ struct EndsBeside {
 /// Lives a life once without a cut, and then once with each write cut in each way, or as `plan`
 /// says. Who watches is told after each part.
 ///
-/// A device that has no memory for a manifest ends the sweep. Copies of the flash stand in memory
-/// of `alloc`, what is found in that of `heap`; both are a few numbers for each write and each
-/// event, and two copies of the flash at a time.
+/// A device that has no memory for a manifest ends the sweep. In memory of `alloc`
+/// stand two copies of the flash at a time, and a few numbers for each write and each event.
 ///
 /// # Errors
 /// `AllocError` where memory is refused.
-pub fn sweep<'h, A: Allocator, B: Allocator, W: Watch>(
+pub fn sweep<W: Watch>(
     alloc: Global,
-    heap: &'h A,
-    life: &Life<'_, B>,
+    life: &Life<'_>,
     plan: Plan,
     watch: &mut W,
-) -> Result<Found<&'h A>, AllocError>
+) -> Result<Found, AllocError>
     requires device { IsOfFile life.now.device.now }
     requires whole { IsFlashOf life.now.device.now.map life.now.bytes.now }
 {
-    let writes = count_writes::<Brand, A, B>(alloc, heap, Blank::new(2), life)?;
+    let writes = count_writes::<Brand>(alloc, Blank::new(2), life)?;
     let count = writes.last().copied().unwrap_or(0);
-    let marks = vec![in heap; Mark::NotTried; count as usize]?;
+    let marks = vec![in alloc; Mark::NotTried; count as usize]?;
     let mut found = Found {
         writes,
         marks,
-        sets: Vec::new(heap),
+        sets: Vec::new(alloc),
         all: Tally::none(),
         others: Tally::none(),
         refused: Tally::none(),
@@ -75,12 +73,11 @@ pub fn sweep<'h, A: Allocator, B: Allocator, W: Watch>(
 }
 
 /// For each event the number of writes that were made when it was over. No write is cut.
-fn count_writes<'h, L: Ledger, A: Allocator, B: Allocator>(
+fn count_writes<L: Ledger>(
     alloc: Global,
-    heap: &'h A,
     blank: Blank,
-    life: &Life<'_, B>,
-) -> Result<Vec<u32, &'h A>, AllocError>
+    life: &Life<'_>,
+) -> Result<Vec<u32>, AllocError>
     requires name { blank.name ≡ L.name }
     requires parts { blank.parts ≡ L.parts }
     requires two { L.parts ≡ 2 }
@@ -90,7 +87,7 @@ fn count_writes<'h, L: Ledger, A: Allocator, B: Allocator>(
     let bytes = Vec::from_slice(alloc, life.bytes)?;
     let flash = flash_of::<L>(alloc, blank, &life.device.map, bytes);
     let mut device = device_over(flash, life.device);
-    let mut writes = Vec::with_capacity(heap, life.events.len())?;
+    let mut writes = Vec::with_capacity(alloc, life.events.len())?;
     for event in life.events {
         let event = event.as_deref();
         let reply = step(alloc, &mut device, &event);
@@ -104,11 +101,11 @@ fn count_writes<'h, L: Ledger, A: Allocator, B: Allocator>(
 }
 
 /// Cuts each write in each way.
-fn cut_each<A: Allocator, B: Allocator, W: Watch>(
+fn cut_each<W: Watch>(
     alloc: Global,
-    life: &Life<'_, B>,
+    life: &Life<'_>,
     is_twice: bool,
-    found: &mut Found<A>,
+    found: &mut Found,
     watch: &mut W,
 ) -> Result<(), AllocError>
     requires device { IsOfFile life.now.device.now }
@@ -124,12 +121,12 @@ fn cut_each<A: Allocator, B: Allocator, W: Watch>(
 }
 
 /// Cuts a write in each way.
-fn cut_write<A: Allocator, B: Allocator>(
+fn cut_write(
     alloc: Global,
-    life: &Life<'_, B>,
+    life: &Life<'_>,
     write: u32,
     is_twice: bool,
-    found: &mut Found<A>,
+    found: &mut Found,
     beside: &mut Option<EndsBeside>,
 ) -> Result<(), AllocError>
     requires device { IsOfFile life.now.device.now }
@@ -146,12 +143,12 @@ fn cut_write<A: Allocator, B: Allocator>(
 }
 
 /// Cuts each write of the boot behind a cut too, which makes so many.
-fn cut_behind<A: Allocator, B: Allocator>(
+fn cut_behind(
     alloc: Global,
-    life: &Life<'_, B>,
+    life: &Life<'_>,
     first: Cut,
     behind: u32,
-    found: &mut Found<A>,
+    found: &mut Found,
     beside: &mut Option<EndsBeside>,
 ) -> Result<(), AllocError>
     requires device { IsOfFile life.now.device.now }
@@ -165,12 +162,12 @@ fn cut_behind<A: Allocator, B: Allocator>(
 }
 
 /// Cuts a write behind a cut in each way.
-fn cut_second<A: Allocator, B: Allocator>(
+fn cut_second(
     alloc: Global,
-    life: &Life<'_, B>,
+    life: &Life<'_>,
     first: Cut,
     write: u32,
-    found: &mut Found<A>,
+    found: &mut Found,
     beside: &mut Option<EndsBeside>,
 ) -> Result<(), AllocError>
     requires device { IsOfFile life.now.device.now }
@@ -184,12 +181,12 @@ fn cut_second<A: Allocator, B: Allocator>(
 }
 
 /// Makes so many runs with cuts that are drawn at random, a write and a way each.
-fn cut_some<A: Allocator, B: Allocator, W: Watch>(
+fn cut_some<W: Watch>(
     alloc: Global,
-    life: &Life<'_, B>,
+    life: &Life<'_>,
     plan: Plan,
     runs: u32,
-    found: &mut Found<A>,
+    found: &mut Found,
     watch: &mut W,
 ) -> Result<(), AllocError>
     requires device { IsOfFile life.now.device.now }
@@ -236,11 +233,11 @@ fn tear_at(number: u32) -> Tear {
 /// Lives a life with these cuts, and counts what came of it. The answer is how many writes there
 /// were from the one behind the first that was cut to the end of the boot that was not cut any
 /// more.
-fn try_cuts<A: Allocator, B: Allocator>(
+fn try_cuts(
     alloc: Global,
-    life: &Life<'_, B>,
+    life: &Life<'_>,
     cuts: Cuts,
-    found: &mut Found<A>,
+    found: &mut Found,
     beside: &mut Option<EndsBeside>,
 ) -> Result<u32, AllocError>
     requires device { IsOfFile life.now.device.now }
@@ -264,12 +261,12 @@ fn try_cuts<A: Allocator, B: Allocator>(
 
 /// Whether a run ended neither as the one without a cut nor as if power had failed beside the event
 /// in which a write was cut first, or that event were left out.
-fn is_other<A: Allocator, B: Allocator>(
+fn is_other(
     alloc: Global,
-    life: &Life<'_, B>,
+    life: &Life<'_>,
     cut: &CutNote,
     end: &LifeEnd,
-    found: &Found<A>,
+    found: &Found,
     beside: &mut Option<EndsBeside>,
 ) -> Result<bool, AllocError>
     requires device { IsOfFile life.now.device.now }
@@ -302,11 +299,7 @@ impl EndsBeside {
 
 /// What runs at the end of a life in which power fails beside the event of this number, from 0, or
 /// which goes on without it.
-fn live_beside<B: Allocator>(
-    alloc: Global,
-    life: &Life<'_, B>,
-    event: usize,
-) -> Result<EndsBeside, AllocError>
+fn live_beside(alloc: Global, life: &Life<'_>, event: usize) -> Result<EndsBeside, AllocError>
     requires device { IsOfFile life.now.device.now }
     requires whole { IsFlashOf life.now.device.now.map life.now.bytes.now }
 {
@@ -331,7 +324,7 @@ fn live_beside<B: Allocator>(
 }
 
 /// What comes where power fails between two events: the device is reset, and boots.
-fn power_fails<B: Allocator>(alloc: Global) -> Result<Vec<Event<Vec<u8, B>>>, AllocError> {
+fn power_fails(alloc: Global) -> Result<Vec<Event<Vec<u8>>>, AllocError> {
     let mut events = Vec::new(alloc);
     events.push(Event::Reset)?;
     events.push(Event::Boot)?;
@@ -340,13 +333,13 @@ fn power_fails<B: Allocator>(alloc: Global) -> Result<Vec<Event<Vec<u8, B>>>, Al
 
 /// What runs at the end where these events come to this device with these bytes on its flash,
 /// without a cut.
-fn end_of<B: Allocator>(
+fn end_of(
     alloc: Global,
     device: &DeviceFile,
     bytes: &[u8],
-    events: &[Event<Vec<u8, B>>],
-    between: &[Event<Vec<u8, B>>],
-    more: &[Event<Vec<u8, B>>],
+    events: &[Event<Vec<u8>>],
+    between: &[Event<Vec<u8>>],
+    more: &[Event<Vec<u8>>],
 ) -> Result<Option<ArrayVec<Version, MOST_IMAGES>>, AllocError>
     requires device { IsOfFile device.now }
     requires whole { IsFlashOf device.now.map bytes.now }

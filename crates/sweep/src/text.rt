@@ -4,19 +4,15 @@ use crate::found::{Found, Mark, SetTally, Tally};
 use crate::living::Life;
 use crate::notes::Said;
 use events::Event;
-use std::alloc::{AllocError, Allocator};
+use std::alloc::{AllocError, Global};
 
-/// What a sweep prints, in memory of `heap`: a line for each event, with a character for each write
+/// What a sweep prints, in memory of `alloc`: a line for each event, with a character for each write
 /// of it; how many runs there were; the sets that ran at the end of one; and what went wrong.
 ///
 /// # Errors
 /// `AllocError` where that memory is refused.
-pub fn found_text<'h, A: Allocator, B: Allocator>(
-    heap: &'h A,
-    life: &Life<'_, B>,
-    found: &Found<&'h A>,
-) -> Result<String<&'h A>, AllocError> {
-    let mut text = String::new(heap);
+pub fn found_text(alloc: Global, life: &Life<'_>, found: &Found) -> Result<String, AllocError> {
+    let mut text = String::new(alloc);
     write_events(&mut text, life.events, found)?;
     let runs = found.all.runs;
     writeln!(text, "runs {runs}")?;
@@ -27,10 +23,10 @@ pub fn found_text<'h, A: Allocator, B: Allocator>(
 }
 
 /// Adds a line for each event.
-fn write_events<A: Allocator, B: Allocator>(
-    text: &mut String<&A>,
-    events: &[Event<Vec<u8, B>>],
-    found: &Found<&A>,
+fn write_events(
+    text: &mut String,
+    events: &[Event<Vec<u8>>],
+    found: &Found,
 ) -> Result<(), AllocError> {
     let mut before = 0;
     for (place, event) in events.iter().enumerate() {
@@ -46,10 +42,7 @@ fn write_events<A: Allocator, B: Allocator>(
 }
 
 /// Adds the words of an event, as the line of a script has them, but for its files.
-pub(crate) fn write_event<A: Allocator, B: Allocator>(
-    text: &mut String<&A>,
-    event: &Event<Vec<u8, B>>,
-) -> Result<(), AllocError> {
+pub(crate) fn write_event(text: &mut String, event: &Event<Vec<u8>>) -> Result<(), AllocError> {
     match event {
         Event::Accept(_) => write!(text, "accept"),
         Event::Piece(image, _) => write!(text, "piece {image}"),
@@ -63,12 +56,7 @@ pub(crate) fn write_event<A: Allocator, B: Allocator>(
 
 /// Adds the number of the first write of an event, and a character for each of them, where there
 /// are any: those behind the first `before` of all, up to the one of the number `end`.
-fn write_marks<A: Allocator>(
-    text: &mut String<&A>,
-    marks: &[Mark],
-    before: u32,
-    end: u32,
-) -> Result<(), AllocError> {
+fn write_marks(text: &mut String, marks: &[Mark], before: u32, end: u32) -> Result<(), AllocError> {
     let Some(marks) = marks.get(before as usize..end as usize) else {
         return Ok(());
     };
@@ -100,7 +88,7 @@ fn character_of(mark: Mark) -> &'static str {
 
 /// Adds the sets that ran at the end of a run, each with the number of runs and the first cuts that
 /// lead to it.
-fn write_sets<A: Allocator>(text: &mut String<&A>, sets: &[SetTally]) -> Result<(), AllocError> {
+fn write_sets(text: &mut String, sets: &[SetTally]) -> Result<(), AllocError> {
     for set in sets {
         write_tally(text, "end", &set.tally)?;
         write_versions(text, set)?;
@@ -109,7 +97,7 @@ fn write_sets<A: Allocator>(text: &mut String<&A>, sets: &[SetTally]) -> Result<
 }
 
 /// Adds the images of a set.
-fn write_versions<A: Allocator>(text: &mut String<&A>, set: &SetTally) -> Result<(), AllocError> {
+fn write_versions(text: &mut String, set: &SetTally) -> Result<(), AllocError> {
     let Some(versions) = &set.versions else {
         return writeln!(text, "damaged");
     };
@@ -120,11 +108,7 @@ fn write_versions<A: Allocator>(text: &mut String<&A>, set: &SetTally) -> Result
 }
 
 /// Adds a line of runs that went wrong, where there are any.
-fn write_wrong<A: Allocator>(
-    text: &mut String<&A>,
-    word: &str,
-    tally: &Tally,
-) -> Result<(), AllocError> {
+fn write_wrong(text: &mut String, word: &str, tally: &Tally) -> Result<(), AllocError> {
     if tally.runs == 0 {
         return Ok(());
     }
@@ -132,11 +116,7 @@ fn write_wrong<A: Allocator>(
 }
 
 /// Adds a line with a word, a number of runs and the cuts of the first of them.
-fn write_tally<A: Allocator>(
-    text: &mut String<&A>,
-    word: &str,
-    tally: &Tally,
-) -> Result<(), AllocError> {
+fn write_tally(text: &mut String, word: &str, tally: &Tally) -> Result<(), AllocError> {
     let runs = tally.runs;
     match tally.first {
         Some(cuts) => writeln!(text, "{word} {runs} {cuts}"),

@@ -28,7 +28,7 @@ use machine::Reply;
 use reading_commands::{Access, Answer, Host, Refusal, Source, read_device, read_flash};
 use script::Line;
 use sector_map::SectorMap;
-use std::alloc::{AllocError, Allocator, Global};
+use std::alloc::{AllocError, Global};
 use std::io::Write;
 use std::marker::Brand;
 use std::sync::ledger::{Blank, Ledger};
@@ -39,18 +39,16 @@ use sweep::device_over;
 /// written through to its file at once, which is opened for `access`, one that writes. Where `why`
 /// is given, it is told why replies are as they are.
 ///
-/// The flash stands in memory of `alloc`, and so does what the device needs to run; the script's
-/// text is put into `text`, and all else stands in memory of `heap`. All files are judged before
+/// All stands in memory of `alloc`; the script's text is put into `text`. All files are judged before
 /// anything is run, and the flash's is held from then on. What a line names is read as its event
 /// comes, so that of the script only its text stands in memory, and what can't be read twice.
-pub fn perform<'a, 'h, A: Allocator, H: Host, O: Write, E: Write>(
+pub fn perform<'a, H: Host, O: Write, E: Write>(
     alloc: Global,
-    heap: &'h A,
     device: Source<'a>,
     flash: &'a str,
     access: Access,
     script: Source<'a>,
-    text: &'a mut Vec<u8, &'h A>,
+    text: &'a mut Vec<u8>,
     host: &mut H,
     out: &mut O,
     why: Option<&mut E>,
@@ -60,18 +58,18 @@ pub fn perform<'a, 'h, A: Allocator, H: Host, O: Write, E: Write>(
         (H.input host.old) (H.file host.old) (O.contents out.old) (O.contents out.new)) }
 {
     let is_input_read = device.is_standard_input() || script.is_standard_input();
-    let Some(device) = read_device(alloc, heap, device, host, out)? else {
+    let Some(device) = read_device(alloc, device, host, out)? else {
         return Ok(Answer::Refused);
     };
     let bytes = read_flash(alloc, Source::File(flash), &device.map, access, host)?;
-    *text = read_script(heap, script, host)?;
-    let Judged { cuts, kept, .. } = judge(alloc, heap, text, Some(flash), is_input_read, host)?;
+    *text = read_script(alloc, script, host)?;
+    let Judged { cuts, kept, .. } = judge(alloc, text, Some(flash), is_input_read, host)?;
     let sources = Sources {
-        heap,
+        alloc,
         host: &*host,
         kept: &kept,
     };
-    let mut notes = ReplyNotes::new(alloc, heap, &device, why);
+    let mut notes = ReplyNotes::new(alloc, &device, why);
     let answer = play_text(alloc, &device, bytes, cuts, text, &sources, out, &mut notes)?;
     match host.sync_flash() {
         Ok(()) => Ok(answer),
@@ -82,15 +80,15 @@ pub fn perform<'a, 'h, A: Allocator, H: Host, O: Write, E: Write>(
 /// Runs what comes by the lines of a script on a device that has these bytes on its flash, with
 /// these writes of the flash cut, and writes each reply to `out` as its event is done. What changes
 /// is written through to the file of the flash, which holds the bytes.
-fn play_text<'a, 'h, A: Allocator, H: Host, O: Write, E: Write>(
+fn play_text<'a, H: Host, O: Write, E: Write>(
     alloc: Global,
     device: &DeviceFile,
     bytes: Vec<u8>,
     cuts: Vec<Cut>,
     text: &'a [u8],
-    sources: &Sources<'a, 'h, '_, '_, A, H>,
+    sources: &Sources<'a, '_, '_, H>,
     out: &mut O,
-    notes: &mut ReplyNotes<'_, '_, '_, A, E>,
+    notes: &mut ReplyNotes<'_, '_, E>,
 ) -> Result<Answer, Refusal<'a>>
     requires device { IsOfFile device.now }
     requires whole { IsFlashOf device.now.map bytes.items }
@@ -102,7 +100,7 @@ fn play_text<'a, 'h, A: Allocator, H: Host, O: Write, E: Write>(
         sources.now.kept.now (H.file sources.now.host.now) (O.contents out.old) (O.contents out.new)) }
 {
     let file = HostFile { host: sources.host };
-    play::<Brand, Brand, _, _, _, _, _>(
+    play::<Brand, Brand, _, _, _, _>(
         alloc,
         Blank::new(2),
         Blank::new(2),
@@ -120,17 +118,7 @@ fn play_text<'a, 'h, A: Allocator, H: Host, O: Write, E: Write>(
 /// Runs what comes by the lines of a script on a device that has these bytes on its flash, with
 /// these writes of the flash cut, writes each reply to `out` as its event is done, and what changes
 /// to the file of the flash, which holds the bytes.
-fn play<
-    'a,
-    'h,
-    L: Ledger,
-    M: Ledger,
-    A: Allocator,
-    H: Host,
-    F: FlashFile + Drop,
-    O: Write,
-    E: Write,
->(
+fn play<'a, L: Ledger, M: Ledger, H: Host, F: FlashFile + Drop, O: Write, E: Write>(
     alloc: Global,
     blank: Blank,
     memory_blank: Blank,
@@ -138,10 +126,10 @@ fn play<
     bytes: Vec<u8>,
     cuts: Vec<Cut>,
     text: &'a [u8],
-    sources: &Sources<'a, 'h, '_, '_, A, H>,
+    sources: &Sources<'a, '_, '_, H>,
     file: F,
     out: &mut O,
-    notes: &mut ReplyNotes<'_, '_, '_, A, E>,
+    notes: &mut ReplyNotes<'_, '_, E>,
 ) -> Result<Answer, Refusal<'a>>
     requires name { blank.name ≡ L.name }
     requires parts { blank.parts ≡ L.parts }
@@ -217,13 +205,13 @@ fn arm_all<M: Ledger>(memory: &mut MemFlash<M>, cuts: Vec<Cut>) -> Result<(), Al
 /// Runs what comes by the lines of a script on a device, in order, and writes each reply to `out` as
 /// its event is done, before the next one. Where a reply can't be written, or the file of a line
 /// can't be read any more, no event is run after it.
-fn tell_each<'a, 'h, A: Allocator, H: Host, F: Flash, O: Write, E: Write>(
+fn tell_each<'a, H: Host, F: Flash, O: Write, E: Write>(
     alloc: Global,
     device: &mut Device<F>,
     text: &'a [u8],
-    sources: &Sources<'a, 'h, '_, '_, A, H>,
+    sources: &Sources<'a, '_, '_, H>,
     out: &mut O,
-    notes: &mut ReplyNotes<'_, '_, '_, A, E>,
+    notes: &mut ReplyNotes<'_, '_, E>,
 ) -> Result<Answer, Refusal<'a>>
     requires { device.old.here.flash.is_on ≡ true }
     ensures all { IfOk result (λ answer.
@@ -241,21 +229,20 @@ fn tell_each<'a, 'h, A: Allocator, H: Host, F: Flash, O: Write, E: Write>(
         if let Line::Event(event) = lines.next_line()? {
             let event = sources.bring(&mut used, lines.number, event)?;
             number += 1;
-            answer = tell_event(alloc, sources.heap, device, number, event, out, notes)?;
+            answer = tell_event(alloc, device, number, event, out, notes)?;
         }
     }
     Ok(answer)
 }
 
 /// Has this event come to a device, and writes the reply to it to `out`.
-fn tell_event<'a, A: Allocator, B: Allocator, F: Flash, O: Write, E: Write>(
+fn tell_event<'a, F: Flash, O: Write, E: Write>(
     alloc: Global,
-    heap: &A,
     device: &mut Device<F>,
     number: usize,
-    event: Event<Vec<u8, B>>,
+    event: Event<Vec<u8>>,
     out: &mut O,
-    notes: &mut ReplyNotes<'_, '_, '_, A, E>,
+    notes: &mut ReplyNotes<'_, '_, E>,
 ) -> Result<Answer, Refusal<'a>>
     requires { device.old.here.flash.is_on ≡ true }
     ensures setup { device.new.setup ≡ device.old.setup }
@@ -269,14 +256,14 @@ fn tell_event<'a, A: Allocator, B: Allocator, F: Flash, O: Write, E: Write>(
 {
     let lent = event.as_deref();
     let reply = step(alloc, device, &lent);
-    tell_reply(heap, number, &reply, out)?;
+    tell_reply(alloc, number, &reply, out)?;
     notes.tell(number, &event, &reply);
     Ok(answer_after(&reply))
 }
 
 /// Writes the reply to the event of this number to `out`, and flushes it.
-fn tell_reply<'a, A: Allocator, O: Write>(
-    heap: &A,
+fn tell_reply<'a, O: Write>(
+    alloc: Global,
     number: usize,
     reply: &Reply,
     out: &mut O,
@@ -287,7 +274,7 @@ fn tell_reply<'a, A: Allocator, O: Write>(
         BreaksOff refusal (reply_text number reply.now)
         (O.contents out.old) (O.contents out.new)) }
 {
-    let Ok(text) = reply_text(heap, number, reply) else {
+    let Ok(text) = reply_text(alloc, number, reply) else {
         return Err(Refusal::NoMemory);
     };
     if write_all(out, text.as_bytes()).is_err() {

@@ -11,7 +11,7 @@ use answers::{flash_of, refused_fault_text, write_all};
 use machine::Fault;
 use reading_commands::{Answer, FlashFault, Host, Refusal, Source, read_device};
 use sector_map::{SectorMap, Side};
-use std::alloc::{AllocError, Allocator, Global};
+use std::alloc::{AllocError, Global};
 use std::io::Write;
 use std::marker::Brand;
 use std::sync::ledger::{Blank, Ledger};
@@ -34,15 +34,13 @@ pub struct FlashName<'a> {
 
 /// Reads a device file and its images from `host`, makes a flash with each image at the front of
 /// its primary slot, makes it a device's, and then makes or replaces its file. Writes to `out` that
-/// it is done, or why it is refused. The flash stands in memory of `alloc`, and so does what the
-/// device file is as a JSON value; all else stands in memory of `heap`.
+/// it is done, or why it is refused. All stands in memory of `alloc`.
 ///
 /// All is judged before the file is touched, which is none of those that are read. Unless the
 /// answer is `Done`, or can't be written, the file is as it was; but a block device of which a
 /// write failed may hold a part of what it was to hold.
-pub fn perform<'a, A: Allocator, H: Host, O: Write>(
+pub fn perform<'a, H: Host, O: Write>(
     alloc: Global,
-    heap: &A,
     device: Source<'a>,
     flash: &'a str,
     images: &[&'a str],
@@ -57,21 +55,20 @@ pub fn perform<'a, A: Allocator, H: Host, O: Write>(
         → LeavesFiles device.entry (names_of images.now) (H.file host.old) (H.file host.new) }
 {
     let source = device;
-    let Some(device) = read_device(alloc, heap, source, host, out)? else {
+    let Some(device) = read_device(alloc, source, host, out)? else {
         return Ok(Answer::Refused);
     };
-    let bytes = read_images(alloc, heap, &device.map, images, host)?;
+    let bytes = read_images(alloc, &device.map, images, host)?;
     refuse_inputs(host, flash, source, images)?;
     let (blank, file) = (Blank::new(2), FlashName { name: flash });
-    let made = make_flash::<Brand, _, _>(alloc, heap, blank, &device.map, bytes, file, host);
-    tell_made(heap, made?, out)
+    let made = make_flash::<Brand, _>(alloc, blank, &device.map, bytes, file, host);
+    tell_made(alloc, made?, out)
 }
 
 /// The bytes of a flash that holds these images, each at the front of its primary slot, and is
 /// erased elsewhere.
-pub(crate) fn read_images<'a, A: Allocator, H: Host>(
+pub(crate) fn read_images<'a, H: Host>(
     alloc: Global,
-    heap: &A,
     map: &SectorMap,
     images: &[&'a str],
     host: &mut H,
@@ -91,7 +88,7 @@ pub(crate) fn read_images<'a, A: Allocator, H: Host>(
     for image in 0..map.images {
         let source = source_at(images, image);
         let most = map.slot_length(image);
-        let file = source.read_start(heap, host, most)?;
+        let file = source.read_start(alloc, host, most)?;
         if file.len() > most as usize {
             return Err(Refusal::ImageTooBig(image));
         }
@@ -158,9 +155,8 @@ fn refuse_input<'a, H: Host>(host: &H, flash: &str, source: Source<'_>) -> Resul
 }
 
 /// Makes the flash of these bytes a device's, and then makes or replaces its file.
-fn make_flash<'a, L: Ledger, A: Allocator, H: Host>(
+fn make_flash<'a, L: Ledger, H: Host>(
     alloc: Global,
-    heap: &A,
     blank: Blank,
     map: &SectorMap,
     bytes: Vec<u8>,
@@ -181,13 +177,13 @@ fn make_flash<'a, L: Ledger, A: Allocator, H: Host>(
     if let Err(fault) = boot_core::provision(&mut flash, map) {
         return Ok(Made::Refused(fault));
     }
-    replace(heap, file.name, flash.bytes(), host)?;
+    replace(alloc, file.name, flash.bytes(), host)?;
     Ok(Made::Done)
 }
 
 /// Makes or replaces the file of a flash of these bytes.
-fn replace<'a, A: Allocator, H: Host>(
-    heap: &A,
+fn replace<'a, H: Host>(
+    alloc: Global,
     name: &str,
     bytes: &[u8],
     host: &mut H,
@@ -195,7 +191,7 @@ fn replace<'a, A: Allocator, H: Host>(
     ensures done { OnOk result (IsKnownAs (H.file host.new name.now) bytes.now) }
     ensures failed { IfErr result (λ _. KeepsFiles (H.file host.old) (H.file host.new)) }
 {
-    match host.replace_file(heap, name, bytes) {
+    match host.replace_file(alloc, name, bytes) {
         Ok(()) => Ok(()),
         Err(FlashFault::InUse) => Err(Refusal::FlashInUse),
         Err(FlashFault::WrongLength) => Err(Refusal::FlashSize),
@@ -205,8 +201,8 @@ fn replace<'a, A: Allocator, H: Host>(
 }
 
 /// Writes to `out` what came of making a flash. Of one that is made it takes no memory to tell.
-pub(crate) fn tell_made<'a, A: Allocator, O: Write>(
-    heap: &A,
+pub(crate) fn tell_made<'a, O: Write>(
+    alloc: Global,
     made: Made,
     out: &mut O,
 ) -> Result<Answer, Refusal<'a>>
@@ -217,7 +213,7 @@ pub(crate) fn tell_made<'a, A: Allocator, O: Write>(
     match made {
         Made::Done => tell(b"done\n", Answer::Done, out),
         Made::Refused(fault) => {
-            let Ok(text) = refused_fault_text(heap, fault) else {
+            let Ok(text) = refused_fault_text(alloc, fault) else {
                 return Err(Refusal::NoMemory);
             };
             tell(text.as_bytes(), Answer::Refused, out)

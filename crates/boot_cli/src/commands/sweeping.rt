@@ -13,7 +13,7 @@ use events::Event;
 use machine::Fault;
 use reading_commands::{Answer, FlashFault, Host, Refusal, Source, read_device};
 use sector_map::SectorMap;
-use std::alloc::{AllocError, Allocator, Global};
+use std::alloc::{AllocError, Global};
 use std::io::Write;
 use std::marker::Brand;
 use std::sync::ledger::{Blank, Ledger};
@@ -52,17 +52,16 @@ struct Progress<'a, H, E> {
 
 /// Reads a device file, a script and images from `host`, makes a flash in memory a device's, runs
 /// the script on it with the writes cut that `choices` ask for, and writes to `out` what came of
-/// it. The script's text is put into `text`. Flashes stand in memory of `alloc`, all else in that
-/// of `heap`. Where somebody watches, `err` is told how far it is.
+/// it. The script's text is put into `text`. All stands in memory of `alloc`. Where somebody
+/// watches, `err` is told how far it is.
 ///
 /// All files are judged before anything is run, and none is changed but the picture, where one is
 /// asked for, which is made or replaced once all is run.
-pub fn perform<'a, 'h, A: Allocator, H: Host, O: Write, E: Write>(
+pub fn perform<'a, H: Host, O: Write, E: Write>(
     alloc: Global,
-    heap: &'h A,
     named: Named<'a, '_>,
     choices: &SweepChoices<'a>,
-    text: &'a mut Vec<u8, &'h A>,
+    text: &'a mut Vec<u8>,
     host: &mut H,
     out: &mut O,
     err: &mut E,
@@ -71,15 +70,14 @@ pub fn perform<'a, 'h, A: Allocator, H: Host, O: Write, E: Write>(
         (H.input host.old) (H.file host.old) (O.contents out.old) (O.contents out.new)) }
 {
     let is_input_read = reads_standard_input(&named);
-    let Some(device) = read_device(alloc, heap, named.device, host, out)? else {
+    let Some(device) = read_device(alloc, named.device, host, out)? else {
         return Ok(Answer::Refused);
     };
-    *text = read_script(heap, named.script, host)?;
-    let events = load(alloc, heap, text, is_input_read, host)?;
+    *text = read_script(alloc, named.script, host)?;
+    let events = load(alloc, text, is_input_read, host)?;
     refuse_inputs(host, choices.picture, &named)?;
     sweep_images(
         alloc,
-        heap,
         &device,
         &events,
         named.images,
@@ -137,11 +135,10 @@ fn refuse_input<'a, H: Host>(
 }
 
 /// Makes a flash with these images a device's, and sweeps these events on it.
-fn sweep_images<'a, A: Allocator, B: Allocator, H: Host, O: Write, E: Write>(
+fn sweep_images<'a, H: Host, O: Write, E: Write>(
     alloc: Global,
-    heap: &A,
     device: &DeviceFile,
-    events: &[Event<Vec<u8, B>>],
+    events: &[Event<Vec<u8>>],
     images: &[&'a str],
     choices: &SweepChoices<'a>,
     host: &mut H,
@@ -151,12 +148,12 @@ fn sweep_images<'a, A: Allocator, B: Allocator, H: Host, O: Write, E: Write>(
     requires device { IsOfFile device.now }
     ensures { IfOk result (λ answer. status_of_answer answer ≤ 1) }
 {
-    let bytes = read_images(alloc, heap, &device.map, images, host)?;
+    let bytes = read_images(alloc, &device.map, images, host)?;
     let Ok(made) = provision_in_memory::<Brand>(alloc, Blank::new(2), &device.map, bytes) else {
         return Err(Refusal::NoMemory);
     };
     match made {
-        Provisioned::Refused(fault) => tell_made(heap, Made::Refused(fault), out),
+        Provisioned::Refused(fault) => tell_made(alloc, Made::Refused(fault), out),
         Provisioned::Done(bytes) => {
             let life = Life {
                 device,
@@ -165,7 +162,7 @@ fn sweep_images<'a, A: Allocator, B: Allocator, H: Host, O: Write, E: Write>(
                 between: &[],
                 more: &[],
             };
-            tell_sweep(alloc, heap, &life, choices, host, out, err)
+            tell_sweep(alloc, &life, choices, host, out, err)
         }
     }
 }
@@ -191,10 +188,9 @@ fn provision_in_memory<L: Ledger>(
 }
 
 /// Sweeps a life, makes the picture where one is asked for, and writes what was found to `out`.
-fn tell_sweep<'a, A: Allocator, B: Allocator, H: Host, O: Write, E: Write>(
+fn tell_sweep<'a, H: Host, O: Write, E: Write>(
     alloc: Global,
-    heap: &A,
-    life: &Life<'_, B>,
+    life: &Life<'_>,
     choices: &SweepChoices<'a>,
     host: &mut H,
     out: &mut O,
@@ -205,16 +201,16 @@ fn tell_sweep<'a, A: Allocator, B: Allocator, H: Host, O: Write, E: Write>(
     ensures { IfOk result (λ answer. status_of_answer answer ≤ 1) }
 {
     let mut progress = Progress::new(host, err);
-    let Ok(found) = sweep(alloc, heap, life, plan_of(choices), &mut progress) else {
+    let Ok(found) = sweep(alloc, life, plan_of(choices), &mut progress) else {
         return Err(Refusal::NoMemory);
     };
     if let Some(name) = choices.picture {
-        let Ok(picture) = picture_of(heap, life, &found) else {
+        let Ok(picture) = picture_of(alloc, life, &found) else {
             return Err(Refusal::NoMemory);
         };
-        replace(heap, name, picture.as_bytes(), host)?;
+        replace(alloc, name, picture.as_bytes(), host)?;
     }
-    let Ok(text) = found_text(heap, life, &found) else {
+    let Ok(text) = found_text(alloc, life, &found) else {
         return Err(Refusal::NoMemory);
     };
     match write_all(out, text.as_bytes()) {
@@ -244,13 +240,13 @@ fn answer_of(is_good: bool) -> Answer
 }
 
 /// Makes or replaces the file of the picture.
-fn replace<'a, A: Allocator, H: Host>(
-    heap: &A,
+fn replace<'a, H: Host>(
+    alloc: Global,
     name: &'a str,
     bytes: &[u8],
     host: &mut H,
 ) -> Result<(), Refusal<'a>> {
-    match host.replace_file(heap, name, bytes) {
+    match host.replace_file(alloc, name, bytes) {
         Ok(()) => Ok(()),
         Err(FlashFault::NoMemory) => Err(Refusal::NoMemory),
         Err(FlashFault::InUse | FlashFault::WrongLength | FlashFault::Failed(_)) => {

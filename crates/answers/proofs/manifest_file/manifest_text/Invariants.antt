@@ -6,6 +6,6 @@ use Rattle.answers.proofs.manifest_file.manifest_text.Given as goal
 
 -- the text so far is that of the components so far
 abbrev pub invariant-loop-component : goal.invariant-loop-component
-invariant-loop-component g l =
+invariant-loop-component l =
     string_bytes l.text ≡ line_text (codes "sequence") (decimal l.sequence)
     ++ printed_lines component_text (take l.component-index l.component-items)

@@ -5,7 +5,7 @@ use Rattle.answers.proofs.manifest_file.write_component.Goals as goal
 
 -- The parts are those that the component's text has.
 pub returns : goal.returns
-returns g c =
+returns c =
     let digest = rw c.as_slice.ensures at c.in_ok-digest.ensures in
     let precursor = c.in_ok-precursor.ensures in
     let kind = c.kind_text-kind.ensures in

@@ -4,7 +4,7 @@ use Rattle.making_commands.proofs.make_image.slices_of.Goals as goal
 
 -- The alternatives of one group more.
 pub loop-group-preserved : goal.loop-group-preserved
-loop-group-preserved g c =
+loop-group-preserved c =
     rw c.in_ok-push.ensures.items
     (AllZip-more AreAlternatives (λ group. group.items) c.args.groups.now c.loop-group.slices.items
     c.loop-group.group-index c.group-item.result c.as_slice.result c.loop-group-test.true c.group-item.is
