@@ -1,13 +1,8 @@
 //! The program and its subcommands, as `clap` is told of them.
 
-ghost use Rattle.std.specs.Prelude.{◌≡◌, IfOk};
+ghost use Rattle.std.specs.Prelude.{◌≡◌, IfOk, map};
 ghost use Rattle.clap.specs.Words.{app_of, new_app, shape_of};
-ghost use Rattle.command_line.specs.Commands.{bootswap, check_shape, choose_shape, codes_shape};
-ghost use Rattle.command_line.specs.Commands.{extract_shape, image_shape, make_device_shape};
-ghost use Rattle.command_line.specs.Commands.{make_image_shape};
-ghost use Rattle.command_line.specs.Commands.{make_manifest_shape, manifest_shape, program};
-ghost use Rattle.command_line.specs.Commands.{provision_shape, run_shape, shape_for, show_shape, slots_shape};
-ghost use Rattle.command_line.specs.Commands.{sweep_shape, with_command};
+ghost use Rattle.command_line.specs.Commands.{bootswap, program, rule_for, shape_for, with_command};
 
 use crate::arguments::{Argument, with_arguments};
 use crate::help::Help;
@@ -117,6 +112,115 @@ pub mod named {
 /// The option that each subcommand has.
 const EXPLAIN: Argument = Argument::Flag(named::EXPLAIN, argument_help::EXPLAIN);
 
+// What each subcommand is given, in the order in which help tells it.
+
+const CHOOSE_ARGUMENTS: &[Argument] = &[
+    Argument::File(named::TABLE, argument_help::TABLE_FILE),
+    EXPLAIN,
+];
+
+const CHECK_ARGUMENTS: &[Argument] = &[
+    Argument::File(named::TABLE, argument_help::TABLE_FILE),
+    Argument::File(named::REPORT, argument_help::REPORT_FILE),
+    EXPLAIN,
+];
+
+const IMAGE_ARGUMENTS: &[Argument] = &[
+    Argument::File(named::FILE, argument_help::IMAGE_FILE),
+    EXPLAIN,
+];
+
+const MANIFEST_ARGUMENTS: &[Argument] = &[
+    Argument::File(named::DEVICE, argument_help::DEVICE_FILE),
+    Argument::File(named::FILE, argument_help::MANIFEST_FILE),
+    EXPLAIN,
+];
+
+const MAKE_DEVICE_ARGUMENTS: &[Argument] = &[
+    Argument::Required(named::SECTOR, argument_help::SECTOR),
+    Argument::Required(named::SLOTS, argument_help::SLOTS),
+    Argument::Required(named::VENDOR, argument_help::VENDOR),
+    Argument::Required(named::CLASS, argument_help::CLASS),
+    Argument::Optional(named::TRIAL_BOOTS, argument_help::TRIAL_BOOTS),
+    EXPLAIN,
+];
+
+const MAKE_IMAGE_ARGUMENTS: &[Argument] = &[
+    Argument::File(named::OUT, argument_help::NEW_IMAGE_FILE),
+    Argument::File(named::BODY, argument_help::BODY_FILE),
+    Argument::Required(named::VERSION, argument_help::VERSION),
+    Argument::Aliased(
+        named::COUNTER,
+        named::SECURITY_COUNTER,
+        argument_help::COUNTER,
+    ),
+    Argument::Repeated(named::NEEDS, argument_help::NEEDS),
+    Argument::Repeated(named::DEPENDENCIES, argument_help::DEPENDENCIES),
+    Argument::Repeated(named::NEEDS_ONE, argument_help::NEEDS_ONE),
+    Argument::Optional(named::HEADER_SIZE, argument_help::HEADER_SIZE),
+    Argument::Optional(named::LOAD_ADDRESS, argument_help::LOAD_ADDRESS),
+    Argument::Optional(named::FLAGS, argument_help::FLAGS),
+    EXPLAIN,
+];
+
+const MAKE_MANIFEST_ARGUMENTS: &[Argument] = &[
+    Argument::File(named::DEVICE, argument_help::DEVICE_FILE),
+    Argument::Required(named::SEQUENCE, argument_help::SEQUENCE),
+    Argument::Optional(named::PRECURSOR, argument_help::PRECURSOR),
+    Argument::Repeated(named::TEST, argument_help::TEST),
+    Argument::Repeated(named::PERMANENT, argument_help::PERMANENT),
+    EXPLAIN,
+];
+
+const PROVISION_ARGUMENTS: &[Argument] = &[
+    Argument::File(named::DEVICE, argument_help::DEVICE_FILE),
+    Argument::File(named::FLASH, argument_help::NEW_FLASH_FILE),
+    Argument::Files(named::IMAGE, argument_help::IMAGE_FILES),
+    EXPLAIN,
+];
+
+const EXTRACT_ARGUMENTS: &[Argument] = &[
+    Argument::File(named::DEVICE, argument_help::DEVICE_FILE),
+    Argument::File(named::FLASH, argument_help::SHOWN_FLASH_FILE),
+    Argument::File(named::IMAGE, argument_help::IMAGE_NUMBER),
+    Argument::File(named::SIDE, argument_help::SLOT_SIDE),
+    Argument::File(named::OUT, argument_help::NEW_IMAGE_FILE),
+    EXPLAIN,
+];
+
+const SHOW_ARGUMENTS: &[Argument] = &[
+    Argument::File(named::DEVICE, argument_help::DEVICE_FILE),
+    Argument::File(named::FLASH, argument_help::SHOWN_FLASH_FILE),
+    EXPLAIN,
+];
+
+const SLOTS_ARGUMENTS: &[Argument] = &[
+    Argument::File(named::DEVICE, argument_help::DEVICE_FILE),
+    Argument::File(named::FLASH, argument_help::SHOWN_FLASH_FILE),
+    EXPLAIN,
+];
+
+const RUN_ARGUMENTS: &[Argument] = &[
+    Argument::File(named::DEVICE, argument_help::DEVICE_FILE),
+    Argument::File(named::FLASH, argument_help::FLASH_FILE),
+    Argument::File(named::SCRIPT, argument_help::SCRIPT_FILE),
+    Argument::Flag(named::DURABLE, argument_help::DURABLE),
+    EXPLAIN,
+];
+
+const SWEEP_ARGUMENTS: &[Argument] = &[
+    Argument::File(named::DEVICE, argument_help::DEVICE_FILE),
+    Argument::File(named::SCRIPT, argument_help::SCRIPT_FILE),
+    Argument::Files(named::IMAGE, argument_help::IMAGE_FILES),
+    Argument::Flag(named::TWICE, argument_help::TWICE),
+    Argument::Optional(named::SAMPLE, argument_help::SAMPLE),
+    Argument::Optional(named::SEED, argument_help::SEED),
+    Argument::Optional(named::SVG, argument_help::SVG),
+    EXPLAIN,
+];
+
+const CODES_ARGUMENTS: &[Argument] = &[EXPLAIN];
+
 /// A subcommand of the program.
 #[derive(Clone, Copy)]
 pub enum Subcommand {
@@ -170,7 +274,7 @@ pub fn bootswap<'a>(alloc: Global) -> Result<Command<'a>, AllocError>
 fn program<'a>(alloc: Global) -> Result<Command<'a>, AllocError>
     ensures { IfOk result (λ command. app_of command ≡ program) }
 {
-    let command = new_command(alloc, "bootswap", help::PROGRAM)
+    let command = new_command(alloc, "bootswap", &help::PROGRAM)
         .version("0.1.0")
         .subcommand_required(true);
     command.bin_name("bootswap")
@@ -192,21 +296,72 @@ impl Subcommand {
     pub fn command<'a>(self, alloc: Global) -> Result<Command<'a>, AllocError>
         ensures { IfOk result (λ command. shape_of command ≡ shape_for self) }
     {
+        let name: &'a str = self.name();
+        let command = new_command(alloc, name, self.help());
+        with_arguments(alloc, command, self.arguments())
+    }
+
+    /// Its name.
+    fn name(self) -> &'static str
+        ensures { result.now ≡ (shape_for self).name }
+    {
         match self {
-            Subcommand::Choose => choose(alloc),
-            Subcommand::Check => check(alloc),
-            Subcommand::Image => image(alloc),
-            Subcommand::Manifest => manifest(alloc),
-            Subcommand::MakeDevice => make_device(alloc),
-            Subcommand::MakeImage => make_image(alloc),
-            Subcommand::MakeManifest => make_manifest(alloc),
-            Subcommand::Provision => provision(alloc),
-            Subcommand::Extract => extract(alloc),
-            Subcommand::Show => show(alloc),
-            Subcommand::Slots => slots(alloc),
-            Subcommand::Run => run(alloc),
-            Subcommand::Sweep => sweep(alloc),
-            Subcommand::Codes => codes(alloc),
+            Subcommand::Choose => CHOOSE,
+            Subcommand::Check => CHECK,
+            Subcommand::Image => IMAGE,
+            Subcommand::Manifest => MANIFEST,
+            Subcommand::MakeDevice => MAKE_DEVICE,
+            Subcommand::MakeImage => MAKE_IMAGE,
+            Subcommand::MakeManifest => MAKE_MANIFEST,
+            Subcommand::Provision => PROVISION,
+            Subcommand::Extract => EXTRACT,
+            Subcommand::Show => SHOW,
+            Subcommand::Slots => SLOTS,
+            Subcommand::Run => RUN,
+            Subcommand::Sweep => SWEEP,
+            Subcommand::Codes => CODES,
+        }
+    }
+
+    /// What help says of it.
+    fn help(self) -> &'static Help {
+        match self {
+            Subcommand::Choose => &help::CHOOSE,
+            Subcommand::Check => &help::CHECK,
+            Subcommand::Image => &help::IMAGE,
+            Subcommand::Manifest => &help::MANIFEST,
+            Subcommand::MakeDevice => &help::MAKE_DEVICE,
+            Subcommand::MakeImage => &help::MAKE_IMAGE,
+            Subcommand::MakeManifest => &help::MAKE_MANIFEST,
+            Subcommand::Provision => &help::PROVISION,
+            Subcommand::Extract => &help::EXTRACT,
+            Subcommand::Show => &help::SHOW,
+            Subcommand::Slots => &help::SLOTS,
+            Subcommand::Run => &help::RUN,
+            Subcommand::Sweep => &help::SWEEP,
+            Subcommand::Codes => &help::CODES,
+        }
+    }
+
+    /// What it is given.
+    fn arguments(self) -> &'static [Argument]
+        ensures { map rule_for result.now ≡ (shape_for self).rules }
+    {
+        match self {
+            Subcommand::Choose => CHOOSE_ARGUMENTS,
+            Subcommand::Check => CHECK_ARGUMENTS,
+            Subcommand::Image => IMAGE_ARGUMENTS,
+            Subcommand::Manifest => MANIFEST_ARGUMENTS,
+            Subcommand::MakeDevice => MAKE_DEVICE_ARGUMENTS,
+            Subcommand::MakeImage => MAKE_IMAGE_ARGUMENTS,
+            Subcommand::MakeManifest => MAKE_MANIFEST_ARGUMENTS,
+            Subcommand::Provision => PROVISION_ARGUMENTS,
+            Subcommand::Extract => EXTRACT_ARGUMENTS,
+            Subcommand::Show => SHOW_ARGUMENTS,
+            Subcommand::Slots => SLOTS_ARGUMENTS,
+            Subcommand::Run => RUN_ARGUMENTS,
+            Subcommand::Sweep => SWEEP_ARGUMENTS,
+            Subcommand::Codes => CODES_ARGUMENTS,
         }
     }
 
@@ -231,208 +386,8 @@ impl Subcommand {
     }
 }
 
-fn choose<'a>(alloc: Global) -> Result<Command<'a>, AllocError>
-    ensures { IfOk result (λ command. shape_of command ≡ choose_shape) }
-{
-    let arguments = [
-        Argument::File(named::TABLE, argument_help::TABLE_FILE),
-        EXPLAIN,
-    ];
-    with_arguments(alloc, new_command(alloc, CHOOSE, help::CHOOSE), &arguments)
-}
-
-fn check<'a>(alloc: Global) -> Result<Command<'a>, AllocError>
-    ensures { IfOk result (λ command. shape_of command ≡ check_shape) }
-{
-    let arguments = [
-        Argument::File(named::TABLE, argument_help::TABLE_FILE),
-        Argument::File(named::REPORT, argument_help::REPORT_FILE),
-        EXPLAIN,
-    ];
-    with_arguments(alloc, new_command(alloc, CHECK, help::CHECK), &arguments)
-}
-
-fn image<'a>(alloc: Global) -> Result<Command<'a>, AllocError>
-    ensures { IfOk result (λ command. shape_of command ≡ image_shape) }
-{
-    let arguments = [
-        Argument::File(named::FILE, argument_help::IMAGE_FILE),
-        EXPLAIN,
-    ];
-    with_arguments(alloc, new_command(alloc, IMAGE, help::IMAGE), &arguments)
-}
-
-fn manifest<'a>(alloc: Global) -> Result<Command<'a>, AllocError>
-    ensures { IfOk result (λ command. shape_of command ≡ manifest_shape) }
-{
-    let arguments = [
-        Argument::File(named::DEVICE, argument_help::DEVICE_FILE),
-        Argument::File(named::FILE, argument_help::MANIFEST_FILE),
-        EXPLAIN,
-    ];
-    with_arguments(
-        alloc,
-        new_command(alloc, MANIFEST, help::MANIFEST),
-        &arguments,
-    )
-}
-
-fn make_device<'a>(alloc: Global) -> Result<Command<'a>, AllocError>
-    ensures { IfOk result (λ command. shape_of command ≡ make_device_shape) }
-{
-    let arguments = [
-        Argument::Required(named::SECTOR, argument_help::SECTOR),
-        Argument::Required(named::SLOTS, argument_help::SLOTS),
-        Argument::Required(named::VENDOR, argument_help::VENDOR),
-        Argument::Required(named::CLASS, argument_help::CLASS),
-        Argument::Optional(named::TRIAL_BOOTS, argument_help::TRIAL_BOOTS),
-        EXPLAIN,
-    ];
-    with_arguments(
-        alloc,
-        new_command(alloc, MAKE_DEVICE, help::MAKE_DEVICE),
-        &arguments,
-    )
-}
-
-fn make_image<'a>(alloc: Global) -> Result<Command<'a>, AllocError>
-    ensures { IfOk result (λ command. shape_of command ≡ make_image_shape) }
-{
-    let arguments = [
-        Argument::File(named::OUT, argument_help::NEW_IMAGE_FILE),
-        Argument::File(named::BODY, argument_help::BODY_FILE),
-        Argument::Required(named::VERSION, argument_help::VERSION),
-        Argument::Aliased(
-            named::COUNTER,
-            named::SECURITY_COUNTER,
-            argument_help::COUNTER,
-        ),
-        Argument::Repeated(named::NEEDS, argument_help::NEEDS),
-        Argument::Repeated(named::DEPENDENCIES, argument_help::DEPENDENCIES),
-        Argument::Repeated(named::NEEDS_ONE, argument_help::NEEDS_ONE),
-        Argument::Optional(named::HEADER_SIZE, argument_help::HEADER_SIZE),
-        Argument::Optional(named::LOAD_ADDRESS, argument_help::LOAD_ADDRESS),
-        Argument::Optional(named::FLAGS, argument_help::FLAGS),
-        EXPLAIN,
-    ];
-    with_arguments(
-        alloc,
-        new_command(alloc, MAKE_IMAGE, help::MAKE_IMAGE),
-        &arguments,
-    )
-}
-
-fn make_manifest<'a>(alloc: Global) -> Result<Command<'a>, AllocError>
-    ensures { IfOk result (λ command. shape_of command ≡ make_manifest_shape) }
-{
-    let arguments = [
-        Argument::File(named::DEVICE, argument_help::DEVICE_FILE),
-        Argument::Required(named::SEQUENCE, argument_help::SEQUENCE),
-        Argument::Optional(named::PRECURSOR, argument_help::PRECURSOR),
-        Argument::Repeated(named::TEST, argument_help::TEST),
-        Argument::Repeated(named::PERMANENT, argument_help::PERMANENT),
-        EXPLAIN,
-    ];
-    with_arguments(
-        alloc,
-        new_command(alloc, MAKE_MANIFEST, help::MAKE_MANIFEST),
-        &arguments,
-    )
-}
-
-fn provision<'a>(alloc: Global) -> Result<Command<'a>, AllocError>
-    ensures { IfOk result (λ command. shape_of command ≡ provision_shape) }
-{
-    let arguments = [
-        Argument::File(named::DEVICE, argument_help::DEVICE_FILE),
-        Argument::File(named::FLASH, argument_help::NEW_FLASH_FILE),
-        Argument::Files(named::IMAGE, argument_help::IMAGE_FILES),
-        EXPLAIN,
-    ];
-    with_arguments(
-        alloc,
-        new_command(alloc, PROVISION, help::PROVISION),
-        &arguments,
-    )
-}
-
-fn extract<'a>(alloc: Global) -> Result<Command<'a>, AllocError>
-    ensures { IfOk result (λ command. shape_of command ≡ extract_shape) }
-{
-    let arguments = [
-        Argument::File(named::DEVICE, argument_help::DEVICE_FILE),
-        Argument::File(named::FLASH, argument_help::SHOWN_FLASH_FILE),
-        Argument::File(named::IMAGE, argument_help::IMAGE_NUMBER),
-        Argument::File(named::SIDE, argument_help::SLOT_SIDE),
-        Argument::File(named::OUT, argument_help::NEW_IMAGE_FILE),
-        EXPLAIN,
-    ];
-    with_arguments(
-        alloc,
-        new_command(alloc, EXTRACT, help::EXTRACT),
-        &arguments,
-    )
-}
-
-fn show<'a>(alloc: Global) -> Result<Command<'a>, AllocError>
-    ensures { IfOk result (λ command. shape_of command ≡ show_shape) }
-{
-    let arguments = [
-        Argument::File(named::DEVICE, argument_help::DEVICE_FILE),
-        Argument::File(named::FLASH, argument_help::SHOWN_FLASH_FILE),
-        EXPLAIN,
-    ];
-    with_arguments(alloc, new_command(alloc, SHOW, help::SHOW), &arguments)
-}
-
-fn slots<'a>(alloc: Global) -> Result<Command<'a>, AllocError>
-    ensures { IfOk result (λ command. shape_of command ≡ slots_shape) }
-{
-    let arguments = [
-        Argument::File(named::DEVICE, argument_help::DEVICE_FILE),
-        Argument::File(named::FLASH, argument_help::SHOWN_FLASH_FILE),
-        EXPLAIN,
-    ];
-    with_arguments(alloc, new_command(alloc, SLOTS, help::SLOTS), &arguments)
-}
-
-fn run<'a>(alloc: Global) -> Result<Command<'a>, AllocError>
-    ensures { IfOk result (λ command. shape_of command ≡ run_shape) }
-{
-    let arguments = [
-        Argument::File(named::DEVICE, argument_help::DEVICE_FILE),
-        Argument::File(named::FLASH, argument_help::FLASH_FILE),
-        Argument::File(named::SCRIPT, argument_help::SCRIPT_FILE),
-        Argument::Flag(named::DURABLE, argument_help::DURABLE),
-        EXPLAIN,
-    ];
-    with_arguments(alloc, new_command(alloc, RUN, help::RUN), &arguments)
-}
-
-fn sweep<'a>(alloc: Global) -> Result<Command<'a>, AllocError>
-    ensures { IfOk result (λ command. shape_of command ≡ sweep_shape) }
-{
-    let arguments = [
-        Argument::File(named::DEVICE, argument_help::DEVICE_FILE),
-        Argument::File(named::SCRIPT, argument_help::SCRIPT_FILE),
-        Argument::Files(named::IMAGE, argument_help::IMAGE_FILES),
-        Argument::Flag(named::TWICE, argument_help::TWICE),
-        Argument::Optional(named::SAMPLE, argument_help::SAMPLE),
-        Argument::Optional(named::SEED, argument_help::SEED),
-        Argument::Optional(named::SVG, argument_help::SVG),
-        EXPLAIN,
-    ];
-    with_arguments(alloc, new_command(alloc, SWEEP, help::SWEEP), &arguments)
-}
-
-fn codes<'a>(alloc: Global) -> Result<Command<'a>, AllocError>
-    ensures { IfOk result (λ command. shape_of command ≡ codes_shape) }
-{
-    with_arguments(alloc, new_command(alloc, CODES, help::CODES), &[EXPLAIN])
-}
-
 /// A command without arguments, with what help says of it.
-fn new_command<'a>(alloc: Global, name: &'a str, help: Help) -> Command<'a>
+fn new_command<'a>(alloc: Global, name: &'a str, help: &Help) -> Command<'a>
     ensures { app_of result ≡ new_app name.entry.now }
 {
     Command::new(alloc, name)
