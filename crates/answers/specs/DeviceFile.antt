@@ -6,6 +6,7 @@ use Rattle.serde_json.specs.Find.{get}
 use Rattle.manifest.specs.Json.{HasNames, IsJson, array_at, number_at, uuid_at, whole_number}
 use Rattle.sector_map.specs.Making.{HasSizes, IsMapFault}
 use Rattle.common.specs.declared.limits.TheConstants.{MOST_TRIAL_BOOTS}
+use Rattle.machine.specs.Intake.{Setup}
 use Rattle.answers.specs.declared.device.DeviceFields.{DeviceFields}
 use Rattle.answers.specs.declared.device.DeviceFile.{DeviceFile}
 use Rattle.answers.specs.declared.device.DeviceFault.{DeviceFault}
@@ -71,6 +72,10 @@ pub record IsDeviceOf (fields : DeviceFields) (device : DeviceFile) : Type 0 whe
 pub record IsOfFile (device : DeviceFile) : Type 0 where
   pub images : device.identity.images ≡ device.map.images
   pub boots : IsFewBoots device.trial_boots
+
+-- What a device of a file is made with.
+abbrev pub setup_of : DeviceFile → Setup
+setup_of device = record { map = device.map; identity = device.identity; boots = device.trial_boots }
 
 -- Bytes are the device file of a device.
 abbrev pub IsDeviceFile : List ℕ → DeviceFile → Type 0

@@ -1,7 +1,2 @@
-mod EndLaws
-mod FileLaws
-mod ImageLaws
-mod InputLaws
 mod OrderLaws
-mod ScriptLaws
-mod TellingLaws
+mod SweepLaws

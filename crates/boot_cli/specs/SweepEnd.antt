@@ -2,19 +2,18 @@
 use Rattle.std.specs.Prelude.{◌⊎◌, ℕ, List, [], ◌∷◌, Option}
 use Rattle.events.specs.declared.event.Event.{Event}
 use Rattle.sector_map.specs.declared.layout.SectorMap.{SectorMap}
-use Rattle.reading_commands.specs.declared.answer.Answer.{Answer}
-use Rattle.reading_commands.specs.declared.answer.Answer.TheVariants.{Done, Refused, Cut}
-use Rattle.reading_commands.specs.declared.source.Source.{Source}
+use Rattle.command_ends.specs.declared.answer.Answer.{Answer}
+use Rattle.command_ends.specs.declared.answer.Answer.TheVariants.{Done, Refused, Cut}
+use Rattle.command_ends.specs.declared.source.Source.{Source}
 use Rattle.reading_commands.specs.DeviceInput.{RefusesMap}
-use Rattle.reading_commands.specs.Input.{FileBytes}
-use Rattle.reading_commands.specs.Inputs.{GiveEach}
+use Rattle.command_ends.specs.Input.{FileBytes}
+use Rattle.command_ends.specs.Inputs.{GiveEach}
 use Rattle.answers.specs.declared.device.DeviceFile.{DeviceFile}
 use Rattle.answers.specs.DeviceFile.{IsDeviceFile}
 use Rattle.answers.specs.FlashOf.{IsFlashOf}
-use Rattle.boot_cli.specs.declared.commands.sweeping.Provisioned.{Provisioned}
-use Rattle.boot_cli.specs.declared.commands.sweeping.Provisioned.TheVariants as made
-use Rattle.boot_cli.specs.RunEnd.{known_after_each}
-use Rattle.boot_cli.specs.Script.{IsScript}
+use Rattle.boot_cli.specs.declared.sweeping.Provisioned.{Provisioned}
+use Rattle.boot_cli.specs.declared.sweeping.Provisioned.TheVariants as made
+use Rattle.reading_scripts.specs.Script.{IsScript, known_after_each}
 
 -- A flash that was made has as many bytes as its map.
 abbrev pub IsWhole : SectorMap → Provisioned → Type 0

@@ -11,23 +11,14 @@
 //! outputs, and a test gives them others.
 #![tactic(auto)]
 
-mod bringing;
-mod commands;
-mod file_reading;
-mod holding;
-mod host;
-mod judging;
-mod lines;
-mod loading;
 mod program;
-mod replacing;
+mod sweeping;
 
 pub use answers::{
     CheckEnd, ChooseEnd, DescribeEnd, ManifestEnd, ShowEnd, check_over, choose_over, describe_over,
     show_over, tell_over,
 };
+pub use command_ends::{Access, FlashFault, Host};
 pub use command_line::{Order, OrderError, Request, request};
 pub use explaining_commands::Remembering;
-pub use host::SystemHost;
-pub use program::{cli, refuse_words, run_order};
-pub use reading_commands::{Access, FlashFault, Host};
+pub use program::{cli, run_order};

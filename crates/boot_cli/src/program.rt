@@ -2,26 +2,17 @@
 ghost use Rattle.std.specs.Prelude.{◌≡◌, IfOk};
 ghost use Rattle.boot_cli.specs.OrderEnd.{AnswersOrder};
 
-use crate::commands::sweeping::Named;
-use crate::commands::{playing, provision, sweeping};
-use command_line::{Order, OrderError, Request, STANDARD_INPUT, fault_of, no_text, request};
-use explaining_commands::{Remembering, UntilFailed, explain_end};
+use crate::sweeping;
+use crate::sweeping::Named;
+use command_ends::{Answer, Host, Refusal, Source, finish};
+use command_line::{Order, request};
+use core_cli::{answer_words, request_in};
+use explaining_commands::{Remembering, ReplyNotes, UntilFailed, explain_end};
 use making_commands::extract::Copying;
 use making_commands::{extract, make_device, make_image, make_manifest};
-use reading_commands::{
-    Access, Answer, Host, Refusal, Source, check, choose, codes, finish, image, manifest_file,
-    refuse, show, slots, status_after,
-};
 use std::alloc::Global;
 use std::convert::AsStr;
-use std::io;
-use std::io::{ErrorKind, Write};
-
-/// The words ask for help or the version, which are printed.
-const HELPED: u8 = 0;
-
-/// The words are none that the program knows.
-const USAGE: u8 = 2;
+use std::io::Write;
 
 /// Does what `words` ask for, and returns the exit status: 0 done, 1 refused, 2 usage, 3 the power
 /// failed last, 4 the flash file failed.
@@ -43,28 +34,8 @@ pub fn cli<S: AsStr, H: Host, O: Write, E: Write>(
             run_explained(alloc, words, request.order, host, out, err)
         }
         Ok(request) => run_order(alloc, request.order, host, out, err),
-        Err(OrderError::NoMemory) => refuse(Refusal::NoMemory, err),
-        Err(OrderError::Usage(answer)) => {
-            if answer.use_stderr() {
-                tell_fault(&fault_of(alloc, words, answer), err)
-            } else {
-                status_after(write_text(&answer, out), HELPED)
-            }
-        }
+        Err(error) => answer_words(alloc, words, error, out, err),
     }
-}
-
-/// What the words ask for: with none after the program's own name the choice over standard input.
-fn request_in<'a, S: AsStr>(alloc: Global, words: &'a [S]) -> Result<Request<'a>, OrderError> {
-    if words.len() <= 1 {
-        return Ok(Request {
-            order: Order::Choose {
-                table: STANDARD_INPUT,
-            },
-            is_explained: false,
-        });
-    }
-    request(alloc, words)
 }
 
 /// Runs the command of an order to its exit status, as [`run_order`] does, and says on standard
@@ -129,20 +100,6 @@ fn perform<'a, H: Host, O: Write, E: Write>(
         (O.contents out.old) (O.contents out.new)) }
 {
     match order {
-        Order::Choose { table } => choose::perform(alloc, Source::named(table), host, out),
-        Order::Check { table, report } => {
-            check::perform(
-                alloc,
-                Source::named(table),
-                Source::named(report),
-                host,
-                out,
-            )
-        }
-        Order::Image { file } => image::perform(alloc, Source::named(file), host, out),
-        Order::Manifest { device, file } => {
-            manifest_file::perform(alloc, Source::named(device), Source::named(file), host, out)
-        }
         Order::MakeDevice { device } => make_device::perform(alloc, &device, out, err),
         Order::MakeImage {
             image,
@@ -152,11 +109,6 @@ fn perform<'a, H: Host, O: Write, E: Write>(
         Order::MakeManifest { device, manifest } => {
             make_manifest::perform(alloc, Source::named(device), &manifest, host, out, err)
         }
-        Order::Provision {
-            device,
-            flash,
-            images,
-        } => { provision::perform(alloc, Source::named(device), flash, &images, host, out) }
         Order::Extract {
             device,
             flash,
@@ -169,51 +121,8 @@ fn perform<'a, H: Host, O: Write, E: Write>(
                 side,
                 out: file,
             };
-            extract::perform(
-                alloc,
-                Source::named(device),
-                Source::named(flash),
-                copying,
-                host,
-                out,
-            )
-        }
-        Order::Show { device, flash } => {
-            show::perform(
-                alloc,
-                Source::named(device),
-                Source::named(flash),
-                host,
-                out,
-            )
-        }
-        Order::Slots { device, flash } => {
-            slots::perform(
-                alloc,
-                Source::named(device),
-                Source::named(flash),
-                host,
-                out,
-            )
-        }
-        Order::Run {
-            device,
-            flash,
-            script,
-            durable,
-        } => {
-            let why = is_explained.then_some(err);
-            playing::perform(
-                alloc,
-                Source::named(device),
-                flash,
-                access_of(durable),
-                Source::named(script),
-                text,
-                host,
-                out,
-                why,
-            )
+            let (device, flash) = (Source::named(device), Source::named(flash));
+            extract::perform(alloc, device, flash, copying, host, out)
         }
         Order::Sweep {
             device,
@@ -228,37 +137,9 @@ fn perform<'a, H: Host, O: Write, E: Write>(
             };
             sweeping::perform(alloc, named, &choices, text, host, out, err)
         }
-        Order::Codes => codes::perform(out),
+        order => {
+            let mut notes = ReplyNotes::new(alloc, is_explained.then_some(err));
+            core_cli::perform(alloc, order, text, host, out, &mut notes)
+        }
     }
-}
-
-/// What a run opens its flash for.
-fn access_of(durable: bool) -> Access {
-    if durable {
-        Access::WriteDurably
-    } else {
-        Access::Write
-    }
-}
-
-/// Tells that the words could not be had, and returns the exit status: 1 for want of memory, and 2
-/// where they are no text. The text to print stands in memory of `alloc`.
-pub fn refuse_words<E: Write>(alloc: Global, error: &io::Error, err: &mut E) -> u8 {
-    match error.kind() {
-        ErrorKind::OutOfMemory => refuse(Refusal::NoMemory, err),
-        _ => tell_fault(&no_text(alloc), err),
-    }
-}
-
-/// Writes the fault in the words.
-fn tell_fault<E: Write>(error: &OrderError, err: &mut E) -> u8 {
-    match error {
-        OrderError::NoMemory => refuse(Refusal::NoMemory, err),
-        OrderError::Usage(answer) => status_after(write_text(answer, err), USAGE),
-    }
-}
-
-fn write_text<W: Write>(answer: &clap::Error, to: &mut W) -> io::Result<()> {
-    write!(to, "{answer}")?;
-    to.flush()
 }

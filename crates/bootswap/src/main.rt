@@ -3,14 +3,11 @@
 //! file, that boots, takes uploads and survives power cuts.
 #![tactic(auto)]
 
-use boot_cli::{Remembering, SystemHost, cli, refuse_words};
-use std::io::{IsTerminal, Write};
+use boot_cli::{Remembering, cli};
+use core_cli::{note_reading, refuse_words, words_of};
+use std::io::IsTerminal;
 use std::process::ExitCode;
-use std::rt::Env;
-use std::{env, io};
-
-/// Tells who gives no word at a terminal what the program waits for.
-const READING: &[u8] = b"note: reading a table from standard input; `bootswap --help` tells more\n";
+use system_files::SystemHost;
 
 fn main(rt: HostRuntime) -> ExitCode {
     let alloc = rt.alloc();
@@ -18,8 +15,7 @@ fn main(rt: HostRuntime) -> ExitCode {
         Ok(words) => {
             let (input, mut out, mut err) = (rt.reader(), rt.stdout(), rt.stderr());
             if words.len() <= 1 && input.is_terminal() {
-                // It is no part of the answer, which goes on without it.
-                let _ = err.write_all(READING);
+                note_reading(&mut err);
             }
             let system = SystemHost::new(&rt, input, err.is_terminal());
             let mut host = Remembering::over(alloc, system);
@@ -28,9 +24,4 @@ fn main(rt: HostRuntime) -> ExitCode {
         Err(error) => refuse_words(alloc, &error, &mut rt.stderr()),
     };
     ExitCode::from(status)
-}
-
-/// The words of the command, the program's own name first.
-fn words_of(rt: &(impl Env + AllocGlobal)) -> io::Result<Vec<String>> {
-    Ok(env::args(rt)?.collect(rt.alloc())?)
 }

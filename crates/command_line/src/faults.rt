@@ -13,14 +13,14 @@ use crate::bracketed_words::bracketed_in;
 use crate::commands::{EXTRACT, MAKE_DEVICE, MAKE_IMAGE, MAKE_MANIFEST, SWEEP, Subcommand, named};
 use crate::device_words::{number_in, trial_boots_in};
 use crate::error::OrderError;
-use crate::escaped::Escaped;
 use crate::image_words::{header_size_in, needs_in_words, number_said, version_in};
 use crate::manifest_words::components_in;
 use crate::order_reading::{image_in_words, named_in, request};
-use crate::orders::{NewManifest, Order, STANDARD_INPUT};
+use crate::orders::{NewManifest, Order};
 use crate::{commands, fault_texts};
 use clap::error::ErrorKind;
 use clap::{ArgMatches, Error};
+use command_ends::{Escaped, STANDARD_INPUT};
 use std::alloc::{AllocError, Global};
 use std::convert::AsStr;
 

@@ -15,7 +15,6 @@ mod codes;
 mod commands;
 mod device_words;
 mod error;
-mod escaped;
 mod fault_texts;
 mod faults;
 mod help;
@@ -27,9 +26,6 @@ mod sweep_words;
 
 pub use codes::REFUSALS;
 pub use error::OrderError;
-pub use escaped::Escaped;
 pub use faults::{fault_of, no_text};
 pub use order_reading::request;
-pub use orders::{
-    NewComponent, NewDevice, NewImage, NewManifest, Order, Request, STANDARD_INPUT, SweepChoices,
-};
+pub use orders::{NewComponent, NewDevice, NewImage, NewManifest, Order, Request, SweepChoices};

@@ -3,9 +3,6 @@
 use sector_map::Side;
 use version_order::{Dependency, Version};
 
-/// The word that names standard input.
-pub const STANDARD_INPUT: &str = "-";
-
 /// A device of which a device file is to be made, as the words have it.
 #[derive(Drop)]
 pub struct NewDevice<'a> {

@@ -5,13 +5,13 @@ use crate::refused::{explain_answer, explain_choice};
 use crate::remembering::Remembering;
 use answers::DeviceFile;
 use certificate::Table;
+use command_ends::{Answer, Host, Refusal, Source};
 use command_line::Order;
 use common::lines::first_line;
 use explanations::{
     Shown, explain_device, explain_report_line, explain_running, explain_script_line,
     explain_table_line,
 };
-use reading_commands::{Answer, Host, Refusal, Source};
 use script::{Event, Line, line_of};
 use std::alloc::{AllocError, Global};
 use std::io::Write;

@@ -1,7 +1,7 @@
 //! What an order reads.
 
+use command_ends::Source;
 use command_line::Order;
-use reading_commands::Source;
 
 /// The inputs of an order, as far as notes tell of them.
 #[derive(Clone, Copy, Default)]

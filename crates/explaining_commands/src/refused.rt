@@ -10,12 +10,13 @@ use answers::{DeviceFault, DeviceFile, flash_of};
 use arrayvec::ArrayVec;
 use certificate::{Image, Report, Request, Table, is_valid};
 use chooser::choose;
+use command_ends::{Host, Source};
 use command_line::Order;
 use decision::entry_of;
 use explanations::{
     explain_image, explain_manifest, explain_map, explain_no, explain_refusals, explain_running,
 };
-use reading_commands::{Host, Source, table_on};
+use reading_commands::table_on;
 use sector_map::{SectorMap, Side};
 use std::alloc::{AllocError, Global};
 use std::marker::Brand;

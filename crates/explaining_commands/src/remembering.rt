@@ -1,7 +1,7 @@
 //! A host that remembers what was read from it.
 
 use crate::kept::Kept;
-use reading_commands::{Access, FlashFault, Host, Source};
+use command_ends::{Access, FlashFault, Host, Source};
 use std::alloc::Global;
 use std::cell::Cell;
 use std::io;

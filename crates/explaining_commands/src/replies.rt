@@ -6,39 +6,35 @@ use events::Event;
 use explanations::{explain_manifest, explain_refusals};
 use machine::{Fault, Reply};
 use manifest::Manifest;
+use reading_commands::RunNotes;
 use std::alloc::{AllocError, Global};
 use std::io::Write;
 
 /// Says on standard error why replies of a run are as they are, where that is asked for.
 #[derive(Drop)]
-pub struct ReplyNotes<'d, 'e, E> {
+pub struct ReplyNotes<'e, E> {
     alloc: Global,
-    device: &'d DeviceFile,
+    device: Option<DeviceFile>,
     uploads: Uploads,
     err: Option<&'e mut E>,
 }
 
-impl<'d, 'e, E: Write> ReplyNotes<'d, 'e, E> {
-    /// The notes of a run on this device. They are made in memory of `alloc`, where JSON values and
-    /// the bytes of open uploads stand too. `err` is where the notes are written, if they are asked
-    /// for.
-    pub fn new(alloc: Global, device: &'d DeviceFile, err: Option<&'e mut E>) -> Self {
-        ReplyNotes {
-            alloc,
-            device,
-            uploads: Uploads::new(alloc),
-            err,
-        }
+impl<E: Write> RunNotes for ReplyNotes<'_, E> {
+    fn begin(&mut self, device: &DeviceFile) {
+        self.device = Some(*device);
     }
 
     /// Writes why this is the reply to the event of this number, where there is something to say.
-    pub fn tell(&mut self, number: usize, event: &Event<Vec<u8>>, reply: &Reply) {
+    fn tell(&mut self, number: usize, event: &Event<Vec<u8>>, reply: &Reply) {
+        let Some(device) = self.device else {
+            return;
+        };
         if self.err.is_none() {
             return;
         }
         let mut notes = String::new(self.alloc);
         // Where memory runs out, what is noted so far is told.
-        let _ = self.explain(&mut notes, event, reply);
+        let _ = self.explain(&mut notes, &device, event, reply);
         if notes.is_empty() {
             return;
         }
@@ -49,27 +45,41 @@ impl<'d, 'e, E: Write> ReplyNotes<'d, 'e, E> {
             let _ = err.flush();
         }
     }
+}
+
+impl<'e, E: Write> ReplyNotes<'e, E> {
+    /// The notes of a run. They are made in memory of `alloc`, where JSON values and the bytes of open
+    /// uploads stand too. `err` is where they are written, if they are asked for.
+    pub fn new(alloc: Global, err: Option<&'e mut E>) -> Self {
+        ReplyNotes {
+            alloc,
+            device: None,
+            uploads: Uploads::new(alloc),
+            err,
+        }
+    }
 
     /// Adds why this is the reply to the event, and keeps what comes in it for later ones.
     fn explain(
         &mut self,
         notes: &mut String,
+        device: &DeviceFile,
         event: &Event<Vec<u8>>,
         reply: &Reply,
     ) -> Result<(), AllocError> {
         match (event, reply) {
             (Event::Accept(text), Reply::Done) => {
-                match Manifest::read(self.alloc, text, &self.device.identity) {
+                match Manifest::read(self.alloc, text, &device.identity) {
                     Ok(manifest) => self.uploads.open(&manifest),
                     Err(_) => Ok(()),
                 }
             }
             (Event::Accept(text), Reply::Refused(Fault::Manifest(_))) => {
-                explain_manifest(notes, self.alloc, text, &self.device.identity)
+                explain_manifest(notes, self.alloc, text, &device.identity)
             }
             (Event::Accept(text), Reply::Refused(Fault::Upload(error))) => {
-                match Manifest::read(self.alloc, text, &self.device.identity) {
-                    Ok(manifest) => explain_opening(notes, &self.device.map, &manifest, *error),
+                match Manifest::read(self.alloc, text, &device.identity) {
+                    Ok(manifest) => explain_opening(notes, &device.map, &manifest, *error),
                     Err(_) => Ok(()),
                 }
             }

@@ -15,16 +15,16 @@ use Rattle.tlv.specs.Slot.{slot_bytes}
 use Rattle.tlv.specs.declared.desc.Desc.{Desc}
 use Rattle.answers.specs.FlashOf.{IsFlashOf, flash_of}
 use Rattle.answers.specs.declared.device.DeviceFile.{DeviceFile}
-use Rattle.reading_commands.specs.declared.answer.Answer.{Answer}
-use Rattle.reading_commands.specs.declared.answer.Answer.TheVariants.{Done, Refused, Cut}
-use Rattle.reading_commands.specs.declared.error.Refusal.{Refusal}
-use Rattle.reading_commands.specs.declared.error.Refusal.TheVariants as no
-use Rattle.reading_commands.specs.declared.source.Source.{Source}
-use Rattle.reading_commands.specs.declared.source.Source.TheVariants.{StandardInput, File}
+use Rattle.command_ends.specs.declared.answer.Answer.{Answer}
+use Rattle.command_ends.specs.declared.answer.Answer.TheVariants.{Done, Refused, Cut}
+use Rattle.command_ends.specs.declared.error.Refusal.{Refusal}
+use Rattle.command_ends.specs.declared.error.Refusal.TheVariants as no
+use Rattle.command_ends.specs.declared.source.Source.{Source}
+use Rattle.command_ends.specs.declared.source.Source.TheVariants.{StandardInput, File}
 use Rattle.reading_commands.specs.DeviceInput.{GivesDevice}
-use Rattle.reading_commands.specs.Input.{FileBytes, Gives, KeepsFiles, KeepsOthers}
-use Rattle.reading_commands.proofs.AnswerLaws.{GiveBoth-read}
-use Rattle.reading_commands.proofs.InputLaws.{KeepsFiles-twice}
+use Rattle.command_ends.specs.Input.{FileBytes, Gives, KeepsFiles, KeepsOthers}
+use Rattle.command_ends.proofs.InputLaws.{GiveBoth-read}
+use Rattle.command_ends.proofs.InputLaws.{KeepsFiles-twice}
 use Rattle.making_commands.specs.CopyEnd.{AnswersCopied, AnswersCopy, EndsCopy, IsImageOf, LeavesBoth}
 use Rattle.making_commands.specs.NewImageEnd.{EndsUnmade}
 use Rattle.making_commands.specs.declared.extract.Copied.{Copied}

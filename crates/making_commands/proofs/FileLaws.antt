@@ -1,9 +1,9 @@
 -- What files keep while a body is read and its image is made.
 use Rattle.std.proofs.Common.{ℕ, List, Option}
 use Rattle.std.proofs.KnownBytes.{Keeps-trans}
-use Rattle.reading_commands.specs.Input.{FileBytes, KeepsFiles, KeepsOthers}
-use Rattle.reading_commands.specs.declared.source.Source.{Source}
-use Rattle.reading_commands.specs.declared.source.Source.TheVariants.{StandardInput, File}
+use Rattle.command_ends.specs.Input.{FileBytes, KeepsFiles, KeepsOthers}
+use Rattle.command_ends.specs.declared.source.Source.{Source}
+use Rattle.command_ends.specs.declared.source.Source.TheVariants.{StandardInput, File}
 use Rattle.making_commands.specs.NewImageEnd.{LeavesFiles}
 
 -- a source was read, and then files were kept

@@ -3,7 +3,7 @@ use Rattle.std.proofs.Common.{ℕ, List, Option}
 use Rattle.std.proofs.KnownBytes.{Appends-kept}
 use Rattle.std.specs.Io.KnownBytes.{Keeps}
 use Rattle.command_line.specs.declared.orders.NewDevice.{NewDevice}
-use Rattle.reading_commands.specs.declared.answer.Answer.TheVariants.{Done}
+use Rattle.command_ends.specs.declared.answer.Answer.TheVariants.{Done}
 use Rattle.making_commands.specs.NewDeviceEnd.{AnswersNewDevice}
 
 -- a flush after the answer changes nothing

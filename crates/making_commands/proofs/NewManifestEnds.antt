@@ -12,11 +12,11 @@ use Rattle.answers.specs.ReplyText.{refused_fault_text}
 use Rattle.answers.specs.declared.device.DeviceFile.{DeviceFile}
 use Rattle.command_line.specs.declared.orders.NewComponent.{NewComponent}
 use Rattle.command_line.specs.declared.orders.NewManifest.{NewManifest}
-use Rattle.reading_commands.specs.declared.answer.Answer.TheVariants.{Done}
-use Rattle.reading_commands.specs.declared.source.Source.{Source}
+use Rattle.command_ends.specs.declared.answer.Answer.TheVariants.{Done}
+use Rattle.command_ends.specs.declared.source.Source.{Source}
 use Rattle.reading_commands.specs.DeviceInput.{GivesDevice}
-use Rattle.reading_commands.specs.Input.{FileBytes, KeepsOthers}
-use Rattle.reading_commands.proofs.InputLaws.{GiveEach-read}
+use Rattle.command_ends.specs.Input.{FileBytes, KeepsOthers}
+use Rattle.command_ends.proofs.InputLaws.{GiveEach-read}
 use Rattle.making_commands.specs.NewManifestEnd.{AnswersNewManifest, IsFault, RefusesAsked, RefusesRunning, WritesManifest}
 use Rattle.making_commands.specs.NewManifestSteps.{ArePrecursors, ReadsDamaged, ReadsFlash, Writes}
 use Rattle.making_commands.proofs.NewManifestLaws.{asked_for}

@@ -18,10 +18,10 @@ use Rattle.sector_map.specs.declared.layout.SectorMap.{SectorMap}
 use Rattle.answers.specs.FlashOf.{IsFlashOf, flash_of}
 use Rattle.command_line.specs.declared.orders.NewComponent.{NewComponent}
 use Rattle.command_line.specs.declared.orders.NewManifest.{NewManifest}
-use Rattle.reading_commands.specs.declared.source.Source.{Source}
-use Rattle.reading_commands.specs.Input.{FileBytes, Gives, IsNamed, KeepsOthers}
-use Rattle.reading_commands.specs.Inputs.{GiveEach}
-use Rattle.reading_commands.proofs.InputLaws.{GiveEach-one, GiveEach-read}
+use Rattle.command_ends.specs.declared.source.Source.{Source}
+use Rattle.command_ends.specs.Input.{FileBytes, Gives, IsNamed, KeepsOthers}
+use Rattle.command_ends.specs.Inputs.{GiveEach}
+use Rattle.command_ends.proofs.InputLaws.{GiveEach-one, GiveEach-read}
 use Rattle.making_commands.specs.NewManifestEnd.{IsAskedFor, LetsCome, file_names}
 use Rattle.making_commands.specs.NewManifestSteps.{ArePrecursors, FindsNone, FindsPrecursors, IsOfKind, ReadsComponent, ReadsComponents, ReadsPrecursors, precursors_of}
 use Rattle.making_commands.specs.declared.precursors.Precursors.{Precursors}

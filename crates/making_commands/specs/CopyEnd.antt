@@ -13,12 +13,12 @@ use Rattle.answers.specs.AnswerText.{refused_text}
 use Rattle.answers.specs.DeviceFile.{IsDeviceFile}
 use Rattle.answers.specs.FlashOf.{IsFlashOf, flash_of}
 use Rattle.answers.specs.declared.device.DeviceFile.{DeviceFile}
-use Rattle.reading_commands.specs.declared.answer.Answer.{Answer}
-use Rattle.reading_commands.specs.declared.answer.Answer.TheVariants.{Done, Refused, Cut}
-use Rattle.reading_commands.specs.declared.source.Source.{Source}
-use Rattle.reading_commands.specs.declared.source.Source.TheVariants.{StandardInput, File}
+use Rattle.command_ends.specs.declared.answer.Answer.{Answer}
+use Rattle.command_ends.specs.declared.answer.Answer.TheVariants.{Done, Refused, Cut}
+use Rattle.command_ends.specs.declared.source.Source.{Source}
+use Rattle.command_ends.specs.declared.source.Source.TheVariants.{StandardInput, File}
 use Rattle.reading_commands.specs.DeviceInput.{RefusesMap}
-use Rattle.reading_commands.specs.Input.{FileBytes, GiveBoth, IsKnownAs, KeepsFiles}
+use Rattle.command_ends.specs.Input.{FileBytes, GiveBoth, IsKnownAs, KeepsFiles}
 use Rattle.making_commands.specs.NewImageEnd.{done_text}
 use Rattle.making_commands.specs.declared.extract.Copied.{Copied}
 use Rattle.making_commands.specs.declared.extract.Copied.TheVariants as copied

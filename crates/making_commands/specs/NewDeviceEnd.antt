@@ -9,8 +9,8 @@ use Rattle.answers.specs.declared.device.DeviceFile.{DeviceFile}
 use Rattle.answers.specs.AnswerText.{map_refusal_text}
 use Rattle.answers.specs.DeviceFile.{IsDeviceFile}
 use Rattle.command_line.specs.declared.orders.NewDevice.{NewDevice}
-use Rattle.reading_commands.specs.declared.answer.Answer.{Answer}
-use Rattle.reading_commands.specs.declared.answer.Answer.TheVariants.{Done, Refused, Cut}
+use Rattle.command_ends.specs.declared.answer.Answer.{Answer}
+use Rattle.command_ends.specs.declared.answer.Answer.TheVariants.{Done, Refused, Cut}
 
 -- The device that is asked for: the map of its sizes, the identifiers of its names, and the boots
 -- of a trial, one where they aren't said.

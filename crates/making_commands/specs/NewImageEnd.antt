@@ -11,13 +11,13 @@ use Rattle.tlv.specs.declared.make.error.MakeError.{MakeError}
 use Rattle.tlv.specs.declared.make.spec.ImageSpec.{ImageSpec}
 use Rattle.answers.specs.AnswerText.{refused_text}
 use Rattle.command_line.specs.declared.orders.NewImage.{NewImage}
-use Rattle.reading_commands.specs.declared.answer.Answer.{Answer}
-use Rattle.reading_commands.specs.declared.answer.Answer.TheVariants.{Done, Refused, Cut}
-use Rattle.reading_commands.specs.declared.error.Refusal.{Refusal}
-use Rattle.reading_commands.specs.declared.error.Refusal.TheVariants as no
-use Rattle.reading_commands.specs.declared.source.Source.{Source}
-use Rattle.reading_commands.specs.declared.source.Source.TheVariants.{StandardInput, File}
-use Rattle.reading_commands.specs.Input.{FileBytes, Gives, IsKnownAs, KeepsFiles}
+use Rattle.command_ends.specs.declared.answer.Answer.{Answer}
+use Rattle.command_ends.specs.declared.answer.Answer.TheVariants.{Done, Refused, Cut}
+use Rattle.command_ends.specs.declared.error.Refusal.{Refusal}
+use Rattle.command_ends.specs.declared.error.Refusal.TheVariants as no
+use Rattle.command_ends.specs.declared.source.Source.{Source}
+use Rattle.command_ends.specs.declared.source.Source.TheVariants.{StandardInput, File}
+use Rattle.command_ends.specs.Input.{FileBytes, Gives, IsKnownAs, KeepsFiles}
 
 -- A group has these alternatives.
 abbrev pub AreAlternatives : List Dependency → Bor (List Dependency) → Type 0

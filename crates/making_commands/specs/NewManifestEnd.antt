@@ -23,12 +23,12 @@ use Rattle.answers.specs.ReplyText.{refused_fault_text}
 use Rattle.answers.specs.declared.device.DeviceFile.{DeviceFile}
 use Rattle.command_line.specs.declared.orders.NewComponent.{NewComponent}
 use Rattle.command_line.specs.declared.orders.NewManifest.{NewManifest}
-use Rattle.reading_commands.specs.declared.answer.Answer.{Answer}
-use Rattle.reading_commands.specs.declared.answer.Answer.TheVariants.{Done, Refused, Cut}
-use Rattle.reading_commands.specs.declared.source.Source.{Source}
+use Rattle.command_ends.specs.declared.answer.Answer.{Answer}
+use Rattle.command_ends.specs.declared.answer.Answer.TheVariants.{Done, Refused, Cut}
+use Rattle.command_ends.specs.declared.source.Source.{Source}
 use Rattle.reading_commands.specs.DeviceInput.{GivesDevice, RefusesMap}
-use Rattle.reading_commands.specs.Input.{FileBytes, IsNamed}
-use Rattle.reading_commands.specs.Inputs.{GiveEach, names_of}
+use Rattle.command_ends.specs.Input.{FileBytes, IsNamed}
+use Rattle.command_ends.specs.Inputs.{GiveEach, names_of}
 
 -- The names of the files that may come.
 abbrev pub file_names : List NewComponent → List (List ℕ)

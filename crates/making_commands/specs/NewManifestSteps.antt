@@ -16,9 +16,9 @@ use Rattle.answers.specs.FlashOf.{IsFlashOf, flash_of}
 use Rattle.answers.specs.declared.device.DeviceFile.{DeviceFile}
 use Rattle.command_line.specs.declared.orders.NewComponent.{NewComponent}
 use Rattle.command_line.specs.declared.orders.NewManifest.{NewManifest}
-use Rattle.reading_commands.specs.declared.source.Source.{Source}
-use Rattle.reading_commands.specs.Input.{FileBytes, Gives, IsNamed, KeepsOthers}
-use Rattle.reading_commands.specs.Inputs.{GiveEach}
+use Rattle.command_ends.specs.declared.source.Source.{Source}
+use Rattle.command_ends.specs.Input.{FileBytes, Gives, IsNamed, KeepsOthers}
+use Rattle.command_ends.specs.Inputs.{GiveEach}
 use Rattle.making_commands.specs.NewManifestEnd.{IsFlashIn, IsPrecursor, LetsCome, file_names, flash_names}
 use Rattle.making_commands.specs.declared.precursors.Precursors.{Precursors}
 use Rattle.making_commands.specs.declared.precursors.Precursors.TheVariants.{Are, DamagedAt}

@@ -1,9 +1,9 @@
 //! The file of an image that a command makes: it is none of those that are read, and is replaced
 //! whole.
 ghost use Rattle.std.specs.Prelude.{IfErr, OnOk};
-ghost use Rattle.reading_commands.specs.Input.{IsKnownAs, KeepsFiles};
+ghost use Rattle.command_ends.specs.Input.{IsKnownAs, KeepsFiles};
 
-use reading_commands::{FlashFault, Host, Refusal, Source};
+use command_ends::{FlashFault, Host, Refusal, Source};
 use std::alloc::Global;
 
 /// Refuses an image whose file is what is read here, by whatever name.

@@ -2,14 +2,14 @@
 ghost use Rattle.std.specs.Prelude.{◌≡◌, ◌≢◌, IfErr, IfOk, OnOk, map, string_bytes};
 ghost use Rattle.std.specs.List.{AllZip};
 ghost use Rattle.std.specs.Io.KnownBytes.{Appends};
-ghost use Rattle.reading_commands.specs.Input.{KeepsFiles};
+ghost use Rattle.command_ends.specs.Input.{KeepsFiles};
 ghost use Rattle.making_commands.specs.NewImageEnd.{AnswersMade, AnswersNewImage, AreAlternatives, EndsUnmade, IsImageFor, LeavesFiles, RefusesImage, fault_text};
 
 use crate::image_file::{refuse_input, replace};
 use crate::telling::tell;
 use answers::refused_text;
+use command_ends::{Answer, Host, MOST_FILE, Refusal, Source};
 use command_line::NewImage;
-use reading_commands::{Answer, Host, MOST_FILE, Refusal, Source};
 use std::alloc::{AllocError, Global};
 use std::io::Write;
 use tlv::{ImageSpec, MakeError, make_image};

@@ -16,10 +16,11 @@ use crate::next_boot::write_refusals;
 use crate::precursors::{Precursors, Running, read_precursors};
 use crate::telling::tell;
 use answers::{DeviceFile, refused_fault_text, refused_text};
+use command_ends::{Answer, Host, Refusal, Source};
 use command_line::{NewComponent, NewManifest};
 use machine::Fault;
 use manifest::{Identity, Manifest, ManifestError};
-use reading_commands::{Answer, Host, Refusal, Source, read_device};
+use reading_commands::read_device;
 use std::alloc::{AllocError, Global};
 use std::io::Write;
 

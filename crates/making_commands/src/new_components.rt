@@ -6,9 +6,9 @@ ghost use Rattle.making_commands.specs.NewManifestSteps.{ReadsComponent, ReadsCo
 use crate::next_boot::request;
 use arrayvec::ArrayVec;
 use certificate::Table;
+use command_ends::{Host, MOST_FILE, Refusal, Source};
 use command_line::NewComponent;
 use manifest::{Component, MOST_COMPONENTS};
-use reading_commands::{Host, MOST_FILE, Refusal, Source};
 use sector_map::SectorMap;
 use sha2::{Digest, Sha256};
 use std::alloc::{AllocError, Global};

@@ -9,10 +9,11 @@ ghost use Rattle.making_commands.specs.NewManifestSteps.{FindsPrecursors, ReadsP
 use answers::flash_of;
 use arrayvec::ArrayVec;
 use certificate::Table;
+use command_ends::{Access, Host, Refusal, Source};
 use command_line::{NewComponent, NewManifest};
 use flash_model::Flash;
 use manifest::MOST_COMPONENTS;
-use reading_commands::{Access, Host, Refusal, Source, read_flash, table_on};
+use reading_commands::{read_flash, table_on};
 use sector_map::{SectorMap, Side};
 use std::alloc::Global;
 use std::marker::Brand;

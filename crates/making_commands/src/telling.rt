@@ -3,7 +3,7 @@ ghost use Rattle.std.specs.Prelude.{◌≡◌, IfErr, OnOk};
 ghost use Rattle.std.specs.Io.KnownBytes.{Appends};
 
 use answers::write_all;
-use reading_commands::Refusal;
+use command_ends::Refusal;
 use std::io::Write;
 
 /// Writes a text, and flushes it.

@@ -1,17 +1,16 @@
 -- What an answer stands for, where a host or a writer keeps what it held.
-use Rattle.std.proofs.Common.{◌≡◌, ℕ, List, Option, None, Some, ◌∙◌, subst}
+use Rattle.std.proofs.Common.{◌≡◌, ℕ, List, Option, subst}
 use Rattle.std.proofs.KnownBytes.{Appends-kept}
 use Rattle.std.specs.Io.KnownBytes.{Keeps}
-use Rattle.reading_commands.specs.declared.answer.Answer.TheVariants.{Done}
+use Rattle.command_ends.specs.declared.answer.Answer.TheVariants.{Done}
 use Rattle.answers.specs.declared.image.DescribeEnd.{DescribeEnd}
 use Rattle.answers.specs.declared.manifest_file.ManifestEnd.{ManifestEnd}
-use Rattle.reading_commands.specs.declared.source.Source.{Source}
-use Rattle.reading_commands.specs.declared.source.Source.TheVariants.{StandardInput, File}
+use Rattle.command_ends.specs.declared.source.Source.{Source}
 use Rattle.reading_commands.specs.AnswerEnd.{AnswersCheck, AnswersChoice, AnswersDescription, AnswersManifest, AnswersShow, AnswersSlots}
 use Rattle.answers.specs.DescribeEnd.{Tells}
 use Rattle.answers.specs.ManifestEnd.{TellsManifest}
 use Rattle.manifest.specs.declared.identity.Identity.{Identity}
-use Rattle.reading_commands.specs.Input.{FileBytes, Gives, GiveBoth, IsKnownAs, KeepsFiles, KeepsOthers}
+use Rattle.command_ends.specs.Input.{FileBytes}
 
 -- a flush after the answer changes nothing
 pub AnswersChoice-kept : (table : Source) (input : Option (List ℕ)) (file : FileBytes)
@@ -81,31 +80,6 @@ AnswersSlots-kept device flash input file old mid new answered kept =
       answered.5,
       (listed.0, listed.1, Appends-kept old mid new _ listed.2 kept),
     )
-
--- known bytes that were kept are those that were known before
-pub IsKnownAs-kept : (old new : Option (List ℕ)) (bytes : List ℕ)
-    → Keeps old new → IsKnownAs new bytes → IsKnownAs old bytes
-IsKnownAs-kept None new bytes kept known = tt
-IsKnownAs-kept (Some xs) None bytes kept known = absurd kept
-IsKnownAs-kept (Some xs) (Some ys) bytes kept known = known ∙ kept
-
--- what a source gives after a read that kept it, it gave before
-pub Gives-kept : (source : Source) (input new_input : Option (List ℕ)) (file new_file : FileBytes)
-    (bytes : List ℕ) → Keeps input new_input → KeepsFiles file new_file
-    → Gives source new_input new_file bytes → Gives source input file bytes
-Gives-kept StandardInput input new_input file new_file bytes input_kept files_kept given =
-    IsKnownAs-kept input new_input bytes input_kept given
-Gives-kept (File name) input new_input file new_file bytes input_kept files_kept given =
-    IsKnownAs-kept (file name.now) (new_file name.now) bytes (files_kept name.now) given
-
--- two sources, read one after the other
-pub GiveBoth-read : (first second : Source) (input mid_input : Option (List ℕ))
-    (file mid_file : FileBytes) (bytes more : List ℕ)
-    → Gives first input file bytes → KeepsOthers first input file mid_input mid_file
-    → Gives second mid_input mid_file more → GiveBoth first second input file bytes more
-GiveBoth-read StandardInput second input mid_input file mid_file bytes more given kept then = given
-GiveBoth-read (File name) second input mid_input file mid_file bytes more given kept then =
-    (given, Gives-kept second input mid_input file mid_file more kept.0 kept.1 then)
 
 -- the end of a description is the one that is answered
 pub Tells-answer : (wanted end : DescribeEnd) (shown bytes : List ℕ) (old new : Option (List ℕ))

@@ -4,10 +4,10 @@ use Rattle.std.specs.Io.KnownBytes.{Appends}
 use Rattle.sector_map.specs.declared.error.MapError.{MapError}
 use Rattle.answers.specs.declared.device.DeviceFault.TheVariants as fault
 use Rattle.answers.specs.declared.device.DeviceFile.{DeviceFile}
-use Rattle.reading_commands.specs.declared.source.Source.{Source}
+use Rattle.command_ends.specs.declared.source.Source.{Source}
 use Rattle.answers.specs.AnswerText.{map_refusal_text}
 use Rattle.answers.specs.DeviceFile.{IsDeviceFault, IsDeviceFile}
-use Rattle.reading_commands.specs.Input.{FileBytes, Gives}
+use Rattle.command_ends.specs.Input.{FileBytes, Gives}
 
 -- A source held the device file of a device ..
 abbrev pub GivesDevice : Source → Option (List ℕ) → FileBytes → DeviceFile → Type 0

@@ -1,5 +1,2 @@
 pub mod AnswerEnd
 pub mod DeviceInput
-pub mod Input
-pub mod Inputs
-pub mod Status

@@ -2,13 +2,10 @@
 ghost use Rattle.std.specs.Prelude.{IfOk};
 ghost use Rattle.reading_commands.specs.AnswerEnd.{AnswersCheck};
 
-use crate::answer::Answer;
-use crate::error::Refusal;
-use crate::host::Host;
-use crate::source::Source;
 use crate::table_input::{Text, read_text};
 use answers::{CheckEnd, check_over};
 use certificate::Table;
+use command_ends::{Answer, Host, Refusal, Source};
 use std::alloc::Global;
 use std::io::Write;
 

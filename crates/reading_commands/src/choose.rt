@@ -2,12 +2,9 @@
 ghost use Rattle.std.specs.Prelude.{IfOk};
 ghost use Rattle.reading_commands.specs.AnswerEnd.{AnswersChoice};
 
-use crate::answer::Answer;
-use crate::error::Refusal;
-use crate::host::Host;
-use crate::source::Source;
 use crate::table_input::{Text, read_text};
 use answers::{ChooseEnd, choose_over};
+use command_ends::{Answer, Host, Refusal, Source};
 use std::alloc::Global;
 use std::io::Write;
 

@@ -4,13 +4,10 @@ ghost use Rattle.std.specs.Io.KnownBytes.{Appends, Keeps};
 ghost use Rattle.answers.specs.AnswerText.{map_refusal_text};
 ghost use Rattle.answers.specs.FlashOf.{IsFlashOf};
 ghost use Rattle.reading_commands.specs.DeviceInput.{ReadsDevice};
-ghost use Rattle.reading_commands.specs.Input.{Gives, IsKnownAs, KeepsFiles, KeepsOthers};
+ghost use Rattle.command_ends.specs.Input.{Gives, IsKnownAs, KeepsFiles, KeepsOthers};
 
-use crate::error::Refusal;
-use crate::host::{Access, FlashFault, Host};
-use crate::limits::MOST_JSON;
-use crate::source::Source;
 use answers::{DeviceFault, DeviceFile, map_refusal_text, write_all};
+use command_ends::{Access, FlashFault, Host, MOST_JSON, Refusal, Source};
 use sector_map::{MapError, SectorMap};
 use std::alloc::Global;
 use std::io::Write;

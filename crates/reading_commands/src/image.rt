@@ -2,12 +2,8 @@
 ghost use Rattle.std.specs.Prelude.{IfOk};
 ghost use Rattle.reading_commands.specs.AnswerEnd.{AnswersDescription};
 
-use crate::answer::Answer;
-use crate::error::Refusal;
-use crate::host::Host;
-use crate::limits::MOST_FILE;
-use crate::source::Source;
 use answers::{DescribeEnd, describe_over};
+use command_ends::{Answer, Host, MOST_FILE, Refusal, Source};
 use std::alloc::Global;
 use std::io::Write;
 

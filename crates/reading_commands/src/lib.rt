@@ -1,34 +1,25 @@
-//! The commands of `bootswap` that write no flash: which of the images that a device is asked to
-//! boot may run together, decided from a table; what an image says of itself; what a manifest says
-//! to a device; and what stands on the flash of one and in its slots. And what every command
-//! shares: where its input comes from, its answer or refusal, and its exit status.
+//! The commands of `bootswap` that write nothing but their answer: which of the images that a device
+//! is asked to boot may run together, decided from a table; what an image says of itself; what a
+//! manifest says to a device; and what stands on the flash of one and in its slots. And what the
+//! commands of a device share: how its device file and its flash are read, and who is told of the
+//! replies of a run.
 //!
 //! Promises: a command answers `Done` only where what was asked for was done, for what the files
-//! that its words name hold; and the exit status is 0 only after that answer. A program may call it
-//! with its words, as `boot_cli` does. What is written is made by `answers`, whose calls are passed
-//! on here.
+//! that its words name hold. A program may call it with its words, as `core_cli` does. What is
+//! written is made by `answers`.
 #![tactic(auto)]
 
-mod answer;
 pub mod check;
 pub mod choose;
-pub mod codes;
 mod device_input;
-mod error;
-mod host;
 pub mod image;
-mod limits;
 pub mod manifest_file;
 mod resting_table;
+mod run_notes;
 pub mod show;
 pub mod slots;
-mod source;
 mod table_input;
 
-pub use answer::{Answer, finish, refuse, status_after};
 pub use device_input::{read_device, read_flash};
-pub use error::Refusal;
-pub use host::{Access, FlashFault, Host};
-pub use limits::{MOST_FILE, MOST_SCRIPT};
 pub use resting_table::table_on;
-pub use source::Source;
+pub use run_notes::{NoNotes, RunNotes};

@@ -3,13 +3,9 @@
 ghost use Rattle.std.specs.Prelude.{IfOk};
 ghost use Rattle.reading_commands.specs.AnswerEnd.{AnswersManifest};
 
-use crate::answer::Answer;
 use crate::device_input::read_device;
-use crate::error::Refusal;
-use crate::host::Host;
-use crate::limits::MOST_JSON;
-use crate::source::Source;
 use answers::{ManifestEnd, tell_over};
+use command_ends::{Answer, Host, MOST_JSON, Refusal, Source};
 use std::alloc::Global;
 use std::io::Write;
 

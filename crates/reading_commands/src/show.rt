@@ -2,12 +2,9 @@
 ghost use Rattle.std.specs.Prelude.{IfOk};
 ghost use Rattle.reading_commands.specs.AnswerEnd.{AnswersShow};
 
-use crate::answer::Answer;
 use crate::device_input::{read_device, read_flash};
-use crate::error::Refusal;
-use crate::host::{Access, Host};
-use crate::source::Source;
 use answers::{ShowEnd, show_over};
+use command_ends::{Access, Answer, Host, Refusal, Source};
 use std::alloc::Global;
 use std::io::Write;
 use std::marker::Brand;

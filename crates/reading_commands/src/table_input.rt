@@ -1,12 +1,9 @@
 //! What `choose` and `check` read: tables and reports.
 ghost use Rattle.std.specs.Prelude.{IfOk};
-ghost use Rattle.reading_commands.specs.Input.{Gives, KeepsOthers};
+ghost use Rattle.command_ends.specs.Input.{Gives, KeepsOthers};
 
-use crate::error::Refusal;
-use crate::host::Host;
-use crate::limits::MOST_TABLE;
-use crate::source::Source;
 use certificate::{Report, Table};
+use command_ends::{Host, MOST_TABLE, Refusal, Source};
 use std::alloc::Global;
 
 /// What a text is to be.

@@ -20,17 +20,13 @@ use Rattle.machine.specs.Passing.{RunsTo}
 use Rattle.machine.specs.Reading.{IsReadOf}
 use Rattle.machine.specs.Steps.{DeviceEvent}
 use Rattle.machine.specs.declared.reply.Reply.{Reply}
-use Rattle.boot_core.specs.Device.{made}
 use Rattle.answers.specs.declared.device.DeviceFile.{DeviceFile}
+use Rattle.answers.specs.DeviceFile.{setup_of}
 use Rattle.answers.specs.FlashOf.{flash_of}
 use Rattle.sweep.specs.Cuts.{AreArmedFor}
 use Rattle.sweep.specs.declared.cuts.Cut.{Cut}
 use Rattle.sweep.specs.declared.living.Life.{Life}
 use Rattle.sweep.specs.declared.notes.LifeEnd.{LifeEnd}
-
--- What a device is made with, by its file.
-abbrev pub setup_of : DeviceFile → Setup
-setup_of device = made device.map device.identity device.trial_boots
 
 -- What comes by events that hold their bytes, ..
 abbrev pub held_in : {A : Type 0} → List (Event (Vec ℕ A)) → List (Event (List ℕ))

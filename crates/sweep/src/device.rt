@@ -3,8 +3,7 @@
 ghost use Rattle.std.specs.Prelude.{◌≡◌, false};
 ghost use Rattle.sector_map.specs.Map.{IsLaidOut};
 ghost use Rattle.upload.specs.Sessions.{AllClosed};
-ghost use Rattle.answers.specs.DeviceFile.{IsOfFile};
-ghost use Rattle.sweep.specs.Living.{setup_of};
+ghost use Rattle.answers.specs.DeviceFile.{IsOfFile, setup_of};
 
 use answers::DeviceFile;
 use boot_core::Device;
@@ -20,9 +19,5 @@ pub fn device_over<F: Flash>(flash: F, device: &DeviceFile) -> Device<F>
     ensures down { result.here.up ≡ false }
     ensures closed { AllClosed result.here.sessions }
 {
-    if device.trial_boots == 1 {
-        Device::new(flash, device.map, device.identity)
-    } else {
-        Device::with_trial(flash, device.map, device.identity, device.trial_boots)
-    }
+    Device::with_trial(flash, device.map, device.identity, device.trial_boots)
 }

@@ -20,7 +20,6 @@ mod sweeping;
 mod text;
 
 pub use cuts::{Cut, Cuts, TEARS, Tear};
-pub use device::device_over;
 pub use found::{Found, Mark, SetTally, Tally};
 pub use living::{Life, live};
 pub use notes::{CutNote, LifeEnd, Said};

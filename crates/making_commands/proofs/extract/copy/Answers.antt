@@ -3,7 +3,7 @@ use Rattle.std.specs.Prelude.{slice_range}
 use Rattle.flash_model.specs.Memory.{chip_of}
 use Rattle.tlv.specs.Fault.{IsFrontFault}
 use Rattle.tlv.specs.Slot.{slot_bytes}
-use Rattle.reading_commands.specs.Input.{IsKnownAs}
+use Rattle.command_ends.specs.Input.{IsKnownAs}
 use Rattle.making_commands.specs.CopyEnd.{IsImageOf}
 use Rattle.making_commands.proofs.CopyLaws.{copy_inside, copy_is}
 use Rattle.making_commands.proofs.extract.copy.Goals as goal

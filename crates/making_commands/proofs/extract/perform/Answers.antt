@@ -1,6 +1,6 @@
 use Rattle.std.proofs.Common.{arith}
 use Rattle.std.proofs.lemmas.Result.{IfOk-weaker}
-use Rattle.reading_commands.proofs.InputLaws.{KeepsFiles-itself}
+use Rattle.command_ends.proofs.InputLaws.{KeepsFiles-itself}
 use Rattle.making_commands.proofs.CopyLaws.{both_left, copied_image, copied_told}
 use Rattle.making_commands.proofs.extract.perform.Goals as goal
 

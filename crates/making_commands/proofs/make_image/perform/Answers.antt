@@ -1,5 +1,5 @@
 use Rattle.std.proofs.lemmas.Result.{IfOk-weaker}
-use Rattle.reading_commands.proofs.InputLaws.{KeepsFiles-itself}
+use Rattle.command_ends.proofs.InputLaws.{KeepsFiles-itself}
 use Rattle.making_commands.proofs.FileLaws.{LeavesFiles-read}
 use Rattle.making_commands.proofs.NewImageLaws.{AnswersMade-same}
 use Rattle.making_commands.proofs.make_image.perform.Goals as goal

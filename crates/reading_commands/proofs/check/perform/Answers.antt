@@ -1,5 +1,5 @@
 use Rattle.std.proofs.Common.{rules}
-use Rattle.reading_commands.proofs.AnswerLaws.{GiveBoth-read}
+use Rattle.command_ends.proofs.InputLaws.{GiveBoth-read}
 use Rattle.reading_commands.proofs.check.perform.Goals as goal
 
 -- Both texts are what their sources gave, and the verdict on them was written.

@@ -1,5 +1,6 @@
 use Rattle.std.proofs.Common.{inl}
-use Rattle.reading_commands.proofs.AnswerLaws.{GiveBoth-read, TellsManifest-answer}
+use Rattle.reading_commands.proofs.AnswerLaws.{TellsManifest-answer}
+use Rattle.command_ends.proofs.InputLaws.{GiveBoth-read}
 use Rattle.answers.specs.declared.manifest_file.ManifestEnd.TheVariants.{Done, Refused}
 use Rattle.reading_commands.proofs.manifest_file.perform.Goals as goal
 

@@ -1,5 +1,5 @@
 use Rattle.std.proofs.Common.{inl}
-use Rattle.reading_commands.proofs.AnswerLaws.{GiveBoth-read}
+use Rattle.command_ends.proofs.InputLaws.{GiveBoth-read}
 use Rattle.reading_commands.proofs.ShowLaws.{Shows-since}
 use Rattle.answers.specs.declared.show.ShowEnd.TheVariants.{Done, Refused}
 use Rattle.reading_commands.proofs.show.perform.Goals as goal

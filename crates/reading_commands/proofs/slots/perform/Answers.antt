@@ -1,5 +1,5 @@
 use Rattle.std.proofs.Common.{inl}
-use Rattle.reading_commands.proofs.AnswerLaws.{GiveBoth-read}
+use Rattle.command_ends.proofs.InputLaws.{GiveBoth-read}
 use Rattle.reading_commands.proofs.ShowLaws.{Lists-since}
 use Rattle.answers.specs.declared.slots.SlotsEnd.TheVariants.{Done, Refused}
 use Rattle.reading_commands.proofs.slots.perform.Goals as goal

@@ -1,8 +1,0 @@
-use Rattle.boot_cli.proofs.ImageLaws.{AreRead}
-use Rattle.boot_cli.proofs.commands.provision.read_images.Given as goal
-
--- the files of the images so far were read, and put over a new flash
-abbrev pub invariant-loop-image : goal.invariant-loop-image
-invariant-loop-image g l =
-    AreRead l.map l.images l.image (g.H.Host.input l.fn.host) (g.H.Host.file l.fn.host)
-    (g.H.Host.input l.host) (g.H.Host.file l.host) l.bytes.items

@@ -1,0 +1,300 @@
+//! `bootswap sweep`: what comes of a script, with each write of the flash cut.
+ghost use Rattle.std.specs.Prelude.{◌≡◌, ◌≤◌, IfOk};
+ghost use Rattle.answers.specs.DeviceFile.{IsOfFile};
+ghost use Rattle.answers.specs.FlashOf.{IsFlashOf};
+ghost use Rattle.command_ends.specs.Status.{status_of_answer};
+ghost use Rattle.boot_cli.specs.SweepEnd.{AnswersSweep, IsWhole};
+
+use answers::{DeviceFile, flash_of, write_all};
+use command_ends::{Answer, FlashFault, Host, Refusal, Source};
+use command_line::SweepChoices;
+use core_cli::provision::{Made, read_images, tell_made};
+use events::Event;
+use machine::Fault;
+use reading_commands::read_device;
+use reading_scripts::{load, read_script};
+use sector_map::SectorMap;
+use std::alloc::{AllocError, Global};
+use std::io::Write;
+use std::marker::Brand;
+use std::sync::ledger::{Blank, Ledger};
+use sweep::{Life, Plan, Watch, found_text, picture_of, sweep};
+
+/// The files that a sweep reads.
+#[derive(Clone, Copy)]
+pub struct Named<'a, 'w> {
+    /// The device file.
+    pub device: Source<'a>,
+    /// The script.
+    pub script: Source<'a>,
+    /// The names of the images that run first, as the words have them.
+    pub images: &'w [&'a str],
+}
+
+/// A flash that was made a device's, or why it wasn't.
+#[derive(Drop)]
+pub enum Provisioned {
+    /// These are its bytes.
+    Done(Vec<u8>),
+    /// This is why.
+    Refused(Fault),
+}
+
+/// How far a sweep is, told on standard error.
+#[derive(Drop)]
+struct Progress<'a, H, E> {
+    /// Where the time comes from.
+    host: &'a H,
+    /// Standard error.
+    err: &'a mut E,
+    /// When the sweep began, and when it was told last, in seconds; none where nobody watches.
+    seconds: Option<(u64, u64)>,
+}
+
+/// Reads a device file, a script and images from `host`, makes a flash in memory a device's, runs
+/// the script on it with the writes cut that `choices` ask for, and writes to `out` what came of
+/// it. The script's text is put into `text`. All stands in memory of `alloc`. Where somebody
+/// watches, `err` is told how far it is.
+///
+/// All files are judged before anything is run, and none is changed but the picture, where one is
+/// asked for, which is made or replaced once all is run.
+pub fn perform<'a, H: Host, O: Write, E: Write>(
+    alloc: Global,
+    named: Named<'a, '_>,
+    choices: &SweepChoices<'a>,
+    text: &'a mut Vec<u8>,
+    host: &mut H,
+    out: &mut O,
+    err: &mut E,
+) -> Result<Answer, Refusal<'a>>
+    ensures { IfOk result (λ answer. AnswersSweep answer named.entry.device named.entry.script
+        (H.input host.old) (H.file host.old) (O.contents out.old) (O.contents out.new)) }
+{
+    let is_input_read = reads_standard_input(&named);
+    let Some(device) = read_device(alloc, named.device, host, out)? else {
+        return Ok(Answer::Refused);
+    };
+    *text = read_script(alloc, named.script, host)?;
+    let events = load(alloc, text, is_input_read, host)?;
+    refuse_inputs(host, choices.picture, &named)?;
+    sweep_images(
+        alloc,
+        &device,
+        &events,
+        named.images,
+        choices,
+        host,
+        out,
+        err,
+    )
+}
+
+/// Whether one of these files is standard input.
+fn reads_standard_input(named: &Named<'_, '_>) -> bool {
+    named.device.is_standard_input()
+        || named.script.is_standard_input()
+        || named
+            .images
+            .iter()
+            .any(|image| Source::named(image).is_standard_input())
+}
+
+/// Refuses a picture whose file is one of those that are named.
+fn refuse_inputs<'a, H: Host>(
+    host: &H,
+    picture: Option<&'a str>,
+    named: &Named<'_, '_>,
+) -> Result<(), Refusal<'a>> {
+    let Some(picture) = picture else {
+        return Ok(());
+    };
+    refuse_input(host, picture, named.device)?;
+    refuse_input(host, picture, named.script)?;
+    for image in named.images {
+        refuse_input(host, picture, Source::named(image))?;
+    }
+    Ok(())
+}
+
+/// Refuses a picture whose file is what is read here, by whatever name.
+fn refuse_input<'a, H: Host>(
+    host: &H,
+    picture: &'a str,
+    source: Source<'_>,
+) -> Result<(), Refusal<'a>> {
+    let Source::File(name) = source else {
+        return Ok(());
+    };
+    if name == picture {
+        return Err(Refusal::PictureIsInput);
+    }
+    match host.is_same_file(name, picture) {
+        Ok(false) => Ok(()),
+        Ok(true) => Err(Refusal::PictureIsInput),
+        Err(_) => Err(Refusal::CannotReplace(Source::File(picture))),
+    }
+}
+
+/// Makes a flash with these images a device's, and sweeps these events on it.
+fn sweep_images<'a, H: Host, O: Write, E: Write>(
+    alloc: Global,
+    device: &DeviceFile,
+    events: &[Event<Vec<u8>>],
+    images: &[&'a str],
+    choices: &SweepChoices<'a>,
+    host: &mut H,
+    out: &mut O,
+    err: &mut E,
+) -> Result<Answer, Refusal<'a>>
+    requires device { IsOfFile device.now }
+    ensures { IfOk result (λ answer. status_of_answer answer ≤ 1) }
+{
+    let bytes = read_images(alloc, &device.map, images, host)?;
+    let Ok(made) = provision_in_memory::<Brand>(alloc, Blank::new(2), &device.map, bytes) else {
+        return Err(Refusal::NoMemory);
+    };
+    match made {
+        Provisioned::Refused(fault) => tell_made(alloc, Made::Refused(fault), out),
+        Provisioned::Done(bytes) => {
+            let life = Life {
+                device,
+                bytes: &bytes,
+                events,
+                between: &[],
+                more: &[],
+            };
+            tell_sweep(alloc, &life, choices, host, out, err)
+        }
+    }
+}
+
+/// Makes the flash of these bytes a device's, in memory.
+fn provision_in_memory<L: Ledger>(
+    alloc: Global,
+    blank: Blank,
+    map: &SectorMap,
+    bytes: Vec<u8>,
+) -> Result<Provisioned, AllocError>
+    requires name { blank.name ≡ L.name }
+    requires parts { blank.parts ≡ L.parts }
+    requires two { L.parts ≡ 2 }
+    requires whole { IsFlashOf map.now bytes.items }
+    ensures { IfOk result (λ made. IsWhole map.now made) }
+{
+    let mut flash = flash_of::<L>(alloc, blank, map, bytes);
+    if let Err(fault) = boot_core::provision(&mut flash, map) {
+        return Ok(Provisioned::Refused(fault));
+    }
+    Ok(Provisioned::Done(Vec::from_slice(alloc, flash.bytes())?))
+}
+
+/// Sweeps a life, makes the picture where one is asked for, and writes what was found to `out`.
+fn tell_sweep<'a, H: Host, O: Write, E: Write>(
+    alloc: Global,
+    life: &Life<'_>,
+    choices: &SweepChoices<'a>,
+    host: &mut H,
+    out: &mut O,
+    err: &mut E,
+) -> Result<Answer, Refusal<'a>>
+    requires device { IsOfFile life.now.device.now }
+    requires whole { IsFlashOf life.now.device.now.map life.now.bytes.now }
+    ensures { IfOk result (λ answer. status_of_answer answer ≤ 1) }
+{
+    let mut progress = Progress::new(host, err);
+    let Ok(found) = sweep(alloc, life, plan_of(choices), &mut progress) else {
+        return Err(Refusal::NoMemory);
+    };
+    if let Some(name) = choices.picture {
+        let Ok(picture) = picture_of(alloc, life, &found) else {
+            return Err(Refusal::NoMemory);
+        };
+        replace(alloc, name, picture.as_bytes(), host)?;
+    }
+    let Ok(text) = found_text(alloc, life, &found) else {
+        return Err(Refusal::NoMemory);
+    };
+    match write_all(out, text.as_bytes()) {
+        Ok(()) => Ok(answer_of(found.is_good())),
+        Err(_) => Err(Refusal::CannotWrite),
+    }
+}
+
+/// What is tried, by the words.
+fn plan_of(choices: &SweepChoices<'_>) -> Plan {
+    Plan {
+        is_twice: choices.is_twice,
+        sample: choices.sample,
+        seed: choices.seed.unwrap_or(1),
+    }
+}
+
+/// What a sweep comes to.
+fn answer_of(is_good: bool) -> Answer
+    ensures { status_of_answer result ≤ 1 }
+{
+    if is_good {
+        Answer::Done
+    } else {
+        Answer::Refused
+    }
+}
+
+/// Makes or replaces the file of the picture.
+fn replace<'a, H: Host>(
+    alloc: Global,
+    name: &'a str,
+    bytes: &[u8],
+    host: &mut H,
+) -> Result<(), Refusal<'a>> {
+    match host.replace_file(alloc, name, bytes) {
+        Ok(()) => Ok(()),
+        Err(FlashFault::NoMemory) => Err(Refusal::NoMemory),
+        Err(FlashFault::InUse | FlashFault::WrongLength | FlashFault::Failed(_)) => {
+            Err(Refusal::CannotReplace(Source::File(name)))
+        }
+    }
+}
+
+impl<'a, H: Host, E: Write> Progress<'a, H, E> {
+    /// Of a sweep that begins now.
+    fn new(host: &'a H, err: &'a mut E) -> Self {
+        let seconds = host.watched_seconds().map(|now| (now, now));
+        Progress { host, err, seconds }
+    }
+
+    /// Writes how far the sweep is, over what was written before, or takes that away at the end.
+    /// Nothing depends on it, so a write that fails changes nothing.
+    fn tell(&mut self, done: u32, all: u32, went: u64) {
+        let result = if done == all {
+            write!(self.err, "\r\x1b[K")
+        } else {
+            let left = seconds_left(done, all, went);
+            write!(self.err, "\rsweep: {done} of {all}, {left} s left\x1b[K")
+        };
+        let _ = result;
+        let _ = self.err.flush();
+    }
+}
+
+impl<H: Host, E: Write> Watch for Progress<'_, H, E> {
+    fn see(&mut self, done: u32, all: u32) {
+        let Some((began, told)) = self.seconds else {
+            return;
+        };
+        let Some(now) = self.host.watched_seconds() else {
+            return;
+        };
+        if now == told && done != all {
+            return;
+        }
+        self.seconds = Some((began, now));
+        self.tell(done, all, now.saturating_sub(began));
+    }
+}
+
+/// How many seconds the rest takes, where so many parts of all took these.
+fn seconds_left(done: u32, all: u32, went: u64) -> u64 {
+    let left = u64::from(all.saturating_sub(done));
+    went.saturating_mul(left) / u64::from(done.max(1))
+}

@@ -1,0 +1,110 @@
+-- What sources give that are read one after the other.
+use Rattle.std.proofs.Common.{◌≡◌, ◌≢◌, ℕ, zero, suc, ◌<◌, List, [], ◌∷◌, Option, None, Some, IfSome, arith, codes, length, refl, ◌∙◌}
+use Rattle.std.specs.Borrow.{Bor}
+use Rattle.std.specs.List.{slice_get}
+use Rattle.std.specs.Io.KnownBytes.{Keeps}
+use Rattle.command_ends.specs.declared.source.Source.{Source}
+use Rattle.command_ends.specs.declared.source.Source.TheVariants.{StandardInput, File}
+use Rattle.command_ends.specs.Input.{FileBytes, GiveBoth, Gives, IsKnownAs, IsNamed, KeepsFiles, KeepsOthers}
+use Rattle.command_ends.specs.Inputs.{GiveEach, LeavesFiles, NameFiles, names_of}
+
+-- known bytes that were kept are those that were known before
+pub IsKnownAs-kept : (old new : Option (List ℕ)) (bytes : List ℕ)
+    → Keeps old new → IsKnownAs new bytes → IsKnownAs old bytes
+IsKnownAs-kept None new bytes kept known = tt
+IsKnownAs-kept (Some xs) None bytes kept known = absurd kept
+IsKnownAs-kept (Some xs) (Some ys) bytes kept known = known ∙ kept
+
+-- what a source gives after a read that kept it, it gave before
+pub Gives-kept : (source : Source) (input new_input : Option (List ℕ)) (file new_file : FileBytes)
+    (bytes : List ℕ) → Keeps input new_input → KeepsFiles file new_file
+    → Gives source new_input new_file bytes → Gives source input file bytes
+Gives-kept StandardInput input new_input file new_file bytes input_kept files_kept given =
+    IsKnownAs-kept input new_input bytes input_kept given
+Gives-kept (File name) input new_input file new_file bytes input_kept files_kept given =
+    IsKnownAs-kept (file name.now) (new_file name.now) bytes (files_kept name.now) given
+
+-- two sources, read one after the other
+pub GiveBoth-read : (first second : Source) (input mid_input : Option (List ℕ))
+    (file mid_file : FileBytes) (bytes more : List ℕ)
+    → Gives first input file bytes → KeepsOthers first input file mid_input mid_file
+    → Gives second mid_input mid_file more → GiveBoth first second input file bytes more
+GiveBoth-read StandardInput second input mid_input file mid_file bytes more given kept then = given
+GiveBoth-read (File name) second input mid_input file mid_file bytes more given kept then =
+    (given, Gives-kept second input mid_input file mid_file more kept.0 kept.1 then)
+
+-- what sources give after a read that kept it, they gave before
+pub GiveEach-kept : (sources : List Source) (input new_input : Option (List ℕ))
+    (file new_file : FileBytes) (contents : List (List ℕ)) → Keeps input new_input
+    → KeepsFiles file new_file → GiveEach sources new_input new_file contents
+    → GiveEach sources input file contents
+GiveEach-kept [] input new_input file new_file [] input_kept files_kept given = tt
+GiveEach-kept [] input new_input file new_file (bytes ∷ more) input_kept files_kept given = given
+GiveEach-kept (source ∷ rest) input new_input file new_file [] input_kept files_kept given = given
+GiveEach-kept (StandardInput ∷ rest) input new_input file new_file (bytes ∷ more) input_kept files_kept given =
+    Gives-kept StandardInput input new_input file new_file bytes input_kept files_kept given
+GiveEach-kept (File name ∷ rest) input new_input file new_file (bytes ∷ more) input_kept files_kept given = (
+  Gives-kept (File name) input new_input file new_file bytes input_kept files_kept given.0,
+  GiveEach-kept rest input new_input file new_file more input_kept files_kept given.1,
+)
+
+-- a source that is read, and others after it
+pub GiveEach-read : (source : Source) (rest : List Source) (input mid_input : Option (List ℕ))
+    (file mid_file : FileBytes) (bytes : List ℕ) (more : List (List ℕ))
+    → Gives source input file bytes → KeepsOthers source input file mid_input mid_file
+    → GiveEach rest mid_input mid_file more → GiveEach (source ∷ rest) input file (bytes ∷ more)
+GiveEach-read StandardInput rest input mid_input file mid_file bytes more given kept then = given
+GiveEach-read (File name) rest input mid_input file mid_file bytes more given kept then =
+    (given, GiveEach-kept rest input mid_input file mid_file more kept.0 kept.1 then)
+
+-- one source that is read
+pub GiveEach-one : (source : Source) (input : Option (List ℕ)) (file : FileBytes) (bytes : List ℕ)
+    → Gives source input file bytes → GiveEach (source ∷ []) input file (bytes ∷ [])
+GiveEach-one StandardInput input file bytes given = given
+GiveEach-one (File name) input file bytes given = (given, tt)
+
+-- what is known, and was kept twice
+pub kept_twice : (known mid new : Option (List ℕ)) → Keeps known mid → Keeps mid new → Keeps known new
+kept_twice None mid new first second = tt
+kept_twice (Some xs) None new first second = absurd first
+kept_twice (Some xs) (Some ys) None first second = second
+kept_twice (Some xs) (Some ys) (Some zs) first second = second ∙ first
+
+pub kept_itself : (known : Option (List ℕ)) → Keeps known known
+kept_itself None = tt
+kept_itself (Some xs) = refl
+
+pub KeepsFiles-itself : (files : FileBytes) → KeepsFiles files files
+KeepsFiles-itself files = λ name. kept_itself (files name)
+
+pub KeepsFiles-twice : (old mid new : FileBytes) → KeepsFiles old mid → KeepsFiles mid new
+    → KeepsFiles old new
+KeepsFiles-twice old mid new first second =
+    λ name. kept_twice (old name) (mid name) (new name) (first name) (second name)
+
+-- a word that isn't `-` names a file, and to read that keeps all files
+file_kept : (name : List ℕ) (source : Source) (input new_input : Option (List ℕ))
+    (files new_files : FileBytes) → name ≢ codes "-" → IsNamed name source
+    → KeepsOthers source input files new_input new_files → KeepsFiles files new_files
+file_kept name StandardInput input new_input files new_files other named kept = absurd (other named)
+file_kept name (File word) input new_input files new_files other named kept = kept.1
+
+-- so does each of such words
+pub KeepsFiles-read : (names : List (Bor (List ℕ))) (place : ℕ) (source : Source)
+    (input new_input : Option (List ℕ)) (files new_files : FileBytes) → place < length names
+    → NameFiles (names_of names) → IfSome (slice_get names place) (λ name. IsNamed name.now source)
+    → KeepsOthers source input files new_input new_files → KeepsFiles files new_files
+KeepsFiles-read [] place source input new_input files new_files within all named kept =
+    absurd (omega (arith, within))
+KeepsFiles-read (name ∷ rest) zero source input new_input files new_files within all named kept =
+    file_kept name.now source input new_input files new_files all.0 named kept
+KeepsFiles-read (name ∷ rest) (suc place) source input new_input files new_files within all named kept =
+    KeepsFiles-read rest place source input new_input files new_files (omega (arith, within)) all.1 named kept
+
+-- a source was read, and then others were
+pub LeavesFiles-read : (source : Source) (names : List (List ℕ)) (input new_input : Option (List ℕ))
+    (old mid new : FileBytes) → KeepsOthers source input old new_input mid
+    → (NameFiles names → KeepsFiles mid new) → LeavesFiles source names old new
+LeavesFiles-read StandardInput names input new_input old mid new kept after = tt
+LeavesFiles-read (File name) names input new_input old mid new kept after =
+    λ all. KeepsFiles-twice old mid new kept.1 (after all)

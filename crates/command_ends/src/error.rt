@@ -1,0 +1,77 @@
+//! Why a command doesn't do what was asked.
+
+use crate::source::Source;
+use thiserror::Error;
+
+/// Why a command refuses. What is printed follows `error: ` on standard error.
+#[derive(Clone, Copy, Debug, Error)]
+pub enum Refusal<'a> {
+    /// The text is no table: the first line, counted from 1, that no table goes on from.
+    #[error("table line {0}")]
+    TableLine(usize),
+    /// The text is no report: the first line, counted from 1, that no report goes on from.
+    #[error("report line {0}")]
+    ReportLine(usize),
+    /// The running images of a table don't fit each other.
+    #[error("running set not valid")]
+    NotValid,
+    /// The text is no device file.
+    #[error("device file")]
+    DeviceFile,
+    /// What is asked for makes no manifest for the device. It is never printed: what is wrong with
+    /// it is told before.
+    #[error("manifest")]
+    Manifest,
+    /// The flash file isn't as long as the map of the device.
+    #[error("flash size")]
+    FlashSize,
+    /// Another program uses the flash file.
+    #[error("flash in use")]
+    FlashInUse,
+    /// The flash file that is to be made is one of the files that are read for it.
+    #[error("flash is an input")]
+    FlashIsInput,
+    /// The image file that is to be made is the one that its body is read from.
+    #[error("image is an input")]
+    ImageIsInput,
+    /// The picture that is to be made is one of the files that are read.
+    #[error("picture is an input")]
+    PictureIsInput,
+    /// Another program uses the image file that is to be made.
+    #[error("image in use")]
+    ImageInUse,
+    /// There are not as many image files as the map of the device has images.
+    #[error("image count")]
+    ImageCount,
+    /// The device has no image of this number.
+    #[error("no image {0}")]
+    NoImage(u8),
+    /// The file for this image is longer than the slot of it.
+    #[error("image {0} too big")]
+    ImageTooBig(u8),
+    /// The line of a script, counted from 1, says nothing that can be done.
+    #[error("script line {0}")]
+    ScriptLine(usize),
+    /// A file or standard input could not be read to its end.
+    #[error("cannot read {0}")]
+    CannotRead(Source<'a>),
+    /// A file or standard input has more than so many bytes.
+    #[error("{0} is longer than {1} bytes")]
+    TooLong(Source<'a>, u32),
+    /// A file that is no flash could not be made, or not be replaced.
+    #[error("cannot write {0}")]
+    CannotReplace(Source<'a>),
+    /// The program is the core of `bootswap`, and the words ask for more than it has.
+    #[error("not in the core of bootswap")]
+    NotOfCore,
+    /// Memory ran out.
+    #[error("memory")]
+    NoMemory,
+    /// The flash file could not be made, or not be written.
+    #[error("flash file")]
+    FlashFile,
+    /// The answer could not be written to its end. It is never printed: after a write that failed
+    /// nothing is.
+    #[error("cannot write")]
+    CannotWrite,
+}

@@ -1,0 +1,5 @@
+mod EndLaws
+mod FileLaws
+mod ImageLaws
+pub mod KeptLaws
+mod TellingLaws

@@ -1,0 +1,12 @@
+use Rattle.core_cli.proofs.program.run_core_order.Goals as goal
+use Rattle.core_cli.proofs.KeptLaws.{AnswersCore-kept}
+
+-- The status is 0 only after `Done`, and what stands then was written before the flush.
+pub returns : goal.returns
+returns g c = λ zero.
+    let done = c.finish.ensures.status zero in
+    let answered = rw done at c.perform-outcome.ensures in
+    AnswersCore-kept c.args.order (g.H.Host.input c.args.host.now) (g.H.Host.file c.args.host.now)
+    (g.H.Host.file c.perform-outcome.new.host)
+    (g.O.Write.contents c.args.out.now) (g.O.Write.contents c.perform-outcome.new.out) (g.O.Write.contents c.finish.new.out)
+    answered c.finish.ensures.kept

@@ -1,0 +1,4 @@
+pub mod CoreEnd
+pub mod ProvisionEnd
+pub mod RunEnd
+pub mod Telling

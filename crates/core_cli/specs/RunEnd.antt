@@ -1,0 +1,110 @@
+-- What a run of a device comes to.
+use Rattle.std.specs.Prelude.{◌≡◌, ◌⊎◌, ℕ, ◌-◌, false, List, [], ◌∷◌, length, Option, None, Some, map, slice_get}
+use Rattle.std.specs.Io.KnownBytes.{Appends}
+use Rattle.events.specs.declared.event.Event.{Event}
+use Rattle.events.specs.Event.{event_map}
+use Rattle.flash_model.specs.declared.torn.Armed.{Armed}
+use Rattle.flash_model.specs.Chip.{Chip}
+use Rattle.flash_model.specs.Memory.{Memory, with_armed}
+use Rattle.sector_map.specs.declared.layout.SectorMap.{SectorMap}
+use Rattle.upload.specs.Sessions.{AllClosed}
+use Rattle.machine.specs.Holding.{DeviceView}
+use Rattle.machine.specs.Passing.{RunsTo}
+use Rattle.machine.specs.Steps.{DeviceEvent}
+use Rattle.machine.specs.declared.reply.Reply.{Reply}
+use Rattle.machine.specs.declared.reply.Reply.TheVariants as reply
+use Rattle.command_ends.specs.declared.answer.Answer.{Answer}
+use Rattle.command_ends.specs.declared.answer.Answer.TheVariants.{Done, Refused, Cut}
+use Rattle.answers.specs.declared.device.DeviceFile.{DeviceFile}
+use Rattle.command_ends.specs.declared.source.Source.{Source}
+use Rattle.answers.specs.DeviceFile.{IsDeviceFile, setup_of}
+use Rattle.answers.specs.FlashOf.{IsFlashOf, flash_of}
+use Rattle.reading_commands.specs.DeviceInput.{RefusesMap}
+use Rattle.command_ends.specs.Input.{FileBytes}
+use Rattle.command_ends.specs.Inputs.{GiveEach}
+use Rattle.answers.specs.ReplyText.{replies_text}
+use Rattle.reading_scripts.specs.Script.{IsScript, known_after_each}
+
+-- The flash that has these bytes, of whose writes these are to be cut, as counted from now.
+abbrev pub armed_chip : SectorMap → List ℕ → List Armed → Chip
+armed_chip map bytes cuts = with_armed (flash_of map bytes) cuts
+
+-- That flash in memory. It took no write yet.
+abbrev pub armed_flash : SectorMap → List ℕ → List Armed → Memory
+armed_flash map bytes cuts = record { chip = armed_chip map bytes cuts; writes = 0 }
+
+-- A device that was just made, over a flash with these bytes of whose writes these are to be cut,
+-- and no others. It isn't up, and no upload is open.
+pub record IsMadeOf (map : SectorMap) (bytes : List ℕ) (cuts : List Armed) (here : DeviceView)
+    : Type 0 where
+  pub flash : here.flash ≡ armed_chip map bytes cuts
+  pub down : here.up ≡ false
+  pub closed : AllClosed here.sessions
+
+-- These are replies to the events, one to each, of a device of this file with these bytes on its
+-- flash, of whose writes these are to be cut: from every state that it holds they are a run of the
+-- machine of whole images, to a state that it holds then.
+pub record IsPlayed (device : DeviceFile) (bytes : List ℕ) (cuts : List Armed)
+    (events : List DeviceEvent) (replies : List Reply) : Type 0 where
+  pub old : DeviceView
+  pub new : DeviceView
+  pub made : IsMadeOf device.map bytes cuts old
+  pub runs : RunsTo (setup_of device) old new events replies
+  pub each : length replies ≡ length events
+
+-- What a run comes to: what the last reply says.
+abbrev pub answer_after : Option Reply → Answer
+answer_after None = Done
+answer_after (Some reply.Done) = Done
+answer_after (Some (reply.Booted table report permanent)) = Done
+answer_after (Some (reply.Reverted set)) = Done
+answer_after (Some (reply.TrialAgain set left)) = Done
+answer_after (Some (reply.Refused fault)) = Refused
+answer_after (Some reply.Cut) = Cut
+
+abbrev pub answer_of : List Reply → Answer
+answer_of replies = answer_after (slice_get replies (length replies - 1))
+
+-- What comes to a device by an event whose bytes are lent to it.
+abbrev pub came_by : DeviceEvent → Event (List ℕ)
+came_by lent = event_map (λ bytes. bytes.now) lent
+
+-- What is answered of a device of this file with these bytes on its flash, of whose writes these
+-- are to be cut, and to which this comes; and what a writer took: the replies.
+pub record Plays (answer : Answer) (device : DeviceFile) (bytes : List ℕ) (cuts : List Armed)
+    (came : List (Event (List ℕ))) (old new : Option (List ℕ)) : Type 0 where
+  pub events : List DeviceEvent
+  pub replies : List Reply
+  pub come : map came_by events ≡ came
+  pub played : IsPlayed device bytes cuts events replies
+  pub answered : answer ≡ answer_of replies
+  pub written : Appends old new (replies_text 1 replies)
+
+-- `run` read the bytes of a device file, of its flash and of a script with the files that it names,
+-- and wrote the replies of the device to what comes by the script, with the writes of its flash cut
+-- that the script names ..
+pub record RunsDevice (answer : Answer) (sources : List Source) (input : Option (List ℕ))
+    (files : FileBytes) (old new : Option (List ℕ)) : Type 0 where
+  pub device_bytes : List ℕ
+  pub of_device : DeviceFile
+  pub bytes : List ℕ
+  pub text : List ℕ
+  pub cuts : List Armed
+  pub came : List (Event (List ℕ))
+  pub given : GiveEach sources input files (device_bytes ∷ bytes ∷ text ∷ [])
+  pub is_device : IsDeviceFile device_bytes of_device
+  pub whole : IsFlashOf of_device.map bytes
+  pub script : IsScript text (known_after_each sources (record { input = input; files = files }))
+      cuts came
+  pub plays : Plays answer of_device bytes cuts came old new
+
+-- .. or why the sizes of the device file make no map, and then nothing else counts.
+abbrev pub AnswersRun : Answer → Source → Source → Source → Option (List ℕ) → FileBytes
+    → Option (List ℕ) → Option (List ℕ) → Type 0
+AnswersRun Done device flash script input files old new =
+    RunsDevice Done (device ∷ flash ∷ script ∷ []) input files old new
+AnswersRun Refused device flash script input files old new =
+    RunsDevice Refused (device ∷ flash ∷ script ∷ []) input files old new
+    ⊎ RefusesMap device input files old new
+AnswersRun Cut device flash script input files old new =
+    RunsDevice Cut (device ∷ flash ∷ script ∷ []) input files old new

@@ -1,0 +1,115 @@
+//! The system as a host.
+
+use crate::holding::HeldFile;
+use crate::{file_reading, holding, replacing};
+use command_ends::{Access, FlashFault, Host};
+use std::alloc::Global;
+use std::fs::File;
+use std::io;
+use std::io::{ErrorKind, Read};
+use std::os::unix::fs::FileExt;
+use std::rt::Files;
+use std::time::Clock;
+
+/// The system that the program runs on: its files, and its standard input as a reader.
+#[derive(Drop)]
+pub struct SystemHost<'a, R: Files, I: Read> {
+    runtime: &'a R,
+    input: I,
+    is_watched: bool,
+    flash: Option<HeldFile>,
+}
+
+impl<'a, R: Files, I: Read> SystemHost<'a, R, I> {
+    /// The files and the clock of `runtime`, and `input` as standard input. `is_watched` says
+    /// whether standard error is a terminal.
+    pub fn new(runtime: &'a R, input: I, is_watched: bool) -> Self {
+        SystemHost {
+            runtime,
+            input,
+            is_watched,
+            flash: None,
+        }
+    }
+}
+
+impl<R: Files<File = File> + Clock, I: Read> Host for SystemHost<'_, R, I> {
+    ghost input = { λ host. I.remaining host.input };
+
+    fn read_file(&mut self, alloc: Global, name: &str, most: u32) -> io::Result<Vec<u8>> {
+        file_reading::read_start(self.runtime, alloc, name, most)
+    }
+
+    fn read_input(&mut self, alloc: Global, most: u32) -> io::Result<Vec<u8>> {
+        file_reading::read_input(alloc, &mut self.input, most)
+    }
+
+    fn read_again(&self, alloc: Global, name: &str, most: u32) -> io::Result<Vec<u8>> {
+        file_reading::read_start(self.runtime, alloc, name, most)
+    }
+
+    fn read_part(
+        &self,
+        alloc: Global,
+        name: &str,
+        from: usize,
+        count: usize,
+    ) -> io::Result<Option<Vec<u8>>> {
+        file_reading::read_part(self.runtime, alloc, name, from, count)
+    }
+
+    fn is_plain(&self, name: &str) -> io::Result<bool> {
+        file_reading::is_plain(self.runtime, name)
+    }
+
+    fn is_same_file(&self, one: &str, other: &str) -> io::Result<bool> {
+        replacing::is_same_file(self.runtime, one, other)
+    }
+
+    fn open_flash(
+        &mut self,
+        alloc: Global,
+        name: &str,
+        length: u64,
+        access: Access,
+    ) -> Result<Vec<u8>, FlashFault> {
+        let held = holding::open(self.runtime, name, length, access)?;
+        let Ok(mut bytes) = vec![in alloc; 0; length as usize] else {
+            return Err(FlashFault::NoMemory);
+        };
+        if let Err(error) = held.file.read_exact_at(&mut bytes, 0) {
+            return Err(FlashFault::Failed(error));
+        }
+        self.flash = Some(held);
+        Ok(bytes)
+    }
+
+    fn write_flash(&self, at: u64, bytes: &[u8]) -> io::Result<()> {
+        let Some(held) = &self.flash else {
+            return Err(io::Error::from(ErrorKind::NotFound));
+        };
+        held.file.write_all_at(bytes, at)?;
+        if held.is_durable {
+            held.file.sync_data()?;
+        }
+        Ok(())
+    }
+
+    fn sync_flash(&self) -> io::Result<()> {
+        match &self.flash {
+            Some(held) => held.file.sync_data(),
+            None => Ok(()),
+        }
+    }
+
+    fn replace_file(&mut self, alloc: Global, name: &str, bytes: &[u8]) -> Result<(), FlashFault> {
+        replacing::replace_file(self.runtime, alloc, name, bytes)
+    }
+
+    fn watched_seconds(&self) -> Option<u64> {
+        if !self.is_watched {
+            return None;
+        }
+        Some(self.runtime.monotonic().ok()?.as_secs())
+    }
+}
