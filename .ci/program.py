@@ -1,5 +1,5 @@
-"""Proves and builds the program `bootswap`, for the command of that name, and the static library of `bindings/build` and
-`web/build`.
+"""Proves and builds the program `bootswap` or its core, for the command of that name, and the static library of
+`bindings/build` and `web/build`.
 
 Each crate is proved by the toolchain's `rattle build`, over the statements of the crates below it. At most half again
 as many processes work at once as there are processors, and as many as memory allows. What is built stands in out/build:
@@ -24,7 +24,6 @@ ROOT = os.path.dirname(os.path.dirname(os.path.realpath(__file__)))
 OUT = f"{ROOT}/out"
 BUILD = f"{OUT}/build"
 LOG = f"{OUT}/bootswap.log"
-PROGRAM = f"{OUT}/bootswap"
 
 # Where out/build stands while `rt ci` runs, which stops at a source file that none of its checks reads, as those that a
 # built library has.
@@ -33,6 +32,7 @@ ASIDE = f"{ROOT}/.git/bootswap-build"
 # What is told before a build: as measured on 4 processors, all of them taken.
 COSTS = {
     "bootswap": "the program: from nothing it takes 55 to 90 minutes of one processor, 1.5 GB of disk",
+    "bootswap_core": "the core of the program: from nothing it takes 40 to 65 minutes of one processor, 1.2 GB of disk",
     "device_calls": "the library: from nothing it takes 30 to 55 minutes of one processor, 1 GB of disk",
 }
 
@@ -42,7 +42,7 @@ MEMORY, MEMORY_OF_JOB = 2_300_000_000, 800_000_000
 
 # The most processes that are of use to one check, and how many seconds of a processor a check takes
 # for which one more is of use. Each reads the libraries below for itself.
-MOST_JOBS, SECONDS_OF_JOB = 4, 80
+MOST_JOBS, SECONDS_OF_JOB = 4, 50
 
 # How much less of a processor a check gets that little waits for, as a niceness.
 LEAST_URGENT = 10
@@ -142,11 +142,12 @@ class Crate:
             words += ["-L", f"dependency={folder}"]
         words += ["--antt-project", f"{kit}/rattle/logic/antt-project.json", "--logic-built", f"{kit}/logic_built"]
         words += ["--jobs", str(jobs), "--links", f"{self.name}=", "-o", self.made]
-        words += ["--crate-type", "staticlib", "--target", self.target] if self.is_static else []
-        if self.is_program or self.is_static:
+        if self.is_program:
+            return [*words, "--toolchain", f"{kit}/toolchain", "--backend", "rattle"]
+        if self.is_static:
+            words += ["--crate-type", "staticlib", "--target", self.target]
             return [*words, "--toolchain", f"{kit}/toolchain", "--backend", "llvm"]
         return [*words, "--statements"]
-
 
     def aim(self, target):
         """Has a static library built for another target, beside the one for this processor."""
@@ -275,7 +276,7 @@ class Build:
             # Most likely for memory, of which one process needs the least.
             status, said = self.call(crate.words(self.kit, 1), crate.folder)
         if not status and crate.is_program:
-            status, more = self.call(link_words(self.kit, crate.made), crate.folder)
+            status, more = self.call(link_words(self.kit, crate.made, f"{OUT}/{crate.name}"), crate.folder)
             said += more
         if not status:
             with open(crate.stamp, "w", encoding="utf-8") as it:
@@ -334,8 +335,8 @@ def kill(ran):
         os.kill(ran.pid, signal.SIGKILL)
 
 
-def link_words(kit, made):
-    words = [f"{kit}/bin/rattle-link", "--target", TARGET, "--toolchain", f"{kit}/toolchain", "-o", PROGRAM, made]
+def link_words(kit, made, program):
+    words = [f"{kit}/bin/rattle-link", "--target", TARGET, "--toolchain", f"{kit}/toolchain", "-o", program, made]
     return [*words, f"{kit}/c/libos_c.a", f"{kit}/c/liblibc_c.a"]
 
 
@@ -349,7 +350,7 @@ def asked_of_rt(word):
 
 
 def build(crates, toolchain):
-    """Proves and builds these crates: a program as out/bootswap, a library as out/build/NAME.a."""
+    """Proves and builds these crates: a program as out/NAME, a library as out/build/NAME.a."""
     put_build_back()
     try:
         os.makedirs(BUILD, exist_ok=True)

@@ -1,0 +1,68 @@
+"""The programs that `./bootswap` runs: the whole one, and its core, which has fewer commands and is quicker to prove.
+
+Both answer an order of the core alike. A program is current where its stamp, NAME.stamp beside it in out, names the
+sources, the program and the toolchain as they are now.
+"""
+
+import hashlib
+import os
+import shutil
+
+from program import OUT, NotBuilt, asked_of_rt, build, crates_of, text_of
+
+WHOLE, CORE = "bootswap", "bootswap_core"
+
+# The commands that the core doesn't have, and the word that it doesn't take.
+OF_WHOLE = ("make-device", "make-image", "make-manifest", "extract", "sweep")
+EXPLAIN = "--explain"
+
+
+class NoToolchain(NotBuilt):
+    """There is nothing to build the program with."""
+
+
+def needed_for(words):
+    """Returns the name of the program that the words of a command need at least."""
+    return WHOLE if words[:1] and words[0] in OF_WHOLE or EXPLAIN in words else CORE
+
+
+def file_of(name):
+    return f"{OUT}/{name}"
+
+
+def stamp_of(name, crates, toolchain):
+    """Returns what the stamp of a program as it is now has to say."""
+    with open(file_of(name), "rb") as it:
+        program = hashlib.sha256(it.read()).hexdigest()
+    return f"sources {crates[-1].digest('')}\nprogram {program}\ntoolchain {toolchain}\n"
+
+
+def toolchain_of_stamp(name):
+    """Returns the toolchain of the last build: without one nothing says that it is another one now."""
+    lines = (text_of(f"{file_of(name)}.stamp") or "").splitlines()
+    return next((it.partition(" ")[2] for it in lines if it.startswith("toolchain ")), None)
+
+
+def is_current(name, toolchain):
+    if not os.access(file_of(name), os.X_OK):
+        return False
+    toolchain = toolchain or toolchain_of_stamp(name)
+    return text_of(f"{file_of(name)}.stamp") == stamp_of(name, crates_of(name), toolchain)
+
+
+def current_for(name):
+    """Returns the file of a current program that does what this one does, which is proved and built where there is
+    none."""
+    toolchain = asked_of_rt("version") if shutil.which("rt") else None
+    for enough in dict.fromkeys((WHOLE, name)):
+        if is_current(enough, toolchain):
+            return file_of(enough)
+    if not toolchain:
+        raise NoToolchain
+    stamp, crates = f"{file_of(name)}.stamp", crates_of(name)
+    if os.path.exists(stamp):
+        os.remove(stamp)
+    build(crates, toolchain)
+    with open(stamp, "w", encoding="utf-8") as it:
+        it.write(stamp_of(name, crates, toolchain))
+    return file_of(name)
