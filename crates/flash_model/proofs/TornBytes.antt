@@ -2,12 +2,12 @@
 use Rattle.std.proofs.Common.{◌≡◌, ◌*◌, ℕ, ◌+◌, ◌-◌, ◌/◌, ◌%◌, ◌<◌, ◌≤◌, List, [], ◌∷◌, ◌++◌, length, take, drop}
 use Rattle.std.proofs.Common.{slice_index, slice_range, replicate, refl, sym, ◌∙◌, ap, arith}
 use Rattle.std.proofs.lemmas.List.{ext_get_or, get_or-drop, get_or-take, get_or_append_left, get_or-append_right}
-use Rattle.std.proofs.lemmas.List.{length-append, length-take, length-drop, length-replicate, take_at}
+use Rattle.std.proofs.lemmas.List.{length-append, length-take, length-drop, length-replicate, get_or-replicate, take_at}
 use Rattle.std.proofs.lemmas.List.{append_assoc, drop-append-le, drop-drop, take-append-drop, take-replicate}
 use Rattle.std.proofs.lemmas.List.FromFn.{get_or-map-range_with_len, length-map-range_with_len}
 use Rattle.flash_model.specs.declared.torn.Torn.{Torn}
 use Rattle.flash_model.specs.declared.torn.Torn.TheVariants.{Keep, Done, Half, Bytes}
-use Rattle.flash_model.specs.Chip.{Chip, SameOutside}
+use Rattle.flash_model.specs.Chip.{Chip, IsErased, Reads, SameOutside}
 use Rattle.flash_model.proofs.Frame.{product_le}
 use Rattle.flash_model.proofs.Ranges.{length_range}
 use Rattle.flash_model.specs.Torn.{half_done, repeated, replaced, torn_at, torn_bytes, with_pattern}
@@ -71,6 +71,31 @@ outside_of_replaced at n range old new long inside is size sectors fixed =
           ∙ get_or-append_right range _ n (k - at) 0 long (omega arith)
           ∙ get_or-drop (at + length range) old.bytes (k - at - n) 0
           ∙ ap (λ i. slice_index old.bytes i) (omega arith);
+    }
+
+-- The range has the bytes that were put there ..
+pub reads_of_replaced : (at : ℕ) (range old : List ℕ) (new : Chip) → at + length range ≤ length old
+    → new.bytes ≡ replaced at range old → Reads new at range
+reads_of_replaced at range old new inside is =
+    let front : length (take at old) ≡ at = length-take at old ∙ omega arith in
+    record {
+      each = λ k i place below.
+          let there : k - at ≡ i = omega arith in
+          ap (λ bytes. slice_index bytes k) is
+          ∙ get_or-append_right (take at old) _ at k 0 front (omega arith)
+          ∙ ap (λ j. slice_index (range ++ drop (at + length range) old) j) there
+          ∙ get_or_append_left range _ 0 i below;
+    }
+
+-- .. and so is erased where these are.
+pub erased_of_replaced : (at n : ℕ) (old : List ℕ) (new : Chip) → at + length {A = ℕ} (replicate n 255) ≤ length old
+    → new.bytes ≡ replaced at (replicate n 255) old → IsErased new at n
+erased_of_replaced at n old new inside is =
+    let reads = reads_of_replaced at (replicate n 255) old new inside is in
+    let long : length {A = ℕ} (replicate n 255) ≡ n = length-replicate {A = ℕ} n 255 in
+    record {
+      each = λ k low high.
+          reads.each k (k - at) (omega arith) (omega arith) ∙ get_or-replicate n (k - at) 255 0 (omega arith);
     }
 
 -- A cut leaves as many bytes in its range as there were ..

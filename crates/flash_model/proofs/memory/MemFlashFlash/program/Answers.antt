@@ -1,7 +1,22 @@
 use Rattle.std.proofs.Common.{rules, refl, sym, ◌∙◌, ◌≤◌, ◌+◌, length}
 use Rattle.flash_model.proofs.MemoryLaws.{same_memory, torn_for_next, writes_done, writes_cut}
-use Rattle.flash_model.proofs.TornBytes.{items_after, length-replaced, length-torn_at, outside_of_torn}
+use Rattle.flash_model.proofs.TornBytes.{items_after, length-replaced, length-torn_at, outside_of_replaced, outside_of_torn, reads_of_replaced}
 use Rattle.flash_model.proofs.memory.MemFlashFlash.program.Goals as goal
+
+pub returns-in-None-clause-chip : goal.returns-in-None-clause-chip
+returns-in-None-clause-chip g c =
+    let inside : c.args.at + length c.args.bytes.now ≤ length c.args.self.now.bytes.items = search rules in
+    record {
+      outside = outside_of_replaced _ _ _ _ _ refl inside
+          (items_after _ _ _ _ (rw c.deref_mut.ensures.value at c.put.ensures.bytes) (length-replaced _ _ _ inside)
+          (search rules)) refl refl refl;
+      ok = reads_of_replaced _ _ _ _ inside
+          (items_after _ _ _ _ (rw c.deref_mut.ensures.value at c.put.ensures.bytes) (length-replaced _ _ _ inside)
+          (search rules));
+      on = search rules;
+      erases = refl;
+      ends = search rules;
+    }
 
 pub returns-in-None-clause-memory : goal.returns-in-None-clause-memory
 returns-in-None-clause-memory g c =
