@@ -1,5 +1,5 @@
 -- When no request stands, and what keeps it so.
-use Rattle.std.proofs.Common.{◌≡◌, ◌⊎◌, ℕ, ◌&&◌, Bool, true, false, not, ◌∙◌, ap, refl, inl, inr, Some, None, if◌then◌else◌}
+use Rattle.std.proofs.Common.{◌≡◌, ◌⊎◌, ℕ, ◌&&◌, Bool, true, false, not, sym, ◌∙◌, ap, subst, refl, inl, inr, ⊎_elim, Some, None, if◌then◌else◌}
 use Rattle.flash_model.specs.Chip.{Chip}
 use Rattle.sector_map.specs.declared.layout.SectorMap.{SectorMap}
 use Rattle.sector_map.specs.declared.layout.Side.TheVariants.{Secondary}
@@ -87,3 +87,15 @@ requested_stands Test true = inr refl
 requested_stands Test false = inl refl
 requested_stands Permanent true = inr refl
 requested_stands Permanent false = inl refl
+
+-- so the request stands that was asked for, or none, where the trailer is whole or its magic isn't good
+pub stands_or_none : (map : SectorMap) (chip : Chip) (image : ℕ) (kind : Kind)
+    → (fields_at map chip image Secondary ≡ requested_fields kind)
+    ⊎ (is_good (fields_at map chip image Secondary).magic ≡ false)
+    → (standing_of map chip image ≡ None) ⊎ (standing_of map chip image ≡ Some kind)
+stands_or_none map chip image kind = ⊎_elim
+    (λ (whole : fields_at map chip image Secondary ≡ requested_fields kind).
+    let front = first_is_set (incoming_slot map chip image) in
+    subst (λ f. (standing_kind (trailer_of f) front ≡ None) ⊎ (standing_kind (trailer_of f) front ≡ Some kind))
+    (sym whole) (requested_stands kind front))
+    (λ (bad : is_good (fields_at map chip image Secondary).magic ≡ false). inl (gone_without_magic map chip image bad))

@@ -110,6 +110,16 @@ first_gone map old first second new image a b erased set =
     ap (λ (xs : List ℕ). are_erased (first_sector map.sector_size xs)) (b.parts (Slot image Secondary) refl)
     ∙ erased (ap (λ (xs : List ℕ). first_is_set xs) (a.parts (Slot image Secondary) refl) ∙ set)
 
+-- after the trailer was written slot and trailer are as they were, or no request stands
+pub slot_or_none : (map : SectorMap) (old new : Chip) (image : ℕ)
+    → incoming_slot map new image ≡ incoming_slot map old image
+    → (fields_at map new image Secondary ≡ fields_at map old image Secondary) ⊎ (standing_of map new image ≡ None)
+    → ((incoming_slot map new image ≡ incoming_slot map old image)
+    × (fields_at map new image Secondary ≡ fields_at map old image Secondary)) ⊎ (standing_of map new image ≡ None)
+slot_or_none map old new image slot = ⊎_elim
+    (λ (same : fields_at map new image Secondary ≡ fields_at map old image Secondary). inl (slot, same))
+    (λ (none : standing_of map new image ≡ None). inr none)
+
 -- where no request stands, none stands after the slot's first sector was erased or left
 pub none_after_front : (map : SectorMap) (old new : Chip) (image : ℕ) → standing_of map old image ≡ None
     → Keeps map (only (Slot image Secondary)) old new

@@ -1,13 +1,21 @@
-use Rattle.std.proofs.Common.{rules, arith, refl}
+use Rattle.std.proofs.Common.{◌∙◌, arith, refl}
 use Rattle.trailer.proofs.Places.{units_alone}
-use Rattle.trailer.proofs.Marks.{ok_still_free, magic_still_free, marked, two_alone, three_alone}
+use Rattle.trailer.proofs.Marks.{ok_still_free, magic_still_free, marked, two_alone, three_alone, two_of_units, three_of_units}
+use Rattle.flash_model.proofs.Ending.{at_error, ends_passed, ends_then, ends_done}
+use Rattle.flash_model.proofs.Frame.{same_outside_wider}
 use Rattle.trailer.proofs.marking.mark_trailer.Goals as goal
 
 pub returns-in_err-mark : goal.returns-in_err-mark
 returns-in_err-mark g c =
     let outside = units_alone c.args.map.now _ _ c.args.image _ 32 8 c.args.side c.mark.ensures.outside
     c.requires.image.laid_out c.requires.image.there refl (omega arith) (omega arith) in
-    search (rules, outside)
+    record {
+      outside = outside;
+      units = same_outside_wider _ 8 _ 32 _ _ c.mark.ensures.outside (omega arith) (omega arith);
+      ok = at_error _ _ c.from_residual.ensures.0;
+      erases = at_error _ _ c.from_residual.ensures.0;
+      ends = ends_passed _ _ _ _ c.from_residual.ensures.1 c.in_err-mark.ensures.ends;
+    }
 
 pub mark_ok-requires-clause-free : goal.mark_ok-requires-clause-free
 mark_ok-requires-clause-free g c =
@@ -18,7 +26,15 @@ pub returns-in_err-mark_ok : goal.returns-in_err-mark_ok
 returns-in_err-mark_ok g c =
     let outside = two_alone c.args.map.now _ _ _ c.args.image c.args.side c.mark.ensures.outside
     c.mark_ok.ensures.outside c.requires.image.laid_out c.requires.image.there in
-    search (rules, outside)
+    record {
+      outside = outside;
+      units = two_of_units c.args.map.now _ _ _ c.args.image c.args.side c.mark.ensures.outside
+          c.mark_ok.ensures.outside c.requires.image.laid_out.is_map;
+      ok = at_error _ _ c.from_residual-in_err-mark_ok.ensures.0;
+      erases = at_error _ _ c.from_residual-in_err-mark_ok.ensures.0;
+      ends = ends_then _ _ _ _ _ c.in_ok-mark.ensures.ends
+          (ends_passed _ _ _ _ c.from_residual-in_err-mark_ok.ensures.1 c.in_err-mark_ok.ensures.ends);
+    }
 
 pub mark-requires-2-clause-free : goal.mark-requires-2-clause-free
 mark-requires-2-clause-free g c =
@@ -31,7 +47,16 @@ returns-in_err-mark-2 g c =
     let outside = three_alone c.args.map.now _ _ _ _ c.args.image c.args.side
     c.mark.ensures.outside c.mark_ok.ensures.outside c.mark-2.ensures.outside c.requires.image.laid_out
     c.requires.image.there in
-    search (rules, outside)
+    record {
+      outside = outside;
+      units = three_of_units c.args.map.now _ _ _ _ c.args.image c.args.side c.mark.ensures.outside
+          c.mark_ok.ensures.outside c.mark-2.ensures.outside c.requires.image.laid_out.is_map;
+      ok = at_error _ _ c.from_residual-in_err-mark-2.ensures.0;
+      erases = at_error _ _ c.from_residual-in_err-mark-2.ensures.0;
+      ends = ends_then _ _ _ _ _ c.in_ok-mark.ensures.ends
+          (ends_then _ _ _ _ _ c.in_ok-mark_ok.ensures.ends
+          (ends_passed _ _ _ _ c.from_residual-in_err-mark-2.ensures.1 c.in_err-mark-2.ensures.ends));
+    }
 
 pub returns : goal.returns
 returns g c =
@@ -43,4 +68,13 @@ returns g c =
     c.mark.ensures.outside c.in_ok-mark.ensures.ok
     c.mark_ok.ensures.outside c.in_ok-mark_ok.ensures.ok c.mark_ok.ensures.tried
     c.mark-2.ensures.outside c.in_ok-mark-2.ensures.ok in
-    search (rules, outside, ok)
+    record {
+      outside = outside;
+      units = three_of_units c.args.map.now _ _ _ _ c.args.image c.args.side c.mark.ensures.outside
+          c.mark_ok.ensures.outside c.mark-2.ensures.outside c.requires.image.laid_out.is_map;
+      ok = ok;
+      erases = c.in_ok-mark-2.ensures.erases ∙ c.in_ok-mark_ok.ensures.erases ∙ c.in_ok-mark.ensures.erases;
+      ends = ends_then _ _ _ _ _ c.in_ok-mark.ensures.ends
+          (ends_then _ _ _ _ _ c.in_ok-mark_ok.ensures.ends
+          (ends_done _ _ _ _ c.in_ok-mark-2.ensures.ends));
+    }

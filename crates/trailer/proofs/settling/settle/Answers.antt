@@ -1,22 +1,58 @@
 use Rattle.sector_map.specs.declared.layout.Side.TheVariants.{Primary, Secondary}
-use Rattle.std.proofs.Common.{rules, ℕ, ◌+◌, List, arith, sym, ◌∙◌, ap}
+use Rattle.std.proofs.Common.{ℕ, ◌+◌, List, arith, sym, ◌∙◌, ap}
 use Rattle.flash_model.specs.Chip.{Chip}
 use Rattle.sector_map.specs.Part.{TrailerOf}
+use Rattle.sector_map.proofs.Parts.{laid_out_kept}
 use Rattle.flash_model.specs.Units.{are_erased}
 use Rattle.trailer.proofs.Marks.{settled, secondary_kept, one_of_trailers, both_trailers}
 use Rattle.trailer.proofs.Marks.{beside, across, still_erased, spared_alike}
+use Rattle.flash_model.proofs.Ending.{at_error, ends_passed, ends_then, ends_done}
 use Rattle.trailer.proofs.settling.settle.Goals as goal
 
 pub returns-in_err-erase_trailer : goal.returns-in_err-erase_trailer
 returns-in_err-erase_trailer g c =
     let outside = one_of_trailers c.args.map.now _ _ c.args.image Secondary c.erase_trailer.ensures.outside in
-    search (rules, outside)
+    record {
+      outside = outside;
+      ok = at_error _ _ c.from_residual.ensures.0;
+      marks = at_error _ _ c.from_residual.ensures.0;
+      erased = at_error _ _ c.from_residual.ensures.0;
+      back = at_error _ _ c.from_residual.ensures.0;
+      erases = at_error _ _ c.from_residual.ensures.0;
+      spares = at_error _ _ c.from_residual.ensures.0;
+      must = at_error _ _ c.from_residual.ensures.0;
+      ends = ends_passed _ _ _ _ c.from_residual.ensures.1 c.in_err-erase_trailer.ensures.ends;
+    }
+
+pub make_whole-requires : goal.make_whole-requires
+make_whole-requires g c = record {
+  laid_out = laid_out_kept _ _ _ _ c.requires.laid_out c.erase_trailer.ensures.outside;
+  there = c.requires.there;
+}
 
 pub returns-in_err-make_whole : goal.returns-in_err-make_whole
 returns-in_err-make_whole g c =
     let first = one_of_trailers c.args.map.now _ _ c.args.image Secondary c.erase_trailer.ensures.outside in
     let outside = both_trailers c.args.map.now _ _ _ c.args.image Primary first c.make_whole.ensures.outside in
-    search (rules, outside)
+    record {
+      outside = outside;
+      ok = at_error _ _ c.from_residual-in_err-make_whole.ensures.0;
+      marks = at_error _ _ c.from_residual-in_err-make_whole.ensures.0;
+      erased = at_error _ _ c.from_residual-in_err-make_whole.ensures.0;
+      back = at_error _ _ c.from_residual-in_err-make_whole.ensures.0;
+      erases = at_error _ _ c.from_residual-in_err-make_whole.ensures.0;
+      spares = at_error _ _ c.from_residual-in_err-make_whole.ensures.0;
+      must = at_error _ _ c.from_residual-in_err-make_whole.ensures.0;
+      ends = ends_then _ _ _ _ _ c.in_ok-erase_trailer.ensures.ends
+          (ends_passed _ _ _ _ c.from_residual-in_err-make_whole.ensures.1 c.in_err-make_whole.ensures.ends);
+    }
+
+pub mark_trailer-requires-clause-image : goal.mark_trailer-requires-clause-image
+mark_trailer-requires-clause-image g c = record {
+  laid_out = laid_out_kept _ _ _ _ (laid_out_kept _ _ _ _ c.requires.laid_out c.erase_trailer.ensures.outside)
+      c.make_whole.ensures.outside;
+  there = c.requires.there;
+}
 
 pub mark_trailer-requires-clause-whole : goal.mark_trailer-requires-clause-whole
 mark_trailer-requires-clause-whole g c = rw c.is_confirmed.ensures c.in_ok-make_whole.ensures.ok
@@ -26,7 +62,19 @@ returns-in_err-mark_trailer g c =
     let first = one_of_trailers c.args.map.now _ _ c.args.image Secondary c.erase_trailer.ensures.outside in
     let both = both_trailers c.args.map.now _ _ _ c.args.image Primary first c.make_whole.ensures.outside in
     let outside = both_trailers c.args.map.now _ _ _ c.args.image Primary both c.mark_trailer.ensures.outside in
-    search (rules, outside)
+    record {
+      outside = outside;
+      ok = at_error _ _ c.from_residual-in_err-mark_trailer.ensures.0;
+      marks = at_error _ _ c.from_residual-in_err-mark_trailer.ensures.0;
+      erased = at_error _ _ c.from_residual-in_err-mark_trailer.ensures.0;
+      back = at_error _ _ c.from_residual-in_err-mark_trailer.ensures.0;
+      erases = at_error _ _ c.from_residual-in_err-mark_trailer.ensures.0;
+      spares = at_error _ _ c.from_residual-in_err-mark_trailer.ensures.0;
+      must = at_error _ _ c.from_residual-in_err-mark_trailer.ensures.0;
+      ends = ends_then _ _ _ _ _ c.in_ok-erase_trailer.ensures.ends
+          (ends_then _ _ _ _ _ c.in_ok-make_whole.ensures.ends
+          (ends_passed _ _ _ _ c.from_residual-in_err-mark_trailer.ensures.1 c.in_err-mark_trailer.ensures.ends));
+    }
 
 pub returns : goal.returns
 returns g c =
@@ -46,7 +94,12 @@ returns g c =
       back = λ back.
           still_erased c.args.map.now _ _ c.args.image Primary c.mark_trailer.ensures.units
           c.requires.laid_out.is_map c.requires.there (c.in_ok-make_whole.ensures.back back);
-      erases = search rules;
+      erases = omega (
+        arith,
+        c.in_ok-mark_trailer.ensures.erases,
+        c.in_ok-make_whole.ensures.erases,
+        c.in_ok-erase_trailer.ensures.erases,
+      );
       spares = λ spared.
           c.in_ok-mark_trailer.ensures.erases
           ∙ ap (λ (chip : Chip). chip.erases) (c.in_ok-make_whole.ensures.spares (spared_alike c.args.map.now _ _
@@ -60,5 +113,7 @@ returns g c =
           c.args.image Primary _
           (c.erase_trailer.ensures.outside.parts (TrailerOf c.args.image Primary) (across c.args.image)) spared))
           ∙ ap (λ n. n + 1) c.in_ok-erase_trailer.ensures.erases ∙ omega arith;
-      ends = search rules;
+      ends = ends_then _ _ _ _ _ c.in_ok-erase_trailer.ensures.ends
+          (ends_then _ _ _ _ _ c.in_ok-make_whole.ensures.ends
+          (ends_done _ _ _ _ c.in_ok-mark_trailer.ensures.ends));
     }

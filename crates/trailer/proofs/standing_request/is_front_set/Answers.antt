@@ -1,8 +1,14 @@
-use Rattle.std.proofs.Common.{rules, arith, ◌∙◌, ap, not, refl}
+use Rattle.std.proofs.Common.{arith, ◌∙◌, ap, not, refl}
 use Rattle.sector_map.specs.Part.{Slot}
 use Rattle.trailer.proofs.Erased.{tells_range}
 use Rattle.trailer.proofs.Places.{some_slot, sector_of_part}
+use Rattle.flash_model.proofs.Ending.{ends_passed, ends_done}
+use Rattle.trailer.proofs.Told.{tells_nothing}
 use Rattle.trailer.proofs.standing_request.is_front_set.Goals as goal
+
+pub returns-in_err-erased : goal.returns-in_err-erased
+returns-in_err-erased g c = tells_nothing _ _ _ _ c.is_unit_erased.ensures.same c.from_residual.ensures.0
+    (ends_passed _ _ _ _ c.from_residual.ensures.1 c.in_err-erased.ensures.ends)
 
 pub returns : goal.returns
 returns g c =
@@ -14,4 +20,9 @@ returns g c =
       sector_of_part c.args.map.now (Slot c.args.image c.args.side) some,
       c.requires.laid_out.is_map.trailers 0,
     )) (c.slot_start.ensures ∙ omega arith) refl) in
-    search (rules, ok)
+    record {
+      same = c.is_unit_erased.ensures.same;
+      ok = ok;
+      erases = c.is_unit_erased.ensures.erases;
+      ends = ends_done _ _ _ _ c.in_ok-erased.ensures.ends;
+    }

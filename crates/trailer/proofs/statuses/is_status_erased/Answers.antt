@@ -1,8 +1,14 @@
-use Rattle.std.proofs.Common.{rules, ◌+◌, ◌*◌, arith}
+use Rattle.std.proofs.Common.{◌+◌, ◌*◌, arith}
 use Rattle.sector_map.specs.Part.{TrailerOf}
 use Rattle.trailer.proofs.Places.{trailer_size}
 use Rattle.trailer.proofs.Erased.{tells_range}
+use Rattle.flash_model.proofs.Ending.{ends_passed, ends_done}
+use Rattle.trailer.proofs.Told.{tells_nothing}
 use Rattle.trailer.proofs.statuses.is_status_erased.Goals as goal
+
+pub returns-in_err-erased : goal.returns-in_err-erased
+returns-in_err-erased g c = tells_nothing _ _ _ _ c.is_unit_erased.ensures.same c.from_residual.ensures.0
+    (ends_passed _ _ _ _ c.from_residual.ensures.1 c.in_err-erased.ensures.ends)
 
 pub returns : goal.returns
 returns g c =
@@ -15,4 +21,9 @@ returns g c =
       laid.is_map.trailers c.args.image,
     ))
     (omega (arith, c.trailer_start.ensures)) (omega arith) in
-    search (rules, ok)
+    record {
+      same = c.is_unit_erased.ensures.same;
+      ok = ok;
+      erases = c.is_unit_erased.ensures.erases;
+      ends = ends_done _ _ _ _ c.in_ok-erased.ensures.ends;
+    }

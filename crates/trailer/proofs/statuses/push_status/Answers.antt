@@ -1,6 +1,25 @@
-use Rattle.std.proofs.Common.{rules, ◌+◌, ◌*◌, ap}
-use Rattle.trailer.proofs.StatusUnits.{status_aligned, status_alone, own_status, pushed}
+use Rattle.std.proofs.Common.{◌+◌, ◌*◌, ◌∙◌, ap, arith}
+use Rattle.trailer.proofs.Places.{trailer_fits}
+use Rattle.trailer.proofs.StatusUnits.{status_aligned, status_alone, status_fit, status_is_erased, own_status, pushed}
+use Rattle.flash_model.specs.Chip.{Chip}
+use Rattle.flash_model.proofs.Ending.{at_error, ends_passed, ends_then, ends_done}
 use Rattle.trailer.proofs.statuses.push_status.Goals as goal
+
+pub set_unit-requires-clause-inside : goal.set_unit-requires-clause-inside
+set_unit-requires-clause-inside g c = rw c.status_count.ensures.same (omega (
+  arith,
+  c.trailer_start.ensures,
+  trailer_fits c.args.map.now _ c.args.image c.args.side c.requires.image.laid_out c.requires.image.there,
+  status_fit c.args.map.now c.args.image c.requires.image.laid_out.is_map,
+  c.in_ok-count.ensures.ok,
+  c.requires.room,
+))
+
+pub set_unit-requires-clause-erased : goal.set_unit-requires-clause-erased
+set_unit-requires-clause-erased g c = rw c.status_count.ensures.same
+    (status_is_erased c.args.map.now _ c.args.image _ c.in_ok-count.count c.args.side c.requires.image.laid_out
+    c.requires.image.there c.in_ok-count.ensures.ok (rw c.in_ok-count.ensures.ok c.requires.room)
+    (ap (λ a. a + 8 * c.in_ok-count.count) c.trailer_start.ensures))
 
 pub set_unit-requires-clause-place : goal.set_unit-requires-clause-place
 set_unit-requires-clause-place g c = rw c.trailer_start.ensures
@@ -16,7 +35,18 @@ returns-in_err-set_unit g c =
     (rw c.status_count.ensures.same at c.set_unit.ensures.outside) c.requires.image.laid_out.is_map
     c.requires.image.there (ap (λ a. a + 8 * c.in_ok-count.count) c.trailer_start.ensures)
     (rw c.in_ok-count.ensures.ok c.requires.room) in
-    search (rules, outside, own)
+    let unit = rw (c.trailer_start.ensures, c.in_ok-count.ensures.ok, c.status_count.ensures.same) at
+    c.set_unit.ensures.outside in
+    record {
+      outside = outside;
+      unit = unit;
+      own = own;
+      ok = at_error _ _ c.from_residual-in_err-set_unit.ensures.0;
+      flag = at_error _ _ c.from_residual-in_err-set_unit.ensures.0;
+      erases = at_error _ _ c.from_residual-in_err-set_unit.ensures.0;
+      ends = ends_then _ _ _ _ _ c.in_ok-count.ensures.ends
+          (ends_passed _ _ _ _ c.from_residual-in_err-set_unit.ensures.1 c.in_err-set_unit.ensures.ends);
+    }
 
 pub returns : goal.returns
 returns g c =
@@ -28,4 +58,19 @@ returns g c =
     (rw c.status_count.ensures.same at c.set_unit.ensures.outside) c.requires.image.laid_out.is_map
     c.requires.image.there (ap (λ a. a + 8 * c.in_ok-count.count) c.trailer_start.ensures)
     (rw c.in_ok-count.ensures.ok c.requires.room) in
-    search (rules, outside, own, pushed)
+    let unit = rw (c.trailer_start.ensures, c.in_ok-count.ensures.ok, c.status_count.ensures.same) at
+    c.set_unit.ensures.outside in
+    record {
+      outside = outside;
+      unit = unit;
+      own = own;
+      ok = pushed c.args.map.now _ _ c.args.image _ c.in_ok-count.count c.args.side
+          (rw c.status_count.ensures.same at c.set_unit.ensures.outside) c.in_ok-set_unit.ensures.ok
+          c.requires.image.laid_out c.requires.image.there c.in_ok-count.ensures.ok
+          (rw c.in_ok-count.ensures.ok c.requires.room)
+          (ap (λ a. a + 8 * c.in_ok-count.count) c.trailer_start.ensures);
+      flag = rw (c.trailer_start.ensures, c.in_ok-count.ensures.ok) at c.in_ok-set_unit.ensures.flag;
+      erases = c.set_unit.ensures.erases ∙ ap (λ (chip : Chip). chip.erases) c.status_count.ensures.same;
+      ends = ends_then _ _ _ _ _ c.in_ok-count.ensures.ends
+          (ends_done _ _ _ _ c.in_ok-set_unit.ensures.ends);
+    }
