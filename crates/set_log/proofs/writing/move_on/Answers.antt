@@ -1,21 +1,23 @@
-use Rattle.std.proofs.Common.{rules, inl, inr}
+use Rattle.std.proofs.Common.{◌∙◌, inl, inr}
 use Rattle.set_log.proofs.Moves.{has_places, moved, erased_keeps, moved_keeps, moved_active, moved_within, closing_torn, closing_done}
 use Rattle.set_log.proofs.Placing.{beside_next, beside_closed, moved_on}
+use Rattle.flash_model.proofs.Ending.{at_error, ends_passed, ends_then, ends_done}
+use Rattle.sector_map.proofs.Parts.{keeps_trans, laid_out_kept}
 use Rattle.set_log.proofs.writing.move_on.Goals as goal
 
 pub returns-in_err-erase_sector : goal.returns-in_err-erase_sector
 returns-in_err-erase_sector g c =
     let sized = has_places c.args.map.now c.requires.laid_out.is_map in
     record {
-      outside = search rules;
+      outside = c.erase_sector.ensures.outside;
       either = inl (erased_keeps _ c.args.active _ _ _ sized
           c.requires.active c.next_of-next.ensures c.erase_sector.ensures.within);
-      ok = search rules;
+      ok = at_error _ _ c.from_residual.ensures.0;
       beside = beside_next _ c.args.active _ _ _ sized
           c.requires.active.within c.next_of-next.ensures c.erase_sector.ensures.within;
-      moved = search rules;
-      erases = search rules;
-      ends = search rules;
+      moved = at_error _ _ c.from_residual.ensures.0;
+      erases = at_error _ _ c.from_residual.ensures.0;
+      ends = ends_passed _ _ _ _ c.from_residual.ensures.1 c.in_err-erase_sector.ensures.ends;
     }
 
 pub returns-in_err-write_record : goal.returns-in_err-write_record
@@ -25,14 +27,15 @@ returns-in_err-write_record g c =
     c.next_of-next.ensures c.erase_sector.ensures.within c.in_ok-erase_sector.ensures.ok
     c.write_record.ensures.within in
     record {
-      outside = search rules;
+      outside = keeps_trans _ _ _ _ _ c.erase_sector.ensures.outside c.write_record.ensures.outside;
       either = inl (moved_keeps _ _ _ _ _ _ here);
-      ok = search rules;
+      ok = at_error _ _ c.from_residual-in_err-write_record.ensures.0;
       beside = beside_next _ c.args.active _ _ _ sized
           c.requires.active.within c.next_of-next.ensures (moved_within _ _ _ _ _ _ here);
-      moved = search rules;
-      erases = search rules;
-      ends = search rules;
+      moved = at_error _ _ c.from_residual-in_err-write_record.ensures.0;
+      erases = at_error _ _ c.from_residual-in_err-write_record.ensures.0;
+      ends = ends_then _ _ _ _ _ c.in_ok-erase_sector.ensures.ends
+          (ends_passed _ _ _ _ c.from_residual-in_err-write_record.ensures.1 c.in_err-write_record.ensures.ends);
     }
 
 pub close-requires : goal.close-requires
@@ -41,8 +44,9 @@ close-requires g c =
     c.next_of-next.ensures c.erase_sector.ensures.within c.in_ok-erase_sector.ensures.ok
     c.write_record.ensures.within in
     record {
-      laid_out = search rules;
-      sector = search rules;
+      laid_out = laid_out_kept _ _ _ _ c.requires.laid_out
+          (keeps_trans _ _ _ _ _ c.erase_sector.ensures.outside c.write_record.ensures.outside);
+      sector = c.requires.active.within;
       stays_open = (moved_active _ _ _ _ _ _ here).stays_open;
     }
 
@@ -53,15 +57,18 @@ returns-in_err-close g c =
     c.next_of-next.ensures c.erase_sector.ensures.within c.in_ok-erase_sector.ensures.ok
     c.write_record.ensures.within in
     record {
-      outside = search rules;
+      outside = keeps_trans _ _ _ _ _ (keeps_trans _ _ _ _ _ c.erase_sector.ensures.outside c.write_record.ensures.outside)
+          c.close.ensures.outside;
       either = closing_torn _ _ _ _ _ _ _ _ here c.in_ok-write_record.ensures.ok c.close.ensures.within;
-      ok = search rules;
+      ok = at_error _ _ c.from_residual-in_err-close.ensures.0;
       beside = beside_closed _ c.args.active _ _ _ sized c.requires.active.within
           (beside_next _ c.args.active _ _ _ sized
           c.requires.active.within c.next_of-next.ensures (moved_within _ _ _ _ _ _ here)) c.close.ensures.within;
-      moved = search rules;
-      erases = search rules;
-      ends = search rules;
+      moved = at_error _ _ c.from_residual-in_err-close.ensures.0;
+      erases = at_error _ _ c.from_residual-in_err-close.ensures.0;
+      ends = ends_then _ _ _ _ _ c.in_ok-erase_sector.ensures.ends
+          (ends_then _ _ _ _ _ c.in_ok-write_record.ensures.ends
+          (ends_passed _ _ _ _ c.from_residual-in_err-close.ensures.1 c.in_err-close.ensures.ends));
     }
 
 pub returns : goal.returns
@@ -73,7 +80,8 @@ returns g c =
     let stands = closing_done _ _ _ _ _ _ _ _ here c.in_ok-write_record.ensures.ok c.close.ensures.within
     c.in_ok-close.ensures.ok in
     record {
-      outside = search rules;
+      outside = keeps_trans _ _ _ _ _ (keeps_trans _ _ _ _ _ c.erase_sector.ensures.outside c.write_record.ensures.outside)
+          c.close.ensures.outside;
       either = inr stands;
       ok = stands;
       beside = beside_closed _ c.args.active _ _ _ sized c.requires.active.within
@@ -82,6 +90,8 @@ returns g c =
       moved = moved_on _ c.args.active c.next_of-next.result c.args.body.now _ _ sized
           c.requires.active.within c.next_of-next.ensures
           c.in_ok-write_record.ensures.written c.told-body c.close.ensures.within c.in_ok-close.ensures.flag;
-      erases = search rules;
-      ends = search rules;
+      erases = c.close.ensures.erases ∙ c.write_record.ensures.erases ∙ c.in_ok-erase_sector.ensures.erases;
+      ends = ends_then _ _ _ _ _ c.in_ok-erase_sector.ensures.ends
+          (ends_then _ _ _ _ _ c.in_ok-write_record.ensures.ends
+          (ends_done _ _ _ _ c.in_ok-close.ensures.ends));
     }

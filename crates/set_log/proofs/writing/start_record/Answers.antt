@@ -1,25 +1,29 @@
-use Rattle.std.proofs.Common.{rules, arith, sym, ◌∙◌, inl}
+use Rattle.std.proofs.Common.{arith, sym, ◌∙◌, inl}
 use Rattle.set_log.proofs.Moves.{has_places, third_open, started}
 use Rattle.set_log.proofs.Placing.{false_true, stays_written, third_still_open}
+use Rattle.flash_model.proofs.Ending.{at_error, ends_passed, ends_then, ends_done}
+use Rattle.sector_map.proofs.Parts.{keeps_trans, laid_out_kept}
 use Rattle.set_log.proofs.writing.start_record.Goals as goal
 
 pub returns-in_err-write_record : goal.returns-in_err-write_record
 returns-in_err-write_record g c = record {
-  outside = search rules;
-  ok = search rules;
-  written = search rules;
+  outside = keeps_trans _ _ _ _ _ c.erase_log.ensures.outside c.write_record.ensures.outside;
+  ok = at_error _ _ c.from_residual-in_err-write_record.ensures.0;
+  written = at_error _ _ c.from_residual-in_err-write_record.ensures.0;
   last = λ three closed.
       let stays = third_still_open _ _ _ (has_places c.args.map.now c.requires.is_map) c.in_ok-erase_log.ensures.ok
       c.write_record.ensures.within in
       absurd (false_true (sym stays ∙ closed));
-  erases = search rules;
-  ends = search rules;
+  erases = at_error _ _ c.from_residual-in_err-write_record.ensures.0;
+  ends = ends_then _ _ _ _ _ c.in_ok-erase_log.ensures.ends
+      (ends_passed _ _ _ _ c.from_residual-in_err-write_record.ensures.1 c.in_err-write_record.ensures.ends);
 }
 
 pub close-requires : goal.close-requires
 close-requires g c = record {
-  laid_out = search rules;
-  sector = search rules;
+  laid_out = laid_out_kept _ _ _ _ c.requires
+      (keeps_trans _ _ _ _ _ c.erase_log.ensures.outside c.write_record.ensures.outside);
+  sector = omega arith;
   stays_open = third_open _ _ _ _ (record {
     sized = has_places c.args.map.now c.requires.is_map;
     blank = c.in_ok-erase_log.ensures.ok;
@@ -30,9 +34,10 @@ close-requires g c = record {
 
 pub returns-in_err-close : goal.returns-in_err-close
 returns-in_err-close g c = record {
-  outside = search rules;
-  ok = search rules;
-  written = search rules;
+  outside = keeps_trans _ _ _ _ _ (keeps_trans _ _ _ _ _ c.erase_log.ensures.outside c.write_record.ensures.outside)
+      c.close.ensures.outside;
+  ok = at_error _ _ c.from_residual-in_err-close.ensures.0;
+  written = at_error _ _ c.from_residual-in_err-close.ensures.0;
   last = λ three closed.
       started _ _ _ _ _ (record {
         sized = has_places c.args.map.now c.requires.is_map;
@@ -40,8 +45,10 @@ returns-in_err-close g c = record {
         first = c.write_record.ensures.within;
         stands = c.in_ok-write_record.ensures.ok;
       }) c.close.ensures.within closed;
-  erases = search rules;
-  ends = search rules;
+  erases = at_error _ _ c.from_residual-in_err-close.ensures.0;
+  ends = ends_then _ _ _ _ _ c.in_ok-erase_log.ensures.ends
+      (ends_then _ _ _ _ _ c.in_ok-write_record.ensures.ends
+      (ends_passed _ _ _ _ c.from_residual-in_err-close.ensures.1 c.in_err-close.ensures.ends));
 }
 
 pub returns : goal.returns
@@ -54,7 +61,8 @@ returns g c =
       stands = c.in_ok-write_record.ensures.ok;
     }) c.close.ensures.within c.in_ok-close.ensures.ok in
     record {
-      outside = search rules;
+      outside = keeps_trans _ _ _ _ _ (keeps_trans _ _ _ _ _ c.erase_log.ensures.outside c.write_record.ensures.outside)
+          c.close.ensures.outside;
       ok = stands;
       written = (
         stays_written _ 0 0 _ 8 c.args.body.now _ _ c.in_ok-write_record.ensures.written c.told-body
@@ -62,6 +70,8 @@ returns g c =
         c.in_ok-close.ensures.flag,
       );
       last = λ three closed. stands;
-      erases = search rules;
-      ends = search rules;
+      erases = c.close.ensures.erases ∙ c.write_record.ensures.erases ∙ c.in_ok-erase_log.ensures.erases;
+      ends = ends_then _ _ _ _ _ c.in_ok-erase_log.ensures.ends
+          (ends_then _ _ _ _ _ c.in_ok-write_record.ensures.ends
+          (ends_done _ _ _ _ c.in_ok-close.ensures.ends));
     }
