@@ -1,12 +1,41 @@
-use Rattle.std.proofs.Common.{rules}
+use Rattle.std.proofs.Common.{refl, ◌∙◌}
 use Rattle.flash_model.proofs.Copies.{copy_after_erase}
+use Rattle.swap_scratch.proofs.SectorCopies.{copied_outside, sector_addressed, sector_copyable, sectors_apart}
+use Rattle.flash_model.proofs.Ending.{at_error, ends_passed, ends_then, ends_done}
 use Rattle.swap_scratch.proofs.copying.copy_sector.Goals as goal
+
+pub returns-in_err-erase : goal.returns-in_err-erase
+returns-in_err-erase g c = record {
+  outside = c.erase.ensures.outside;
+  ok = at_error _ _ c.from_residual.ensures.0;
+  erases = at_error _ _ c.from_residual.ensures.0;
+  ends = ends_passed _ _ _ _ c.from_residual.ensures.1 c.in_err-erase.ensures.ends;
+}
+
+pub copy_range-requires : goal.copy_range-requires
+copy_range-requires g c = record {
+  range = sector_copyable _ _ _ _ _ _ _ c.requires c.sector_size-size.ensures c.erase.ensures.outside
+      c.in_ok-erase.ensures.ok;
+  addressed = sector_addressed _ _ _ _ _ _ _ c.requires c.sector_size-size.ensures c.erase.ensures.outside;
+  apart = sectors_apart _ _ _ _ _ _ _ c.requires c.sector_size-size.ensures c.erase.ensures.outside;
+}
+
+pub returns-in_err-copy_range : goal.returns-in_err-copy_range
+returns-in_err-copy_range g c = record {
+  outside = copied_outside _ _ _ _ _ _ _ c.requires c.sector_size-size.ensures c.erase.ensures.outside _
+      c.erase.ensures.outside c.copy_range.ensures.outside;
+  ok = at_error _ _ c.from_residual-in_err-copy_range.ensures.0;
+  erases = at_error _ _ c.from_residual-in_err-copy_range.ensures.0;
+  ends = ends_then _ _ _ _ _ c.in_ok-erase.ensures.ends
+      (ends_passed _ _ _ _ c.from_residual-in_err-copy_range.ensures.1 c.in_err-copy_range.ensures.ends);
+}
 
 pub returns : goal.returns
 returns g c = record {
-  outside = search rules;
+  outside = copied_outside _ _ _ _ _ _ _ c.requires c.sector_size-size.ensures c.erase.ensures.outside _
+      c.erase.ensures.outside c.copy_range.ensures.outside;
   ok = copy_after_erase _ _ _ _ _ _ _ _ c.in_ok-copy_range.ensures.ok c.erase.ensures.outside c.requires.apart
-      (search rules) (search rules);
-  erases = search rules;
-  ends = search rules;
+      c.sector_size-size.ensures refl;
+  erases = c.in_ok-copy_range.ensures.erases ∙ c.in_ok-erase.ensures.erases;
+  ends = ends_then _ _ _ _ _ c.in_ok-erase.ensures.ends (ends_done _ _ _ _ c.in_ok-copy_range.ensures.ends);
 }
