@@ -56,12 +56,20 @@ printed_image n image =
     (flat_map-append text (needs_lines image.running) (request_lines image.request)))
 
 -- One more thing is printed, on a line of its own, after the others.
+pub printed_at : {A B : Type 0} (text_of : B → List ℕ) (line_of : A → B) (xs : List A) (i : ℕ) (d : A)
+    → i < length xs
+    → printed_lines text_of (map line_of (take i xs)) ++ (text_of (line_of (get_or xs i d)) ++ 10 ∷ [])
+    ≡ printed_lines text_of (map line_of (take (i + 1) xs))
+printed_at text_of line_of xs i d below =
+    let x = get_or xs i d in
+    flat_map_more (λ thing. text_of thing ++ 10 ∷ []) [] (map line_of (take i xs)) (line_of x)
+    ∙ sym (ap (printed_lines text_of) (ap (map line_of) (take_more xs i d below) ∙ map-append line_of (take i xs) (x ∷ [])))
+
+-- The same of a thing that is the one at its place.
 pub printed_more : {A B : Type 0} (text_of : B → List ℕ) (line_of : A → B) (xs : List A) (i : ℕ) (x : A)
     → i < length xs → x ≡ get_or xs i x
     → printed_lines text_of (map line_of (take i xs)) ++ (text_of (line_of x) ++ 10 ∷ [])
     ≡ printed_lines text_of (map line_of (take (i + 1) xs))
 printed_more text_of line_of xs i x below is =
-    let more : take (i + 1) xs ≡ take i xs ++ x ∷ [] =
-    take_more xs i x below ∙ ap (λ y. take i xs ++ y ∷ []) (sym is) in
-    flat_map_more (λ thing. text_of thing ++ 10 ∷ []) [] (map line_of (take i xs)) (line_of x)
-    ∙ sym (ap (printed_lines text_of) (ap (map line_of) more ∙ map-append line_of (take i xs) (x ∷ [])))
+    ap (λ y. printed_lines text_of (map line_of (take i xs)) ++ (text_of (line_of y) ++ 10 ∷ [])) is
+    ∙ printed_at text_of line_of xs i x below

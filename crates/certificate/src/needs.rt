@@ -31,7 +31,7 @@ impl<'a> fmt::Display for NeedsOne<'a> {
     ghost output = { λ needs. Some (needs_one_text needs.0.now) };
 
     fn fmt<W: fmt::Write>(&self, f: &mut fmt::Formatter<W>) -> fmt::Result {
-        write!(f, "needs-one")?;
+        f.write_str("needs-one")?;
         write_alternatives(f, &self.0.alternatives)
     }
 }

@@ -12,7 +12,7 @@ use crate::report_line::ReportLine;
 use crate::table::{Entry, Image, Request, Table};
 use crate::table_line::TableLine;
 use common::limits::MOST_IMAGES;
-use std::fmt;
+use std::fmt::{self, Display};
 use version_order::{Dependency, Group};
 
 impl fmt::Display for Table {
@@ -43,10 +43,10 @@ impl fmt::Display for TableLine {
                 counter,
                 floor,
             } => write!(f, "image {number} {version} {counter} {floor}"),
-            TableLine::Needs(dependency) => write!(f, "{}", Needs(*dependency)),
-            TableLine::NeedsOne(group) => write!(f, "{}", NeedsOne(group)),
+            TableLine::Needs(dependency) => Needs(*dependency).fmt(f),
+            TableLine::NeedsOne(group) => NeedsOne(group).fmt(f),
             TableLine::Request { version, counter } => write!(f, "request {version} {counter}"),
-            TableLine::Damaged => write!(f, "damaged"),
+            TableLine::Damaged => f.write_str("damaged"),
         }
     }
 }
@@ -68,18 +68,18 @@ impl fmt::Display for Reason {
 
     fn fmt<W: fmt::Write>(&self, f: &mut fmt::Formatter<W>) -> fmt::Result {
         match self {
-            Reason::Damaged => write!(f, "damaged"),
-            Reason::Older => write!(f, "older"),
-            Reason::Counter => write!(f, "counter"),
+            Reason::Damaged => f.write_str("damaged"),
+            Reason::Older => f.write_str("older"),
+            Reason::Counter => f.write_str("counter"),
             Reason::NoSuchImage(image) => write!(f, "no-such-image {image}"),
             Reason::Needs(image, minimum) => {
                 let dependency = Dependency {
                     image: *image,
                     minimum: *minimum,
                 };
-                write!(f, "{}", Needs(dependency))
+                Needs(dependency).fmt(f)
             }
-            Reason::NeedsOne(group) => write!(f, "{}", NeedsOne(group)),
+            Reason::NeedsOne(group) => NeedsOne(group).fmt(f),
         }
     }
 }
