@@ -2,6 +2,7 @@
 ghost use Rattle.std.specs.Fmt.{WritesOnOk};
 ghost use Rattle.std.specs.Prelude.{◌≡◌, IfOk, Some, decimal, string_bytes};
 ghost use Rattle.common.specs.Lines.{◌␣◌};
+ghost use Rattle.answers.specs.AnswerText.{line_text};
 ghost use Rattle.answers.specs.ReplyText.{decision_text, fault_text, group_text, is_some_taken};
 ghost use Rattle.answers.specs.ReplyText.{refused_fault_text, reply_text, set_text, upload_text};
 
@@ -22,7 +23,7 @@ pub fn reply_text(alloc: Global, number: usize, reply: &Reply) -> Result<String,
     ensures { IfOk result (λ text. string_bytes text ≡ reply_text number reply.now) }
 {
     match reply {
-        Reply::Done => format!(in alloc; "{number} done\n"),
+        Reply::Done => word_text(alloc, number, "done"),
         Reply::Booted {
             table: _,
             report,
@@ -43,8 +44,15 @@ pub fn reply_text(alloc: Global, number: usize, reply: &Reply) -> Result<String,
             let reason = Reason(*fault);
             format!(in alloc; "{number} refused {reason}\n")
         }
-        Reply::Cut => format!(in alloc; "{number} cut\n"),
+        Reply::Cut => word_text(alloc, number, "cut"),
     }
+}
+
+/// What is printed of a reply that is one word.
+fn word_text(alloc: Global, number: usize, word: &str) -> Result<String, AllocError>
+    ensures { IfOk result (λ text. string_bytes text ≡ line_text (decimal number) word.now) }
+{
+    format!(in alloc; "{number} {word}\n")
 }
 
 /// What a boot did that answers a report: it took nothing, or what it took is on trial, or is to

@@ -7,10 +7,10 @@ use Rattle.answers.proofs.replies.reply_text.Goals as goal
 pub returns-in-Booted : goal.returns-in-Booted
 returns-in-Booted c =
     let decision = c.decision_text-decision.ensures in
-    IfOk-weaker c.format-in-Booted.result _
+    IfOk-weaker c.format.result _
     (λ text. string_bytes text ≡ reply_text c.args.number c.args.reply.now)
     (λ _ written. rw c.in-Booted.is (simp append_assoc (simp decision at written)))
-    c.format-in-Booted.ensures.ok
+    c.format.ensures.ok
 
 pub returns-in-TrialAgain : goal.returns-in-TrialAgain
 returns-in-TrialAgain c =

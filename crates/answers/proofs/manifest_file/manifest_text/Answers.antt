@@ -1,0 +1,14 @@
+use Rattle.std.proofs.Common.{◌++◌, ◌∙◌, ap, append_assoc, codes, decimal}
+use Rattle.answers.specs.AnswerText.{line_text}
+use Rattle.answers.specs.ManifestText.{component_text}
+use Rattle.answers.proofs.TextLaws.{printed-more}
+use Rattle.answers.proofs.manifest_file.manifest_text.Goals as goal
+
+-- The line of one component more.
+pub loop-component-preserved : goal.loop-component-preserved
+loop-component-preserved c =
+    let sequence = line_text (codes "sequence") (decimal c.args.manifest.now.sequence) in
+    let more = printed-more component_text c.as_slice-component-items.result.now c.loop-component.component-index _
+    c.loop-component-test.true in
+    rw (c.in_ok-write_component.ensures, c.loop-component.invariant)
+    (append_assoc sequence _ _ ∙ ap (λ lines. sequence ++ lines) more)
