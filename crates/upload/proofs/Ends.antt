@@ -1,13 +1,14 @@
 -- How a call ends that makes others.
-use Rattle.std.proofs.Common.{◌≡◌, ◌+◌, true, false, Result, Ok, Err, sym, ◌∙◌, ap}
-use Rattle.std.specs.Prelude.{IsErr, IsErrOf, OnOk}
+use Rattle.std.proofs.Common.{◌≡◌, ◌+◌, ◌↔◌, Bool, IsTrue, true, false, refl, Result, Ok, Err, sym, ◌∙◌, ap}
+use Rattle.std.specs.Prelude.{IsErr, IsErrAnd, IsErrOf, OnOk}
 use Rattle.flash_model.specs.Chip.{Chip, Ends, IsUncut}
 use Rattle.flash_model.proofs.Ending.{uncut_trans}
 use Rattle.flash_model.specs.declared.error.FlashError.{FlashError}
 use Rattle.flash_model.specs.declared.error.FlashError.TheVariants.{Cut, Off}
 use Rattle.upload.specs.declared.error.UploadError.{UploadError}
 use Rattle.upload.specs.declared.error.UploadError.TheVariants as no
-use Rattle.upload.specs.Ending.{EndsUpload}
+use Rattle.trailer.specs.Reads.{Decides}
+use Rattle.upload.specs.Ending.{EndsUpload, is_flash}
 
 same_error : {T U : Type 0} (a b : FlashError) → IsErrOf {T = U} (Err (no.Flash a)) (no.Flash b)
     → IsErrOf {T = T} (Err a) b
@@ -15,7 +16,7 @@ same_error a b e = ap (λ x. Err x) (one a b e) where
   one : {U : Type 0} (a b : FlashError) → IsErrOf {T = U} (Err (no.Flash a)) (no.Flash b) → a ≡ b
   one a b e = cc
 
-true_false : true ≡ false → ⊥
+pub true_false : true ≡ false → ⊥
 true_false e = cc
 
 -- a call that the flash stopped
@@ -42,6 +43,54 @@ ends_later result old mid new uncut asleep ends = record {
   cut = λ is. let at = ends.cut is in record { cuts = at.cuts ∙ ap (λ n. n + 1) uncut.cuts; off = at.off };
   off = λ is. sym uncut.on ∙ ends.off is;
 }
+
+-- the error that a call gave is passed on
+pub err_passed : {T E : Type 0} (result : Result T E) (error : E) → IsErrAnd result (λ passed. passed ≡ error)
+    → result ≡ Err error
+err_passed (Ok value) error is = absurd is
+err_passed (Err passed) error is = ap (λ e. Err e) is
+
+-- a call that came to its end
+pub ends_done : {T : Type 0} (value : T) (old new : Chip) → (old.is_on ≡ false → new ≡ old) → IsUncut old new
+    → Ends (Ok value) old new
+ends_done value old new asleep uncut = record {
+  asleep = asleep;
+  uncut = uncut;
+  cut = λ none. absurd (cc none);
+  off = λ none. absurd (cc none);
+}
+
+-- the same of a call of uploads that the flash didn't stop
+pub ends_unstopped : {T : Type 0} (result : Result T UploadError) (old new : Chip) → is_flash result ≡ false
+    → (old.is_on ≡ false → new ≡ old) → IsUncut old new → EndsUpload result old new
+ends_unstopped result old new well asleep uncut = record {
+  asleep = asleep;
+  uncut = λ e. uncut;
+  cut = λ is. absurd (true_false (sym (ap is_flash is) ∙ well));
+  off = λ is. absurd (true_false (sym (ap is_flash is) ∙ well));
+}
+
+pub ends_well : {T U : Type 0} (value : T) (other : U) (old new : Chip) → Ends (Ok value) old new
+    → EndsUpload (Ok other) old new
+ends_well value other old new ends = ends_unstopped (Ok other) old new refl ends.asleep ends.uncut
+
+-- a test that changed nothing
+pub decides : (answer : Bool) (fact : Type 0) (old new : Chip) → new ≡ old → (IsTrue answer ↔ fact)
+    → Decides fact old new (Ok answer)
+decides answer fact old new same tells = record {
+  same = same;
+  ok = tells;
+  erases = ap (λ (chip : Chip). chip.erases) same;
+  ends = ends_done answer old new (λ off. same) (record {
+    on = ap (λ (chip : Chip). chip.is_on) same;
+    cuts = ap (λ (chip : Chip). chip.cuts) same;
+  });
+}
+
+-- a flash that is off stays as it is in two calls in turn
+pub asleep_trans : (old mid new : Chip) → IsUncut old mid → (old.is_on ≡ false → mid ≡ old)
+    → (mid.is_on ≡ false → new ≡ mid) → old.is_on ≡ false → new ≡ old
+asleep_trans old mid new uncut first second off = second (uncut.on ∙ off) ∙ first off
 
 -- what a call promises where it ends, at an error
 pub at_error : {T E : Type 0} (P : Type 0) (result : Result T E) → IsErr result → OnOk result P

@@ -6,7 +6,7 @@ use Rattle.upload.specs.Sessions.{upload_at, AllClosed, AllOpenAt, IsOpenAt, IsW
 use Rattle.upload.specs.declared.sessions.Upload.{Upload}
 use Rattle.upload.proofs.Frames.{IsOthersKept, sessions_to}
 
-none_some : (u : Upload) → None ≡ Some u → ⊥
+pub none_some : (u : Upload) → None ≡ Some u → ⊥
 none_some u e = cc
 
 one_upload : (a b : Upload) → Some a ≡ Some b → a ≡ b

@@ -1,8 +1,8 @@
-use Rattle.std.proofs.Common.{rules, ◌≡◌, Err, ◌∙◌, ap, subst}
+use Rattle.std.proofs.Common.{rules, ◌∙◌, ap, subst}
 use Rattle.upload.specs.View.{view}
 use Rattle.upload.specs.declared.error.UploadError.TheVariants as no
 use Rattle.upload.specs.Taking.{CutsAccept, IsTaken, LeavesAccept}
-use Rattle.upload.proofs.Ends.{same_off}
+use Rattle.upload.proofs.Ends.{err_passed, same_off, true_false}
 use Rattle.upload.proofs.TakenRow.{equal_blank, equal_log, stopped}
 use Rattle.upload.proofs.Worn.{worn_of_state}
 use Rattle.upload.proofs.accepting.take_manifest.Goals as goal
@@ -26,7 +26,7 @@ returns g c =
             (subst (λ w. IsTaken w new told tnew sequence c.as_slice-components.result.now) same
             c.in_ok-write_manifest.ensures.ok),
       );
-      nothing = search rules;
+      nothing = tt;
       equal = λ state read equal.
           equal_log map old judged _ state c.in_ok-state.state sequence c.judge_manifest.ensures.same read
           c.in_ok-state.ensures.ok.newer.read equal c.write_manifest.ensures.equal;
@@ -50,9 +50,8 @@ returns-in_err-write_manifest g c =
     let new = view map (g.F.Flash.chip c.write_manifest.new.flash) in
     let sequence = c.args.manifest.now.sequence in
     let cs = c.args.manifest.now.components.items in
-    let passed : c.from_residual-in_err-write_manifest.result ≡ Err (no.Flash c.in_err-write_manifest.field-0.0) =
-    search rules in
-    rw passed (record {
+    rw (err_passed _ (no.Flash c.in_err-write_manifest.field-0.0) c.from_residual-in_err-write_manifest.ensures.1)
+    (record {
       outside = search rules;
       accepts = stopped map (view map old) new c.args.uploads.now.sessions
           c.write_manifest.new.uploads.sessions sequence cs c.in_err-write_manifest.field-0.0
@@ -62,11 +61,11 @@ returns-in_err-write_manifest g c =
           (subst (λ w. CutsAccept w new sequence c.as_slice-components.result.now) same c.write_manifest.ensures.cut))
           (λ is. ap (λ chip. view map chip) (same_off c.in_err-write_manifest.field-0.0 _ _
           c.in_err-write_manifest.ensures.ends is) ∙ same);
-      nothing = search rules;
+      nothing = λ unstopped. absurd (true_false unstopped);
       equal = λ state read equal.
           equal_log map old judged _ state c.in_ok-state.state sequence c.judge_manifest.ensures.same read
           c.in_ok-state.ensures.ok.newer.read equal c.write_manifest.ensures.equal;
-      erases = search rules;
+      erases = tt;
       idle = λ state read equal blank.
           equal_blank map old judged _ state c.in_ok-state.state sequence c.as_slice-components.result.now cs
           c.judge_manifest.ensures.same c.as_slice-components.ensures.value read c.in_ok-state.ensures.ok.newer.read equal

@@ -1,4 +1,4 @@
-use Rattle.std.proofs.Common.{rules, refl, ◌∙◌, ap, subst, sym}
+use Rattle.std.proofs.Common.{refl, ◌∙◌, ap, subst, sym}
 use Rattle.sector_map.specs.Part.{Log}
 use Rattle.sector_map.specs.Map.{part_of}
 use Rattle.std.proofs.lemmas.Result.{on_ok_weaker}
@@ -9,7 +9,8 @@ use Rattle.upload.proofs.Views.{view_kept}
 use Rattle.upload.proofs.Opened.{log_of_accepted, parts_and_log}
 use Rattle.upload.proofs.AcceptRow.{sequenced, sequence_cut, cut_after, accept_done, opens_all, leaves_early, leaves_late, same_record}
 use Rattle.upload.proofs.TakenRow.{named_fit}
-use Rattle.upload.proofs.Ends.{at_error}
+use Rattle.flash_model.proofs.Ending.{ends_after}
+use Rattle.upload.proofs.Ends.{err_passed}
 use Rattle.upload.proofs.Worn.{worn_erased}
 use Rattle.upload.proofs.accepting.write_manifest.Goals as goal
 
@@ -18,16 +19,16 @@ returns-in_err-record_sequence g c =
     let map = c.args.map.now in
     let cs = c.args.components.now in
     let kept = view_kept map _ _ _ c.record_sequence.ensures.outside in
-    record {
+    rw (err_passed _ _ c.from_residual.ensures.1) (record {
       outside = keeps_wider map _ (accepted_parts cs) _ _ (log_of_accepted cs) c.record_sequence.ensures.outside;
       cut = sequence_cut _ _ _ _ cs c.requires.state.read kept c.record_sequence.ensures.either;
       leaves = leaves_early _ _ _ _ c.requires.state.read kept c.record_sequence.ensures.either;
-      ok = at_error _ _ c.from_residual.ensures.0;
-      erases = at_error _ _ c.from_residual.ensures.0;
+      ok = tt;
+      erases = tt;
       equal = λ equal. ap (λ chip. part_of map chip Log) (c.record_sequence.ensures.idle equal);
       idle = λ equal blank. c.record_sequence.ensures.idle equal;
-      ends = search rules;
-    }
+      ends = c.in_err-record_sequence.ensures.ends;
+    })
 
 pub returns : goal.returns
 returns g c =
@@ -62,5 +63,6 @@ returns g c =
       idle = λ equal blank.
           let same = c.record_sequence.ensures.idle equal in
           c.open_all.ensures.idle (subst (λ chip. AreBlank map chip cs) (sym same) blank) ∙ same;
-      ends = search rules;
+      ends = ends_after _ _ (g.F.Flash.chip c.record_sequence.new.flash) _ c.in_ok-record_sequence.ensures.ends.uncut
+          c.in_ok-record_sequence.ensures.ends.asleep c.open_all.ensures.ends;
     }

@@ -1,4 +1,4 @@
-use Rattle.std.proofs.Common.{rules, ◌≡◌, ◌+◌, ◌-◌, ◌++◌, ℕ, length, List, arith, refl, sym, ◌∙◌, ap, subst, take, drop, length-append}
+use Rattle.std.proofs.Common.{◌≡◌, ◌+◌, ◌-◌, ◌++◌, ℕ, length, List, arith, refl, sym, ◌∙◌, ap, subst, take, drop, length-append}
 use Rattle.std.proofs.lemmas.List.{take-append-drop}
 use Rattle.sector_map.specs.declared.layout.Side.TheVariants.{Secondary}
 use Rattle.sector_map.specs.Part.{Slot, only}
@@ -9,6 +9,8 @@ use Rattle.upload.specs.Sessions.{IsWritten}
 use Rattle.upload.specs.declared.sessions.Upload.{Upload}
 use Rattle.upload.proofs.Views.{view_kept, long_kept}
 use Rattle.upload.proofs.Added.{IsHeld, added}
+use Rattle.flash_model.proofs.Ending.{ends_after, uncut_trans}
+use Rattle.upload.proofs.Ends.{asleep_trans, ends_done, err_passed}
 use Rattle.upload.proofs.adding.write_units.Goals as goal
 
 whole : (l a b : List ℕ) (n : ℕ) → a ≡ take n l → b ≡ drop n l → l ≡ a ++ b
@@ -34,7 +36,7 @@ write_slot-requires-clause-behind g c =
     let long = length_part c.args.map.now (g.F.Flash.chip c.args.flash.now) (Slot c.args.image Secondary)
     c.requires.room.laid_out in
     record {
-      laid_out = search rules;
+      laid_out = c.requires.room.laid_out;
       there = was.there;
       place = (was.units.0, omega (arith, was.units.1, n, was.count));
       room = omega (
@@ -92,13 +94,16 @@ write_slot-requires-2-clause-behind g c =
     }
 
 pub returns-in_err-write_slot-2 : goal.returns-in_err-write_slot-2
-returns-in_err-write_slot-2 g c = record {
-  outside = keeps_trans c.args.map.now (only (Slot c.args.image Secondary)) _ _ _ c.write_slot.ensures.outside
-      c.write_slot-2.ensures.outside;
-  ok = search rules;
-  erases = search rules;
-  ends = search rules;
-}
+returns-in_err-write_slot-2 g c =
+    let first = c.in_ok-write_slot.ensures.ends in
+    rw (err_passed _ _ c.from_residual-in_err-write_slot-2.ensures.1) (record {
+      outside = keeps_trans c.args.map.now (only (Slot c.args.image Secondary)) _ _ _ c.write_slot.ensures.outside
+          c.write_slot-2.ensures.outside;
+      ok = tt;
+      erases = tt;
+      ends = ends_after _ _ (g.F.Flash.chip c.write_slot.new.flash) _ first.uncut first.asleep
+          c.in_err-write_slot-2.ensures.ends;
+    })
 
 pub returns : goal.returns
 returns g c =
@@ -110,6 +115,8 @@ returns g c =
     let was = c.requires.room.stands.1 in
     let n = c.len.ensures.value in
     let n2 = c.len-2.ensures.value in
+    let one = c.in_ok-write_slot.ensures.ends in
+    let two = c.in_ok-write_slot-2.ensures.ends in
     let h = ap (λ v. v.items) c.take-unit.ensures.value in
     let unit = c.as_slice.ensures.value ∙ c.extend.ensures ∙ ap (λ l. l ++ c.split_at.result.0.now) h in
     let parts : c.args.bytes.now ≡ c.split_at.result.0.now ++
@@ -146,6 +153,7 @@ returns g c =
           (λ l. IsWritten (incoming_slot map (g.F.Flash.chip c.write_slot.new.flash) c.args.image) (front ++ l)) unit
           (c.in_ok-write_slot.ensures.ok front long written))
           c.in_ok-write_slot-2.ensures.ok;
-      erases = search rules;
-      ends = search rules;
+      erases = c.write_slot-2.ensures.erases ∙ c.write_slot.ensures.erases;
+      ends = ends_done _ _ _ (asleep_trans _ (g.F.Flash.chip c.write_slot.new.flash) _ one.uncut one.asleep two.asleep)
+          (uncut_trans _ (g.F.Flash.chip c.write_slot.new.flash) _ one.uncut two.uncut);
     }

@@ -1,5 +1,5 @@
-use Rattle.std.proofs.Common.{rules, ◌≡◌, ◌-◌, arith, ◌∙◌, ap, subst}
-use Rattle.std.proofs.Common.{Err, length-append, refl, sym}
+use Rattle.std.proofs.Common.{◌-◌, arith, ◌∙◌, ap, subst}
+use Rattle.std.proofs.Common.{Err, Ok, length-append, refl, sym}
 use Rattle.sector_map.specs.declared.layout.Side.TheVariants.{Secondary}
 use Rattle.sector_map.specs.Part.{Slot, incoming_of}
 use Rattle.sector_map.specs.Map.{Keeps}
@@ -12,7 +12,7 @@ use Rattle.upload.specs.Sessions.{session_of}
 use Rattle.upload.specs.Ending.{EndsUpload}
 use Rattle.upload.specs.declared.error.UploadError.TheVariants as no
 use Rattle.upload.proofs.Views.{view_kept, slot_then_trailer}
-use Rattle.upload.proofs.Ends.{ends_flash, ends_later, same_off}
+use Rattle.upload.proofs.Ends.{ends_flash, ends_later, ends_well, err_passed, same_off}
 use Rattle.upload.proofs.Finished.{refused, finish_refused, finish_done, finish_cut}
 use Rattle.upload.proofs.finishing.finish_upload.Goals as goal
 
@@ -46,8 +46,7 @@ request-requires-clause-erased g c =
 
 pub returns-in_err-write_last : goal.returns-in_err-write_last
 returns-in_err-write_last g c =
-    let passed : c.from_residual.result ≡ Err (no.Flash c.in_err-write_last.field-0.0) = search rules in
-    rw passed (record {
+    rw (err_passed _ (no.Flash c.in_err-write_last.field-0.0) c.from_residual.ensures.1) (record {
       outside = keeps_wider c.args.map.now _ (incoming_of c.args.image) _ _ (slot_of_incoming c.args.image)
           c.write_last.ensures.outside;
       finish = λ written was.
@@ -56,8 +55,8 @@ returns-in_err-write_last g c =
           (length-append written c.args.upload.held.items ∙ sym was.count ∙ omega (arith, c.if-upload.false))
           ((view_kept c.args.map.now _ _ _ c.write_last.ensures.outside).trailers c.args.image Secondary refl
           ∙ was.trailer) tt;
-      erases = search rules;
-      ends = search rules;
+      erases = tt;
+      ends = ends_flash c.in_err-write_last.field-0.0 _ _ c.in_err-write_last.ensures.ends;
     })
 
 pub returns-in_err-judge : goal.returns-in_err-judge
@@ -65,8 +64,8 @@ returns-in_err-judge g c =
     let map = c.args.map.now in
     let was = c.requires.open.1 in
     let n = c.len.ensures.value in
-    let passed : c.from_residual-in_err-judge.result ≡ Err c.in_err-judge.field-0.0 = search rules in
-    rw passed (record {
+    let first = c.in_ok-write_last.ensures.ends in
+    rw (err_passed _ c.in_err-judge.field-0.0 c.from_residual-in_err-judge.ensures.1) (record {
       outside = subst (λ chip. Keeps map (incoming_of c.args.image) (g.F.Flash.chip c.args.flash.now) chip)
           (sym c.judge.ensures.same)
           (keeps_wider map _ (incoming_of c.args.image) _ _ (slot_of_incoming c.args.image)
@@ -75,8 +74,9 @@ returns-in_err-judge g c =
           (view_kept map _ _ _ c.write_last.ensures.outside) (ap (λ chip. view map chip) c.judge.ensures.same)
           c.in_ok-write_last.ensures.ok (omega (arith, n, was.count)) (omega (arith, c.if-upload.false)) c.in_err-judge.field-0.0
           c.in_err-judge.ensures.judges;
-      erases = search rules;
-      ends = search rules;
+      erases = tt;
+      ends = ends_later _ _ (g.F.Flash.chip c.write_last.new.flash) _ first.uncut first.asleep
+          c.in_err-judge.ensures.ends;
     })
 
 pub returns : goal.returns
@@ -84,6 +84,7 @@ returns g c =
     let map = c.args.map.now in
     let was = c.requires.open.1 in
     let n = c.len.ensures.value in
+    let first = c.in_ok-write_last.ensures.ends in
     record {
       outside = slot_then_trailer map c.args.image _ _ _ _ c.write_last.ensures.outside c.judge.ensures.same
           c.request.ensures.outside;
@@ -91,8 +92,11 @@ returns g c =
           (view_kept map _ _ _ c.write_last.ensures.outside) (ap (λ chip. view map chip) c.judge.ensures.same)
           c.in_ok-write_last.ensures.ok (omega (arith, n, was.count)) (omega (arith, c.if-upload.false)) _
           (view_kept map _ _ _ c.request.ensures.outside) c.in_ok-judge.ensures.judges c.in_ok-request.ensures.ok;
-      erases = search rules;
-      ends = search rules;
+      erases = c.in_ok-request.ensures.erases ∙ ap (λ chip. chip.erases) c.judge.ensures.same
+          ∙ c.write_last.ensures.erases;
+      ends = ends_later _ _ (g.F.Flash.chip c.write_last.new.flash) _ first.uncut first.asleep
+          (subst (λ chip. EndsUpload (Ok tt) chip (g.F.Flash.chip c.request.new.flash)) c.judge.ensures.same
+          (ends_well _ _ _ _ c.in_ok-request.ensures.ends));
     }
 
 pub returns-in_err-request : goal.returns-in_err-request
@@ -101,8 +105,7 @@ returns-in_err-request g c =
     let was = c.requires.open.1 in
     let n = c.len.ensures.value in
     let first = c.in_ok-write_last.ensures.ends in
-    let passed : c.from_residual-in_err-request.result ≡ Err (no.Flash c.in_err-request.field-0.0) = search rules in
-    rw passed (record {
+    rw (err_passed _ (no.Flash c.in_err-request.field-0.0) c.from_residual-in_err-request.ensures.1) (record {
       outside = slot_then_trailer map c.args.image _ _ _ _ c.write_last.ensures.outside c.judge.ensures.same
           c.request.ensures.outside;
       finish = finish_cut c.args.image (c.args.upload.received - c.len.result) _ _ _ c.args.upload
@@ -111,7 +114,7 @@ returns-in_err-request g c =
           (view_kept map _ _ _ c.request.ensures.outside) c.in_ok-judge.ensures.judges c.in_err-request.field-0.0
           c.request.ensures.either
           (λ is. ap (λ chip. view map chip) (same_off c.in_err-request.field-0.0 _ _ c.in_err-request.ensures.ends is));
-      erases = search rules;
+      erases = tt;
       ends = ends_later _ _ (g.F.Flash.chip c.write_last.new.flash) _ first.uncut first.asleep
           (subst (λ chip. EndsUpload {T = Unit} (Err (no.Flash c.in_err-request.field-0.0)) chip
           (g.F.Flash.chip c.request.new.flash)) c.judge.ensures.same

@@ -1,12 +1,13 @@
-use Rattle.std.proofs.Common.{rules, arith, ◌+◌, ◌≤◌, ◌∙◌, false, length, take, take_all, get_or, None, [], refl, subst, sym}
+use Rattle.std.proofs.Common.{arith, ◌+◌, ◌≤◌, ◌∙◌, false, length, take, take_all, get_or, None, [], refl, subst, sym}
 use Rattle.sector_map.specs.Map.{Keeps}
-use Rattle.sector_map.proofs.Parts.{keeps_wider, laid_out_kept}
+use Rattle.sector_map.proofs.Parts.{keeps_refl, keeps_wider, laid_out_kept}
+use Rattle.flash_model.proofs.Ending.{ends_after, uncut_refl, uncut_trans}
 use Rattle.manifest.specs.declared.manifest.Component.{Component}
 use Rattle.upload.specs.View.{view}
 use Rattle.upload.specs.Accepted.{IsBlank, IsOpened, latest, named_parts}
 use Rattle.upload.proofs.Views.{view_kept, view_long}
 use Rattle.upload.proofs.Opened.{first_parts, keeps_more, latest_at, latest_less, opening_more, opening_wider, opened_more, opened_none}
-use Rattle.upload.proofs.Ends.{at_error}
+use Rattle.upload.proofs.Ends.{asleep_trans, ends_done, err_passed}
 use Rattle.upload.proofs.Worn.{worn_last, worn_next}
 use Rattle.upload.proofs.opening.open_all.Goals as goal
 
@@ -15,12 +16,12 @@ blank = record { image = 0; permanent = false; size = 0; digest = []; precursor 
 
 pub loop-component-init : goal.loop-component-init
 loop-component-init g c = record {
-  outside = search rules;
+  outside = keeps_refl _ _ _;
   opened = opened_none _ _ c.args.components.now;
   erases = omega arith;
   idle = λ still. refl;
-  uncut = search rules;
-  asleep = search rules;
+  uncut = uncut_refl _;
+  asleep = λ off. refl;
 }
 
 pub returns-in_err-open_one : goal.returns-in_err-open_one
@@ -30,7 +31,7 @@ returns-in_err-open_one g c =
     let laid = laid_out_kept map _ _ (g.F.Flash.chip c.loop-component.flash) c.requires.laid_out
     c.loop-component.invariant.outside in
     let next = latest_at cs c.loop-component.component-index blank c.loop-component-test.true in
-    record {
+    rw (err_passed _ _ c.from_residual.ensures.1) (record {
       outside = keeps_wider map _ (named_parts cs) _ _ (first_parts cs (c.loop-component.component-index + 1))
           (keeps_more (take c.loop-component.component-index cs) (take (c.loop-component.component-index + 1) cs)
           (get_or cs c.loop-component.component-index blank) next map _ _ _
@@ -41,15 +42,16 @@ returns-in_err-open_one g c =
           (view_kept map _ _ _ c.open_one.ensures.opens.outside)
           (view_long map _ _ _ _ _ laid c.open_one.ensures.opens.outside)
           c.open_one.ensures.opens.either c.loop-component.invariant.opened.opening);
-      opened = search rules;
-      erases = at_error _ _ c.from_residual.ensures.0;
+      opened = tt;
+      erases = tt;
       idle = λ still.
           let same = c.loop-component.invariant.idle still in
           c.open_one.ensures.opens.idle (subst (λ chip. IsBlank map chip
           (get_or cs c.loop-component.component-index blank).image) (sym same)
           (still c.loop-component.component-index blank c.loop-component-test.true)) ∙ same;
-      ends = search rules;
-    }
+      ends = ends_after _ _ (g.F.Flash.chip c.loop-component.flash) _ c.loop-component.invariant.uncut
+          c.loop-component.invariant.asleep c.in_err-open_one.ensures.opens.ends;
+    })
 
 pub loop-component-preserved : goal.loop-component-preserved
 loop-component-preserved g c =
@@ -75,8 +77,10 @@ loop-component-preserved g c =
           c.open_one.ensures.opens.idle (subst (λ chip. IsBlank c.args.map.now chip
           (get_or c.args.components.now c.loop-component.component-index blank).image) (sym same)
           (still c.loop-component.component-index blank c.loop-component-test.true)) ∙ same;
-      uncut = search rules;
-      asleep = search rules;
+      uncut = uncut_trans _ (g.F.Flash.chip c.loop-component.flash) _ c.loop-component.invariant.uncut
+          c.in_ok-open_one.ensures.opens.ends.uncut;
+      asleep = asleep_trans _ (g.F.Flash.chip c.loop-component.flash) _ c.loop-component.invariant.uncut
+          c.loop-component.invariant.asleep c.open_one.ensures.opens.ends.asleep;
     }
 
 pub returns : goal.returns
@@ -95,11 +99,6 @@ returns g c =
       opening = opened.opening;
       opened = opened;
       erases = omega (arith, worn_last map new cs c.loop-component.component-index past, all.erases);
-      idle = search rules;
-      ends = record {
-        asleep = all.asleep;
-        uncut = all.uncut;
-        cut = λ none. absurd (cc none);
-        off = λ none. absurd (cc none);
-      };
+      idle = all.idle;
+      ends = ends_done _ _ _ all.asleep all.uncut;
     }

@@ -1,4 +1,4 @@
-use Rattle.std.proofs.Common.{rules, ◌≡◌, ◌∙◌, ap, refl, inr, subst, sym}
+use Rattle.std.proofs.Common.{◌≡◌, ◌∙◌, ap, refl, inr, subst, sym}
 use Rattle.std.proofs.lemmas.Result.{on_ok_weaker}
 use Rattle.sector_map.specs.declared.layout.Side.TheVariants.{Secondary}
 use Rattle.upload.specs.View.{view}
@@ -8,7 +8,8 @@ use Rattle.sector_map.specs.Part.{Slot, TrailerOf, incoming_of}
 use Rattle.sector_map.specs.Map.{length_of, start_of}
 use Rattle.flash_model.specs.Units.{are_erased}
 use Rattle.upload.specs.Accepted.{IsBlank}
-use Rattle.upload.proofs.Ends.{at_error}
+use Rattle.flash_model.proofs.Ending.{ends_after}
+use Rattle.upload.proofs.Ends.{err_passed}
 use Rattle.upload.proofs.Writing.{front_blank}
 use Rattle.upload.proofs.Frames.{erased_stands}
 use Rattle.sector_map.proofs.Parts.{keeps_trans, keeps_wider, laid_out_kept}
@@ -17,17 +18,17 @@ use Rattle.upload.proofs.Worn.{none_worn, open_erases}
 use Rattle.upload.proofs.opening.open_slot.Goals as goal
 
 pub returns-in_err-withdraw : goal.returns-in_err-withdraw
-returns-in_err-withdraw g c = record {
-  outside = search rules;
-  either = search rules;
-  trailer = search rules;
-  slot = search rules;
-  erases = at_error _ _ c.from_residual.ensures.0;
-  erased = search rules;
+returns-in_err-withdraw g c = rw (err_passed _ _ c.from_residual.ensures.1) (record {
+  outside = c.withdraw.ensures.outside;
+  either = c.withdraw.ensures.either;
+  trailer = tt;
+  slot = tt;
+  erases = tt;
+  erased = tt;
   idle = λ blank. c.withdraw.ensures.idle
       (front_blank c.args.map.now _ c.args.image c.requires.laid_out c.requires.there blank.slot) blank.trailer;
-  ends = search rules;
-}
+  ends = c.in_err-withdraw.ensures.ends;
+})
 
 pub returns : goal.returns
 returns g c =
@@ -57,5 +58,6 @@ returns g c =
           (ap are_erased (c.erase_slot.ensures.outside.parts (TrailerOf c.args.image Secondary) refl)
           ∙ c.in_ok-withdraw.ensures.bytes)) c.erase_slot.ensures.ok;
       idle = idle;
-      ends = search rules;
+      ends = ends_after _ _ (g.F.Flash.chip c.withdraw.new.flash) _ c.in_ok-withdraw.ensures.ends.uncut
+          c.in_ok-withdraw.ensures.ends.asleep c.erase_slot.ensures.ends;
     }

@@ -1,11 +1,14 @@
-use Rattle.std.proofs.Common.{rules, ◌*◌, ◌∙◌, arith, subst}
+use Rattle.std.proofs.Common.{◌≡◌, ◌+◌, ◌*◌, ◌∙◌, arith, subst}
 use Rattle.sector_map.specs.declared.layout.Side.TheVariants.{Secondary}
 use Rattle.sector_map.specs.Part.{Slot, only}
-use Rattle.sector_map.specs.Map.{start_of}
+use Rattle.sector_map.specs.Map.{slot_sectors, start_of}
 use Rattle.sector_map.proofs.Parts.{keeps_trans, laid_out_kept}
 use Rattle.flash_model.specs.Chip.{IsErased}
+use Rattle.flash_model.proofs.Ending.{ends_after, uncut_trans}
+use Rattle.trailer.specs.Standing.{incoming_slot}
+use Rattle.upload.specs.Wear.{worn_in}
 use Rattle.upload.proofs.Writing.{erased_more, next_sector, sector_place, sectors_idle, slot_erased}
-use Rattle.upload.proofs.Ends.{at_error}
+use Rattle.upload.proofs.Ends.{asleep_trans, ends_done, err_passed}
 use Rattle.upload.proofs.Worn.{worn_more}
 use Rattle.upload.proofs.slots.erase_slot.Goals as goal
 
@@ -15,29 +18,34 @@ returns g c =
     let all = c.loop-index.invariant in
     let laid = laid_out_kept map (only (Slot c.args.image Secondary)) _ (g.F.Flash.chip c.loop-index.flash)
     c.requires.laid_out all.outside in
+    let every : c.loop-index.index ≡ slot_sectors map c.args.image =
+    omega (arith, c.loop-index-test.false, c.slot_sectors-index-end.ensures) in
     record {
-      outside = search rules;
+      outside = all.outside;
       ok = slot_erased map (g.F.Flash.chip c.loop-index.flash) c.args.image laid
           (subst (λ n. IsErased (g.F.Flash.chip c.loop-index.flash) (start_of map (Slot c.args.image Secondary))
-          (n * map.sector_size)) (omega (arith, c.loop-index-test.false, c.slot_sectors-index-end.ensures)) all.erased);
-      idle = search rules;
-      erases = search rules;
-      worn = search rules;
-      ends = search rules;
+          (n * map.sector_size)) every all.erased);
+      idle = all.idle;
+      erases = omega (arith, c.loop-index-test.false, c.slot_sectors-index-end.ensures, all.erases);
+      worn = subst (λ n. (g.F.Flash.chip c.loop-index.flash).erases ≡ (g.F.Flash.chip c.args.flash.now).erases
+          + worn_in map.sector_size (incoming_slot map (g.F.Flash.chip c.args.flash.now) c.args.image) n) every all.worn;
+      ends = ends_done _ _ _ all.asleep all.uncut;
     }
 
 pub returns-in_err-erase_sector : goal.returns-in_err-erase_sector
-returns-in_err-erase_sector g c = record {
-  outside = keeps_trans c.args.map.now (only (Slot c.args.image Secondary)) _ _ _ c.loop-index.invariant.outside
-      c.erase_sector.ensures.outside;
-  ok = search rules;
-  idle = sectors_idle c.args.map.now _ _ _ c.args.image c.loop-index.index
-      (rw c.slot_sectors-index-end.ensures at c.loop-index-test.true) c.loop-index.invariant.idle
-      c.erase_sector.ensures.idle;
-  erases = at_error _ _ c.from_residual.ensures.0;
-  worn = search rules;
-  ends = search rules;
-}
+returns-in_err-erase_sector g c =
+    let all = c.loop-index.invariant in
+    rw (err_passed _ _ c.from_residual.ensures.1) (record {
+      outside = keeps_trans c.args.map.now (only (Slot c.args.image Secondary)) _ _ _ all.outside
+          c.erase_sector.ensures.outside;
+      ok = tt;
+      idle = sectors_idle c.args.map.now _ _ _ c.args.image c.loop-index.index
+          (rw c.slot_sectors-index-end.ensures at c.loop-index-test.true) all.idle c.erase_sector.ensures.idle;
+      erases = tt;
+      worn = tt;
+      ends = ends_after _ _ (g.F.Flash.chip c.loop-index.flash) _ all.uncut all.asleep
+          c.in_err-erase_sector.ensures.ends;
+    })
 
 pub loop-index-preserved : goal.loop-index-preserved
 loop-index-preserved g c =
@@ -52,12 +60,13 @@ loop-index-preserved g c =
       outside = keeps_trans map (only (Slot c.args.image Secondary)) _ _ _ all.outside c.erase_sector.ensures.outside;
       erased = erased_more map _ _ c.args.image c.loop-index.index all.erased c.erase_sector.ensures.sector
           c.in_ok-erase_sector.ensures.ok;
-      uncut = search rules;
-      erases = search rules;
+      uncut = uncut_trans _ (g.F.Flash.chip c.loop-index.flash) _ all.uncut c.in_ok-erase_sector.ensures.ends.uncut;
+      erases = omega (arith, c.in_ok-erase_sector.ensures.erases, all.erases);
       worn = worn_more map _ _ c.args.image c.loop-index.index _ _ c.requires.laid_out laid lt all.outside.size
           all.behind all.worn c.in_ok-erase_sector.ensures.worn;
       behind = λ k low. c.erase_sector.ensures.sector.after k (omega (arith, low, place, next))
           ∙ all.behind k (omega (arith, low, next));
       idle = sectors_idle map _ _ _ c.args.image c.loop-index.index lt all.idle c.erase_sector.ensures.idle;
-      asleep = search rules;
+      asleep = asleep_trans _ (g.F.Flash.chip c.loop-index.flash) _ all.uncut all.asleep
+          c.erase_sector.ensures.ends.asleep;
     }

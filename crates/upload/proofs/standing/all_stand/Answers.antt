@@ -1,9 +1,10 @@
-use Rattle.std.proofs.Common.{rules, ◌≡◌, ◌<◌, ◌≤◌, ◌↔◌, true, false, IsTrue, Some, None, length, refl, sym, ◌∙◌, subst, arith, ⊎_elim}
+use Rattle.std.proofs.Common.{◌≡◌, ◌<◌, ◌≤◌, ◌↔◌, true, false, IsTrue, Some, None, length, refl, sym, ◌∙◌, subst, arith, ⊎_elim}
 use Rattle.std.proofs.lemmas.Bool.{cases_lt, false≢true}
 use Rattle.std.proofs.lemmas.List.{get_or_default, get_or_past}
 use Rattle.upload.specs.Sessions.{AllOpenAt, IsOpenAt, upload_at}
 use Rattle.upload.specs.View.{view}
 use Rattle.upload.specs.declared.sessions.Upload.{Upload}
+use Rattle.upload.proofs.Ends.{decides}
 use Rattle.upload.proofs.standing.all_stand.Goals as goal
 
 none_some : (u : Upload) → None ≡ Some u → ⊥
@@ -24,7 +25,7 @@ returns-then-not-is_standing g c =
           (all image u (there ∙ e))) in
           absurd (false≢true (sym c.if-not-is_standing.true ∙ wrong)),
     ) in
-    search (rules, ok)
+    decides _ _ _ _ (c.stands_if_open.ensures.same ∙ c.loop-image.invariant.same) ok
 
 pub returns : goal.returns
 returns g c =
@@ -38,4 +39,4 @@ returns g c =
           (cases_lt i (length sessions)),
       λ all. refl,
     ) in
-    search (rules, ok)
+    decides _ _ _ _ c.loop-image.invariant.same ok

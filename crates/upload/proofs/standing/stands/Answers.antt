@@ -1,8 +1,9 @@
-use Rattle.std.proofs.Common.{rules, ◌↔◌, false, IsTrue, sym, ◌∙◌}
+use Rattle.std.proofs.Common.{◌↔◌, false, IsTrue, refl, sym, ◌∙◌}
 use Rattle.std.proofs.lemmas.Bool.{false≢true}
 use Rattle.upload.specs.Sessions.{IsOpenAt}
 use Rattle.upload.specs.View.{view}
 use Rattle.upload.proofs.StandingLaws.{no_counts, tells_open}
+use Rattle.upload.proofs.Ends.{decides}
 use Rattle.upload.proofs.standing.stands.Goals as goal
 
 pub returns-in_default : goal.returns-in_default
@@ -14,7 +15,7 @@ returns-in_default g c =
       λ stands. absurd (no_counts map chip c.args.image c.args.upload.now c.requires
           (c.written_of.ensures.none c.in_default.is) stands),
     ) in
-    search (rules, ok)
+    decides _ _ _ _ refl ok
 
 pub returns-then-is_erased : goal.returns-then-is_erased
 returns-then-is_erased g c =
@@ -25,7 +26,7 @@ returns-then-is_erased g c =
     (rw c.is_erased_behind.ensures.same at c.in_ok-is_blank.ensures.ok) in
     let ok : IsTrue c.in_ok-is_blank.is_blank ↔ IsOpenAt (view map chip) c.args.image c.args.upload.now =
     (λ yes. both.0 c.if-is_erased.true yes, λ stands. (both.1 stands).1) in
-    search (rules, ok)
+    decides _ _ _ _ (c.is_blank.ensures.same ∙ c.is_erased_behind.ensures.same) ok
 
 pub returns-else-is_erased : goal.returns-else-is_erased
 returns-else-is_erased g c =
@@ -34,8 +35,6 @@ returns-else-is_erased g c =
     let both = tells_open map chip c.args.image c.in-Some.written c.args.upload.now _ _ c.requires
     c.in-Some.ensures.some c.in_ok-is_erased.ensures.ok
     (rw c.is_erased_behind.ensures.same at c.in_ok-is_blank.ensures.ok) in
-    let ok : IsTrue false ↔ IsOpenAt (view map chip) c.args.image c.args.upload.now = (
-      λ e. absurd (false≢true e),
-      λ stands. absurd (false≢true (sym c.if-is_erased.false ∙ (both.1 stands).0)),
-    ) in
-    search (rules, ok)
+    let ok : IsTrue c.in_ok-is_erased.is_erased ↔ IsOpenAt (view map chip) c.args.image c.args.upload.now =
+    (λ yes. absurd (false≢true (sym c.if-is_erased.false ∙ yes)), λ stands. (both.1 stands).0) in
+    decides _ _ _ _ (c.is_blank.ensures.same ∙ c.is_erased_behind.ensures.same) ok

@@ -1,24 +1,29 @@
-use Rattle.std.proofs.Common.{rules, arith, sym, Some, None}
+use Rattle.std.proofs.Common.{rules, arith, refl, sym, ◌∙◌, Some, None}
 use Rattle.upload.specs.View.{view}
 use Rattle.upload.proofs.Views.{view_kept}
 use Rattle.upload.proofs.Frames.{others_slot, with_with}
-use Rattle.upload.proofs.OpenOnes.{open_to, open_more}
+use Rattle.flash_model.proofs.Ending.{uncut_refl}
+use Rattle.sector_map.proofs.Parts.{keeps_refl}
+use Rattle.upload.proofs.Ends.{ends_flash, ends_unstopped, ends_well, true_false}
+use Rattle.upload.proofs.OpenOnes.{none_some, open_more, open_none, open_nothing, open_to}
 use Rattle.upload.proofs.PieceRow.{piece_done, piece_cut, piece_more, took_more}
 use Rattle.upload.proofs.sessions.Uploads.piece.Goals as goal
 
 pub returns-then-room-bytes : goal.returns-then-room-bytes
 returns-then-room-bytes g c = record {
-  outside = search rules;
-  all_open = search rules;
-  takes = search rules;
-  none = search rules;
-  more = search rules;
-  nothing = search rules;
-  closed = search rules;
+  outside = keeps_refl _ _ _;
+  all_open = open_to c.args.image _ _ c.args.self.now.sessions _ None
+      (others_slot c.args.image _ _ (view_kept c.args.map.now _ _ _ (keeps_refl _ _ _))) c.take.ensures.rest
+      (open_nothing c.args.image _);
+  takes = tt;
+  none = λ none. absurd (none_some _ (sym (c.in-Some.ensures.value ∙ none)));
+  more = λ u at long. refl;
+  nothing = λ unstopped. refl;
+  closed = λ stopped. absurd (true_false (sym stopped));
   row = piece_more c.args.image (view c.args.map.now (g.F.Flash.chip c.args.flash.now)) c.args.self.now.sessions _
       c.in-Some.upload c.args.bytes.now c.in-Some.ensures.value c.take.ensures.rest (search rules);
-  erases = search rules;
-  ends = search rules;
+  erases = tt;
+  ends = ends_unstopped _ _ _ refl (λ off. refl) (uncut_refl _);
 }
 
 pub returns-in-Ok : goal.returns-in-Ok
@@ -36,14 +41,14 @@ returns-in-Ok g c =
           (open_more c.args.image _ _ (more.0, more.1)) opens;
       takes = took_more c.args.image _ (view c.args.map.now (g.F.Flash.chip c.add_bytes.new.flash)) told _ _
           c.in-Some.upload _ c.args.bytes.now c.in-Some.ensures.value c.put.ensures c.in-Ok.ensures.ok;
-      none = search rules;
+      none = λ none. absurd (none_some _ (sym (c.in-Some.ensures.value ∙ none)));
       more = search rules;
-      nothing = search rules;
-      closed = search rules;
+      nothing = tt;
+      closed = λ stopped. absurd (true_false (sym stopped));
       row = piece_done c.args.image _ _ kept told c.in-Some.upload c.in-Some.ensures.value _ c.args.bytes.now _ _
           c.take.ensures.rest c.put.ensures (let fits = at.1.fits in omega (arith, fits)) c.in-Ok.ensures.ok;
-      erases = search rules;
-      ends = search rules;
+      erases = c.in-Ok.ensures.erases;
+      ends = ends_well _ _ _ _ c.in-Ok.ensures.ends;
     }
 
 pub returns-in-Err : goal.returns-in-Err
@@ -52,14 +57,14 @@ returns-in-Err g c =
     let at = c.requires.open c.in-Some.upload (sym c.in-Some.ensures.value) in
     record {
       outside = c.add_bytes.ensures.outside;
-      all_open = search rules;
-      takes = search rules;
-      none = search rules;
+      all_open = λ opens. open_none _ _ c.close.ensures;
+      takes = tt;
+      none = λ none. absurd (none_some _ (sym (c.in-Some.ensures.value ∙ none)));
       more = search rules;
-      nothing = search rules;
-      closed = search rules;
+      nothing = λ unstopped. absurd (true_false unstopped);
+      closed = λ stopped. c.close.ensures;
       row = piece_cut c.args.image _ _ kept c.args.self.now.sessions c.in-Some.upload c.in-Some.ensures.value
           c.args.bytes.now c.in-Err.error _ c.close.ensures (let fits = at.1.fits in omega (arith, fits));
-      erases = search rules;
-      ends = search rules;
+      erases = tt;
+      ends = ends_flash c.in-Err.error _ _ c.in-Err.ensures.ends;
     }
