@@ -1,6 +1,7 @@
 -- The names in an object and the values of an array, beside the map and the list that hold them.
-use Rattle.std.proofs.Common.{◌≡◌, ◌↔◌, ℕ, List, [], ◌∷◌, Option, Some, None, Result, Ok, Err, String, Vec, Global, Bor, map, string_bytes, refl, ap}
+use Rattle.std.proofs.Common.{◌≡◌, ◌↔◌, ℕ, Bool, true, false, not, List, [], ◌∷◌, Option, Some, None, Result, Ok, Err, String, Vec, Global, Bor, map, string_bytes, refl, ap}
 use Rattle.std.specs.Prelude.{IsOk, IfOk, option_map}
+use Rattle.std.specs.Option.{option_eq}
 use Rattle.std.specs.Map.{keys_of}
 use Rattle.std.specs.Result.{result_ok}
 use Rattle.std.proofs.lemmas.Bool.{false≢true}
@@ -28,3 +29,12 @@ pub found_uuid : {E : Type 0} (result : Result (List ℕ) E) (spelled : Option (
 found_uuid (Ok uuid) spelled ok is = is
 found_uuid (Err error) None ok is = refl
 found_uuid (Err error) (Some uuid) ok is = absurd (false≢true (ok.1 (uuid, refl)))
+
+-- what is found and compares as equal to a value is that value
+pub same_found : {X : Type 0} (E : X → X → Bool) → ((x y : X) → E x y ≡ true → x ≡ y) → (found : Option X) (x : X)
+    → false ≡ not (option_eq E found (Some x)) → found ≡ Some x
+same_found E law None x differs = absurd (false≢true differs)
+same_found E law (Some y) x differs = ap (λ z. Some z) (law y x (by (E y x) differs)) where
+  by : (told : Bool) → false ≡ not told → told ≡ true
+  by true is = refl
+  by false is = absurd (false≢true is)

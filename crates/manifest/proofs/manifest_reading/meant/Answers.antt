@@ -1,4 +1,5 @@
-use Rattle.std.proofs.Common.{refl, rules}
+use Rattle.std.proofs.Common.{refl, rules, sym, ◌∙◌}
+use Rattle.manifest.proofs.Values.{same_found}
 use Rattle.std.proofs.lemmas.Bool.{false≢true}
 use Rattle.serde_json.specs.View.{view}
 use Rattle.manifest.specs.Manifest.{IsOfClass, IsOfVendor}
@@ -9,8 +10,8 @@ pub returns-then-not-name_images_below-clause-fault :
 returns-then-not-name_images_below-clause-fault c =
     let keys = c.if-not-has_keys.ensures.0 refl in
     let spells = rw c.in_ok-manifest.ensures.ok_part at c.spelled.ensures.found in
-    let vendor : IsOfVendor c.args.identity.now (view c.args.value.now) = search rules in
-    let class : IsOfClass c.args.identity.now (view c.args.value.now) = search rules in (
+    let vendor : IsOfVendor c.args.identity.now (view c.args.value.now) = sym c.uuid.ensures ∙ same_found _ (λ x y same. search (rules, same)) _ _ c.if-ne.ensures in
+    let class : IsOfClass c.args.identity.now (view c.args.value.now) = sym c.uuid-2.ensures ∙ same_found _ (λ x y same. search (rules, same)) _ _ c.if-ne-2.ensures in (
       c.in_ok-manifest.manifest,
       (((keys, spells), vendor), class),
       λ below. false≢true (c.if-not-name_images_below.ensures.1 (rw c.as_slice.ensures.value below)),
@@ -21,8 +22,8 @@ pub returns-then-not-name_each_once-clause-fault :
 returns-then-not-name_each_once-clause-fault c =
     let keys = c.if-not-has_keys.ensures.0 refl in
     let spells = rw c.in_ok-manifest.ensures.ok_part at c.spelled.ensures.found in
-    let vendor : IsOfVendor c.args.identity.now (view c.args.value.now) = search rules in
-    let class : IsOfClass c.args.identity.now (view c.args.value.now) = search rules in
+    let vendor : IsOfVendor c.args.identity.now (view c.args.value.now) = sym c.uuid.ensures ∙ same_found _ (λ x y same. search (rules, same)) _ _ c.if-ne.ensures in
+    let class : IsOfClass c.args.identity.now (view c.args.value.now) = sym c.uuid-2.ensures ∙ same_found _ (λ x y same. search (rules, same)) _ _ c.if-ne-2.ensures in
     let images = rw c.as_slice.ensures.value at (c.if-not-name_images_below.ensures.0 refl) in (
       c.in_ok-manifest.manifest,
       ((((keys, spells), vendor), class), images),
