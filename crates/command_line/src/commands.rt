@@ -3,40 +3,13 @@
 ghost use Rattle.std.specs.Prelude.{◌≡◌, IfOk, map};
 ghost use Rattle.clap.specs.Words.{app_of, new_app, shape_of};
 ghost use Rattle.command_line.specs.Commands.{bootswap, program, rule_for, shape_for, with_command};
+ghost use Rattle.command_line.specs.Orders.{Finds};
 
 use crate::arguments::{Argument, with_arguments};
 use crate::help::Help;
 use crate::{argument_help, help};
 use clap::Command;
 use std::alloc::{AllocError, Global};
-
-pub const CHOOSE: &str = "choose";
-
-pub const CHECK: &str = "check";
-
-pub const IMAGE: &str = "image";
-
-pub const MANIFEST: &str = "manifest";
-
-pub const MAKE_DEVICE: &str = "make-device";
-
-pub const MAKE_IMAGE: &str = "make-image";
-
-pub const MAKE_MANIFEST: &str = "make-manifest";
-
-pub const PROVISION: &str = "provision";
-
-pub const EXTRACT: &str = "extract";
-
-pub const SHOW: &str = "show";
-
-pub const SLOTS: &str = "slots";
-
-pub const RUN: &str = "run";
-
-pub const SWEEP: &str = "sweep";
-
-pub const CODES: &str = "codes";
 
 /// What the words name, as help calls it; and the options, which two hyphens stand before.
 pub mod named {
@@ -274,7 +247,7 @@ pub fn bootswap<'a>(alloc: Global) -> Result<Command<'a>, AllocError>
 fn program<'a>(alloc: Global) -> Result<Command<'a>, AllocError>
     ensures { IfOk result (λ command. app_of command ≡ program) }
 {
-    let command = new_command(alloc, "bootswap", &help::PROGRAM)
+    let command = new_command(alloc, "bootswap", help::PROGRAM)
         .version("0.1.0")
         .subcommand_required(true);
     command.bin_name("bootswap")
@@ -292,6 +265,18 @@ fn with_command<'a>(
 }
 
 impl Subcommand {
+    /// The subcommand of this name.
+    pub fn of_name(name: &str) -> Option<Subcommand>
+        ensures { Finds (λ one. name.now ≡ (shape_for one).name) result }
+    {
+        for subcommand in &SUBCOMMANDS {
+            if subcommand.name() == name {
+                return Some(*subcommand);
+            }
+        }
+        None
+    }
+
     /// The subcommand, as `clap` is told of it.
     pub fn command<'a>(self, alloc: Global) -> Result<Command<'a>, AllocError>
         ensures { IfOk result (λ command. shape_of command ≡ shape_for self) }
@@ -306,40 +291,40 @@ impl Subcommand {
         ensures { result.now ≡ (shape_for self).name }
     {
         match self {
-            Subcommand::Choose => CHOOSE,
-            Subcommand::Check => CHECK,
-            Subcommand::Image => IMAGE,
-            Subcommand::Manifest => MANIFEST,
-            Subcommand::MakeDevice => MAKE_DEVICE,
-            Subcommand::MakeImage => MAKE_IMAGE,
-            Subcommand::MakeManifest => MAKE_MANIFEST,
-            Subcommand::Provision => PROVISION,
-            Subcommand::Extract => EXTRACT,
-            Subcommand::Show => SHOW,
-            Subcommand::Slots => SLOTS,
-            Subcommand::Run => RUN,
-            Subcommand::Sweep => SWEEP,
-            Subcommand::Codes => CODES,
+            Subcommand::Choose => "choose",
+            Subcommand::Check => "check",
+            Subcommand::Image => "image",
+            Subcommand::Manifest => "manifest",
+            Subcommand::MakeDevice => "make-device",
+            Subcommand::MakeImage => "make-image",
+            Subcommand::MakeManifest => "make-manifest",
+            Subcommand::Provision => "provision",
+            Subcommand::Extract => "extract",
+            Subcommand::Show => "show",
+            Subcommand::Slots => "slots",
+            Subcommand::Run => "run",
+            Subcommand::Sweep => "sweep",
+            Subcommand::Codes => "codes",
         }
     }
 
     /// What help says of it.
     fn help(self) -> &'static Help {
         match self {
-            Subcommand::Choose => &help::CHOOSE,
-            Subcommand::Check => &help::CHECK,
-            Subcommand::Image => &help::IMAGE,
-            Subcommand::Manifest => &help::MANIFEST,
-            Subcommand::MakeDevice => &help::MAKE_DEVICE,
-            Subcommand::MakeImage => &help::MAKE_IMAGE,
-            Subcommand::MakeManifest => &help::MAKE_MANIFEST,
-            Subcommand::Provision => &help::PROVISION,
-            Subcommand::Extract => &help::EXTRACT,
-            Subcommand::Show => &help::SHOW,
-            Subcommand::Slots => &help::SLOTS,
-            Subcommand::Run => &help::RUN,
-            Subcommand::Sweep => &help::SWEEP,
-            Subcommand::Codes => &help::CODES,
+            Subcommand::Choose => help::CHOOSE,
+            Subcommand::Check => help::CHECK,
+            Subcommand::Image => help::IMAGE,
+            Subcommand::Manifest => help::MANIFEST,
+            Subcommand::MakeDevice => help::MAKE_DEVICE,
+            Subcommand::MakeImage => help::MAKE_IMAGE,
+            Subcommand::MakeManifest => help::MAKE_MANIFEST,
+            Subcommand::Provision => help::PROVISION,
+            Subcommand::Extract => help::EXTRACT,
+            Subcommand::Show => help::SHOW,
+            Subcommand::Slots => help::SLOTS,
+            Subcommand::Run => help::RUN,
+            Subcommand::Sweep => help::SWEEP,
+            Subcommand::Codes => help::CODES,
         }
     }
 

@@ -10,7 +10,7 @@ ghost use Rattle.command_line.specs.Orders.{files_of, misuse_of, names_of, stand
 ghost use Rattle.command_line.specs.Orders.{writes_to_standard_input};
 
 use crate::bracketed_words::bracketed_in;
-use crate::commands::{EXTRACT, MAKE_DEVICE, MAKE_IMAGE, MAKE_MANIFEST, SWEEP, Subcommand, named};
+use crate::commands::{Subcommand, named};
 use crate::device_words::{number_in, trial_boots_in};
 use crate::error::OrderError;
 use crate::image_words::{header_size_in, needs_in_words, number_said, version_in};
@@ -54,12 +54,15 @@ pub fn no_text(alloc: Global) -> OrderError
 pub(crate) fn no_order(alloc: Global, matches: &ArgMatches<'_>) -> OrderError
     ensures { IsUsage InvalidValue result ⊎ IsUsage MissingSubcommand result }
 {
-    match named_in(matches) {
-        Some((MAKE_DEVICE, names)) => no_number(alloc, names),
-        Some((MAKE_IMAGE, names)) => no_values(alloc, names),
-        Some((MAKE_MANIFEST, names)) => no_components(alloc, names),
-        Some((EXTRACT, names)) => no_slot(alloc, names),
-        Some((SWEEP, names)) => no_choices(alloc, names),
+    let Some((name, names)) = named_in(matches) else {
+        return no_subcommand(alloc);
+    };
+    match Subcommand::of_name(name) {
+        Some(Subcommand::MakeDevice) => no_number(alloc, names),
+        Some(Subcommand::MakeImage) => no_values(alloc, names),
+        Some(Subcommand::MakeManifest) => no_components(alloc, names),
+        Some(Subcommand::Extract) => no_slot(alloc, names),
+        Some(Subcommand::Sweep) => no_choices(alloc, names),
         _ => no_subcommand(alloc),
     }
 }

@@ -18,7 +18,7 @@ pub struct Help {
     pub long_after: &'static str,
 }
 
-pub const PROGRAM: Help = Help {
+pub const PROGRAM: &Help = &Help {
     usage: "bootswap [COMMAND]",
     about: "Runs a device's bootloader on a file, and decides which images run together",
     long_about: "A bootloader core in the manner of MCUboot, on files: it provisions, shows and
@@ -73,7 +73,7 @@ Examples:
 `bootswap help COMMAND` tells what the command reads and prints.",
 };
 
-pub const CHOOSE: Help = Help {
+pub const CHOOSE: &Help = &Help {
     usage: "bootswap choose <TABLE>",
     about: "Reads a table and prints the report of the choice over it",
     long_about: "Reads a table and prints the report of the choice over it.
@@ -126,7 +126,7 @@ Examples:
   bootswap choose - < table.txt",
 };
 
-pub const CHECK: Help = Help {
+pub const CHECK: &Help = &Help {
     usage: "bootswap check <TABLE> <REPORT>",
     about: "Says whether a report is right for a table",
     long_about: "Reads a table and a report, and says whether the report is right for the table:
@@ -168,7 +168,7 @@ Examples:
   bootswap choose table.txt | bootswap check table.txt -",
 };
 
-pub const IMAGE: Help = Help {
+pub const IMAGE: &Help = &Help {
     usage: "bootswap image <FILE>",
     about: "Checks an image and prints what it says of itself",
     long_about: "Reads an image of MCUboot's format, checks it, and prints what it says of
@@ -199,7 +199,7 @@ Example:
   bootswap image firmware.img",
 };
 
-pub const MANIFEST: Help = Help {
+pub const MANIFEST: &Help = &Help {
     usage: "bootswap manifest <DEVICE> <FILE>",
     about: "Checks a manifest for a device and prints what it says",
     long_about: "Reads a device file and a manifest, checks whether the manifest is for that
@@ -245,7 +245,7 @@ Examples:
   bootswap manifest device.json - < manifest.json",
 };
 
-pub const MAKE_DEVICE: Help = Help {
+pub const MAKE_DEVICE: &Help = &Help {
     usage: "bootswap make-device --sector <BYTES> --slots <N,N,..>
            --vendor <DOMAIN> --class <NAME> [--trial-boots <N>] [--explain]",
     about: "Makes the device file, and tells where the flash's parts lie",
@@ -299,7 +299,7 @@ Examples:
   bootswap provision device.json flash.bin a.img",
 };
 
-pub const MAKE_IMAGE: Help = Help {
+pub const MAKE_IMAGE: &Help = &Help {
     usage: "bootswap make-image <OUT> <BODY> --version <VERSION> [--counter <N>]
            [--needs <'J VERSION'>].. [--dependencies <'(J, V)'>]..
            [--needs-one <'J VERSION ..'>].. [--header-size <BYTES>]
@@ -355,7 +355,7 @@ Examples:
   bootswap image a.img",
 };
 
-pub const MAKE_MANIFEST: Help = Help {
+pub const MAKE_MANIFEST: &Help = &Help {
     usage: "bootswap make-manifest <DEVICE> --sequence <N> [--precursor <FLASH>]
            [--test <I=FILE>].. [--permanent <I=FILE>].. [--explain]",
     about: "Makes a manifest, of the files that may come to a device",
@@ -408,7 +408,7 @@ Examples:
   bootswap manifest device.json manifest.json",
 };
 
-pub const PROVISION: Help = Help {
+pub const PROVISION: &Help = &Help {
     usage: "bootswap provision <DEVICE> <FLASH> <IMAGE>...",
     about: "Makes the flash file of a device, an image for each slot pair",
     long_about: "Makes the flash of a device in a file and provisions it: FLASH gets the length
@@ -457,7 +457,7 @@ Examples:
   bootswap provision device.json flash.bin a.img - < b.img",
 };
 
-pub const EXTRACT: Help = Help {
+pub const EXTRACT: &Help = &Help {
     usage: "bootswap extract <DEVICE> <FLASH> <IMAGE> <SIDE> <OUT>",
     about: "Copies the image in a slot of a flash into a file",
     long_about: "Reads a device file and a flash file, and copies the intact image that a slot
@@ -495,7 +495,7 @@ Examples:
   bootswap image running.img",
 };
 
-pub const SHOW: Help = Help {
+pub const SHOW: &Help = &Help {
     usage: "bootswap show <DEVICE> <FLASH>",
     about: "Prints what stands on the flash of a device",
     long_about: "Reads a device file and a flash file, and prints what stands on the flash:
@@ -532,7 +532,7 @@ Examples:
   bootswap show device.json - < flash.bin",
 };
 
-pub const SLOTS: Help = Help {
+pub const SLOTS: &Help = &Help {
     usage: "bootswap slots <DEVICE> <FLASH>",
     about: "Prints what the slots hold, and what a boot would take",
     long_about: "Reads a device file and a flash file, and prints first what `show` prints, then
@@ -572,7 +572,7 @@ Examples:
   bootswap slots device.json - < flash.bin",
 };
 
-pub const RUN: Help = Help {
+pub const RUN: &Help = &Help {
     usage: "bootswap run <DEVICE> <FLASH> <SCRIPT>",
     about: "Runs a device on a flash file by a script; prints its replies",
     long_about: "Runs a device on a flash file by a script, and prints a reply to each event.
@@ -644,7 +644,7 @@ Examples:
   bootswap run --durable device.json flash.bin script.txt",
 };
 
-pub const SWEEP: Help = Help {
+pub const SWEEP: &Help = &Help {
     usage: "bootswap sweep <DEVICE> <SCRIPT> <IMAGE>... [--twice] [--sample <N>]
            [--seed <N>] [--svg <FILE>] [--explain]",
     about: "Cuts each write of a script in turn, and tells what comes of it",
@@ -702,7 +702,7 @@ Examples:
   bootswap sweep --sample 10000 --seed 7 device.json long.txt a.img b.img",
 };
 
-pub const CODES: Help = Help {
+pub const CODES: &Help = &Help {
     usage: "bootswap codes",
     about: "Lists what the codes and names of refusals say",
     long_about: REFUSALS,

@@ -3,15 +3,12 @@
 ghost use Rattle.std.specs.Prelude.{◌≡◌, IfErr, IfOk, None, codes, map, option_map};
 ghost use Rattle.clap.specs.Words.{HasKind, all_of, fault_of, first_of, found_of, kind_of};
 ghost use Rattle.clap.specs.Words.{rows_of, subcommand_of, subcommand_rows_of};
-ghost use Rattle.command_line.specs.Commands.{bootswap};
+ghost use Rattle.command_line.specs.Commands.{bootswap, shape_for};
 ghost use Rattle.command_line.specs.Faults.{IsRefusal};
 ghost use Rattle.command_line.specs.Orders.{Asks, Finds, IsOrder, IsOrderOf, has_explain, image_at};
 ghost use Rattle.command_line.specs.Orders.{is_explained, is_given, misuse_of, side_at, side_of};
 
-use crate::commands::{
-    CHECK, CHOOSE, CODES, EXTRACT, IMAGE, MAKE_DEVICE, MAKE_IMAGE, MAKE_MANIFEST, MANIFEST,
-    PROVISION, RUN, SHOW, SLOTS, SWEEP, bootswap, named,
-};
+use crate::commands::{Subcommand, bootswap, named};
 use crate::device_words::device_in;
 use crate::error::OrderError;
 use crate::faults::{misuse, no_order};
@@ -38,14 +35,28 @@ pub fn request<'a, S: AsStr>(alloc: Global, words: &'a [S]) -> Result<Request<'a
     ensures refused { IfErr result (IsRefusal (map S.text words.entry.now)) }
 {
     let matches = matches_of(alloc, words)?;
-    let Some(order) = order_in(alloc, &matches)? else {
-        return Err(no_order(alloc, &matches));
-    };
+    match order_in(alloc, &matches)? {
+        Some(order) => request_of(alloc, order, is_explained(&matches)),
+        None => Err(no_order(alloc, &matches)),
+    }
+}
+
+/// The request of an order, unless that misuses standard input.
+fn request_of<'a>(
+    alloc: Global,
+    order: Order<'a>,
+    is_explained: bool,
+) -> Result<Request<'a>, OrderError>
+    ensures given { IfOk result (λ request. (request.order ≡ order.entry)
+        × (request.is_explained ≡ is_explained)) }
+    ensures sound { IfOk result (λ request. misuse_of request.order ≡ None) }
+    ensures refused { (words : _) → IsOrder words order.entry → IfErr result (IsRefusal words) }
+{
     match misuse(alloc, &order)? {
         Some(fault) => Err(OrderError::from(fault)),
         None => Ok(Request {
             order,
-            is_explained: is_explained(&matches),
+            is_explained,
         }),
     }
 }
@@ -74,8 +85,11 @@ fn matches_of<'a, S: AsStr>(alloc: Global, words: &'a [S]) -> Result<ArgMatches<
 fn order_in<'a>(alloc: Global, matches: &ArgMatches<'a>) -> Result<Option<Order<'a>>, AllocError>
     ensures { IfOk result (Finds (IsOrderOf (subcommand_rows_of matches.now))) }
 {
-    match named_in(matches) {
-        Some((command, names)) => order_of(alloc, command, names),
+    let Some((name, names)) = named_in(matches) else {
+        return Ok(None);
+    };
+    match Subcommand::of_name(name) {
+        Some(subcommand) => order_of(alloc, subcommand, names),
         None => Ok(None),
     }
 }
@@ -91,27 +105,27 @@ pub(crate) fn named_in<'m, 'a>(matches: &'m ArgMatches<'a>) -> Option<(&'a str, 
 /// The order that a subcommand asks for, with the names that it found.
 fn order_of<'a>(
     alloc: Global,
-    command: &str,
+    subcommand: Subcommand,
     names: &ArgMatches<'a>,
 ) -> Result<Option<Order<'a>>, AllocError>
-    ensures { IfOk result (Finds (Asks command.now (rows_of (found_of names.now)))) }
+    ensures { IfOk result
+        (Finds (Asks (shape_for subcommand).name (rows_of (found_of names.now)))) }
 {
-    match command {
-        CHOOSE => Ok(choose_in(names)),
-        CHECK => Ok(check_in(names)),
-        IMAGE => Ok(image_in(names)),
-        MANIFEST => Ok(manifest_in(names)),
-        MAKE_DEVICE => make_device_in(alloc, names),
-        MAKE_IMAGE => make_image_in(alloc, names),
-        MAKE_MANIFEST => make_manifest_in(alloc, names),
-        PROVISION => provision_in(alloc, names),
-        EXTRACT => Ok(extract_in(names)),
-        SHOW => Ok(show_in(names)),
-        SLOTS => Ok(slots_in(names)),
-        RUN => Ok(run_in(names)),
-        SWEEP => sweep_in(alloc, names),
-        CODES => Ok(Some(Order::Codes)),
-        _ => Ok(None),
+    match subcommand {
+        Subcommand::Choose => Ok(choose_in(names)),
+        Subcommand::Check => Ok(check_in(names)),
+        Subcommand::Image => Ok(image_in(names)),
+        Subcommand::Manifest => Ok(manifest_in(names)),
+        Subcommand::MakeDevice => make_device_in(alloc, names),
+        Subcommand::MakeImage => make_image_in(alloc, names),
+        Subcommand::MakeManifest => make_manifest_in(alloc, names),
+        Subcommand::Provision => provision_in(alloc, names),
+        Subcommand::Extract => Ok(extract_in(names)),
+        Subcommand::Show => Ok(show_in(names)),
+        Subcommand::Slots => Ok(slots_in(names)),
+        Subcommand::Run => Ok(run_in(names)),
+        Subcommand::Sweep => sweep_in(alloc, names),
+        Subcommand::Codes => Ok(Some(Order::Codes)),
     }
 }
 
