@@ -20,13 +20,18 @@ const KEYS: [Key; 5] = [
 /// known, or what stands at a key and what may stand there. The JSON value stands in memory of
 /// `alloc` meanwhile.
 pub fn explain_device(notes: &mut String, alloc: Global, bytes: &[u8]) -> Result<(), AllocError> {
-    let Ok(value) = json_of(alloc, bytes) else {
-        return explain_text(notes, alloc, bytes);
-    };
-    explain_keys(notes, "the device file", &value, KEYS.as_slice())?;
-    explain_values(notes, alloc, "the device file", &value, KEYS.as_slice())?;
-    explain_sectors(notes, alloc, &value)?;
-    explain_trial_boots(notes, &value)
+    match json_of(alloc, bytes) {
+        Ok(value) => explain_value(notes, alloc, &value),
+        Err(_) => explain_text(notes, alloc, bytes),
+    }
+}
+
+/// Adds why a JSON value is no device file.
+fn explain_value(notes: &mut String, alloc: Global, value: &Value) -> Result<(), AllocError> {
+    explain_keys(notes, "the device file", value, KEYS.as_slice())?;
+    explain_values(notes, alloc, "the device file", value, KEYS.as_slice())?;
+    explain_sectors(notes, alloc, value)?;
+    explain_trial_boots(notes, value)
 }
 
 /// Adds the entries of `sectors` that are no numbers.
@@ -36,7 +41,7 @@ fn explain_sectors(notes: &mut String, alloc: Global, value: &Value) -> Result<(
     };
     for (image, sectors) in sectors.iter().enumerate() {
         if number_of(sectors).is_none() {
-            write!(notes, "note: `sectors` has ")?;
+            notes.push_str("note: `sectors` has ")?;
             add_value(notes, alloc, sectors)?;
             writeln!(
                 notes,
@@ -69,19 +74,28 @@ pub fn explain_map(
     let Ok(value) = json_of(alloc, bytes) else {
         return Ok(());
     };
-    let (Some(sector), Some(sectors)) = (number(&value, "sector"), array(&value, "sectors")) else {
-        return Ok(());
-    };
+    match (number(&value, "sector"), array(&value, "sectors")) {
+        (Some(sector), Some(sectors)) => explain_sizes(notes, sector, sectors.as_slice(), fault),
+        _ => Ok(()),
+    }
+}
+
+/// Adds which of these sizes make no map.
+fn explain_sizes(
+    notes: &mut String,
+    sector: u32,
+    sectors: &[Value],
+    fault: MapError,
+) -> Result<(), AllocError> {
     match fault {
         MapError::BadSector => writeln!(
             notes,
             "note: `sector` is {sector}, and a sector has 512 to 131072 bytes, a multiple of 64"
         ),
-        MapError::BadCount => explain_count(notes, sectors.as_slice()),
-        MapError::TrailerFull => explain_trailers(notes, sector, sectors.as_slice()),
-        MapError::TooLarge => writeln!(
-            notes,
-            "note: all slots, the scratch and the log together have 4294967295 bytes at most"
+        MapError::BadCount => explain_count(notes, sectors),
+        MapError::TrailerFull => explain_trailers(notes, sector, sectors),
+        MapError::TooLarge => notes.push_str(
+            "note: all slots, the scratch and the log together have 4294967295 bytes at most\n",
         ),
     }
 }

@@ -212,7 +212,7 @@ fn explain_hash(
     )?;
     let digest: [u8; 32] = Sha256::digest(hashed);
     add_digits(notes, digest.as_slice())?;
-    writeln!(notes)
+    notes.push_str("\n")
 }
 
 /// Adds bytes as hexadecimal digits.

@@ -93,16 +93,27 @@ pub fn explain_keys(
     let Some(members) = value.as_object() else {
         return writeln!(notes, "note: {owner} is no object in braces");
     };
-    for key in keys {
-        if key.is_missing(value) {
-            let name = key.name();
-            writeln!(notes, "note: {owner} has no `{name}`")?;
-        }
-    }
+    explain_missing(notes, owner, value, keys)?;
     for name in members.keys() {
         if !is_known(name, keys) {
             let shown = Shown(name.as_bytes());
             writeln!(notes, "note: {owner} has `{shown}`, which isn't known")?;
+        }
+    }
+    Ok(())
+}
+
+/// Adds the keys that are missing in an object.
+fn explain_missing(
+    notes: &mut String,
+    owner: &str,
+    value: &Value,
+    keys: &[Key],
+) -> Result<(), AllocError> {
+    for key in keys {
+        if key.is_missing(value) {
+            let name = key.name();
+            writeln!(notes, "note: {owner} has no `{name}`")?;
         }
     }
     Ok(())

@@ -34,27 +34,40 @@ pub fn explain_manifest(
     bytes: &[u8],
     identity: &Identity,
 ) -> Result<(), AllocError> {
-    let Ok(value) = json_of(alloc, bytes) else {
-        return explain_text(notes, alloc, bytes);
-    };
-    explain_keys(notes, "the manifest", &value, KEYS.as_slice())?;
-    explain_values(notes, alloc, "the manifest", &value, KEYS.as_slice())?;
-    match number(&value, "manifest-version") {
-        Some(version) if version != 1 => {
-            writeln!(
-                notes,
-                "note: `manifest-version` is {version}, and has to be 1"
-            )?;
-        }
-        _ => {}
+    match json_of(alloc, bytes) {
+        Ok(value) => explain_value(notes, alloc, &value, identity),
+        Err(_) => explain_text(notes, alloc, bytes),
     }
-    explain_identifier(notes, &value, "vendor-id", identity.vendor)?;
-    explain_identifier(notes, &value, "class-id", identity.class)?;
-    let components = match array(&value, "components") {
+}
+
+/// Adds why a JSON value is no manifest for a device of this identity.
+fn explain_value(
+    notes: &mut String,
+    alloc: Global,
+    value: &Value,
+    identity: &Identity,
+) -> Result<(), AllocError> {
+    explain_keys(notes, "the manifest", value, KEYS.as_slice())?;
+    explain_values(notes, alloc, "the manifest", value, KEYS.as_slice())?;
+    explain_version(notes, value)?;
+    explain_identifier(notes, value, "vendor-id", identity.vendor)?;
+    explain_identifier(notes, value, "class-id", identity.class)?;
+    let components = match array(value, "components") {
         Some(components) => components.as_slice(),
         None => &[],
     };
     explain_components(notes, alloc, components, identity.images)
+}
+
+/// Adds that the version of the format isn't 1, where it is another one.
+fn explain_version(notes: &mut String, value: &Value) -> Result<(), AllocError> {
+    match number(value, "manifest-version") {
+        Some(version) if version != 1 => writeln!(
+            notes,
+            "note: `manifest-version` is {version}, and has to be 1"
+        ),
+        _ => Ok(()),
+    }
 }
 
 /// Adds that an identifier isn't the device's, where it is another one.
@@ -105,6 +118,17 @@ fn explain_component(
     let owner = format!(in alloc; "entry {place} of `components`")?;
     explain_keys(notes, &owner, component, COMPONENT_KEYS.as_slice())?;
     explain_values(notes, alloc, &owner, component, COMPONENT_KEYS.as_slice())?;
+    explain_image_of(notes, &owner, before, component, images)
+}
+
+/// Adds what is wrong with the image that a component is for.
+fn explain_image_of(
+    notes: &mut String,
+    owner: &str,
+    before: &[Value],
+    component: &Value,
+    images: u8,
+) -> Result<(), AllocError> {
     let Some(image) = number(component, "component-id") else {
         return Ok(());
     };

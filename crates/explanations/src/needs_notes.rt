@@ -3,6 +3,7 @@
 use crate::versions::{Versions, is_taken};
 use certificate::{Entry, Request, Table};
 use std::alloc::AllocError;
+use version_order::Version;
 
 /// Adds a sentence for each dependency and group of the running images of a table that the running
 /// versions don't meet.
@@ -32,12 +33,12 @@ fn explain_dependencies(
     number: usize,
     entry: &Entry,
 ) -> Result<(), AllocError> {
-    let version = entry.version;
     for need in entry.dependencies.iter() {
         if !versions.meet(need) {
-            write!(notes, "note: image {number}: {version} needs")?;
+            add_owner(notes, number, entry.version)?;
+            notes.push_str("needs")?;
             versions.add_need(notes, need, false)?;
-            writeln!(notes)?;
+            notes.push_str("\n")?;
         }
     }
     Ok(())
@@ -50,13 +51,18 @@ fn explain_groups(
     number: usize,
     entry: &Entry,
 ) -> Result<(), AllocError> {
-    let version = entry.version;
     for group in entry.groups.iter() {
         if !versions.meet_one(group) {
-            write!(notes, "note: image {number}: {version} needs")?;
+            add_owner(notes, number, entry.version)?;
+            notes.push_str("needs")?;
             versions.add_group(notes, group, false)?;
-            writeln!(notes)?;
+            notes.push_str("\n")?;
         }
     }
     Ok(())
+}
+
+/// Begins a sentence on the version of an image.
+pub fn add_owner(notes: &mut String, number: usize, version: Version) -> Result<(), AllocError> {
+    write!(notes, "note: image {number}: {version} ")
 }

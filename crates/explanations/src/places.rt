@@ -40,10 +40,7 @@ pub fn add_line(
     let shown = Shown(line);
     writeln!(notes, "note: {kind} line {number} is `{shown}`")?;
     if line.last() == Some(&b'\r') {
-        writeln!(
-            notes,
-            "note: a carriage return ends it; a line ends with a line feed alone"
-        )?;
+        notes.push_str("note: a carriage return ends it; a line ends with a line feed alone\n")?;
     }
     Ok(())
 }

@@ -1,7 +1,8 @@
 //! Why requests are refused.
 
+use crate::needs_notes::add_owner;
 use crate::versions::Versions;
-use certificate::{Image, Reason, Refusal, Report, Request, Table};
+use certificate::{Entry, Image, Reason, Refusal, Report, Request, Table};
 use std::alloc::AllocError;
 use version_order::Dependency;
 
@@ -29,47 +30,62 @@ fn explain_refusal(
     image: &Image,
     refusal: &Refusal,
 ) -> Result<(), AllocError> {
-    let own = refusal.image;
-    let running = image.running.version;
     let Request::Entry(entry) = &image.request else {
+        let own = refusal.image;
         return writeln!(
             notes,
             "note: image {own}: the bytes that are requested are no intact image"
         );
     };
-    let (version, counter, floor) = (entry.version, entry.counter, image.floor);
-    match &refusal.reason {
-        Reason::Damaged => Ok(()),
-        Reason::Older => writeln!(
+    if refusal.reason == Reason::Damaged {
+        return Ok(());
+    }
+    let best = Versions::at_best(table, before, refusal.image);
+    add_owner(notes, usize::from(refusal.image), entry.version)?;
+    add_reason(
+        notes,
+        &best,
+        table.images.len(),
+        image,
+        entry,
+        &refusal.reason,
+    )
+}
+
+/// Adds why the intact request of an image is refused, on a device with `count` images of which
+/// these are the best versions.
+fn add_reason(
+    notes: &mut String,
+    best: &Versions,
+    count: usize,
+    image: &Image,
+    entry: &Entry,
+    reason: &Reason,
+) -> Result<(), AllocError> {
+    let (running, counter, floor) = (image.running.version, entry.counter, image.floor);
+    match reason {
+        Reason::Damaged => {}
+        Reason::Older => write!(notes, "is requested, and {running} runs, which is newer")?,
+        Reason::Counter => write!(
             notes,
-            "note: image {own}: {version} is requested, and {running} runs, which is newer"
-        ),
-        Reason::Counter => writeln!(
+            "is requested with the security counter {counter}, below the floor {floor}"
+        )?,
+        Reason::NoSuchImage(number) => write!(
             notes,
-            "note: image {own}: {version} is requested with the security counter {counter}, below \
-             the floor {floor}"
-        ),
-        Reason::NoSuchImage(number) => {
-            let count = table.images.len();
-            writeln!(
-                notes,
-                "note: image {own}: {version} needs image {number}; there are {count} images, from \
-                 0 on"
-            )
-        }
+            "needs image {number}; there are {count} images, from 0 on"
+        )?,
         Reason::Needs(number, minimum) => {
             let need = Dependency {
                 image: *number,
                 minimum: *minimum,
             };
-            write!(notes, "note: image {own}: {version} needs")?;
-            Versions::at_best(table, before, own).add_need(notes, &need, true)?;
-            writeln!(notes)
+            notes.push_str("needs")?;
+            best.add_need(notes, &need, true)?;
         }
         Reason::NeedsOne(group) => {
-            write!(notes, "note: image {own}: {version} needs")?;
-            Versions::at_best(table, before, own).add_group(notes, group, true)?;
-            writeln!(notes)
+            notes.push_str("needs")?;
+            best.add_group(notes, group, true)?;
         }
     }
+    notes.push_str("\n")
 }

@@ -20,19 +20,18 @@ pub fn explain_report_line(
     number: usize,
 ) -> Result<(), AllocError> {
     let Some(place) = line_at(text, number) else {
-        return writeln!(
-            notes,
-            "note: the report is empty; it begins with `run 0 VERSION` or `take 0 VERSION`"
+        return notes.push_str(
+            "note: the report is empty; it begins with `run 0 VERSION` or `take 0 VERSION`\n",
         );
     };
     add_line(notes, "report", number, place.line)?;
     let before = Report::parse(place.before).unwrap_or_default();
-    write!(notes, "note: here may stand")?;
+    notes.push_str("note: here may stand")?;
     add_choices(notes, &before)?;
     if !before.images.is_empty() {
-        write!(notes, "{REASONS}")?;
+        notes.push_str(REASONS)?;
     }
-    write!(notes, "{WORDS}")
+    notes.push_str(WORDS)
 }
 
 /// Adds what may follow a report.
@@ -41,12 +40,12 @@ fn add_choices(notes: &mut String, report: &Report) -> Result<(), AllocError> {
     if count < MOST_IMAGES && report.refusals.is_empty() {
         write!(notes, " `run {count} VERSION`, `take {count} VERSION`")?;
         if count == 0 {
-            return writeln!(notes);
+            return notes.push_str("\n");
         }
-        write!(notes, ",")?;
+        notes.push_str(",")?;
     }
     if report.refusals.len() < MOST_REFUSALS {
-        writeln!(notes, " `refuse I REASON`")
+        notes.push_str(" `refuse I REASON`\n")
     } else {
         writeln!(
             notes,

@@ -10,6 +10,28 @@ use std::alloc::AllocError;
 /// The words that lines begin with.
 const WORDS: &str = "cut, accept, piece, finish, withdraw, confirm, boot and reset";
 
+/// What stands behind a word that a line begins with.
+#[derive(Clone, Copy)]
+enum Fields {
+    Cut,
+    File,
+    Piece,
+    Image,
+    Nothing,
+}
+
+/// The words, with what stands behind each.
+const FIELDS: [(&str, Fields); 8] = [
+    ("cut", Fields::Cut),
+    ("accept", Fields::File),
+    ("piece", Fields::Piece),
+    ("finish", Fields::Image),
+    ("withdraw", Fields::Image),
+    ("confirm", Fields::Image),
+    ("boot", Fields::Nothing),
+    ("reset", Fields::Nothing),
+];
+
 /// Adds what the line of this number says, counted from 1, and why no script has it there: how it
 /// is spelled, where it stands, or what it names of a file. `may_cut` says whether the script may
 /// cut writes.
@@ -25,9 +47,8 @@ pub fn explain_script_line(
     add_line(notes, "script", number, place.line)?;
     match line_of(place.line) {
         None => explain_spelling(notes, place.line),
-        Some(Line::Cut { .. }) if !may_cut => writeln!(
-            notes,
-            "note: a sweep cuts each write itself, and its script cuts none"
+        Some(Line::Cut { .. }) if !may_cut => notes.push_str(
+            "note: a sweep cuts each write itself, and its script cuts none\n",
         ),
         Some(Line::Cut { write, torn: _ }) => explain_order(notes, place.before, write),
         Some(Line::Event(event)) => explain_event(notes, event),
@@ -46,7 +67,7 @@ fn explain_order(notes: &mut String, before: &[u8], write: u32) -> Result<(), Al
         rest = after;
         match line_of(line) {
             Some(Line::Cut { write, torn: _ }) => last = write,
-            _ => return writeln!(notes, "note: cuts stand before the first event"),
+            _ => return notes.push_str("note: cuts stand before the first event\n"),
         }
     }
     writeln!(
@@ -61,10 +82,7 @@ fn explain_event(notes: &mut String, event: Event<FileText<'_>>) -> Result<(), A
         return Ok(());
     };
     if file.name == "-" {
-        return writeln!(
-            notes,
-            "note: standard input is read once, and was read before"
-        );
+        return notes.push_str("note: standard input is read once, and was read before\n");
     }
     match file.part {
         Some(part) => explain_part(notes, file.name, part),
@@ -80,10 +98,9 @@ fn explain_part(notes: &mut String, name: &str, part: PartText<'_>) -> Result<()
             notes,
             "note: {name} doesn't have {count} bytes from byte {from} on, the first being byte 0"
         ),
-        None => writeln!(
-            notes,
+        None => notes.push_str(
             "note: behind a file stand two numbers, its first byte and how many: decimal, without \
-             leading zeros"
+             leading zeros\n",
         ),
     }
 }
@@ -92,23 +109,30 @@ fn explain_part(notes: &mut String, name: &str, part: PartText<'_>) -> Result<()
 fn explain_spelling(notes: &mut String, line: &[u8]) -> Result<(), AllocError> {
     let (word, fields) = cut(line, b' ');
     let rest = fields.unwrap_or_default();
-    match str::from_utf8(word) {
-        Ok(word @ ("boot" | "reset")) => writeln!(notes, "note: nothing stands behind `{word}`"),
-        Ok("cut") => explain_cut(notes, rest),
-        Ok("accept") => writeln!(
-            notes,
-            "note: behind `accept` stands the name of one file, in UTF-8 and without a space"
+    let shown = Shown(word);
+    match fields_of(word) {
+        Some(Fields::Cut) => explain_cut(notes, rest),
+        Some(Fields::File) => notes.push_str(
+            "note: behind `accept` stands the name of one file, in UTF-8 and without a space\n",
         ),
-        Ok("piece") => explain_piece(notes, rest),
-        Ok("finish" | "withdraw" | "confirm") => explain_number(notes, rest),
-        _ => {
-            let word = Shown(word);
-            writeln!(
-                notes,
-                "note: `{word}` is no word that a line begins with; those are {WORDS}"
-            )
+        Some(Fields::Piece) => explain_piece(notes, rest),
+        Some(Fields::Image) => explain_number(notes, rest),
+        Some(Fields::Nothing) => writeln!(notes, "note: nothing stands behind `{shown}`"),
+        None => writeln!(
+            notes,
+            "note: `{shown}` is no word that a line begins with; those are {WORDS}"
+        ),
+    }
+}
+
+/// What stands behind a word, where a line begins with it.
+fn fields_of(word: &[u8]) -> Option<Fields> {
+    for (own, fields) in &FIELDS {
+        if word == own.as_bytes() {
+            return Some(*fields);
         }
     }
+    None
 }
 
 /// Adds what is wrong behind `cut`.
@@ -139,10 +163,9 @@ fn explain_piece(notes: &mut String, fields: &[u8]) -> Result<(), AllocError> {
     if number_u8(image).is_none() {
         return explain_number(notes, image);
     }
-    writeln!(
-        notes,
+    notes.push_str(
         "note: behind `piece` stand the number of an image, the name of a file without a space, \
-         and, for a part of it, its first byte and how many"
+         and, for a part of it, its first byte and how many\n",
     )
 }
 

@@ -19,16 +19,15 @@ pub fn explain_table_line(
     number: usize,
 ) -> Result<(), AllocError> {
     let Some(place) = line_at(text, number) else {
-        return writeln!(
-            notes,
-            "note: the table is empty; it begins with `image 0 VERSION COUNTER FLOOR`"
+        return notes.push_str(
+            "note: the table is empty; it begins with `image 0 VERSION COUNTER FLOOR`\n",
         );
     };
     add_line(notes, "table", number, place.line)?;
     let before = Table::parse(place.before).unwrap_or_default();
-    write!(notes, "note: here may stand")?;
+    notes.push_str("note: here may stand")?;
     add_choices(notes, &before)?;
-    write!(notes, "{WORDS}")
+    notes.push_str(WORDS)
 }
 
 /// Adds what may follow a table.
@@ -38,7 +37,7 @@ fn add_choices(notes: &mut String, table: &Table) -> Result<(), AllocError> {
         match &image.request {
             Request::None => {
                 add_needs(notes, &image.running)?;
-                write!(notes, " `request VERSION COUNTER`, `damaged`,")?;
+                notes.push_str(" `request VERSION COUNTER`, `damaged`,")?;
             }
             Request::Entry(entry) => add_needs(notes, entry)?,
             Request::Damaged => {}
@@ -58,10 +57,10 @@ fn add_choices(notes: &mut String, table: &Table) -> Result<(), AllocError> {
 /// Adds what may follow what an entry asks for.
 fn add_needs(notes: &mut String, entry: &Entry) -> Result<(), AllocError> {
     if entry.groups.is_empty() && entry.dependencies.len() < MOST_DEPENDENCIES {
-        write!(notes, " `needs J VERSION`,")?;
+        notes.push_str(" `needs J VERSION`,")?;
     }
     if entry.groups.len() < MOST_GROUPS {
-        write!(notes, " `needs-one J VERSION ..`,")?;
+        notes.push_str(" `needs-one J VERSION ..`,")?;
     }
     Ok(())
 }

@@ -76,25 +76,33 @@ fn explain_requests(notes: &mut String, table: &Table, report: &Report) -> Resul
     for (number, image) in table.images.iter().enumerate() {
         let refused = times_refused(report, number);
         let times = refused.saturating_add(usize::from(is_taken(taken, number)));
-        let is_requested = image.request != Request::None;
-        if is_requested && times == 0 {
-            writeln!(
-                notes,
-                "note: image {number}: the report neither takes nor refuses its request"
-            )?;
-        } else if is_requested && times > 1 {
-            writeln!(
-                notes,
-                "note: image {number}: the report decides its request {times} times"
-            )?;
-        } else if !is_requested && times > 0 {
-            writeln!(
-                notes,
-                "note: image {number}: nothing is requested, and the report decides a request"
-            )?;
-        }
+        explain_times(notes, number, image.request != Request::None, times)?;
     }
     Ok(())
+}
+
+/// Adds that the request of an image isn't decided once, or that there is none to decide.
+fn explain_times(
+    notes: &mut String,
+    number: usize,
+    is_requested: bool,
+    times: usize,
+) -> Result<(), AllocError> {
+    match (is_requested, times) {
+        (true, 1) | (false, 0) => Ok(()),
+        (true, 0) => writeln!(
+            notes,
+            "note: image {number}: the report neither takes nor refuses its request"
+        ),
+        (true, _) => writeln!(
+            notes,
+            "note: image {number}: the report decides its request {times} times"
+        ),
+        (false, _) => writeln!(
+            notes,
+            "note: image {number}: nothing is requested, and the report decides a request"
+        ),
+    }
 }
 
 /// Adds the refusals of images that the table doesn't have.

@@ -76,16 +76,11 @@ impl Versions {
         is_hope: bool,
     ) -> Result<(), AllocError> {
         let Dependency { image, minimum } = need;
+        write!(notes, " image {image} from {minimum} on, which ")?;
         match self.of(*image) {
-            Some(version) if is_hope => write!(
-                notes,
-                " image {image} from {minimum} on, which can have {version} at best"
-            ),
-            Some(version) => write!(
-                notes,
-                " image {image} from {minimum} on, which is {version}"
-            ),
-            None => write!(notes, " image {image} from {minimum} on, which isn't there"),
+            Some(version) if is_hope => write!(notes, "can have {version} at best"),
+            Some(version) => write!(notes, "is {version}"),
+            None => notes.push_str("isn't there"),
         }
     }
 
@@ -96,10 +91,10 @@ impl Versions {
         group: &Group,
         is_hope: bool,
     ) -> Result<(), AllocError> {
-        write!(notes, " one of these:")?;
+        notes.push_str(" one of these:")?;
         for (place, need) in group.alternatives.iter().enumerate() {
             if place > 0 {
-                write!(notes, ";")?;
+                notes.push_str(";")?;
             }
             self.add_need(notes, need, is_hope)?;
         }
