@@ -42,45 +42,54 @@ MEMORY, MEMORY_OF_JOB = 2_300_000_000, 800_000_000
 
 # The most processes that are of use to one check, and how many seconds of a processor a check takes
 # for which one more is of use. Each reads the libraries below for itself.
-MOST_JOBS, SECONDS_OF_JOB = 4, 50
+MOST_JOBS, SECONDS_OF_JOB = 4, 80
 
 # How much less of a processor a check gets that little waits for, as a niceness.
-LEAST_URGENT = 10
+LEAST_URGENT = 19
+
+# A check is urgent for which this part of the longest way waits, and so many processes of those may
+# run beside the others, which then stand back.
+URGENT, MORE = 0.75, 2
 
 # What the proof of a crate took, in seconds of a processor, in a first build on 4 of them. It says
 # which crates others wait for longest, and nothing else. Lines are a poor guess of it: much of
 # `command_line` and `manifest` is what `clap` and JSON bring.
 SECONDS = {
-    "answers": 232,
-    "boot_cli": 437,
-    "boot_core": 285,
-    "bootswap": 128,
-    "certificate": 253,
-    "chooser": 81,
-    "command_line": 337,
+    "answers": 175,
+    "boot_cli": 115,
+    "boot_core": 235,
+    "bootswap": 90,
+    "bootswap_core": 75,
+    "certificate": 230,
+    "chooser": 90,
+    "command_ends": 68,
+    "command_line": 310,
     "common": 22,
+    "core_cli": 170,
     "decision": 43,
     "device_calls": 187,
     "events": 19,
-    "explaining_commands": 140,
-    "explanations": 296,
+    "explaining_commands": 150,
+    "explanations": 245,
     "file_flash": 43,
-    "flash_model": 108,
+    "flash_model": 88,
     "image_header": 36,
     "machine": 48,
-    "making_commands": 237,
-    "manifest": 137,
+    "making_commands": 225,
+    "manifest": 100,
     "random_numbers": 9,
-    "reading_commands": 157,
+    "reading_commands": 98,
+    "reading_scripts": 93,
     "script": 66,
     "sector_map": 40,
-    "set_log": 92,
+    "set_log": 70,
     "slice_flash": 45,
-    "swap_scratch": 59,
-    "sweep": 212,
-    "tlv": 223,
-    "trailer": 166,
-    "upload": 171,
+    "swap_scratch": 52,
+    "sweep": 190,
+    "system_files": 116,
+    "tlv": 216,
+    "trailer": 102,
+    "upload": 152,
     "version_order": 38,
 }
 
@@ -226,7 +235,7 @@ class Build:
             f"proving and building {self.what}, and up to {at_once * MEMORY / 1e9:.1f} GB of memory; {len(self.left)} "
             f"crates are left, {at_once} side by side"
         )
-        with ThreadPoolExecutor(self.most) as pool:
+        with ThreadPoolExecutor(self.most + MORE) as pool:
             try:
                 while self.left or self.running:
                     self.start_what_fits(pool)
@@ -245,7 +254,7 @@ class Build:
         for place, crate in enumerate(ready):
             jobs = self.jobs_for(crate, len(ready) - place)
             if not jobs:
-                return
+                continue
             niceness = self.niceness_of(crate)
             self.left.remove(crate)
             self.running[pool.submit(self.build, crate, jobs, niceness)] = crate, jobs
@@ -259,12 +268,16 @@ class Build:
         taken = [jobs for _, jobs in self.running.values()]
         idle = self.most - sum(taken)
         room = self.memory - sum(MEMORY + (jobs - 1) * MEMORY_OF_JOB for jobs in taken) - MEMORY
-        if idle <= 0 or room < 0:
+        part = self.behind[crate] / self.longest()
+        if idle + (MORE if part >= URGENT else 0) <= 0 or room < 0:
             return 0
-        longest = max(self.behind[it] for it in [*self.left, *[it for it, _ in self.running.values()]])
-        least = 2 if self.behind[crate] == longest and self.processors > 1 else 1
+        least = 2 if part == 1 and self.processors > 1 else 1
         most = min(MOST_JOBS, 1 + int(crate.seconds // SECONDS_OF_JOB))
         return min(most, max(least, idle // waiting), 1 + int(room // MEMORY_OF_JOB))
+
+    def longest(self):
+        """Returns how long the proofs take that wait for each other, of those that aren't done."""
+        return max(self.behind[it] for it in [*self.left, *[it for it, _ in self.running.values()]])
 
     def build(self, crate, jobs, niceness):
         """Proves and builds a crate, and returns whether that was done, and what was said."""
@@ -286,8 +299,7 @@ class Build:
     def niceness_of(self, crate):
         """Returns how little the check of a crate matters: there are more processes than processors, and the crates that
         the others wait for in the end go first."""
-        longest = max(self.behind[it] for it in [*self.left, *[it for it, _ in self.running.values()]])
-        return round(LEAST_URGENT * (1 - self.behind[crate] / longest))
+        return round(LEAST_URGENT * (1 - self.behind[crate] / self.longest()))
 
     def call(self, words, folder, niceness=0):
         """Runs a command of the toolchain, and returns its status and what it said.

@@ -1,8 +1,8 @@
 -- How a call ends that makes others.
 use Rattle.std.proofs.Common.{◌≡◌, ◌+◌, ◌↔◌, Bool, IsTrue, true, false, refl, Result, Ok, Err, sym, ◌∙◌, ap}
-use Rattle.std.specs.Prelude.{IsErr, IsErrAnd, IsErrOf, OnOk}
+use Rattle.std.specs.Prelude.{IsErrAnd, IsErrOf}
 use Rattle.flash_model.specs.Chip.{Chip, Ends, IsUncut}
-use Rattle.flash_model.proofs.Ending.{uncut_trans}
+use Rattle.flash_model.proofs.Ending.{ends_well as ended, uncut_trans}
 use Rattle.flash_model.specs.declared.error.FlashError.{FlashError}
 use Rattle.flash_model.specs.declared.error.FlashError.TheVariants.{Cut, Off}
 use Rattle.upload.specs.declared.error.UploadError.{UploadError}
@@ -50,17 +50,7 @@ pub err_passed : {T E : Type 0} (result : Result T E) (error : E) → IsErrAnd r
 err_passed (Ok value) error is = absurd is
 err_passed (Err passed) error is = ap (λ e. Err e) is
 
--- a call that came to its end
-pub ends_done : {T : Type 0} (value : T) (old new : Chip) → (old.is_on ≡ false → new ≡ old) → IsUncut old new
-    → Ends (Ok value) old new
-ends_done value old new asleep uncut = record {
-  asleep = asleep;
-  uncut = uncut;
-  cut = λ none. absurd (cc none);
-  off = λ none. absurd (cc none);
-}
-
--- the same of a call of uploads that the flash didn't stop
+-- a call of uploads that the flash didn't stop
 pub ends_unstopped : {T : Type 0} (result : Result T UploadError) (old new : Chip) → is_flash result ≡ false
     → (old.is_on ≡ false → new ≡ old) → IsUncut old new → EndsUpload result old new
 ends_unstopped result old new well asleep uncut = record {
@@ -81,18 +71,8 @@ decides answer fact old new same tells = record {
   same = same;
   ok = tells;
   erases = ap (λ (chip : Chip). chip.erases) same;
-  ends = ends_done answer old new (λ off. same) (record {
+  ends = ended answer old new (record {
     on = ap (λ (chip : Chip). chip.is_on) same;
     cuts = ap (λ (chip : Chip). chip.cuts) same;
-  });
+  }) (λ off. same);
 }
-
--- a flash that is off stays as it is in two calls in turn
-pub asleep_trans : (old mid new : Chip) → IsUncut old mid → (old.is_on ≡ false → mid ≡ old)
-    → (mid.is_on ≡ false → new ≡ mid) → old.is_on ≡ false → new ≡ old
-asleep_trans old mid new uncut first second off = second (uncut.on ∙ off) ∙ first off
-
--- what a call promises where it ends, at an error
-pub at_error : {T E : Type 0} (P : Type 0) (result : Result T E) → IsErr result → OnOk result P
-at_error P (Ok value) is = absurd (true_false (sym is))
-at_error P (Err error) is = tt

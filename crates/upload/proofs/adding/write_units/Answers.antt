@@ -9,8 +9,8 @@ use Rattle.upload.specs.Sessions.{IsWritten}
 use Rattle.upload.specs.declared.sessions.Upload.{Upload}
 use Rattle.upload.proofs.Views.{view_kept, long_kept}
 use Rattle.upload.proofs.Added.{IsHeld, added}
-use Rattle.flash_model.proofs.Ending.{ends_after, uncut_trans}
-use Rattle.upload.proofs.Ends.{asleep_trans, ends_done, err_passed}
+use Rattle.flash_model.proofs.Ending.{asleep_trans, ends_after, ends_well, uncut_trans}
+use Rattle.upload.proofs.Ends.{err_passed}
 use Rattle.upload.proofs.adding.write_units.Goals as goal
 
 whole : (l a b : List ℕ) (n : ℕ) → a ≡ take n l → b ≡ drop n l → l ≡ a ++ b
@@ -154,6 +154,6 @@ returns g c =
           (c.in_ok-write_slot.ensures.ok front long written))
           c.in_ok-write_slot-2.ensures.ok;
       erases = c.write_slot-2.ensures.erases ∙ c.write_slot.ensures.erases;
-      ends = ends_done _ _ _ (asleep_trans _ (g.F.Flash.chip c.write_slot.new.flash) _ one.uncut one.asleep two.asleep)
-          (uncut_trans _ (g.F.Flash.chip c.write_slot.new.flash) _ one.uncut two.uncut);
+      ends = ends_well _ _ _ (uncut_trans _ (g.F.Flash.chip c.write_slot.new.flash) _ one.uncut two.uncut)
+          (asleep_trans _ (g.F.Flash.chip c.write_slot.new.flash) _ one.uncut one.asleep two.asleep);
     }

@@ -1,13 +1,13 @@
 use Rattle.std.proofs.Common.{arith, ◌+◌, ◌≤◌, ◌∙◌, false, length, take, take_all, get_or, None, [], refl, subst, sym}
 use Rattle.sector_map.specs.Map.{Keeps}
 use Rattle.sector_map.proofs.Parts.{keeps_refl, keeps_wider, laid_out_kept}
-use Rattle.flash_model.proofs.Ending.{ends_after, uncut_refl, uncut_trans}
+use Rattle.flash_model.proofs.Ending.{asleep_trans, ends_after, ends_well, uncut_refl, uncut_trans}
 use Rattle.manifest.specs.declared.manifest.Component.{Component}
 use Rattle.upload.specs.View.{view}
 use Rattle.upload.specs.Accepted.{IsBlank, IsOpened, latest, named_parts}
 use Rattle.upload.proofs.Views.{view_kept, view_long}
 use Rattle.upload.proofs.Opened.{first_parts, keeps_more, latest_at, latest_less, opening_more, opening_wider, opened_more, opened_none}
-use Rattle.upload.proofs.Ends.{asleep_trans, ends_done, err_passed}
+use Rattle.upload.proofs.Ends.{err_passed}
 use Rattle.upload.proofs.Worn.{worn_last, worn_next}
 use Rattle.upload.proofs.opening.open_all.Goals as goal
 
@@ -100,5 +100,5 @@ returns g c =
       opened = opened;
       erases = omega (arith, worn_last map new cs c.loop-component.component-index past, all.erases);
       idle = all.idle;
-      ends = ends_done _ _ _ all.asleep all.uncut;
+      ends = ends_well _ _ _ all.uncut all.asleep;
     }

@@ -4,11 +4,11 @@ use Rattle.sector_map.specs.Part.{Slot, only}
 use Rattle.sector_map.specs.Map.{slot_sectors, start_of}
 use Rattle.sector_map.proofs.Parts.{keeps_trans, laid_out_kept}
 use Rattle.flash_model.specs.Chip.{IsErased}
-use Rattle.flash_model.proofs.Ending.{ends_after, uncut_trans}
+use Rattle.flash_model.proofs.Ending.{asleep_trans, ends_after, ends_well, uncut_trans}
 use Rattle.trailer.specs.Standing.{incoming_slot}
 use Rattle.upload.specs.Wear.{worn_in}
 use Rattle.upload.proofs.Writing.{erased_more, next_sector, sector_place, sectors_idle, slot_erased}
-use Rattle.upload.proofs.Ends.{asleep_trans, ends_done, err_passed}
+use Rattle.upload.proofs.Ends.{err_passed}
 use Rattle.upload.proofs.Worn.{worn_more}
 use Rattle.upload.proofs.slots.erase_slot.Goals as goal
 
@@ -29,7 +29,7 @@ returns g c =
       erases = omega (arith, c.loop-index-test.false, c.slot_sectors-index-end.ensures, all.erases);
       worn = subst (λ n. (g.F.Flash.chip c.loop-index.flash).erases ≡ (g.F.Flash.chip c.args.flash.now).erases
           + worn_in map.sector_size (incoming_slot map (g.F.Flash.chip c.args.flash.now) c.args.image) n) every all.worn;
-      ends = ends_done _ _ _ all.asleep all.uncut;
+      ends = ends_well _ _ _ all.uncut all.asleep;
     }
 
 pub returns-in_err-erase_sector : goal.returns-in_err-erase_sector
