@@ -1,6 +1,6 @@
 -- What is read of an input up to a limit.
-use Rattle.std.proofs.Common.{◌≡◌, ℕ, ◌<◌, ◌≤◌, List, [], ◌++◌, Option, None, Some, IfSome, arith, length, option_map, subst, take, ◌∙◌}
-use Rattle.std.proofs.lemmas.List.{length-take, take_all}
+use Rattle.std.proofs.Common.{◌≡◌, ℕ, ◌<◌, ◌≤◌, List, [], ◌++◌, Option, None, Some, IfSome, ap, arith, drop, length, option_map, subst, take, ◌∙◌}
+use Rattle.std.proofs.lemmas.List.{length-take, take_all, take_at}
 use Rattle.command_ends.specs.Input.{IsKnownAs}
 
 -- where fewer bytes came behind none than the limit, all came
@@ -13,3 +13,8 @@ IsKnownAs-below (Some xs) limit start bytes none read few =
     let short : length (take limit xs) < limit = subst (λ b. length b < limit) same few in
     let all : length xs ≤ limit = omega (arith, short, length-take limit xs) in
     same ∙ take_all limit xs all
+
+-- what is filled whole is as long as it was
+pub length-filled : (new old : List ℕ) (n : ℕ) → length new ≡ n
+    → length (take n (new ++ drop (length new) old)) ≡ n
+length-filled new old n same = ap length (take_at new (drop (length new) old) n same) ∙ same

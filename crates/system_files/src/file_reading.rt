@@ -60,16 +60,36 @@ pub fn read_part<R: Files<File = File>>(
         return Ok(None);
     };
     if !found.is_file() {
-        let mut bytes = Vec::new(alloc);
-        file.take(end as u64).read_to_end(&mut bytes)?;
-        return Ok(part_of(bytes, from, count));
+        return read_through(alloc, file, from, count, end);
     }
     if end as u64 > found.len() {
         return Ok(None);
     }
+    Ok(Some(read_at(alloc, &file, from, count)?))
+}
+
+/// So many bytes of a file that is read from its front, from its byte `from` up to `end`.
+fn read_through(
+    alloc: Global,
+    file: File,
+    from: usize,
+    count: usize,
+    end: usize,
+) -> io::Result<Option<Vec<u8>>>
+    ensures { IfOk result (λ read. IfSome read (λ part. length part.items ≡ count)) }
+{
+    let mut bytes = Vec::new(alloc);
+    file.take(end as u64).read_to_end(&mut bytes)?;
+    Ok(part_of(bytes, from, count))
+}
+
+/// So many bytes of a plain file, from its byte `from` on.
+fn read_at(alloc: Global, file: &File, from: usize, count: usize) -> io::Result<Vec<u8>>
+    ensures { IfOk result (λ part. length part.items ≡ count) }
+{
     let mut part = vec![in alloc; 0; count]?;
     file.read_exact_at(&mut part, from as u64)?;
-    Ok(Some(part))
+    Ok(part)
 }
 
 /// So many of these bytes, from that number on, where there are as many.

@@ -33,15 +33,14 @@ pub fn open<R: Files<File = File>>(
 ) -> Result<HeldFile, FlashFault> {
     let (file, is_device) = open_plain(runtime, name, access).map_err(FlashFault::Failed)?;
     hold(runtime, name, &file, access)?;
-    match length_of(&file) {
-        Ok(found) if found == length => Ok(HeldFile {
-            file,
-            is_device,
-            is_durable: is_device || access == Access::WriteDurably,
-        }),
-        Ok(_) => Err(FlashFault::WrongLength),
-        Err(error) => Err(FlashFault::Failed(error)),
+    if length_of(&file).map_err(FlashFault::Failed)? != length {
+        return Err(FlashFault::WrongLength);
     }
+    Ok(HeldFile {
+        file,
+        is_device,
+        is_durable: is_device || access == Access::WriteDurably,
+    })
 }
 
 /// Opens a file that can be held, and says whether it is a block device. What is no file of bytes,

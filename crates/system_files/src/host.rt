@@ -74,12 +74,7 @@ impl<R: Files<File = File> + Clock, I: Read> Host for SystemHost<'_, R, I> {
         access: Access,
     ) -> Result<Vec<u8>, FlashFault> {
         let held = holding::open(self.runtime, name, length, access)?;
-        let Ok(mut bytes) = vec![in alloc; 0; length as usize] else {
-            return Err(FlashFault::NoMemory);
-        };
-        if let Err(error) = held.file.read_exact_at(&mut bytes, 0) {
-            return Err(FlashFault::Failed(error));
-        }
+        let bytes = flash_bytes(alloc, &held.file, length)?;
         self.flash = Some(held);
         Ok(bytes)
     }
@@ -111,5 +106,16 @@ impl<R: Files<File = File> + Clock, I: Read> Host for SystemHost<'_, R, I> {
             return None;
         }
         Some(self.runtime.monotonic().ok()?.as_secs())
+    }
+}
+
+/// The bytes of a flash file that is so long.
+fn flash_bytes(alloc: Global, file: &File, length: u64) -> Result<Vec<u8>, FlashFault> {
+    let Ok(mut bytes) = vec![in alloc; 0; length as usize] else {
+        return Err(FlashFault::NoMemory);
+    };
+    match file.read_exact_at(&mut bytes, 0) {
+        Ok(()) => Ok(bytes),
+        Err(error) => Err(FlashFault::Failed(error)),
     }
 }
