@@ -127,6 +127,18 @@ area_has_no_fault bytes place magic expected fault area failed =
       | IsAreaFault.not_filled before not_filled is ↦ not_filled area.1
     ]
 
+-- What the head of an area says is read of its bytes: its magic number ..
+pub magic_read : (bytes area : List ℕ) (place magic : ℕ) → area ≡ drop place bytes → magic ≡ little_number 2 area
+    → magic_at bytes place ≡ magic
+magic_read bytes area place magic at is = ap (little_number 2) (sym at) ∙ sym is
+
+-- .. and its length.
+pub total_read : (bytes area : List ℕ) (place total : ℕ) → area ≡ drop place bytes
+    → total ≡ little_number 2 (drop 2 area) → total_at bytes place ≡ total
+total_read bytes area place total at is =
+    ap (little_number 2) (sym (drop-from 2 place (place + 2) bytes refl))
+    ∙ ap (λ (x : List ℕ). little_number 2 (drop 2 x)) (sym at) ∙ sym is
+
 -- What was read of an area: its magic number, its length and the bytes of its entries.
 pub record AreaRead (bytes : List ℕ) (place magic total : ℕ) (entries : List ℕ) : Type 0 where
   pub magic_is : magic_at bytes place ≡ magic
@@ -137,13 +149,11 @@ pub area_read : (bytes area behind entries : List ℕ) (place magic total size :
     → magic ≡ little_number 2 area → total ≡ little_number 2 (drop 2 area) → size ≡ total
     → behind ≡ drop 4 area → entries ≡ take (size - 4) behind → AreaRead bytes place magic size entries
 area_read bytes area behind entries place magic total size at magic_is total_is size_is behind_is entries_is =
-    let size_at : total_at bytes place ≡ size =
-    ap (little_number 2) (sym (drop-from 2 place (place + 2) bytes refl))
-    ∙ ap (λ (x : List ℕ). little_number 2 (drop 2 x)) (sym at) ∙ sym total_is ∙ sym size_is in
+    let size_at : total_at bytes place ≡ size = total_read bytes area place total at total_is ∙ sym size_is in
     let behind_at : behind ≡ drop (place + 4) bytes =
     behind_is ∙ ap (drop 4) at ∙ drop-from 4 place (place + 4) bytes refl in
     record {
-      magic_is = ap (little_number 2) (sym at) ∙ sym magic_is;
+      magic_is = magic_read bytes area place magic at magic_is;
       total_is = size_at;
       entries_are = entries_is ∙ ap (take (size - 4)) behind_at
           ∙ ap (λ (n : ℕ). take (n - 4) (drop (place + 4) bytes)) (sym size_at);

@@ -1,7 +1,7 @@
-use Rattle.std.proofs.Common.{ℕ, List, subst, rules}
-use Rattle.std.proofs.lemmas.Bool.{true≢false}
+use Rattle.std.proofs.Common.{ℕ, List, sym, subst, ◌∙◌, arith}
+use Rattle.std.proofs.lemmas.Bool.{eqb-true, eqb-false, true≢false}
 use Rattle.tlv.specs.Area.{values_of}
-use Rattle.tlv.specs.Gathered.{HasMet}
+use Rattle.tlv.specs.Gathered.{HasMet, Kept}
 use Rattle.tlv.specs.SlotTlvs.{slot_tlv_view}
 use Rattle.tlv.proofs.FieldLaws.{values_of-same}
 use Rattle.tlv.proofs.Kept.{Kept-bad, Kept-over, Kept-push}
@@ -19,7 +19,7 @@ returns-then-is_full-clause-met g c =
       bad = so_far.bad;
       kept = λ good. Kept-over spelling g.row.MOST values (values_of c.args.kind left) entry.value met.kept.items
           met.too_many c.in-Some.item (so_far.kept good) c.in-Some.ensures.fits c.in-Some.ensures.spelled
-          (search rules);
+          (omega (arith, eqb-true _ _ (sym c.is_full.ensures.value ∙ c.if-is_full.true)));
     }
 
 pub returns-else-is_full-clause-met : goal.returns-else-is_full-clause-met
@@ -34,7 +34,8 @@ returns-else-is_full-clause-met g c =
       bad = so_far.bad;
       kept = λ good. rw c.push.ensures.items (Kept-push spelling g.row.MOST values (values_of c.args.kind left)
           entry.value met.kept.items met.too_many c.in-Some.item (so_far.kept good) c.in-Some.ensures.fits
-          c.in-Some.ensures.spelled (search rules));
+          c.in-Some.ensures.spelled
+          (omega (arith, c.is_full.ensures.fits, eqb-false _ _ (sym c.is_full.ensures.value ∙ c.if-is_full.false))));
     }
 
 pub returns-in_default-clause-met : goal.returns-in_default-clause-met
@@ -48,5 +49,7 @@ returns-in_default-clause-met g c =
     record {
       bad = λ _. Kept-bad spelling g.row.MOST values (values_of c.args.kind left) entry.value met.kept.items
           met.too_many (so_far.kept c.if-self.false) c.in_default.ensures.none;
-      kept = λ good. absurd (true≢false good);
+      kept = λ good.
+          absurd {A = Kept spelling g.row.MOST values (values_of c.args.kind left) met.kept.items met.too_many}
+          (true≢false good);
     }
