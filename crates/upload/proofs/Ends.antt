@@ -1,5 +1,5 @@
 -- How a call ends that makes others.
-use Rattle.std.proofs.Common.{◌≡◌, ◌+◌, ◌↔◌, Bool, IsTrue, true, false, refl, Result, Ok, Err, sym, ◌∙◌, ap}
+use Rattle.std.proofs.Common.{◌≡◌, ◌+◌, ◌↔◌, ℕ, arith, Bool, IsTrue, true, false, refl, Result, Ok, Err, sym, ◌∙◌, ap}
 use Rattle.std.specs.Prelude.{IsErrAnd, IsErrOf}
 use Rattle.flash_model.specs.Chip.{Chip, Ends, IsUncut}
 use Rattle.flash_model.proofs.Ending.{ends_well as ended, uncut_trans}
@@ -60,6 +60,31 @@ ends_unstopped result old new well asleep uncut = record {
   off = λ is. absurd (true_false (sym (ap is_flash is) ∙ well));
 }
 
+-- a call that only read
+uncut_same : (old new : Chip) → new ≡ old → IsUncut old new
+uncut_same old new same = record {
+  on = ap (λ (chip : Chip). chip.is_on) same;
+  cuts = ap (λ (chip : Chip). chip.cuts) same;
+}
+
+pub reads_well : {T : Type 0} (value : T) (old new : Chip) → new ≡ old → Ends (Ok value) old new
+reads_well value old new same = ended value old new (uncut_same old new same) (λ off. same)
+
+-- the same of one of uploads that didn't stop at the flash
+pub ends_read : {T : Type 0} (result : Result T UploadError) (old new : Chip) → is_flash result ≡ false → new ≡ old
+    → EndsUpload result old new
+ends_read result old new well same = ends_unstopped result old new well (λ off. same) (uncut_same old new same)
+
+no_more : (n m : ℕ) → n ≡ m → n ≡ m + 1 → ⊥
+no_more n m same more = omega (arith, same, more)
+
+-- a call that only read wasn't cut
+pub only_off : {T : Type 0} (error : FlashError) (old new : Chip) → new ≡ old → Ends {T = T} (Err error) old new
+    → error ≡ Off
+only_off Cut old new same ends = absurd (no_more new.cuts old.cuts (ap (λ (chip : Chip). chip.cuts) same)
+    (ends.cut refl).cuts)
+only_off Off old new same ends = refl
+
 pub ends_well : {T U : Type 0} (value : T) (other : U) (old new : Chip) → Ends (Ok value) old new
     → EndsUpload (Ok other) old new
 ends_well value other old new ends = ends_unstopped (Ok other) old new refl ends.asleep ends.uncut
@@ -71,8 +96,5 @@ decides answer fact old new same tells = record {
   same = same;
   ok = tells;
   erases = ap (λ (chip : Chip). chip.erases) same;
-  ends = ended answer old new (record {
-    on = ap (λ (chip : Chip). chip.is_on) same;
-    cuts = ap (λ (chip : Chip). chip.cuts) same;
-  }) (λ off. same);
+  ends = reads_well answer old new same;
 }

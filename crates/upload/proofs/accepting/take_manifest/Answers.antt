@@ -1,8 +1,11 @@
-use Rattle.std.proofs.Common.{rules, ◌∙◌, ap, subst}
+use Rattle.std.proofs.Common.{◌∙◌, ap, subst, Err, Ok}
+use Rattle.sector_map.specs.Map.{Keeps}
+use Rattle.upload.specs.Accepted.{accepted_parts}
+use Rattle.upload.specs.Ending.{EndsUpload}
 use Rattle.upload.specs.View.{view}
 use Rattle.upload.specs.declared.error.UploadError.TheVariants as no
 use Rattle.upload.specs.Taking.{CutsAccept, IsTaken, LeavesAccept}
-use Rattle.upload.proofs.Ends.{err_passed, same_off, true_false}
+use Rattle.upload.proofs.Ends.{ends_flash, ends_well, err_passed, same_off, true_false}
 use Rattle.upload.proofs.TakenRow.{equal_blank, equal_log, stopped}
 use Rattle.upload.proofs.Worn.{worn_of_state}
 use Rattle.upload.proofs.accepting.take_manifest.Goals as goal
@@ -13,13 +16,16 @@ returns g c =
     let old = g.F.Flash.chip c.args.flash.now in
     let judged = g.F.Flash.chip c.judge_manifest.new.flash in
     let same = ap (λ chip. view map chip) c.judge_manifest.ensures.same in
-    let new = view map (g.F.Flash.chip c.write_manifest.new.flash) in
+    let after = g.F.Flash.chip c.write_manifest.new.flash in
+    let new = view map after in
     let told = c.args.uploads.now.sessions in
     let tnew = c.write_manifest.new.uploads.sessions in
     let sequence = c.args.manifest.now.sequence in
     let cs = c.args.manifest.now.components.items in
     record {
-      outside = search rules;
+      outside = subst (λ cs. Keeps map (accepted_parts cs) old after) c.as_slice-components.ensures.value
+          (subst (λ chip. Keeps map (accepted_parts c.as_slice-components.result.now) chip after)
+          c.judge_manifest.ensures.same c.write_manifest.ensures.outside);
       accepts = (
         (c.in_ok-state.state, c.in_ok-state.ensures.ok),
         subst (λ cs. IsTaken (view map old) new told tnew sequence cs) c.as_slice-components.ensures.value
@@ -38,7 +44,8 @@ returns g c =
           equal_blank map old judged _ state c.in_ok-state.state sequence c.as_slice-components.result.now cs
           c.judge_manifest.ensures.same c.as_slice-components.ensures.value read c.in_ok-state.ensures.ok.newer.read equal
           blank c.write_manifest.ensures.idle;
-      ends = search rules;
+      ends = subst (λ chip. EndsUpload (Ok tt) chip after) c.judge_manifest.ensures.same
+          (ends_well _ _ _ _ c.in_ok-write_manifest.ensures.ends);
     }
 
 pub returns-in_err-write_manifest : goal.returns-in_err-write_manifest
@@ -47,12 +54,15 @@ returns-in_err-write_manifest g c =
     let old = g.F.Flash.chip c.args.flash.now in
     let judged = g.F.Flash.chip c.judge_manifest.new.flash in
     let same = ap (λ chip. view map chip) c.judge_manifest.ensures.same in
-    let new = view map (g.F.Flash.chip c.write_manifest.new.flash) in
+    let after = g.F.Flash.chip c.write_manifest.new.flash in
+    let new = view map after in
     let sequence = c.args.manifest.now.sequence in
     let cs = c.args.manifest.now.components.items in
     rw (err_passed _ (no.Flash c.in_err-write_manifest.field-0.0) c.from_residual-in_err-write_manifest.ensures.1)
     (record {
-      outside = search rules;
+      outside = subst (λ cs. Keeps map (accepted_parts cs) old after) c.as_slice-components.ensures.value
+          (subst (λ chip. Keeps map (accepted_parts c.as_slice-components.result.now) chip after)
+          c.judge_manifest.ensures.same c.write_manifest.ensures.outside);
       accepts = stopped map (view map old) new c.args.uploads.now.sessions
           c.write_manifest.new.uploads.sessions sequence cs c.in_err-write_manifest.field-0.0
           c.in_ok-state.state c.in_ok-state.ensures.ok
@@ -70,5 +80,7 @@ returns-in_err-write_manifest g c =
           equal_blank map old judged _ state c.in_ok-state.state sequence c.as_slice-components.result.now cs
           c.judge_manifest.ensures.same c.as_slice-components.ensures.value read c.in_ok-state.ensures.ok.newer.read equal
           blank c.write_manifest.ensures.idle;
-      ends = search rules;
+      ends = subst (λ chip. EndsUpload {T = Unit} (Err (no.Flash c.in_err-write_manifest.field-0.0)) chip after)
+          c.judge_manifest.ensures.same
+          (ends_flash c.in_err-write_manifest.field-0.0 _ _ c.in_err-write_manifest.ensures.ends);
     })

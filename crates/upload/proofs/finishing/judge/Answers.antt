@@ -1,19 +1,44 @@
-use Rattle.std.proofs.Common.{rules, take, subst}
+use Rattle.std.proofs.Common.{rules, ◌∙◌, refl, take, subst}
 use Rattle.sector_map.specs.Map.{part_of}
 use Rattle.sector_map.specs.Part.{Slot}
 use Rattle.sector_map.specs.declared.layout.Side.TheVariants.{Secondary}
 use Rattle.tlv.specs.Fault.{IsFirstFault}
+use Rattle.tlv.specs.Image.{IsIntact}
+use Rattle.upload.specs.declared.error.UploadError.TheVariants as no
+use Rattle.upload.proofs.Ends.{ends_flash, ends_read, err_passed}
 use Rattle.upload.proofs.finishing.judge.Goals as goal
+
+pub returns-in_err-found : goal.returns-in_err-found
+returns-in_err-found g c =
+    rw (err_passed _ (no.Flash c.in_err-found.field-0.0) c.from_residual.ensures.1) (record {
+      same = c.digest_file.ensures.same;
+      judges = tt;
+      ends = ends_flash c.in_err-found.field-0.0 _ _ c.in_err-found.ensures.ends;
+    })
+
+pub returns-in-Ok : goal.returns-in-Ok
+returns-in-Ok g c = record {
+  same = c.describe_file.ensures.same ∙ c.digest_file.ensures.same;
+  judges = (
+    search rules,
+    (
+      c.in-Ok.field-0,
+      subst (λ chip. IsIntact (take c.args.size (part_of c.args.map.now chip (Slot c.args.image Secondary)))
+          c.in-Ok.field-0) c.digest_file.ensures.same c.in-Ok.ensures.described,
+    ),
+  );
+  ends = ends_read _ _ _ refl (c.describe_file.ensures.same ∙ c.digest_file.ensures.same);
+}
 
 pub returns-in-Err-Image : goal.returns-in-Err-Image
 returns-in-Err-Image g c =
     let fault = rw c.in-Err-Image.field-0-is at c.in-Err-Image.ensures.fault in
     record {
-      same = search rules;
+      same = c.describe_file.ensures.same ∙ c.digest_file.ensures.same;
       judges = (
         search rules,
         subst (λ chip. IsFirstFault (take c.args.size (part_of c.args.map.now chip (Slot c.args.image Secondary)))
             c.in-Err-Image.fault) c.digest_file.ensures.same fault.1,
       );
-      ends = search rules;
+      ends = ends_read _ _ _ refl (c.describe_file.ensures.same ∙ c.digest_file.ensures.same);
     }

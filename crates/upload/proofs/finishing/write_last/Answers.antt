@@ -26,11 +26,11 @@ write_slot-requires-clause-behind g c =
 
 pub returns : goal.returns
 returns g c = record {
-  outside = search rules;
+  outside = c.write_slot.ensures.outside;
   ok = on_ok_weaker c.write_slot.result (λ ok. λ front long written.
       written_less _ front c.args.unit.items _ (8 - length c.args.unit.items)
       (c.as_slice.ensures.value ∙ c.fill.ensures)
       (ok front long written)) c.write_slot.ensures.ok;
-  erases = search rules;
-  ends = search rules;
+  erases = c.write_slot.ensures.erases;
+  ends = c.write_slot.ensures.ends;
 }

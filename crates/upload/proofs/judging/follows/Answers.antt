@@ -1,9 +1,10 @@
-use Rattle.std.proofs.Common.{rules, ◌≡◌, true, Ok, Err, Result, ◌∙◌, ap}
+use Rattle.std.proofs.Common.{◌≡◌, true, Ok, Err, Result, ◌∙◌, ap, sym}
 use Rattle.sector_map.specs.Map.{part_of}
 use Rattle.sector_map.specs.Part.{Slot}
 use Rattle.sector_map.specs.declared.layout.Side.TheVariants.{Primary}
 use Rattle.tlv.specs.declared.desc.Desc.{Desc}
 use Rattle.tlv.specs.declared.error.SlotError.{SlotError}
+use Rattle.upload.proofs.Ends.{reads_well, true_false}
 use Rattle.upload.proofs.Precursors.{has_front, front_has}
 use Rattle.upload.proofs.judging.follows.Goals as goal
 
@@ -17,7 +18,7 @@ pub returns-in-Ok : goal.returns-in-Ok
 returns-in-Ok g c =
     let slot = part_of c.args.map.now (g.F.Flash.chip c.args.flash.now) (Slot c.args.component.now.image Primary) in
     record {
-      same = search rules;
+      same = c.describe_slot.ensures.same;
       ok = (
         λ yes. has_front slot c.args.component.now.precursor c.in-Some.digest c.in-Some.is c.in-Ok.description
             c.in-Ok.ensures.described (c.is_same_digest.ensures.0 yes),
@@ -28,7 +29,7 @@ returns-in-Ok g c =
             (c.describe_slot.ensures.only on at.0 at.1) in
             c.is_same_digest.ensures.1 (ap (λ (d : Desc). d.digest) same ∙ at.2),
       );
-      ends = search rules;
+      ends = reads_well _ _ _ c.describe_slot.ensures.same;
     }
 
 pub returns-in-Err-Image : goal.returns-in-Err-Image
@@ -36,13 +37,13 @@ returns-in-Err-Image g c =
     let slot = part_of c.args.map.now (g.F.Flash.chip c.args.flash.now) (Slot c.args.component.now.image Primary) in
     let fault = rw c.in-Err-Image.field-0-is at c.in-Err-Image.ensures.fault in
     record {
-      same = search rules;
+      same = c.describe_slot.ensures.same;
       ok = (
-        λ e. absurd (search (rules, e)),
+        λ e. absurd (true_false (sym e)),
         λ has. absurd (
             let at = front_has slot c.args.component.now.precursor c.in-Some.digest c.in-Some.is has in
             not_both at.0 c.in-Err-Image.field-0 c.describe_slot.result
             (c.describe_slot.ensures.only fault.0 at.0 at.1) c.in-Err-Image.is),
       );
-      ends = search rules;
+      ends = reads_well _ _ _ c.describe_slot.ensures.same;
     }

@@ -1,12 +1,15 @@
 use Rattle.std.proofs.Common.{rules, ℕ, ◌+◌, ◌*◌, ◌∙◌, arith, ap, subst, sym, if◌then◌else◌}
 use Rattle.std.proofs.lemmas.Result.{on_ok_weaker}
-use Rattle.flash_model.proofs.Frame.{product_le}
+use Rattle.flash_model.proofs.Frame.{product_le, same_outside_refl}
 use Rattle.sector_map.specs.declared.layout.Side.TheVariants.{Secondary}
 use Rattle.sector_map.specs.Part.{Slot, only}
-use Rattle.sector_map.specs.Map.{IsIn, IsLaidOut, Keeps, sectors_of}
+use Rattle.sector_map.specs.Map.{first_of, IsIn, IsLaidOut, Keeps, sectors_of}
+use Rattle.flash_model.specs.Chip.{Ends, SameOutside}
+use Rattle.sector_map.proofs.Parts.{keeps_refl}
 use Rattle.sector_map.proofs.Places.{addressed}
 use Rattle.sector_map.proofs.Products.{mul_le}
 use Rattle.sector_map.proofs.PartBytes.{keeps_erase}
+use Rattle.upload.proofs.Ends.{reads_well}
 use Rattle.upload.proofs.Writing.{in_slot, slot_sector}
 use Rattle.upload.proofs.Worn.{sector_told}
 use Rattle.upload.proofs.slots.erase_sector.Goals as goal
@@ -50,18 +53,21 @@ returns-then-branch g c =
     c.in_ok-is_erased.ensures.ok c.requires.image.laid_out c.requires.within
     (c.sector_start.ensures ∙ ap (λ first. (first + c.args.index) * c.args.map.now.sector_size) c.slot.ensures) in
     record {
-      outside = search rules;
-      sector = search rules;
+      outside = subst (λ chip. Keeps c.args.map.now (only (Slot c.args.image Secondary))
+          (g.F.Flash.chip c.args.flash.now) chip) (sym c.is_erased.ensures.same) (keeps_refl c.args.map.now _ _);
+      sector = subst (λ chip. SameOutside ((first_of c.args.map.now (Slot c.args.image Secondary)
+          + c.args.index) * c.args.map.now.sector_size) c.args.map.now.sector_size (g.F.Flash.chip c.args.flash.now) chip)
+          (sym c.is_erased.ensures.same) (same_outside_refl _ _ _);
       ok = search rules;
-      idle = search rules;
-      erases = search rules;
+      idle = λ erased. c.is_erased.ensures.same;
+      erases = omega (arith, c.is_erased.ensures.erases);
       worn = omega (
         arith,
         c.is_erased.ensures.erases,
         ap {B = ℕ} (λ t. if t then 0 else 1)
             (sym told ∙ c.if-branch.true),
       );
-      ends = search rules;
+      ends = reads_well _ _ _ c.is_erased.ensures.same;
     }
 
 pub returns : goal.returns
@@ -87,5 +93,5 @@ returns g c =
           c.erase.ensures.erases;
       worn = on_ok_weaker c.erase.result (λ more. omega (arith, more, c.is_erased.ensures.erases, one))
           c.erase.ensures.erases;
-      ends = search rules;
+      ends = subst (λ chip. Ends c.erase.result chip (g.F.Flash.chip c.erase.new.self)) same c.erase.ensures.ends;
     }

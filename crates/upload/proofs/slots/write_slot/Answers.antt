@@ -45,6 +45,6 @@ returns g c = record {
       c.args.at (c.slot_start.result + c.args.at) front c.args.bytes.now c.requires.behind.laid_out
       c.program.ensures.outside reads (ap (λ k. k + c.args.at) c.slot_start.ensures) c.requires.behind.room long was)
       c.program.ensures.ok;
-  erases = search rules;
-  ends = search rules;
+  erases = c.program.ensures.erases;
+  ends = c.program.ensures.ends;
 }
