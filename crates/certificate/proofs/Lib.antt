@@ -21,3 +21,4 @@ pub mod TableLaws
 pub mod TableLimits
 pub mod TableRuns
 pub mod TableTextLaws
+pub mod Unmet

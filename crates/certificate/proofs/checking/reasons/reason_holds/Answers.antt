@@ -1,7 +1,9 @@
-use Rattle.std.proofs.Common.{rules, ◌≡◌, ◌∙◌, Bool, true, false, IsTrue, sym}
+use Rattle.std.proofs.Common.{rules, ◌≡◌, ◌∙◌, Bool, true, false, IsTrue, ap, refl, sym}
 use Rattle.std.specs.Prelude.{◌↔◌}
 use Rattle.std.proofs.lemmas.Bool.{false≢true}
-use Rattle.certificate.proofs.ImageLookups.{image_at-found}
+use Rattle.certificate.specs.Combination.{intact_entry}
+use Rattle.certificate.proofs.ImageLookups.{image_at-found, image_at-missing}
+use Rattle.certificate.proofs.Unmet.{damaged-intact, no_reason-missing, no_reason-other, no_where, none-damaged}
 use Rattle.certificate.proofs.checking.reasons.reason_holds.Goals as goal
 
 -- a test that computes another one
@@ -16,6 +18,39 @@ then_both first second passed a b = (λ yes. (a.0 passed, b.0 yes), λ both. b.1
 
 else_both : {A B : Type 0} (first : Bool) → first ≡ false → (IsTrue first ↔ A) → IsTrue first ↔ (A × B)
 else_both first failed a = (λ yes. absurd (false≢true (sym failed ∙ yes)), λ both. a.1 both.0)
+
+-- The table has no such image, or nothing is requested of it.
+pub returns-in_default : goal.returns-in_default
+returns-in_default c =
+    let none = image_at-missing _ _ _ _ c.deref.ensures.0 c.from.ensures c.in_default.ensures.lookup.0 in
+    no_where (no_reason-missing c.args.table.now c.args.before.now c.args.own c.args.reason.now none)
+
+pub returns-in-None : goal.returns-in-None
+returns-in-None c =
+    let at = image_at-found _ _ _ _ _ c.deref.ensures.0 c.from.ensures c.in-Some.ensures.lookup.0
+    c.in-Some.ensures.lookup.1 in
+    no_where (no_reason-other c.args.table.now c.args.before.now c.args.own c.in-Some.image.now c.args.reason.now at
+    (ap intact_entry c.in-None.is) (λ reason. none-damaged _ c.in-None.is))
+
+-- A damaged request is refused for being damaged alone, and an intact one for another reason.
+pub returns-in-Damaged-matches : goal.returns-in-Damaged-matches
+returns-in-Damaged-matches c =
+    let at = image_at-found _ _ _ _ _ c.deref.ensures.0 c.from.ensures c.in-Some.ensures.lookup.0
+    c.in-Some.ensures.lookup.1 in
+    rw (c.in-Damaged-matches.is, at) (λ yes. c.in-Damaged.is, λ holds. refl)
+
+pub returns-in_default-matches : goal.returns-in_default-matches
+returns-in_default-matches c =
+    let at = image_at-found _ _ _ _ _ c.deref.ensures.0 c.from.ensures c.in-Some.ensures.lookup.0
+    c.in-Some.ensures.lookup.1 in
+    no_where (no_reason-other c.args.table.now c.args.before.now c.args.own c.in-Some.image.now c.args.reason.now at
+    (ap intact_entry c.in-Damaged.is) (λ reason. absurd (c.in_default-matches.not-Damaged reason)))
+
+pub returns-in-Damaged-reason : goal.returns-in-Damaged-reason
+returns-in-Damaged-reason c =
+    let at = image_at-found _ _ _ _ _ c.deref.ensures.0 c.from.ensures c.in-Some.ensures.lookup.0
+    c.in-Some.ensures.lookup.1 in
+    rw (c.in-Damaged-reason.is, at) (no_where (λ damaged. damaged-intact _ _ damaged c.in-Entry.is))
 
 pub returns-in-Older : goal.returns-in-Older
 returns-in-Older c =
