@@ -115,7 +115,7 @@ TellsSome-more refusal setup here old mid new came one number answer before betw
     }
 
 -- a refusal with another status isn't that of the flash file
-not_of_file : (refusal : Refusal) → status_of_refusal refusal ≡ 1 → refusal ≡ FlashFile → ⊥
+pub not_of_file : (refusal : Refusal) → status_of_refusal refusal ≡ 1 → refusal ≡ FlashFile → ⊥
 not_of_file refusal one file =
     let same : 1 ≡ 4 = sym one ∙ ap status_of_refusal file in omega (arith, same)
 
