@@ -5,7 +5,7 @@ for more.
 import os
 import subprocess
 
-from checking import EXAMPLES, LIMIT, ONE, PAIR
+from checking import EXAMPLES, LIMIT, ONE, PAIR, shown
 
 SCRIPT = f"{EXAMPLES}/scripts/interrupted.txt"
 THREE = f"{EXAMPLES}/tables/three.txt"
@@ -75,7 +75,7 @@ def check_core(checks, core):
     for words, given in ALIKE:
         whole, other = (end_of(it, words, given, at) for it, at in zip((checks.program, core), folders))
         faults = [] if whole == other else [f"{other[:3]}, and the whole program {whole[:3]}"]
-        checks.tell(f"the core as the whole: {' '.join(words)}", faults)
+        checks.tell(f"the core as the whole: {shown(words)}{f', given {given!r}' if given else ''}", faults)
     for words in MORE:
         *got, _ = end_of(core, words, b"", folders[1])
-        checks.tell(f"not of the core: {' '.join(words)}", [] if tuple(got) == NOT_OF_CORE else [f"{got}"])
+        checks.tell(f"not of the core: {shown(words)}", [] if tuple(got) == NOT_OF_CORE else [f"{got}"])
