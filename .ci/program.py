@@ -53,8 +53,7 @@ URGENT, MORE = 0.75, 2
 
 # What the proof of a crate took, in seconds of a processor, in a first build on 4 of them. It says
 # which crates others wait for longest, and nothing else. Lines are a poor guess of it: much of
-# `command_line` and `manifest` is what `clap` and JSON bring. With 275 for `command_line`, and less
-# for others too, it began later, and the first build took a minute more.
+# `command_line` and `manifest` is what `clap` and JSON bring.
 SECONDS = {
     "answers": 175,
     "boot_cli": 115,
