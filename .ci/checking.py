@@ -1,11 +1,15 @@
 """Runs the built program for the checks of `./gate`, and counts those that it passes."""
 
+import contextlib
+import io
 import json
+import multiprocessing
 import os
 import resource
 import subprocess
 import threading
 import time
+from concurrent.futures import ProcessPoolExecutor
 
 ROOT = os.path.dirname(os.path.dirname(os.path.realpath(__file__)))
 EXAMPLES = f"{ROOT}/examples"
@@ -68,6 +72,37 @@ class Checks:
         got = self.run(words, **how)
         told = zip(("status", "standard output", "standard error"), got, (status, out, err))
         self.tell(name, [f"{what}: {short(one)}, and not {short(other)}" for what, one, other in told if one != other])
+
+
+def side_by_side(tasks):
+    """Makes checks, as many tasks at once as there are processors, and returns how many passed and failed.
+
+    A task is a call without arguments that prints its checks' lines and returns how many passed and failed. What each
+    prints comes in one piece, in the order of the tasks.
+    """
+    passed = failed = 0
+    # The processes have the tasks from their start: a call without a name can't be sent to them.
+    fork = multiprocessing.get_context("fork")
+    with ProcessPoolExecutor(len(os.sched_getaffinity(0)), fork, take, (tasks,)) as pool:
+        for said, (more_passed, more_failed) in pool.map(make, range(len(tasks))):
+            print(said, end="", flush=True)
+            passed, failed = passed + more_passed, failed + more_failed
+    return passed, failed
+
+
+TAKEN = []
+
+
+def take(tasks):
+    TAKEN[:] = tasks
+
+
+def make(number):
+    """Makes the task of a number, and returns what it said, and what it returned."""
+    said = io.StringIO()
+    with contextlib.redirect_stdout(said):
+        counts = TAKEN[number]()
+    return said.getvalue(), counts
 
 
 def short(value):

@@ -24,7 +24,8 @@ def build_over_rt(archive, target):
     for crate in crates[:-1]:
         crate.made = f"{crate.folder}/out/rlib/{crate.name}.rlib"
     crates[-1].target, crates[-1].made = target, archive
-    words = crates[-1].words(os.path.dirname(asked_of_rt("doc")), len(os.sched_getaffinity(0)))
+    # Other checks go on beside it, and one process takes the least of the processors in all.
+    words = crates[-1].words(os.path.dirname(asked_of_rt("doc")), 1)
     return ran(words, cwd=crates[-1].folder)[0]
 
 
