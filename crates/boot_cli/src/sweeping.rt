@@ -6,7 +6,7 @@ ghost use Rattle.command_ends.specs.Status.{status_of_answer};
 ghost use Rattle.boot_cli.specs.SweepEnd.{AnswersSweep, IsWhole};
 
 use answers::{DeviceFile, flash_of, write_all};
-use command_ends::{Answer, FlashFault, Host, Refusal, Source};
+use command_ends::{Answer, FlashFault, Host, Refusal, Source, SourceFault};
 use command_line::SweepChoices;
 use core_cli::provision::{Made, read_images, tell_made};
 use events::Event;
@@ -131,7 +131,7 @@ fn refuse_input<'a, H: Host>(
     match host.is_same_file(name, picture) {
         Ok(false) => Ok(()),
         Ok(true) => Err(Refusal::PictureIsInput),
-        Err(_) => Err(Refusal::CannotReplace(Source::File(picture))),
+        Err(_) => Err(Source::File(picture).refused(SourceFault::CannotReplace)),
     }
 }
 
@@ -251,7 +251,7 @@ fn replace<'a, H: Host>(
         Ok(()) => Ok(()),
         Err(FlashFault::NoMemory) => Err(Refusal::NoMemory),
         Err(FlashFault::InUse | FlashFault::WrongLength | FlashFault::Failed(_)) => {
-            Err(Refusal::CannotReplace(Source::File(name)))
+            Err(Source::File(name).refused(SourceFault::CannotReplace))
         }
     }
 }

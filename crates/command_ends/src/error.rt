@@ -1,6 +1,7 @@
 //! Why a command doesn't do what was asked.
 
 use crate::source::Source;
+use std::fmt;
 use thiserror::Error;
 
 /// Why a command refuses. What is printed follows `error: ` on standard error.
@@ -52,15 +53,9 @@ pub enum Refusal<'a> {
     /// The line of a script, counted from 1, says nothing that can be done.
     #[error("script line {0}")]
     ScriptLine(usize),
-    /// A file or standard input could not be read to its end.
-    #[error("cannot read {0}")]
-    CannotRead(Source<'a>),
-    /// A file or standard input has more than so many bytes.
-    #[error("{0} is longer than {1} bytes")]
-    TooLong(Source<'a>, u32),
-    /// A file that is no flash could not be made, or not be replaced.
-    #[error("cannot write {0}")]
-    CannotReplace(Source<'a>),
+    /// What is wrong with a file or standard input.
+    #[error("{0}")]
+    OfSource(SourceRefusal<'a>),
     /// The program is the core of `bootswap`, and the words ask for more than it has.
     #[error("not in the core of bootswap")]
     NotOfCore,
@@ -74,4 +69,35 @@ pub enum Refusal<'a> {
     /// nothing is.
     #[error("cannot write")]
     CannotWrite,
+}
+
+/// What is wrong with a file or standard input, and which it is.
+#[derive(Clone, Copy, Debug)]
+pub struct SourceRefusal<'a> {
+    /// The file, or standard input.
+    pub source: Source<'a>,
+    /// What is wrong with it.
+    pub fault: SourceFault,
+}
+
+/// What may be wrong with a file or standard input.
+#[derive(Clone, Copy, Debug)]
+pub enum SourceFault {
+    /// It could not be read to its end.
+    CannotRead,
+    /// It has more than so many bytes.
+    TooLong(u32),
+    /// It is no flash, and could not be made, or not be replaced.
+    CannotReplace,
+}
+
+impl fmt::Display for SourceRefusal<'_> {
+    fn fmt<W: fmt::Write>(&self, f: &mut fmt::Formatter<W>) -> fmt::Result {
+        let source = self.source;
+        match self.fault {
+            SourceFault::CannotRead => write!(f, "cannot read {source}"),
+            SourceFault::TooLong(most) => write!(f, "{source} is longer than {most} bytes"),
+            SourceFault::CannotReplace => write!(f, "cannot write {source}"),
+        }
+    }
 }

@@ -13,7 +13,7 @@ mod limits;
 mod source;
 
 pub use answer::{Answer, finish, refuse, status_after};
-pub use error::Refusal;
+pub use error::{Refusal, SourceFault, SourceRefusal};
 pub use escaped::Escaped;
 pub use host::{Access, FlashFault, Host};
 pub use limits::{MOST_FILE, MOST_JSON, MOST_SCRIPT, MOST_TABLE};

@@ -3,7 +3,7 @@ ghost use Rattle.std.specs.Prelude.{◌≡◌, ◌≤◌, IfOk, length};
 ghost use Rattle.command_ends.specs.Input.{Gives, IsNamed, KeepsFiles, KeepsOthers};
 ghost use Rattle.command_ends.specs.Status.{status_of_refusal};
 
-use crate::error::Refusal;
+use crate::error::{Refusal, SourceFault, SourceRefusal};
 use crate::escaped::Escaped;
 use crate::host::Host;
 use std::alloc::Global;
@@ -54,7 +54,7 @@ impl<'a> Source<'a> {
     {
         let bytes = self.read_start(alloc, host, most)?;
         if bytes.len() > most as usize {
-            return Err(Refusal::TooLong(self, most));
+            return Err(self.refused(SourceFault::TooLong(most)));
         }
         Ok(bytes)
     }
@@ -83,13 +83,23 @@ impl<'a> Source<'a> {
         }
     }
 
+    /// That this is wrong with it, as why a command refuses.
+    pub fn refused(self, fault: SourceFault) -> Refusal<'a>
+        ensures { status_of_refusal result ≡ 1 }
+    {
+        Refusal::OfSource(SourceRefusal {
+            source: self,
+            fault,
+        })
+    }
+
     /// Why a command refuses where this could not be read, for this reason.
     pub fn refusal(self, error: io::Error) -> Refusal<'a>
         ensures { status_of_refusal result ≡ 1 }
     {
         match error.kind() {
             ErrorKind::OutOfMemory => Refusal::NoMemory,
-            _ => Refusal::CannotRead(self),
+            _ => self.refused(SourceFault::CannotRead),
         }
     }
 }

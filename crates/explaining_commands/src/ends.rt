@@ -5,7 +5,7 @@ use crate::refused::{explain_answer, explain_choice};
 use crate::remembering::Remembering;
 use answers::DeviceFile;
 use certificate::Table;
-use command_ends::{Answer, Host, Refusal, Source};
+use command_ends::{Answer, Host, Refusal, Source, SourceFault, SourceRefusal};
 use command_line::Order;
 use common::lines::first_line;
 use explanations::{
@@ -66,11 +66,21 @@ fn explain_refusal<H: Host>(
             let may_cut = !matches!(order, Order::Sweep { .. });
             explain_script_line(notes, read(host, inputs.script), number, may_cut)
         }
-        Refusal::CannotRead(source) => {
+        Refusal::OfSource(
+            SourceRefusal {
+                source,
+                fault: SourceFault::CannotRead,
+            },
+        ) => {
             explain_error(notes, source, host)?;
             explain_place(notes, source, read(host, inputs.script))
         }
-        Refusal::CannotReplace(source) => explain_error(notes, source, host),
+        Refusal::OfSource(
+            SourceRefusal {
+                source,
+                fault: SourceFault::CannotReplace,
+            },
+        ) => explain_error(notes, source, host),
         Refusal::FlashFile => explain_flash(notes, order, host),
         Refusal::FlashSize | Refusal::ImageCount | Refusal::NoImage(_) | Refusal::ImageTooBig(_) =>
             explain_size(alloc, notes, inputs, refusal, host),

@@ -3,7 +3,7 @@
 ghost use Rattle.std.specs.Prelude.{IfErr, OnOk};
 ghost use Rattle.command_ends.specs.Input.{IsKnownAs, KeepsFiles};
 
-use command_ends::{FlashFault, Host, Refusal, Source};
+use command_ends::{FlashFault, Host, Refusal, Source, SourceFault};
 use std::alloc::Global;
 
 /// Refuses an image whose file is what is read here, by whatever name.
@@ -21,7 +21,7 @@ pub fn refuse_input<'a, H: Host>(
     match host.is_same_file(name, image) {
         Ok(false) => Ok(()),
         Ok(true) => Err(Refusal::ImageIsInput),
-        Err(_) => Err(Refusal::CannotReplace(Source::File(image))),
+        Err(_) => Err(Source::File(image).refused(SourceFault::CannotReplace)),
     }
 }
 
@@ -40,7 +40,7 @@ pub fn replace<'a, H: Host>(
         Err(FlashFault::InUse) => Err(Refusal::ImageInUse),
         Err(FlashFault::NoMemory) => Err(Refusal::NoMemory),
         Err(FlashFault::WrongLength | FlashFault::Failed(_)) => {
-            Err(Refusal::CannotReplace(Source::File(name)))
+            Err(Source::File(name).refused(SourceFault::CannotReplace))
         }
     }
 }

@@ -6,7 +6,7 @@ ghost use Rattle.making_commands.specs.NewManifestSteps.{ReadsComponent, ReadsCo
 use crate::next_boot::request;
 use arrayvec::ArrayVec;
 use certificate::Table;
-use command_ends::{Host, MOST_FILE, Refusal, Source};
+use command_ends::{Host, MOST_FILE, Refusal, Source, SourceFault};
 use command_line::NewComponent;
 use manifest::{Component, MOST_COMPONENTS};
 use sector_map::SectorMap;
@@ -60,7 +60,7 @@ fn read_component<'a, H: Host>(
     let source = Source::named(asked.file);
     let file = source.read(alloc, host, MOST_FILE)?;
     let Ok(size) = u32::try_from(file.len()) else {
-        return Err(Refusal::TooLong(source, MOST_FILE));
+        return Err(source.refused(SourceFault::TooLong(MOST_FILE)));
     };
     let described = describe(&file);
     if write_notes(notes, map, asked.image, source, &file, &described).is_err() {

@@ -4,7 +4,7 @@ ghost use Rattle.reading_commands.specs.AnswerEnd.{AnswersChoice};
 
 use crate::table_input::{Text, read_text};
 use answers::{ChooseEnd, choose_over};
-use command_ends::{Answer, Host, Refusal, Source};
+use command_ends::{Answer, Host, Refusal, Source, SourceFault};
 use std::alloc::Global;
 use std::io::Write;
 
@@ -25,7 +25,7 @@ pub fn perform<'a, H: Host, O: Write>(
         ChooseEnd::BadLine(line) => Err(Refusal::TableLine(line)),
         ChooseEnd::NotValid => Err(Refusal::NotValid),
         ChooseEnd::NoMemory => Err(Refusal::NoMemory),
-        ChooseEnd::ReadFailed => Err(Refusal::CannotRead(table)),
+        ChooseEnd::ReadFailed => Err(table.refused(SourceFault::CannotRead)),
         ChooseEnd::WriteFailed => Err(Refusal::CannotWrite),
     }
 }

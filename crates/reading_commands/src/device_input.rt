@@ -7,7 +7,7 @@ ghost use Rattle.reading_commands.specs.DeviceInput.{ReadsDevice};
 ghost use Rattle.command_ends.specs.Input.{Gives, IsKnownAs, KeepsFiles, KeepsOthers};
 
 use answers::{DeviceFault, DeviceFile, map_refusal_text, write_all};
-use command_ends::{Access, FlashFault, Host, MOST_JSON, Refusal, Source};
+use command_ends::{Access, FlashFault, Host, MOST_JSON, Refusal, Source, SourceFault};
 use sector_map::{MapError, SectorMap};
 use std::alloc::Global;
 use std::io::Write;
@@ -97,6 +97,6 @@ fn open_flash<'a, H: Host>(
             FlashFault::InUse => Refusal::FlashInUse,
             FlashFault::WrongLength => Refusal::FlashSize,
             FlashFault::NoMemory => Refusal::NoMemory,
-            FlashFault::Failed(_) => Refusal::CannotRead(Source::File(name)),
+            FlashFault::Failed(_) => Source::File(name).refused(SourceFault::CannotRead),
         })
 }

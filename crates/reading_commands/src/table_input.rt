@@ -3,7 +3,7 @@ ghost use Rattle.std.specs.Prelude.{IfOk};
 ghost use Rattle.command_ends.specs.Input.{Gives, KeepsOthers};
 
 use certificate::{Report, Table};
-use command_ends::{Host, MOST_TABLE, Refusal, Source};
+use command_ends::{Host, MOST_TABLE, Refusal, Source, SourceFault};
 use std::alloc::Global;
 
 /// What a text is to be.
@@ -55,6 +55,6 @@ pub fn read_text<'a, H: Host>(
     }
     match text.fault(&start) {
         Some(fault) => Err(fault),
-        None => Err(Refusal::TooLong(source, MOST_TABLE)),
+        None => Err(source.refused(SourceFault::TooLong(MOST_TABLE))),
     }
 }

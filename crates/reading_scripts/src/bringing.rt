@@ -9,7 +9,7 @@ ghost use Rattle.reading_scripts.specs.Loading.{Brings, ReadsNow, came_of};
 ghost use Rattle.reading_scripts.specs.Script.{Comes, IsPieceOf, ReadsFile};
 
 use crate::judging::Kept;
-use command_ends::{Host, MOST_FILE, Refusal, Source};
+use command_ends::{Host, MOST_FILE, Refusal, Source, SourceFault};
 use events::Event;
 use script::{FileText, PartText};
 use std::alloc::Global;
@@ -124,7 +124,9 @@ fn whole_file<'a, H: Host>(alloc: Global, host: &H, name: &'a str) -> Result<Vec
 {
     let source = Source::File(name);
     match host.read_again(alloc, name, MOST_FILE) {
-        Ok(bytes) if bytes.len() > MOST_FILE as usize => Err(Refusal::TooLong(source, MOST_FILE)),
+        Ok(bytes) if bytes.len() > MOST_FILE as usize => {
+            Err(source.refused(SourceFault::TooLong(MOST_FILE)))
+        }
         Ok(bytes) => Ok(bytes),
         Err(error) => Err(source.refusal(error)),
     }
