@@ -5,7 +5,7 @@ ghost use Rattle.boot_cli.specs.OrderEnd.{AnswersOrder};
 use crate::sweeping;
 use crate::sweeping::Named;
 use command_ends::{Answer, Host, Refusal, Source, finish};
-use command_line::{Order, request};
+use command_line::Order;
 use core_cli::{answer_words, request_in};
 use explaining_commands::{Remembering, ReplyNotes, UntilFailed, explain_end};
 use making_commands::extract::Copying;
@@ -31,7 +31,7 @@ pub fn cli<S: AsStr, H: Host, O: Write, E: Write>(
 ) -> u8 {
     match request_in(alloc, words) {
         Ok(request) if request.is_explained => {
-            run_explained(alloc, words, request.order, host, out, err)
+            run_explained(alloc, request.order, host, out, err)
         }
         Ok(request) => run_order(alloc, request.order, host, out, err),
         Err(error) => answer_words(alloc, words, error, out, err),
@@ -39,11 +39,9 @@ pub fn cli<S: AsStr, H: Host, O: Write, E: Write>(
 }
 
 /// Runs the command of an order to its exit status, as [`run_order`] does, and says on standard
-/// error why its answer is as it is. The order is what `words` ask for. The host keeps what is read,
-/// for that.
-fn run_explained<S: AsStr, H: Host, O: Write, E: Write>(
+/// error why its answer is as it is. The host keeps what is read, for that.
+fn run_explained<H: Host, O: Write, E: Write>(
     alloc: Global,
-    words: &[S],
     order: Order<'_>,
     host: &mut Remembering<H>,
     out: &mut O,
@@ -55,11 +53,9 @@ fn run_explained<S: AsStr, H: Host, O: Write, E: Write>(
     let mut text = Vec::new(alloc);
     let mut told = UntilFailed::over(err);
     host.kept.start();
-    let outcome = perform(alloc, order, true, &mut text, host, out, &mut told);
+    let outcome = perform(alloc, &order, true, &mut text, host, out, &mut told);
     let status = finish(outcome, out, &mut told);
-    if let Ok(request) = request(alloc, words) {
-        explain_end(alloc, &request.order, outcome, host, &mut told);
-    }
+    explain_end(alloc, &order, outcome, host, &mut told);
     status
 }
 
@@ -78,7 +74,7 @@ pub fn run_order<H: Host, O: Write, E: Write>(
     // A script's text, in which a refusal may name a file.
     let mut text = Vec::new(alloc);
     finish(
-        perform(alloc, order, false, &mut text, host, out, err),
+        perform(alloc, &order, false, &mut text, host, out, err),
         out,
         err,
     )
@@ -88,27 +84,28 @@ pub fn run_order<H: Host, O: Write, E: Write>(
 /// they are only where that is asked for.
 fn perform<'a, H: Host, O: Write, E: Write>(
     alloc: Global,
-    order: Order<'a>,
+    order: &Order<'a>,
     is_explained: bool,
     text: &'a mut Vec<u8>,
     host: &mut H,
     out: &mut O,
     err: &mut E,
 ) -> Result<Answer, Refusal<'a>>
-    ensures { IfOk result (λ answer. AnswersOrder answer order.entry
+    ensures { IfOk result (λ answer. AnswersOrder answer order.now
         (H.input host.old) (H.file host.old) (H.file host.new)
         (O.contents out.old) (O.contents out.new)) }
 {
-    match order {
-        Order::MakeDevice { device } => make_device::perform(alloc, &device, out, err),
+    match *order {
+        Order::MakeDevice { ref device } => make_device::perform(alloc, device, out, err),
         Order::MakeImage {
             image,
             body,
-            values,
-        } => make_image::perform(alloc, image, Source::named(body), &values, host, out),
-        Order::MakeManifest { device, manifest } => {
-            make_manifest::perform(alloc, Source::named(device), &manifest, host, out, err)
-        }
+            ref values,
+        } => make_image::perform(alloc, image, Source::named(body), values, host, out),
+        Order::MakeManifest {
+            device,
+            ref manifest,
+        } => make_manifest::perform(alloc, Source::named(device), manifest, host, out, err),
         Order::Extract {
             device,
             flash,
@@ -127,17 +124,17 @@ fn perform<'a, H: Host, O: Write, E: Write>(
         Order::Sweep {
             device,
             script,
-            images,
+            ref images,
             choices,
         } => {
             let named = Named {
                 device: Source::named(device),
                 script: Source::named(script),
-                images: &images,
+                images,
             };
             sweeping::perform(alloc, named, &choices, text, host, out, err)
         }
-        order => {
+        _ => {
             let mut notes = ReplyNotes::new(alloc, is_explained.then_some(err));
             core_cli::perform(alloc, order, text, host, out, &mut notes)
         }

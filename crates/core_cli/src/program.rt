@@ -47,7 +47,7 @@ pub fn run_core_order<H: Host, O: Write, E: Write>(
 {
     // A script's text, in which a refusal may name a file.
     let mut text = Vec::new(alloc);
-    let outcome = perform(alloc, order, &mut text, host, out, &mut NoNotes);
+    let outcome = perform(alloc, &order, &mut text, host, out, &mut NoNotes);
     finish(outcome, out, err)
 }
 
@@ -57,17 +57,17 @@ pub fn run_core_order<H: Host, O: Write, E: Write>(
 /// Those of the command; `NotOfCore` where the order is none of the core.
 pub fn perform<'a, H: Host, O: Write, N: RunNotes>(
     alloc: Global,
-    order: Order<'a>,
+    order: &Order<'a>,
     text: &'a mut Vec<u8>,
     host: &mut H,
     out: &mut O,
     notes: &mut N,
 ) -> Result<Answer, Refusal<'a>>
-    ensures { IfOk result (λ answer. AnswersCore answer order.entry
+    ensures { IfOk result (λ answer. AnswersCore answer order.now
         (H.input host.old) (H.file host.old) (H.file host.new)
         (O.contents out.old) (O.contents out.new)) }
 {
-    match order {
+    match *order {
         Order::Choose { table } => choose::perform(alloc, Source::named(table), host, out),
         Order::Check { table, report } => {
             let (table, report) = (Source::named(table), Source::named(report));
@@ -81,8 +81,8 @@ pub fn perform<'a, H: Host, O: Write, N: RunNotes>(
         Order::Provision {
             device,
             flash,
-            images,
-        } => provision::perform(alloc, Source::named(device), flash, &images, host, out),
+            ref images,
+        } => provision::perform(alloc, Source::named(device), flash, images, host, out),
         Order::Show { device, flash } => {
             let (device, flash) = (Source::named(device), Source::named(flash));
             show::perform(alloc, device, flash, host, out)
