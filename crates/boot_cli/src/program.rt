@@ -50,12 +50,11 @@ fn run_explained<H: Host, O: Write, E: Write>(
     ensures { result ≡ 0 → AnswersOrder Answer.Done order.entry (H.input host.old.host)
         (H.file host.old.host) (H.file host.new.host) (O.contents out.old) (O.contents out.new) }
 {
-    let mut text = Vec::new(alloc);
     let mut told = UntilFailed::over(err);
     host.kept.start();
-    let outcome = perform(alloc, &order, true, &mut text, host, out, &mut told);
-    let status = finish(outcome, out, &mut told);
-    explain_end(alloc, &order, outcome, host, &mut told);
+    let outcome = perform(alloc, &order, true, host, out, &mut told);
+    let status = finish(&outcome, out, &mut told);
+    explain_end(alloc, &order, &outcome, host, &mut told);
     status
 }
 
@@ -71,26 +70,20 @@ pub fn run_order<H: Host, O: Write, E: Write>(
     ensures { result ≡ 0 → AnswersOrder Answer.Done order.entry (H.input host.old) (H.file host.old)
         (H.file host.new) (O.contents out.old) (O.contents out.new) }
 {
-    // A script's text, in which a refusal may name a file.
-    let mut text = Vec::new(alloc);
-    finish(
-        perform(alloc, &order, false, &mut text, host, out, err),
-        out,
-        err,
-    )
+    let outcome = perform(alloc, &order, false, host, out, err);
+    finish(&outcome, out, err)
 }
 
 /// Runs the command of an order. What it tells on the way goes to `err`: why replies of a run are as
 /// they are only where that is asked for.
-fn perform<'a, H: Host, O: Write, E: Write>(
+fn perform<H: Host, O: Write, E: Write>(
     alloc: Global,
-    order: &Order<'a>,
+    order: &Order<'_>,
     is_explained: bool,
-    text: &'a mut Vec<u8>,
     host: &mut H,
     out: &mut O,
     err: &mut E,
-) -> Result<Answer, Refusal<'a>>
+) -> Result<Answer, Refusal>
     ensures { IfOk result (λ answer. AnswersOrder answer order.now
         (H.input host.old) (H.file host.old) (H.file host.new)
         (O.contents out.old) (O.contents out.new)) }
@@ -132,11 +125,11 @@ fn perform<'a, H: Host, O: Write, E: Write>(
                 script: Source::named(script),
                 images,
             };
-            sweeping::perform(alloc, named, &choices, text, host, out, err)
+            sweeping::perform(alloc, named, &choices, host, out, err)
         }
         _ => {
             let mut notes = ReplyNotes::new(alloc, is_explained.then_some(err));
-            core_cli::perform(alloc, order, text, host, out, &mut notes)
+            core_cli::perform(alloc, order, host, out, &mut notes)
         }
     }
 }

@@ -53,20 +53,18 @@ struct Progress<'a, H, E> {
 
 /// Reads a device file, a script and images from `host`, makes a flash in memory a device's, runs
 /// the script on it with the writes cut that `choices` ask for, and writes to `out` what came of
-/// it. The script's text is put into `text`. All stands in memory of `alloc`. Where somebody
-/// watches, `err` is told how far it is.
+/// it. All stands in memory of `alloc`. Where somebody watches, `err` is told how far it is.
 ///
 /// All files are judged before anything is run, and none is changed but the picture, where one is
 /// asked for, which is made or replaced once all is run.
-pub fn perform<'a, H: Host, O: Write, E: Write>(
+pub fn perform<H: Host, O: Write, E: Write>(
     alloc: Global,
-    named: Named<'a, '_>,
-    choices: &SweepChoices<'a>,
-    text: &'a mut Vec<u8>,
+    named: Named<'_, '_>,
+    choices: &SweepChoices<'_>,
     host: &mut H,
     out: &mut O,
     err: &mut E,
-) -> Result<Answer, Refusal<'a>>
+) -> Result<Answer, Refusal>
     ensures { IfOk result (λ answer. AnswersSweep answer named.entry.device named.entry.script
         (H.input host.old) (H.file host.old) (O.contents out.old) (O.contents out.new)) }
 {
@@ -74,9 +72,9 @@ pub fn perform<'a, H: Host, O: Write, E: Write>(
     let Some(device) = read_device(alloc, named.device, host, out)? else {
         return Ok(Answer::Refused);
     };
-    *text = read_script(alloc, named.script, host)?;
-    let events = load(alloc, text, is_input_read, host)?;
-    refuse_inputs(host, choices.picture, &named)?;
+    let text = read_script(alloc, named.script, host)?;
+    let events = load(alloc, &text, is_input_read, host)?;
+    refuse_inputs(alloc, host, choices.picture, &named)?;
     sweep_images(
         alloc,
         &device,
@@ -100,28 +98,30 @@ fn reads_standard_input(named: &Named<'_, '_>) -> bool {
 }
 
 /// Refuses a picture whose file is one of those that are named.
-fn refuse_inputs<'a, H: Host>(
+fn refuse_inputs<H: Host>(
+    alloc: Global,
     host: &H,
-    picture: Option<&'a str>,
+    picture: Option<&str>,
     named: &Named<'_, '_>,
-) -> Result<(), Refusal<'a>> {
+) -> Result<(), Refusal> {
     let Some(picture) = picture else {
         return Ok(());
     };
-    refuse_input(host, picture, named.device)?;
-    refuse_input(host, picture, named.script)?;
+    refuse_input(alloc, host, picture, named.device)?;
+    refuse_input(alloc, host, picture, named.script)?;
     for image in named.images {
-        refuse_input(host, picture, Source::named(image))?;
+        refuse_input(alloc, host, picture, Source::named(image))?;
     }
     Ok(())
 }
 
 /// Refuses a picture whose file is what is read here, by whatever name.
-fn refuse_input<'a, H: Host>(
+fn refuse_input<H: Host>(
+    alloc: Global,
     host: &H,
-    picture: &'a str,
+    picture: &str,
     source: Source<'_>,
-) -> Result<(), Refusal<'a>> {
+) -> Result<(), Refusal> {
     let Source::File(name) = source else {
         return Ok(());
     };
@@ -131,21 +131,21 @@ fn refuse_input<'a, H: Host>(
     match host.is_same_file(name, picture) {
         Ok(false) => Ok(()),
         Ok(true) => Err(Refusal::PictureIsInput),
-        Err(_) => Err(Source::File(picture).refused(SourceFault::CannotReplace)),
+        Err(_) => Err(Source::File(picture).refused(alloc, SourceFault::CannotReplace)),
     }
 }
 
 /// Makes a flash with these images a device's, and sweeps these events on it.
-fn sweep_images<'a, H: Host, O: Write, E: Write>(
+fn sweep_images<H: Host, O: Write, E: Write>(
     alloc: Global,
     device: &DeviceFile,
     events: &[Event<Vec<u8>>],
-    images: &[&'a str],
-    choices: &SweepChoices<'a>,
+    images: &[&str],
+    choices: &SweepChoices<'_>,
     host: &mut H,
     out: &mut O,
     err: &mut E,
-) -> Result<Answer, Refusal<'a>>
+) -> Result<Answer, Refusal>
     requires device { IsOfFile device.now }
     ensures { IfOk result (λ answer. status_of_answer answer ≤ 1) }
 {
@@ -189,14 +189,14 @@ fn provision_in_memory<L: Ledger>(
 }
 
 /// Sweeps a life, makes the picture where one is asked for, and writes what was found to `out`.
-fn tell_sweep<'a, H: Host, O: Write, E: Write>(
+fn tell_sweep<H: Host, O: Write, E: Write>(
     alloc: Global,
     life: &Life<'_>,
-    choices: &SweepChoices<'a>,
+    choices: &SweepChoices<'_>,
     host: &mut H,
     out: &mut O,
     err: &mut E,
-) -> Result<Answer, Refusal<'a>>
+) -> Result<Answer, Refusal>
     requires device { IsOfFile life.now.device.now }
     requires whole { IsFlashOf life.now.device.now.map life.now.bytes.now }
     ensures { IfOk result (λ answer. status_of_answer answer ≤ 1) }
@@ -241,17 +241,12 @@ fn answer_of(is_good: bool) -> Answer
 }
 
 /// Makes or replaces the file of the picture.
-fn replace<'a, H: Host>(
-    alloc: Global,
-    name: &'a str,
-    bytes: &[u8],
-    host: &mut H,
-) -> Result<(), Refusal<'a>> {
+fn replace<H: Host>(alloc: Global, name: &str, bytes: &[u8], host: &mut H) -> Result<(), Refusal> {
     match host.replace_file(alloc, name, bytes) {
         Ok(()) => Ok(()),
         Err(FlashFault::NoMemory) => Err(Refusal::NoMemory),
         Err(FlashFault::InUse | FlashFault::WrongLength | FlashFault::Failed(_)) => {
-            Err(Source::File(name).refused(SourceFault::CannotReplace))
+            Err(Source::File(name).refused(alloc, SourceFault::CannotReplace))
         }
     }
 }

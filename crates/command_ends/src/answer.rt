@@ -48,13 +48,9 @@ impl Answer {
 ///
 /// The status is that of the answer or the refusal, or 1 where a write failed; after that nothing
 /// more is written. So it is 0 only where the answer is `Done` and was flushed.
-pub fn finish<O: Write, E: Write>(
-    outcome: Result<Answer, Refusal<'_>>,
-    out: &mut O,
-    err: &mut E,
-) -> u8
-    ensures status { result ≡ 0 → outcome.entry ≡ Ok Answer.Done }
-    ensures ends { Ends outcome.entry result }
+pub fn finish<O: Write, E: Write>(outcome: &Result<Answer, Refusal>, out: &mut O, err: &mut E) -> u8
+    ensures status { result ≡ 0 → outcome.now ≡ Ok Answer.Done }
+    ensures ends { Ends outcome.now result }
     ensures kept { Keeps (O.contents out.old) (O.contents out.new) }
 {
     match outcome {
@@ -66,8 +62,8 @@ pub fn finish<O: Write, E: Write>(
 
 /// Writes the error line of a refusal, and returns the exit status: that of the refusal, or 1 where
 /// a write failed.
-pub fn refuse<E: Write>(refusal: Refusal<'_>, err: &mut E) -> u8
-    ensures { (result ≡ status_of_refusal refusal.entry) ⊎ (result ≡ 1) }
+pub fn refuse<E: Write>(refusal: &Refusal, err: &mut E) -> u8
+    ensures { (result ≡ status_of_refusal refusal.now) ⊎ (result ≡ 1) }
 {
     let status = match refusal {
         Refusal::FlashFile => FLASH_FILE_FAILED,
@@ -76,7 +72,7 @@ pub fn refuse<E: Write>(refusal: Refusal<'_>, err: &mut E) -> u8
     status_after(write_line(refusal, err), status)
 }
 
-fn write_line<E: Write>(refusal: Refusal<'_>, err: &mut E) -> io::Result<()> {
+fn write_line<E: Write>(refusal: &Refusal, err: &mut E) -> io::Result<()> {
     writeln!(err, "error: {refusal}")?;
     err.flush()
 }

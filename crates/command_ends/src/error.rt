@@ -5,8 +5,8 @@ use std::fmt;
 use thiserror::Error;
 
 /// Why a command refuses. What is printed follows `error: ` on standard error.
-#[derive(Clone, Copy, Debug, Error)]
-pub enum Refusal<'a> {
+#[derive(Debug, Drop, Error)]
+pub enum Refusal {
     /// The text is no table: the first line, counted from 1, that no table goes on from.
     #[error("table line {0}")]
     TableLine(usize),
@@ -55,7 +55,7 @@ pub enum Refusal<'a> {
     ScriptLine(usize),
     /// What is wrong with a file or standard input.
     #[error("{0}")]
-    OfSource(SourceRefusal<'a>),
+    OfSource(SourceRefusal),
     /// The program is the core of `bootswap`, and the words ask for more than it has.
     #[error("not in the core of bootswap")]
     NotOfCore,
@@ -72,12 +72,19 @@ pub enum Refusal<'a> {
 }
 
 /// What is wrong with a file or standard input, and which it is.
-#[derive(Clone, Copy, Debug)]
-pub struct SourceRefusal<'a> {
-    /// The file, or standard input.
-    pub source: Source<'a>,
+#[derive(Debug, Drop)]
+pub struct SourceRefusal {
+    /// The word that names it.
+    pub name: String,
     /// What is wrong with it.
     pub fault: SourceFault,
+}
+
+impl SourceRefusal {
+    /// The file, or standard input.
+    pub fn source(&self) -> Source<'_> {
+        Source::named(&self.name)
+    }
 }
 
 /// What may be wrong with a file or standard input.
@@ -91,9 +98,9 @@ pub enum SourceFault {
     CannotReplace,
 }
 
-impl fmt::Display for SourceRefusal<'_> {
+impl fmt::Display for SourceRefusal {
     fn fmt<W: fmt::Write>(&self, f: &mut fmt::Formatter<W>) -> fmt::Result {
-        let source = self.source;
+        let source = self.source();
         match self.fault {
             SourceFault::CannotRead => write!(f, "cannot read {source}"),
             SourceFault::TooLong(most) => write!(f, "{source} is longer than {most} bytes"),

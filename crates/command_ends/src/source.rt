@@ -40,12 +40,7 @@ impl<'a> Source<'a> {
     }
 
     /// All its bytes, of which there may be at most `most`, from `host`, in memory of `alloc`.
-    pub fn read<H: Host>(
-        self,
-        alloc: Global,
-        host: &mut H,
-        most: u32,
-    ) -> Result<Vec<u8>, Refusal<'a>>
+    pub fn read<H: Host>(self, alloc: Global, host: &mut H, most: u32) -> Result<Vec<u8>, Refusal>
         ensures bytes { IfOk result (λ bytes.
             Gives self.entry (H.input host.old) (H.file host.old) bytes.items) }
         ensures others { KeepsOthers self.entry (H.input host.old) (H.file host.old)
@@ -54,7 +49,7 @@ impl<'a> Source<'a> {
     {
         let bytes = self.read_start(alloc, host, most)?;
         if bytes.len() > most as usize {
-            return Err(self.refused(SourceFault::TooLong(most)));
+            return Err(self.refused(alloc, SourceFault::TooLong(most)));
         }
         Ok(bytes)
     }
@@ -66,7 +61,7 @@ impl<'a> Source<'a> {
         alloc: Global,
         host: &mut H,
         most: u32,
-    ) -> Result<Vec<u8>, Refusal<'a>>
+    ) -> Result<Vec<u8>, Refusal>
         ensures bytes { IfOk result (λ bytes. length bytes.items ≤ most
             → Gives self.entry (H.input host.old) (H.file host.old) bytes.items) }
         ensures others { KeepsOthers self.entry (H.input host.old) (H.file host.old)
@@ -79,27 +74,37 @@ impl<'a> Source<'a> {
         };
         match read {
             Ok(bytes) => Ok(bytes),
-            Err(error) => Err(self.refusal(error)),
+            Err(error) => Err(self.refusal(alloc, error)),
         }
     }
 
-    /// That this is wrong with it, as why a command refuses.
-    pub fn refused(self, fault: SourceFault) -> Refusal<'a>
-        ensures { status_of_refusal result ≡ 1 }
-    {
-        Refusal::OfSource(SourceRefusal {
-            source: self,
-            fault,
-        })
+    /// The word that names it.
+    fn name(self) -> &'a str {
+        match self {
+            Source::StandardInput => STANDARD_INPUT,
+            Source::File(name) => name,
+        }
     }
 
-    /// Why a command refuses where this could not be read, for this reason.
-    pub fn refusal(self, error: io::Error) -> Refusal<'a>
+    /// That this is wrong with it, as why a command refuses, which names it in memory of `alloc`.
+    /// Where that runs out, this is why.
+    pub fn refused(self, alloc: Global, fault: SourceFault) -> Refusal
+        ensures { status_of_refusal result ≡ 1 }
+    {
+        match String::from_str(alloc, self.name()) {
+            Ok(name) => Refusal::OfSource(SourceRefusal { name, fault }),
+            Err(_) => Refusal::NoMemory,
+        }
+    }
+
+    /// Why a command refuses where this could not be read, for this reason. It is named in memory of
+    /// `alloc`.
+    pub fn refusal(self, alloc: Global, error: io::Error) -> Refusal
         ensures { status_of_refusal result ≡ 1 }
     {
         match error.kind() {
             ErrorKind::OutOfMemory => Refusal::NoMemory,
-            _ => self.refused(SourceFault::CannotRead),
+            _ => self.refused(alloc, SourceFault::CannotRead),
         }
     }
 }

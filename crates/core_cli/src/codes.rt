@@ -8,7 +8,7 @@ use command_line::REFUSALS;
 use std::io::Write;
 
 /// Writes the list of all codes and names to `out`. Does not allocate.
-pub fn perform<'a, O: Write>(out: &mut O) -> Result<Answer, Refusal<'a>>
+pub fn perform<O: Write>(out: &mut O) -> Result<Answer, Refusal>
     ensures { IfOk result (λ answer.
         AnswersCodes answer (O.contents out.old) (O.contents out.new)) }
 {

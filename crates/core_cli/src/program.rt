@@ -27,7 +27,7 @@ pub fn core_cli<S: AsStr, H: Host, O: Write, E: Write>(
     err: &mut E,
 ) -> u8 {
     match request_in(alloc, words) {
-        Ok(request) if request.is_explained => finish(Err(Refusal::NotOfCore), out, err),
+        Ok(request) if request.is_explained => finish(&Err(Refusal::NotOfCore), out, err),
         Ok(request) => run_core_order(alloc, request.order, host, out, err),
         Err(error) => answer_words(alloc, words, error, out, err),
     }
@@ -45,24 +45,21 @@ pub fn run_core_order<H: Host, O: Write, E: Write>(
     ensures { result ≡ 0 → AnswersCore Answer.Done order.entry (H.input host.old) (H.file host.old)
         (H.file host.new) (O.contents out.old) (O.contents out.new) }
 {
-    // A script's text, in which a refusal may name a file.
-    let mut text = Vec::new(alloc);
-    let outcome = perform(alloc, &order, &mut text, host, out, &mut NoNotes);
-    finish(outcome, out, err)
+    let outcome = perform(alloc, &order, host, out, &mut NoNotes);
+    finish(&outcome, out, err)
 }
 
 /// Runs the command of an order. `notes` is told of the replies of a run.
 ///
 /// # Errors
 /// Those of the command; `NotOfCore` where the order is none of the core.
-pub fn perform<'a, H: Host, O: Write, N: RunNotes>(
+pub fn perform<H: Host, O: Write, N: RunNotes>(
     alloc: Global,
-    order: &Order<'a>,
-    text: &'a mut Vec<u8>,
+    order: &Order<'_>,
     host: &mut H,
     out: &mut O,
     notes: &mut N,
-) -> Result<Answer, Refusal<'a>>
+) -> Result<Answer, Refusal>
     ensures { IfOk result (λ answer. AnswersCore answer order.now
         (H.input host.old) (H.file host.old) (H.file host.new)
         (O.contents out.old) (O.contents out.new)) }
@@ -99,7 +96,7 @@ pub fn perform<'a, H: Host, O: Write, N: RunNotes>(
         } => {
             let (device, script) = (Source::named(device), Source::named(script));
             let access = access_of(durable);
-            run::perform(alloc, device, flash, access, script, text, host, out, notes)
+            run::perform(alloc, device, flash, access, script, host, out, notes)
         }
         Order::Codes => codes::perform(out),
         _ => Err(Refusal::NotOfCore),

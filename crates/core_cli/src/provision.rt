@@ -40,14 +40,14 @@ pub struct FlashName<'a> {
 /// All is judged before the file is touched, which is none of those that are read. Unless the
 /// answer is `Done`, or can't be written, the file is as it was; but a block device of which a
 /// write failed may hold a part of what it was to hold.
-pub fn perform<'a, H: Host, O: Write>(
+pub fn perform<H: Host, O: Write>(
     alloc: Global,
-    device: Source<'a>,
-    flash: &'a str,
-    images: &[&'a str],
+    device: Source<'_>,
+    flash: &str,
+    images: &[&str],
     host: &mut H,
     out: &mut O,
-) -> Result<Answer, Refusal<'a>>
+) -> Result<Answer, Refusal>
     ensures answers { IfOk result (λ answer.
         AnswersProvision answer device.entry (names_of images.now)
         (H.input host.old) (H.file host.old) (H.file host.new flash.now)
@@ -68,12 +68,12 @@ pub fn perform<'a, H: Host, O: Write>(
 
 /// The bytes of a flash that holds these images, each at the front of its primary slot, and is
 /// erased elsewhere.
-pub fn read_images<'a, H: Host>(
+pub fn read_images<H: Host>(
     alloc: Global,
     map: &SectorMap,
-    images: &[&'a str],
+    images: &[&str],
     host: &mut H,
-) -> Result<Vec<u8>, Refusal<'a>>
+) -> Result<Vec<u8>, Refusal>
     ensures read { IfOk result (λ bytes. ReadsImages map.now (names_of images.now)
         (H.input host.old) (H.file host.old) bytes.items) }
     ensures whole { IfOk result (λ bytes. IsFlashOf map.now bytes.items) }
@@ -123,12 +123,12 @@ fn put(bytes: &mut Vec<u8>, at: u32, file: &[u8])
 }
 
 /// Refuses a flash whose file is one of those that are read.
-fn refuse_inputs<'a, H: Host>(
+fn refuse_inputs<H: Host>(
     host: &H,
     flash: &str,
     device: Source<'_>,
     images: &[&str],
-) -> Result<(), Refusal<'a>>
+) -> Result<(), Refusal>
     ensures { OnOk result (IsOther flash.now device.entry) }
 {
     refuse_input(host, flash, device)?;
@@ -139,7 +139,7 @@ fn refuse_inputs<'a, H: Host>(
 }
 
 /// Refuses a flash whose file is what is read here, by whatever name.
-fn refuse_input<'a, H: Host>(host: &H, flash: &str, source: Source<'_>) -> Result<(), Refusal<'a>>
+fn refuse_input<H: Host>(host: &H, flash: &str, source: Source<'_>) -> Result<(), Refusal>
     ensures { OnOk result (IsOther flash.now source.entry) }
 {
     let Source::File(name) = source else {
@@ -156,14 +156,14 @@ fn refuse_input<'a, H: Host>(host: &H, flash: &str, source: Source<'_>) -> Resul
 }
 
 /// Makes the flash of these bytes a device's, and then makes or replaces its file.
-fn make_flash<'a, L: Ledger, H: Host>(
+fn make_flash<L: Ledger, H: Host>(
     alloc: Global,
     blank: Blank,
     map: &SectorMap,
     bytes: Vec<u8>,
     file: FlashName<'_>,
     host: &mut H,
-) -> Result<Made, Refusal<'a>>
+) -> Result<Made, Refusal>
     requires name { blank.name ≡ L.name }
     requires parts { blank.parts ≡ L.parts }
     requires two { L.parts ≡ 2 }
@@ -183,12 +183,7 @@ fn make_flash<'a, L: Ledger, H: Host>(
 }
 
 /// Makes or replaces the file of a flash of these bytes.
-fn replace<'a, H: Host>(
-    alloc: Global,
-    name: &str,
-    bytes: &[u8],
-    host: &mut H,
-) -> Result<(), Refusal<'a>>
+fn replace<H: Host>(alloc: Global, name: &str, bytes: &[u8], host: &mut H) -> Result<(), Refusal>
     ensures done { OnOk result (IsKnownAs (H.file host.new name.now) bytes.now) }
     ensures failed { IfErr result (λ _. KeepsFiles (H.file host.old) (H.file host.new)) }
 {
@@ -202,11 +197,7 @@ fn replace<'a, H: Host>(
 }
 
 /// Writes to `out` what came of making a flash. Of one that is made it takes no memory to tell.
-pub fn tell_made<'a, O: Write>(
-    alloc: Global,
-    made: Made,
-    out: &mut O,
-) -> Result<Answer, Refusal<'a>>
+pub fn tell_made<O: Write>(alloc: Global, made: Made, out: &mut O) -> Result<Answer, Refusal>
     ensures told { IfOk result (λ answer.
         AnswersMade answer made (O.contents out.old) (O.contents out.new)) }
     ensures late { made ≡ Made.Done → IfErr result (λ refusal. refusal ≡ Refusal.CannotWrite) }
@@ -223,7 +214,7 @@ pub fn tell_made<'a, O: Write>(
 }
 
 /// Writes the text of an answer to `out`, and returns the answer.
-fn tell<'a, O: Write>(text: &[u8], answer: Answer, out: &mut O) -> Result<Answer, Refusal<'a>>
+fn tell<O: Write>(text: &[u8], answer: Answer, out: &mut O) -> Result<Answer, Refusal>
     ensures told { IfOk result (λ told. (told ≡ answer)
         × Appends (O.contents out.old) (O.contents out.new) text.now) }
     ensures untold { IfErr result (λ refusal. refusal ≡ Refusal.CannotWrite) }

@@ -35,20 +35,19 @@ use std::sync::ledger::{Blank, Ledger};
 /// written through to its file at once, which is opened for `access`, one that writes. `notes` is
 /// told of each reply.
 ///
-/// All stands in memory of `alloc`; the script's text is put into `text`. All files are judged before
-/// anything is run, and the flash's is held from then on. What a line names is read as its event
-/// comes, so that of the script only its text stands in memory, and what can't be read twice.
-pub fn perform<'a, H: Host, O: Write, N: RunNotes>(
+/// All stands in memory of `alloc`. All files are judged before anything is run, and the flash's is
+/// held from then on. What a line names is read as its event comes, so that of the script only its
+/// text stands in memory, and what can't be read twice.
+pub fn perform<H: Host, O: Write, N: RunNotes>(
     alloc: Global,
-    device: Source<'a>,
-    flash: &'a str,
+    device: Source<'_>,
+    flash: &str,
     access: Access,
-    script: Source<'a>,
-    text: &'a mut Vec<u8>,
+    script: Source<'_>,
     host: &mut H,
     out: &mut O,
     notes: &mut N,
-) -> Result<Answer, Refusal<'a>>
+) -> Result<Answer, Refusal>
     ensures { IfOk result (λ answer.
         AnswersRun answer device.entry (source.File flash.entry) script.entry
         (H.input host.old) (H.file host.old) (O.contents out.old) (O.contents out.new)) }
@@ -58,15 +57,15 @@ pub fn perform<'a, H: Host, O: Write, N: RunNotes>(
         return Ok(Answer::Refused);
     };
     let bytes = read_flash(alloc, Source::File(flash), &device.map, access, host)?;
-    *text = read_script(alloc, script, host)?;
-    let Judged { cuts, kept, .. } = judge(alloc, text, Some(flash), is_input_read, host)?;
+    let text = read_script(alloc, script, host)?;
+    let Judged { cuts, kept, .. } = judge(alloc, &text, Some(flash), is_input_read, host)?;
     let sources = Sources {
         alloc,
         host: &*host,
         kept: &kept,
     };
     notes.begin(&device);
-    let answer = play_text(alloc, &device, bytes, cuts, text, &sources, out, notes)?;
+    let answer = play_text(alloc, &device, bytes, cuts, &text, &sources, out, notes)?;
     match host.sync_flash() {
         Ok(()) => Ok(answer),
         Err(_) => Err(Refusal::FlashFile),
@@ -76,16 +75,16 @@ pub fn perform<'a, H: Host, O: Write, N: RunNotes>(
 /// Runs what comes by the lines of a script on a device that has these bytes on its flash, with
 /// these writes of the flash cut, and writes each reply to `out` as its event is done. What changes
 /// is written through to the file of the flash, which holds the bytes.
-fn play_text<'a, H: Host, O: Write, N: RunNotes>(
+fn play_text<H: Host, O: Write, N: RunNotes>(
     alloc: Global,
     device: &DeviceFile,
     bytes: Vec<u8>,
     cuts: Vec<Cut>,
-    text: &'a [u8],
-    sources: &Sources<'a, '_, '_, H>,
+    text: &[u8],
+    sources: &Sources<'_, '_, '_, H>,
     out: &mut O,
     notes: &mut N,
-) -> Result<Answer, Refusal<'a>>
+) -> Result<Answer, Refusal>
     requires device { IsOfFile device.now }
     requires whole { IsFlashOf device.now.map bytes.items }
     ensures plays { IfOk result (λ answer.
@@ -114,19 +113,19 @@ fn play_text<'a, H: Host, O: Write, N: RunNotes>(
 /// Runs what comes by the lines of a script on a device that has these bytes on its flash, with
 /// these writes of the flash cut, writes each reply to `out` as its event is done, and what changes
 /// to the file of the flash, which holds the bytes.
-fn play<'a, L: Ledger, M: Ledger, H: Host, F: FlashFile + Drop, O: Write, N: RunNotes>(
+fn play<L: Ledger, M: Ledger, H: Host, F: FlashFile + Drop, O: Write, N: RunNotes>(
     alloc: Global,
     blank: Blank,
     memory_blank: Blank,
     device: &DeviceFile,
     bytes: Vec<u8>,
     cuts: Vec<Cut>,
-    text: &'a [u8],
-    sources: &Sources<'a, '_, '_, H>,
+    text: &[u8],
+    sources: &Sources<'_, '_, '_, H>,
     file: F,
     out: &mut O,
     notes: &mut N,
-) -> Result<Answer, Refusal<'a>>
+) -> Result<Answer, Refusal>
     requires name { blank.name ≡ L.name }
     requires parts { blank.parts ≡ L.parts }
     requires two { L.parts ≡ 2 }
@@ -201,14 +200,14 @@ fn arm_all<M: Ledger>(memory: &mut MemFlash<M>, cuts: Vec<Cut>) -> Result<(), Al
 /// Runs what comes by the lines of a script on a device, in order, and writes each reply to `out` as
 /// its event is done, before the next one. Where a reply can't be written, or the file of a line
 /// can't be read any more, no event is run after it.
-fn tell_each<'a, H: Host, F: Flash, O: Write, N: RunNotes>(
+fn tell_each<H: Host, F: Flash, O: Write, N: RunNotes>(
     alloc: Global,
     device: &mut Device<F>,
-    text: &'a [u8],
-    sources: &Sources<'a, '_, '_, H>,
+    text: &[u8],
+    sources: &Sources<'_, '_, '_, H>,
     out: &mut O,
     notes: &mut N,
-) -> Result<Answer, Refusal<'a>>
+) -> Result<Answer, Refusal>
     requires { device.old.here.flash.is_on ≡ true }
     ensures all { IfOk result (λ answer.
         TellsText answer device.old.setup device.old.here device.new.here text.now
@@ -232,14 +231,14 @@ fn tell_each<'a, H: Host, F: Flash, O: Write, N: RunNotes>(
 }
 
 /// Has this event come to a device, and writes the reply to it to `out`.
-fn tell_event<'a, F: Flash, O: Write, N: RunNotes>(
+fn tell_event<F: Flash, O: Write, N: RunNotes>(
     alloc: Global,
     device: &mut Device<F>,
     number: usize,
     event: Event<Vec<u8>>,
     out: &mut O,
     notes: &mut N,
-) -> Result<Answer, Refusal<'a>>
+) -> Result<Answer, Refusal>
     requires { device.old.here.flash.is_on ≡ true }
     ensures setup { device.new.setup ≡ device.old.setup }
     ensures on { device.new.here.flash.is_on ≡ true }
@@ -258,12 +257,12 @@ fn tell_event<'a, F: Flash, O: Write, N: RunNotes>(
 }
 
 /// Writes the reply to the event of this number to `out`, and flushes it.
-fn tell_reply<'a, O: Write>(
+fn tell_reply<O: Write>(
     alloc: Global,
     number: usize,
     reply: &Reply,
     out: &mut O,
-) -> Result<(), Refusal<'a>>
+) -> Result<(), Refusal>
     ensures told { OnOk result (Appends (O.contents out.old) (O.contents out.new)
         (reply_text number reply.now)) }
     ensures begun { IfErr result (λ refusal.

@@ -55,7 +55,7 @@ pub fn answer_words<S: AsStr, O: Write, E: Write>(
     err: &mut E,
 ) -> u8 {
     match error {
-        OrderError::NoMemory => refuse(Refusal::NoMemory, err),
+        OrderError::NoMemory => refuse(&Refusal::NoMemory, err),
         OrderError::Usage(answer) => {
             if answer.use_stderr() {
                 tell_fault(&fault_of(alloc, words, answer), err)
@@ -70,7 +70,7 @@ pub fn answer_words<S: AsStr, O: Write, E: Write>(
 /// where they are no text. The text to print stands in memory of `alloc`.
 pub fn refuse_words<E: Write>(alloc: Global, error: &io::Error, err: &mut E) -> u8 {
     match error.kind() {
-        ErrorKind::OutOfMemory => refuse(Refusal::NoMemory, err),
+        ErrorKind::OutOfMemory => refuse(&Refusal::NoMemory, err),
         _ => tell_fault(&no_text(alloc), err),
     }
 }
@@ -78,7 +78,7 @@ pub fn refuse_words<E: Write>(alloc: Global, error: &io::Error, err: &mut E) -> 
 /// Writes the fault in the words.
 fn tell_fault<E: Write>(error: &OrderError, err: &mut E) -> u8 {
     match error {
-        OrderError::NoMemory => refuse(Refusal::NoMemory, err),
+        OrderError::NoMemory => refuse(&Refusal::NoMemory, err),
         OrderError::Usage(answer) => status_after(write_text(answer, err), USAGE),
     }
 }

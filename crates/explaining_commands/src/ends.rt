@@ -22,7 +22,7 @@ use std::io::Write;
 pub fn explain_end<H: Host, E: Write>(
     alloc: Global,
     order: &Order<'_>,
-    outcome: Result<Answer, Refusal<'_>>,
+    outcome: &Result<Answer, Refusal>,
     host: &Remembering<H>,
     err: &mut E,
 ) {
@@ -49,10 +49,10 @@ fn explain_refusal<H: Host>(
     notes: &mut String,
     order: &Order<'_>,
     inputs: Inputs<'_>,
-    refusal: Refusal<'_>,
+    refusal: &Refusal,
     host: &Remembering<H>,
 ) -> Result<(), AllocError> {
-    match refusal {
+    match *refusal {
         Refusal::TableLine(number) => explain_table_line(notes, read(host, inputs.table), number),
         Refusal::ReportLine(number) => {
             explain_report_line(notes, read(host, inputs.report), number)
@@ -66,21 +66,7 @@ fn explain_refusal<H: Host>(
             let may_cut = !matches!(order, Order::Sweep { .. });
             explain_script_line(notes, read(host, inputs.script), number, may_cut)
         }
-        Refusal::OfSource(
-            SourceRefusal {
-                source,
-                fault: SourceFault::CannotRead,
-            },
-        ) => {
-            explain_error(notes, source, host)?;
-            explain_place(notes, source, read(host, inputs.script))
-        }
-        Refusal::OfSource(
-            SourceRefusal {
-                source,
-                fault: SourceFault::CannotReplace,
-            },
-        ) => explain_error(notes, source, host),
+        Refusal::OfSource(ref refused) => explain_source(notes, inputs, refused, host),
         Refusal::FlashFile => explain_flash(notes, order, host),
         Refusal::FlashSize | Refusal::ImageCount | Refusal::NoImage(_) | Refusal::ImageTooBig(_) =>
             explain_size(alloc, notes, inputs, refusal, host),
@@ -93,6 +79,25 @@ pub fn read<'r, H: Host>(host: &'r Remembering<H>, source: Option<Source<'_>>) -
     match source {
         Some(source) => host.read_before(source).unwrap_or_default(),
         None => &[],
+    }
+}
+
+/// Adds what the system says of a file that can't be read or written, and which line of a script
+/// names one that can't be read.
+fn explain_source<H: Host>(
+    notes: &mut String,
+    inputs: Inputs<'_>,
+    refused: &SourceRefusal,
+    host: &Remembering<H>,
+) -> Result<(), AllocError> {
+    let source = refused.source();
+    match refused.fault {
+        SourceFault::CannotRead => {
+            explain_error(notes, source, host)?;
+            explain_place(notes, source, read(host, inputs.script))
+        }
+        SourceFault::CannotReplace => explain_error(notes, source, host),
+        SourceFault::TooLong(_) => Ok(()),
     }
 }
 
@@ -155,14 +160,14 @@ fn explain_size<H: Host>(
     alloc: Global,
     notes: &mut String,
     inputs: Inputs<'_>,
-    refusal: Refusal<'_>,
+    refusal: &Refusal,
     host: &Remembering<H>,
 ) -> Result<(), AllocError> {
     let Ok(device) = DeviceFile::read(alloc, read(host, inputs.device)) else {
         return Ok(());
     };
     let map = device.map;
-    match refusal {
+    match *refusal {
         Refusal::FlashSize => {
             let bytes = map.bytes_in_all();
             writeln!(notes, "note: the flash of the device has {bytes} bytes")

@@ -51,14 +51,14 @@ pub enum Copied {
 ///
 /// The file is none of those that are read. Unless the answer is `Done`, or can't be written, it is
 /// as it was.
-pub fn perform<'a, H: Host, O: Write>(
+pub fn perform<H: Host, O: Write>(
     alloc: Global,
-    device: Source<'a>,
-    flash: Source<'a>,
-    copying: Copying<'a>,
+    device: Source<'_>,
+    flash: Source<'_>,
+    copying: Copying<'_>,
     host: &mut H,
     out: &mut O,
-) -> Result<Answer, Refusal<'a>>
+) -> Result<Answer, Refusal>
     ensures answers { IfOk result (λ answer.
         AnswersCopy answer device.entry flash.entry copying.entry.image copying.entry.side
         (H.input host.old) (H.file host.old) (H.file host.new copying.entry.out.now)
@@ -74,21 +74,21 @@ pub fn perform<'a, H: Host, O: Write>(
         return Err(Refusal::NoImage(copying.image));
     }
     let bytes = read_flash(alloc, flash, map, Access::Read, host)?;
-    refuse_input(host, copying.out, device)?;
-    refuse_input(host, copying.out, flash)?;
+    refuse_input(alloc, host, copying.out, device)?;
+    refuse_input(alloc, host, copying.out, flash)?;
     let copied = copy::<Brand, _>(alloc, Blank::new(2), map, bytes, copying, host)?;
     tell_copied(alloc, copied, out)
 }
 
 /// Copies the image that a slot of a flash of these bytes begins with into a file.
-fn copy<'a, L: Ledger, H: Host>(
+fn copy<L: Ledger, H: Host>(
     alloc: Global,
     blank: Blank,
     map: &SectorMap,
     bytes: Vec<u8>,
-    copying: Copying<'a>,
+    copying: Copying<'_>,
     host: &mut H,
-) -> Result<Copied, Refusal<'a>>
+) -> Result<Copied, Refusal>
     requires name { blank.name ≡ L.name }
     requires parts { blank.parts ≡ L.parts }
     requires two { L.parts ≡ 2 }
@@ -138,11 +138,7 @@ fn image_length<F: Flash>(
 }
 
 /// Writes to `out` what came of copying. Of an image that is copied it takes no memory to tell.
-fn tell_copied<'a, O: Write>(
-    alloc: Global,
-    copied: Copied,
-    out: &mut O,
-) -> Result<Answer, Refusal<'a>>
+fn tell_copied<O: Write>(alloc: Global, copied: Copied, out: &mut O) -> Result<Answer, Refusal>
     ensures told { IfOk result (λ answer.
         AnswersCopied answer copied (O.contents out.old) (O.contents out.new)) }
     ensures late { copied ≡ Copied.Done → IfErr result (λ refusal. refusal ≡ Refusal.CannotWrite) }

@@ -7,11 +7,12 @@ use command_ends::{FlashFault, Host, Refusal, Source, SourceFault};
 use std::alloc::Global;
 
 /// Refuses an image whose file is what is read here, by whatever name.
-pub fn refuse_input<'a, H: Host>(
+pub fn refuse_input<H: Host>(
+    alloc: Global,
     host: &H,
-    image: &'a str,
+    image: &str,
     source: Source<'_>,
-) -> Result<(), Refusal<'a>> {
+) -> Result<(), Refusal> {
     let Source::File(name) = source else {
         return Ok(());
     };
@@ -21,17 +22,17 @@ pub fn refuse_input<'a, H: Host>(
     match host.is_same_file(name, image) {
         Ok(false) => Ok(()),
         Ok(true) => Err(Refusal::ImageIsInput),
-        Err(_) => Err(Source::File(image).refused(SourceFault::CannotReplace)),
+        Err(_) => Err(Source::File(image).refused(alloc, SourceFault::CannotReplace)),
     }
 }
 
 /// Makes or replaces the file of an image.
-pub fn replace<'a, H: Host>(
+pub fn replace<H: Host>(
     alloc: Global,
-    name: &'a str,
+    name: &str,
     bytes: &[u8],
     host: &mut H,
-) -> Result<(), Refusal<'a>>
+) -> Result<(), Refusal>
     ensures done { OnOk result (IsKnownAs (H.file host.new name.now) bytes.now) }
     ensures failed { IfErr result (λ _. KeepsFiles (H.file host.old) (H.file host.new)) }
 {
@@ -40,7 +41,7 @@ pub fn replace<'a, H: Host>(
         Err(FlashFault::InUse) => Err(Refusal::ImageInUse),
         Err(FlashFault::NoMemory) => Err(Refusal::NoMemory),
         Err(FlashFault::WrongLength | FlashFault::Failed(_)) => {
-            Err(Source::File(name).refused(SourceFault::CannotReplace))
+            Err(Source::File(name).refused(alloc, SourceFault::CannotReplace))
         }
     }
 }

@@ -25,12 +25,12 @@ const USUAL_TRIAL_BOOTS: u8 = 1;
 /// The texts are made in memory of `alloc` before one is written, and the device file is read back,
 /// for which its JSON value stands there too. What is written is flushed, so that
 /// nothing is told of a file that couldn't be written.
-pub fn perform<'a, O: Write, E: Write>(
+pub fn perform<O: Write, E: Write>(
     alloc: Global,
     asked: &NewDevice<'_>,
     out: &mut O,
     err: &mut E,
-) -> Result<Answer, Refusal<'a>>
+) -> Result<Answer, Refusal>
     ensures { IfOk result (λ answer.
         AnswersNewDevice answer asked.now (O.contents out.old) (O.contents out.new)) }
 {
@@ -55,11 +55,7 @@ pub fn perform<'a, O: Write, E: Write>(
 }
 
 /// Writes to `out` why sizes make no map.
-fn refuse_sizes<'a, O: Write>(
-    alloc: Global,
-    fault: MapError,
-    out: &mut O,
-) -> Result<(), Refusal<'a>>
+fn refuse_sizes<O: Write>(alloc: Global, fault: MapError, out: &mut O) -> Result<(), Refusal>
     ensures { OnOk result (Appends (O.contents out.old) (O.contents out.new)
         (map_refusal_text fault)) }
 {
@@ -121,7 +117,7 @@ fn write_list(text: &mut String, numbers: &[u32]) -> Result<(), AllocError> {
 ///
 /// The text that is made of a device is its device file, so that this refuses for want of memory
 /// alone. Nothing is proved of how it is made, but that what is read back is the device.
-fn expect_file<'a>(alloc: Global, text: &[u8], device: &DeviceFile) -> Result<(), Refusal<'a>>
+fn expect_file(alloc: Global, text: &[u8], device: &DeviceFile) -> Result<(), Refusal>
     ensures { OnOk result (IsDeviceFile text.now device.now) }
 {
     match DeviceFile::read(alloc, text) {

@@ -24,14 +24,14 @@ const USUAL_HEADER_SIZE: u16 = 32;
 ///
 /// The image is made before its file is touched, which isn't that of the body. Unless the answer is
 /// `Done`, or can't be written, the file is as it was.
-pub fn perform<'a, H: Host, O: Write>(
+pub fn perform<H: Host, O: Write>(
     alloc: Global,
-    image: &'a str,
-    body: Source<'a>,
+    image: &str,
+    body: Source<'_>,
     asked: &NewImage,
     host: &mut H,
     out: &mut O,
-) -> Result<Answer, Refusal<'a>>
+) -> Result<Answer, Refusal>
     ensures answers { IfOk result (λ answer. AnswersNewImage answer body.entry asked.now
         (H.input host.old) (H.file host.old) (H.file host.new image.now)
         (O.contents out.old) (O.contents out.new)) }
@@ -40,19 +40,19 @@ pub fn perform<'a, H: Host, O: Write>(
 {
     let source = body;
     let body = source.read(alloc, host, MOST_FILE)?;
-    refuse_input(host, image, source)?;
+    refuse_input(alloc, host, image, source)?;
     make(alloc, image, asked, &body, host, out)
 }
 
 /// Makes the image that is asked for, with this body, and then makes or replaces its file.
-fn make<'a, H: Host, O: Write>(
+fn make<H: Host, O: Write>(
     alloc: Global,
-    image: &'a str,
+    image: &str,
     asked: &NewImage,
     body: &[u8],
     host: &mut H,
     out: &mut O,
-) -> Result<Answer, Refusal<'a>>
+) -> Result<Answer, Refusal>
     ensures made { IfOk result (λ answer. AnswersMade answer asked.now body.now
         (H.file host.new image.now) (O.contents out.old) (O.contents out.new)) }
     ensures kept { EndsUnmade result → KeepsFiles (H.file host.old) (H.file host.new) }
@@ -107,7 +107,7 @@ fn slices_of<'g>(
 }
 
 /// Writes to `out` why there is no image.
-fn refuse<'a, O: Write>(alloc: Global, fault: MakeError, out: &mut O) -> Result<(), Refusal<'a>>
+fn refuse<O: Write>(alloc: Global, fault: MakeError, out: &mut O) -> Result<(), Refusal>
     ensures { OnOk result (Appends (O.contents out.old) (O.contents out.new) (fault_text fault)) }
 {
     let Ok(text) = fault_text(alloc, fault) else {

@@ -33,14 +33,14 @@ use std::io::Write;
 /// stand too, as does the flash, and read back before it is written, for which its JSON value stands
 /// there. What is written is flushed, so that nothing is told of a manifest
 /// that couldn't be written.
-pub fn perform<'a, H: Host, O: Write, E: Write>(
+pub fn perform<H: Host, O: Write, E: Write>(
     alloc: Global,
-    device: Source<'a>,
-    asked: &NewManifest<'a>,
+    device: Source<'_>,
+    asked: &NewManifest<'_>,
     host: &mut H,
     out: &mut O,
     err: &mut E,
-) -> Result<Answer, Refusal<'a>>
+) -> Result<Answer, Refusal>
     ensures { IfOk result (λ answer. AnswersNewManifest answer device.entry asked.now
         (H.input host.old) (H.file host.old) (O.contents out.old) (O.contents out.new)) }
 {
@@ -105,15 +105,15 @@ pub(crate) fn is_named(asked: &[NewComponent<'_>], image: u8) -> bool
 
 /// Reads the files that may come, and writes to `out` the manifest that lets them come where these
 /// images run, and to `err` which of them the device, or its next boot, will not take.
-fn write_manifest<'a, H: Host, O: Write, E: Write>(
+fn write_manifest<H: Host, O: Write, E: Write>(
     alloc: Global,
     device: &DeviceFile,
-    asked: &NewManifest<'a>,
+    asked: &NewManifest<'_>,
     running: Running,
     host: &mut H,
     out: &mut O,
     err: &mut E,
-) -> Result<(), Refusal<'a>>
+) -> Result<(), Refusal>
     requires same { length running.digests.items ≡ length asked.now.components.items }
     requires there { HaveImages device.now.map.images asked.now.components.items }
     ensures { OnOk result (Writes device.now asked.now running.digests.items
@@ -142,12 +142,12 @@ fn write_manifest<'a, H: Host, O: Write, E: Write>(
 ///
 /// The text that is made of a manifest is that manifest, so that this refuses for want of memory
 /// alone. Nothing is proved of how it is made, but that what is read back is the manifest.
-fn expect_manifest<'a>(
+fn expect_manifest(
     alloc: Global,
     text: &[u8],
     identity: &Identity,
     manifest: &Manifest,
-) -> Result<(), Refusal<'a>>
+) -> Result<(), Refusal>
     ensures { OnOk result (IsReadBack identity.now text.now manifest.now) }
 {
     match Manifest::read(alloc, text, identity) {
@@ -158,7 +158,7 @@ fn expect_manifest<'a>(
 }
 
 /// Writes to `out` why there is no manifest, by the number and the name of the refusal.
-fn refuse<'a, O: Write>(alloc: Global, fault: ManifestError, out: &mut O) -> Result<(), Refusal<'a>>
+fn refuse<O: Write>(alloc: Global, fault: ManifestError, out: &mut O) -> Result<(), Refusal>
     ensures { OnOk result (Appends (O.contents out.old) (O.contents out.new)
         (refused_text (code_of fault) (name_of fault))) }
 {
@@ -176,7 +176,7 @@ fn fault_text(alloc: Global, fault: ManifestError) -> Result<String, AllocError>
 }
 
 /// Writes to `out` that no intact image of this number runs.
-fn refuse_running<'a, O: Write>(alloc: Global, image: u8, out: &mut O) -> Result<(), Refusal<'a>>
+fn refuse_running<O: Write>(alloc: Global, image: u8, out: &mut O) -> Result<(), Refusal>
     ensures { OnOk result (Appends (O.contents out.old) (O.contents out.new)
         (refused_fault_text (RunningDamaged image))) }
 {

@@ -17,15 +17,15 @@ use tlv::{Desc, ImageError, describe};
 /// The components of a manifest for these files, which are read from `host` one after the other
 /// into memory of `alloc`, where these images have to run. Adds to `notes` which files a device with
 /// this map will not take, and requests them in `table`, where there is one.
-pub fn read_components<'a, H: Host>(
+pub fn read_components<H: Host>(
     alloc: Global,
     map: &SectorMap,
-    asked: &[NewComponent<'a>],
+    asked: &[NewComponent<'_>],
     precursors: &[Option<[u8; 32]>],
     host: &mut H,
     table: &mut Option<Table>,
     notes: &mut String,
-) -> Result<ArrayVec<Component, MOST_COMPONENTS>, Refusal<'a>>
+) -> Result<ArrayVec<Component, MOST_COMPONENTS>, Refusal>
     requires same { length precursors.now ≡ length asked.now }
     requires there { HaveImages map.now.images asked.now }
     ensures { IfOk result (λ components. ReadsComponents asked.now precursors.now
@@ -44,15 +44,15 @@ pub fn read_components<'a, H: Host>(
 }
 
 /// The component for this file, which is read from `host`, where this image has to run.
-fn read_component<'a, H: Host>(
+fn read_component<H: Host>(
     alloc: Global,
     map: &SectorMap,
-    asked: &NewComponent<'a>,
+    asked: &NewComponent<'_>,
     precursor: Option<[u8; 32]>,
     host: &mut H,
     table: &mut Option<Table>,
     notes: &mut String,
-) -> Result<Component, Refusal<'a>>
+) -> Result<Component, Refusal>
     requires { asked.now.image < map.now.images }
     ensures { IfOk result (ReadsComponent asked.now precursor (H.input host.old) (H.file host.old)
         (H.input host.new) (H.file host.new)) }
@@ -60,7 +60,7 @@ fn read_component<'a, H: Host>(
     let source = Source::named(asked.file);
     let file = source.read(alloc, host, MOST_FILE)?;
     let Ok(size) = u32::try_from(file.len()) else {
-        return Err(source.refused(SourceFault::TooLong(MOST_FILE)));
+        return Err(source.refused(alloc, SourceFault::TooLong(MOST_FILE)));
     };
     let described = describe(&file);
     if write_notes(notes, map, asked.image, source, &file, &described).is_err() {

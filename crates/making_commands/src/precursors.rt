@@ -45,12 +45,12 @@ pub enum Precursors {
 /// # Errors
 /// `Manifest` where more files are asked for than a manifest has components; those of
 /// [`read_flash`] where the flash can't be had.
-pub fn read_precursors<'a, H: Host>(
+pub fn read_precursors<H: Host>(
     alloc: Global,
     map: &SectorMap,
-    asked: &NewManifest<'a>,
+    asked: &NewManifest<'_>,
     host: &mut H,
-) -> Result<Precursors, Refusal<'a>>
+) -> Result<Precursors, Refusal>
     requires there { HaveImages map.now.images asked.now.components.items }
     ensures { IfOk result (ReadsPrecursors map.now asked.now (H.input host.old) (H.file host.old)
         (H.input host.new) (H.file host.new)) }
@@ -64,7 +64,7 @@ pub fn read_precursors<'a, H: Host>(
 }
 
 /// No image has to run, for any of these files.
-fn any_precursors<'a>(asked: &[NewComponent<'_>]) -> Result<Precursors, Refusal<'a>>
+fn any_precursors(asked: &[NewComponent<'_>]) -> Result<Precursors, Refusal>
     ensures { IfOk result (FindsNone asked.now) }
 {
     let mut digests = ArrayVec::new();
@@ -79,13 +79,13 @@ fn any_precursors<'a>(asked: &[NewComponent<'_>]) -> Result<Precursors, Refusal<
 }
 
 /// The images that run on a flash of these bytes, for each of these files.
-fn precursors_in<'a, L: Ledger>(
+fn precursors_in<L: Ledger>(
     alloc: Global,
     blank: Blank,
     map: &SectorMap,
     bytes: Vec<u8>,
     asked: &[NewComponent<'_>],
-) -> Result<Precursors, Refusal<'a>>
+) -> Result<Precursors, Refusal>
     requires name { blank.name ≡ L.name }
     requires parts { blank.parts ≡ L.parts }
     requires two { L.parts ≡ 2 }
@@ -98,11 +98,11 @@ fn precursors_in<'a, L: Ledger>(
 }
 
 /// The images that run on a flash that has power, for each of these files.
-fn precursors_on<'a, F: Flash>(
+fn precursors_on<F: Flash>(
     flash: &mut F,
     map: &SectorMap,
     asked: &[NewComponent<'_>],
-) -> Result<Precursors, Refusal<'a>>
+) -> Result<Precursors, Refusal>
     requires laid_out { IsLaidOut map.now (F.chip flash.old) }
     requires there { HaveImages map.now.images asked.now }
     requires on { (F.chip flash.old).is_on ≡ true }

@@ -7,7 +7,7 @@ use command_ends::Refusal;
 use std::io::Write;
 
 /// Writes a text, and flushes it.
-pub fn tell<'a, W: Write>(text: &[u8], to: &mut W) -> Result<(), Refusal<'a>>
+pub fn tell<W: Write>(text: &[u8], to: &mut W) -> Result<(), Refusal>
     ensures told { OnOk result (Appends (W.contents to.old) (W.contents to.new) text.now) }
     ensures untold { IfErr result (λ refusal. refusal ≡ Refusal.CannotWrite) }
 {

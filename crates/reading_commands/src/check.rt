@@ -11,13 +11,13 @@ use std::io::Write;
 
 /// Reads both texts from `host` into memory of `alloc`, and writes the verdict to `out`. The table
 /// is judged before the report is read.
-pub fn perform<'a, H: Host, O: Write>(
+pub fn perform<H: Host, O: Write>(
     alloc: Global,
-    table: Source<'a>,
-    report: Source<'a>,
+    table: Source<'_>,
+    report: Source<'_>,
     host: &mut H,
     out: &mut O,
-) -> Result<Answer, Refusal<'a>>
+) -> Result<Answer, Refusal>
     ensures { IfOk result (λ answer. AnswersCheck answer table.entry report.entry
         (H.input host.old) (H.file host.old) (O.contents out.old) (O.contents out.new)) }
 {

@@ -10,12 +10,12 @@ use std::io::Write;
 
 /// Reads a table from `host` into memory of `alloc`, and writes the report of the choice over it to
 /// `out`.
-pub fn perform<'a, H: Host, O: Write>(
+pub fn perform<H: Host, O: Write>(
     alloc: Global,
-    table: Source<'a>,
+    table: Source<'_>,
     host: &mut H,
     out: &mut O,
-) -> Result<Answer, Refusal<'a>>
+) -> Result<Answer, Refusal>
     ensures { IfOk result (λ answer. AnswersChoice answer table.entry
         (H.input host.old) (H.file host.old) (O.contents out.old) (O.contents out.new)) }
 {
@@ -25,7 +25,7 @@ pub fn perform<'a, H: Host, O: Write>(
         ChooseEnd::BadLine(line) => Err(Refusal::TableLine(line)),
         ChooseEnd::NotValid => Err(Refusal::NotValid),
         ChooseEnd::NoMemory => Err(Refusal::NoMemory),
-        ChooseEnd::ReadFailed => Err(table.refused(SourceFault::CannotRead)),
+        ChooseEnd::ReadFailed => Err(table.refused(alloc, SourceFault::CannotRead)),
         ChooseEnd::WriteFailed => Err(Refusal::CannotWrite),
     }
 }

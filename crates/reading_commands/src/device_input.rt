@@ -15,12 +15,12 @@ use std::io::Write;
 /// The device of a device file, which is read from `host` into memory of `alloc`, where what it is
 /// as a JSON value stands too. There is none where its sizes make no map: then
 /// `out` is told why.
-pub fn read_device<'a, H: Host, O: Write>(
+pub fn read_device<H: Host, O: Write>(
     alloc: Global,
-    device: Source<'a>,
+    device: Source<'_>,
     host: &mut H,
     out: &mut O,
-) -> Result<Option<DeviceFile>, Refusal<'a>>
+) -> Result<Option<DeviceFile>, Refusal>
     ensures read { IfOk result (λ read. ReadsDevice read device.entry
         (H.input host.old) (H.file host.old) (O.contents out.old) (O.contents out.new)) }
     ensures others { KeepsOthers device.entry (H.input host.old) (H.file host.old)
@@ -42,7 +42,7 @@ pub fn read_device<'a, H: Host, O: Write>(
 }
 
 /// Writes to `out` why the sizes of a device file make no map.
-fn tell_map<'a, O: Write>(alloc: Global, fault: MapError, out: &mut O) -> Result<(), Refusal<'a>>
+fn tell_map<O: Write>(alloc: Global, fault: MapError, out: &mut O) -> Result<(), Refusal>
     ensures { IfOk result (λ _. Appends (O.contents out.old) (O.contents out.new)
         (map_refusal_text fault)) }
 {
@@ -57,13 +57,13 @@ fn tell_map<'a, O: Write>(alloc: Global, fault: MapError, out: &mut O) -> Result
 
 /// The bytes of a device's flash, which are as many as its map says, from `host`, in memory of
 /// `alloc`. A file of a flash is opened for `access`, and held from then on.
-pub fn read_flash<'a, H: Host>(
+pub fn read_flash<H: Host>(
     alloc: Global,
-    flash: Source<'a>,
+    flash: Source<'_>,
     map: &SectorMap,
     access: Access,
     host: &mut H,
-) -> Result<Vec<u8>, Refusal<'a>>
+) -> Result<Vec<u8>, Refusal>
     ensures bytes { IfOk result (λ bytes.
         Gives flash.entry (H.input host.old) (H.file host.old) bytes.items) }
     ensures whole { IfOk result (λ bytes. IsFlashOf map.now bytes.items) }
@@ -81,13 +81,13 @@ pub fn read_flash<'a, H: Host>(
 }
 
 /// The bytes of the file of a device's flash, which is opened and held.
-fn open_flash<'a, H: Host>(
+fn open_flash<H: Host>(
     alloc: Global,
-    name: &'a str,
+    name: &str,
     map: &SectorMap,
     access: Access,
     host: &mut H,
-) -> Result<Vec<u8>, Refusal<'a>>
+) -> Result<Vec<u8>, Refusal>
     ensures bytes { IfOk result (λ bytes. IsKnownAs (H.file host.old name.entry.now) bytes.items) }
     ensures files { KeepsFiles (H.file host.old) (H.file host.new) }
     ensures input { Keeps (H.input host.old) (H.input host.new) }
@@ -97,6 +97,6 @@ fn open_flash<'a, H: Host>(
             FlashFault::InUse => Refusal::FlashInUse,
             FlashFault::WrongLength => Refusal::FlashSize,
             FlashFault::NoMemory => Refusal::NoMemory,
-            FlashFault::Failed(_) => Source::File(name).refused(SourceFault::CannotRead),
+            FlashFault::Failed(_) => Source::File(name).refused(alloc, SourceFault::CannotRead),
         })
 }

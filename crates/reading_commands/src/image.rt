@@ -9,12 +9,12 @@ use std::io::Write;
 
 /// Reads an image from `host` into memory of `alloc`, and writes to `out` what it says of itself, or
 /// the first check that fails.
-pub fn perform<'a, H: Host, O: Write>(
+pub fn perform<H: Host, O: Write>(
     alloc: Global,
-    image: Source<'a>,
+    image: Source<'_>,
     host: &mut H,
     out: &mut O,
-) -> Result<Answer, Refusal<'a>>
+) -> Result<Answer, Refusal>
     ensures { IfOk result (λ answer. AnswersDescription answer image.entry
         (H.input host.old) (H.file host.old) (O.contents out.old) (O.contents out.new)) }
 {

@@ -13,13 +13,13 @@ use std::io::Write;
 /// the manifest says to the device, or why it is none for it. What the files are as JSON values
 /// stands there too. The device file is judged before the manifest is read: where its
 /// sizes make no map, that is written.
-pub fn perform<'a, H: Host, O: Write>(
+pub fn perform<H: Host, O: Write>(
     alloc: Global,
-    device: Source<'a>,
-    file: Source<'a>,
+    device: Source<'_>,
+    file: Source<'_>,
     host: &mut H,
     out: &mut O,
-) -> Result<Answer, Refusal<'a>>
+) -> Result<Answer, Refusal>
     ensures { IfOk result (λ answer. AnswersManifest answer device.entry file.entry
         (H.input host.old) (H.file host.old) (O.contents out.old) (O.contents out.new)) }
 {

@@ -13,13 +13,13 @@ use std::sync::ledger::Blank;
 /// Reads a device file and the bytes of the device's flash from `host` into memory of `alloc`, and
 /// writes to `out` what stands in its slots, and what the next boot would decide. The device file is judged before the flash is read: where its sizes make no map, that is
 /// written. Nothing is changed.
-pub fn perform<'a, H: Host, O: Write>(
+pub fn perform<H: Host, O: Write>(
     alloc: Global,
-    device: Source<'a>,
-    flash: Source<'a>,
+    device: Source<'_>,
+    flash: Source<'_>,
     host: &mut H,
     out: &mut O,
-) -> Result<Answer, Refusal<'a>>
+) -> Result<Answer, Refusal>
     ensures { IfOk result (λ answer. AnswersSlots answer device.entry flash.entry
         (H.input host.old) (H.file host.old) (O.contents out.old) (O.contents out.new)) }
 {

@@ -18,7 +18,7 @@ pub enum Text {
 impl Text {
     /// Why bytes are no such text, by the first line that none goes on from; none where they are
     /// one.
-    fn fault<'a>(self, bytes: &[u8]) -> Option<Refusal<'a>> {
+    fn fault(self, bytes: &[u8]) -> Option<Refusal> {
         match self {
             Text::Table => match Table::parse(bytes) {
                 Ok(_) => None,
@@ -38,12 +38,12 @@ impl Text {
 /// # Errors
 /// `TableLine` or `ReportLine` for the first line that is wrong of a text that is too long;
 /// `CannotRead` where it can't be read; `NoMemory`.
-pub fn read_text<'a, H: Host>(
+pub fn read_text<H: Host>(
     alloc: Global,
     text: Text,
-    source: Source<'a>,
+    source: Source<'_>,
     host: &mut H,
-) -> Result<Vec<u8>, Refusal<'a>>
+) -> Result<Vec<u8>, Refusal>
     ensures bytes { IfOk result (λ bytes.
         Gives source.entry (H.input host.old) (H.file host.old) bytes.items) }
     ensures others { KeepsOthers source.entry (H.input host.old) (H.file host.old)
@@ -55,6 +55,6 @@ pub fn read_text<'a, H: Host>(
     }
     match text.fault(&start) {
         Some(fault) => Err(fault),
-        None => Err(source.refused(SourceFault::TooLong(MOST_TABLE))),
+        None => Err(source.refused(alloc, SourceFault::TooLong(MOST_TABLE))),
     }
 }

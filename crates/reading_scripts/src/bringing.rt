@@ -25,7 +25,7 @@ pub struct Sources<'a, 'r, 'k, H> {
     pub kept: &'k [Kept<'a>],
 }
 
-impl<'a, H: Host> Sources<'a, '_, '_, H> {
+impl<H: Host> Sources<'_, '_, '_, H> {
     /// The event that the line of this number says, with the bytes of its file. `used` counts what
     /// was used of what was kept.
     ///
@@ -36,8 +36,8 @@ impl<'a, H: Host> Sources<'a, '_, '_, H> {
         &self,
         used: &mut usize,
         number: usize,
-        event: Event<FileText<'a>>,
-    ) -> Result<Event<Vec<u8>>, Refusal<'a>>
+        event: Event<FileText<'_>>,
+    ) -> Result<Event<Vec<u8>>, Refusal>
         ensures brought { IfOk result (λ read.
             Brings self.now.kept.now (H.file self.now.host.now)
             (λ known after. Comes (event_map said_file event.entry) known (came_of read) after)) }
@@ -65,8 +65,8 @@ impl<'a, H: Host> Sources<'a, '_, '_, H> {
         &self,
         used: &mut usize,
         number: usize,
-        file: FileText<'a>,
-    ) -> Result<Vec<u8>, Refusal<'a>>
+        file: FileText<'_>,
+    ) -> Result<Vec<u8>, Refusal>
         ensures brought { IfOk result (λ bytes.
             Brings self.now.kept.now (H.file self.now.host.now)
             (ReadsFile (said_file file.entry) bytes.items)) }
@@ -100,12 +100,12 @@ fn is_same_text(one: FileText<'_>, other: FileText<'_>) -> bool
 
 /// What the line of this number names of a file that isn't standard input: a part of it, or all. Of
 /// a file no other part is read.
-pub fn piece_of<'a, H: Host>(
+pub fn piece_of<H: Host>(
     alloc: Global,
     host: &H,
     number: usize,
-    file: FileText<'a>,
-) -> Result<Vec<u8>, Refusal<'a>>
+    file: FileText<'_>,
+) -> Result<Vec<u8>, Refusal>
     ensures read { IfOk result (λ bytes.
         ReadsNow (said_file file.entry) bytes.items (H.file host.now)) }
     ensures refused { IfErr result (λ refusal. status_of_refusal refusal ≡ 1) }
@@ -118,29 +118,29 @@ pub fn piece_of<'a, H: Host>(
 }
 
 /// All bytes of a file, which isn't standard input.
-fn whole_file<'a, H: Host>(alloc: Global, host: &H, name: &'a str) -> Result<Vec<u8>, Refusal<'a>>
+fn whole_file<H: Host>(alloc: Global, host: &H, name: &str) -> Result<Vec<u8>, Refusal>
     ensures bytes { IfOk result (λ bytes. IsKnownAs (H.file host.now name.now) bytes.items) }
     ensures refused { IfErr result (λ refusal. status_of_refusal refusal ≡ 1) }
 {
     let source = Source::File(name);
     match host.read_again(alloc, name, MOST_FILE) {
         Ok(bytes) if bytes.len() > MOST_FILE as usize => {
-            Err(source.refused(SourceFault::TooLong(MOST_FILE)))
+            Err(source.refused(alloc, SourceFault::TooLong(MOST_FILE)))
         }
         Ok(bytes) => Ok(bytes),
-        Err(error) => Err(source.refusal(error)),
+        Err(error) => Err(source.refusal(alloc, error)),
     }
 }
 
 /// The part of a file, which isn't standard input, that the line of this number names. The file is
 /// read also where the words are no numbers, so that one that can't be read is told first.
-fn file_part<'a, H: Host>(
+fn file_part<H: Host>(
     alloc: Global,
     host: &H,
     number: usize,
-    name: &'a str,
+    name: &str,
     part: PartText<'_>,
-) -> Result<Vec<u8>, Refusal<'a>>
+) -> Result<Vec<u8>, Refusal>
     requires { name.now ≢ codes "-" }
     ensures read { IfOk result (λ piece.
         ReadsNow (file_of name.now (Some (part_words part.entry))) piece.items (H.file host.now)) }
@@ -157,30 +157,30 @@ fn file_part<'a, H: Host>(
 }
 
 /// So many bytes of a file from that number on, if it has them.
-fn part_at<'a, H: Host>(
+fn part_at<H: Host>(
     alloc: Global,
     host: &H,
-    name: &'a str,
+    name: &str,
     from: usize,
     count: usize,
-) -> Result<Option<Vec<u8>>, Refusal<'a>>
+) -> Result<Option<Vec<u8>>, Refusal>
     ensures part { IfOk result (λ read. IfSome read (λ part.
         IsKnownPart (H.file host.now name.now) from count part.items)) }
     ensures refused { IfErr result (λ refusal. status_of_refusal refusal ≡ 1) }
 {
     match host.read_part(alloc, name, from, count) {
         Ok(part) => Ok(part),
-        Err(error) => Err(Source::File(name).refusal(error)),
+        Err(error) => Err(Source::File(name).refusal(alloc, error)),
     }
 }
 
 /// The part of what was read that the line of this number names, or all of it.
-pub fn part_of<'a>(
+pub fn part_of(
     alloc: Global,
     number: usize,
     bytes: Vec<u8>,
     part: Option<PartText<'_>>,
-) -> Result<Vec<u8>, Refusal<'a>>
+) -> Result<Vec<u8>, Refusal>
     ensures { IfOk result (λ piece.
         IsPieceOf (option_map part_words part.entry) bytes.items piece.items) }
 {

@@ -60,7 +60,7 @@ pub fn judge<'a, H: Host>(
     flash: Option<&str>,
     is_input_read: bool,
     host: &mut H,
-) -> Result<Judged<'a>, Refusal<'a>>
+) -> Result<Judged<'a>, Refusal>
     ensures cuts { IfOk result (λ judged. AreCutsOf text.now (armed_in judged.cuts.items)) }
     ensures kept { IfOk result (λ judged.
         AreKept judged.kept.items (H.input host.old) (H.file host.old)) }
@@ -87,7 +87,7 @@ fn judge_line<'a, H: Host>(
     host: &mut H,
     number: usize,
     line: Line<'a>,
-) -> Result<(), Refusal<'a>>
+) -> Result<(), Refusal>
     ensures cuts { OnOk result (AddsCut (said line.entry)
         (armed_in judged.old.cuts.items) (armed_in judged.new.cuts.items)) }
     ensures kept { OnOk result (KeepsKept judged.old.kept.items judged.new.kept.items
@@ -108,7 +108,7 @@ fn judge_line<'a, H: Host>(
 }
 
 /// The cut that a line says.
-fn cut_of<'a>(alloc: Global, write: u32, torn: TornText<'_>) -> Result<Cut, Refusal<'a>>
+fn cut_of(alloc: Global, write: u32, torn: TornText<'_>) -> Result<Cut, Refusal>
     ensures { IfOk result (λ cut. IsCutBy write (said_torn torn.entry) (armed_of cut)) }
 {
     match torn.torn(alloc) {
@@ -118,7 +118,7 @@ fn cut_of<'a>(alloc: Global, write: u32, torn: TornText<'_>) -> Result<Cut, Refu
 }
 
 /// Adds a cut to those before.
-fn take_cut<'a>(cuts: &mut Vec<Cut>, cut: Cut) -> Result<(), Refusal<'a>>
+fn take_cut(cuts: &mut Vec<Cut>, cut: Cut) -> Result<(), Refusal>
     ensures { OnOk result (cuts.new.items ≡ cuts.old.items ++ cut ∷ []) }
 {
     match cuts.push(cut) {
@@ -143,7 +143,7 @@ fn judge_file<'a, H: Host>(
     host: &mut H,
     number: usize,
     file: FileText<'a>,
-) -> Result<(), Refusal<'a>>
+) -> Result<(), Refusal>
     ensures cuts { judged.new.cuts.items ≡ judged.old.cuts.items }
     ensures kept { OnOk result (KeepsKept judged.old.kept.items judged.new.kept.items
         judged.old.is_input_read judged.new.is_input_read
@@ -166,7 +166,7 @@ fn judge_file<'a, H: Host>(
 }
 
 /// Adds what is kept of a line to what was kept before.
-fn keep<'a>(kept: &mut Vec<Kept<'a>>, one: Kept<'a>) -> Result<(), Refusal<'a>>
+fn keep<'a>(kept: &mut Vec<Kept<'a>>, one: Kept<'a>) -> Result<(), Refusal>
     ensures { OnOk result (kept.new.items ≡ kept.old.items ++ one.entry ∷ []) }
 {
     match kept.push(one) {
@@ -176,13 +176,13 @@ fn keep<'a>(kept: &mut Vec<Kept<'a>>, one: Kept<'a>) -> Result<(), Refusal<'a>>
 }
 
 /// What the line of this number names of standard input, which wasn't read before.
-fn input_part<'a, H: Host>(
+fn input_part<H: Host>(
     alloc: Global,
     is_read: &mut bool,
     host: &mut H,
     number: usize,
-    file: FileText<'a>,
-) -> Result<Vec<u8>, Refusal<'a>>
+    file: FileText<'_>,
+) -> Result<Vec<u8>, Refusal>
     ensures first { OnOk result (is_read.old ≡ false) }
     ensures read { OnOk result (is_read.new ≡ true) }
     ensures piece { IfOk result (λ piece. IsInputPiece (option_map part_words file.entry.part)

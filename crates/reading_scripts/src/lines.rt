@@ -37,7 +37,7 @@ impl<'a> Lines<'a> {
     ///
     /// # Errors
     /// `ScriptLine` where the line is none of a script, or stands where it may not.
-    pub fn next_line(&mut self) -> Result<Line<'a>, Refusal<'a>>
+    pub fn next_line(&mut self) -> Result<Line<'a>, Refusal>
         requires { 0 < length self.old.rest.now }
         ensures next { IfOk result (λ line. IsNextLine self.old self.new line) }
         ensures shorter { length self.new.rest.now < length self.old.rest.now }

@@ -17,11 +17,11 @@ use std::alloc::Global;
 /// # Errors
 /// `ScriptLine` where it is too long, with the line that goes past the most; `CannotRead` where it
 /// can't be read; `NoMemory`.
-pub fn read_script<'a, H: Host>(
+pub fn read_script<H: Host>(
     alloc: Global,
-    script: Source<'a>,
+    script: Source<'_>,
     host: &mut H,
-) -> Result<Vec<u8>, Refusal<'a>>
+) -> Result<Vec<u8>, Refusal>
     ensures bytes { IfOk result (λ bytes.
         Gives script.entry (H.input host.old) (H.file host.old) bytes.items) }
     ensures others { KeepsOthers script.entry (H.input host.old) (H.file host.old)
@@ -45,12 +45,12 @@ pub fn read_script<'a, H: Host>(
 ///
 /// # Errors
 /// Those of [`judge`], and `ScriptLine` of the first line where it cuts a write.
-pub fn load<'a, H: Host>(
+pub fn load<H: Host>(
     alloc: Global,
-    text: &'a [u8],
+    text: &[u8],
     is_input_read: bool,
     host: &mut H,
-) -> Result<Vec<Event<Vec<u8>>>, Refusal<'a>>
+) -> Result<Vec<Event<Vec<u8>>>, Refusal>
     ensures { IfOk result (λ events. (known : Known)
         → StaysKnown known (H.input host.old) (H.file host.old)
         → IsScript text.now known [] (came_in events.items)) }
@@ -69,10 +69,10 @@ pub fn load<'a, H: Host>(
 }
 
 /// All events of a script that was judged.
-fn bring_all<'a, H: Host>(
-    text: &'a [u8],
-    sources: &Sources<'a, '_, '_, H>,
-) -> Result<Vec<Event<Vec<u8>>>, Refusal<'a>>
+fn bring_all<H: Host>(
+    text: &[u8],
+    sources: &Sources<'_, '_, '_, H>,
+) -> Result<Vec<Event<Vec<u8>>>, Refusal>
     ensures { IfOk result (λ events. BringsAll text.now sources.now.kept.now
         (H.file sources.now.host.now) (came_in events.items)) }
 {
@@ -89,10 +89,7 @@ fn bring_all<'a, H: Host>(
 }
 
 /// Adds an event to those before.
-fn take_event<'a>(
-    events: &mut Vec<Event<Vec<u8>>>,
-    event: Event<Vec<u8>>,
-) -> Result<(), Refusal<'a>>
+fn take_event(events: &mut Vec<Event<Vec<u8>>>, event: Event<Vec<u8>>) -> Result<(), Refusal>
     ensures { OnOk result (events.new.items ≡ events.old.items ++ event ∷ []) }
 {
     match events.push(event) {

@@ -5,8 +5,8 @@ use Rattle.boot_cli.proofs.OrderLaws.{AnswersOrder-kept}
 pub returns : goal.returns
 returns g c = λ zero.
     let done = c.finish.ensures.status zero in
-    let answered = rw done at c.perform.ensures in
+    let answered = rw done at c.perform-outcome.ensures in
     AnswersOrder-kept c.args.order (g.H.Host.input c.args.host.now) (g.H.Host.file c.args.host.now)
-    (g.H.Host.file c.perform.new.host)
-    (g.O.Write.contents c.args.out.now) (g.O.Write.contents c.perform.new.out) (g.O.Write.contents c.finish.new.out)
+    (g.H.Host.file c.perform-outcome.new.host)
+    (g.O.Write.contents c.args.out.now) (g.O.Write.contents c.perform-outcome.new.out) (g.O.Write.contents c.finish.new.out)
     answered c.finish.ensures.kept

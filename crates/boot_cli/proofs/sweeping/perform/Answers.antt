@@ -19,7 +19,7 @@ returns g c =
     let came = came_in c.in_ok-events.events.items in
     IfOk-weaker c.sweep_images.result _ _
     (λ answer low. AnswersSweep-read answer c.args.named.device c.args.named.script _ _ _ _ _ _ _ _
-    c.in_ok-text.field-0.items came c.in-Some.device read.0 c.in_ok-device.ensures.others
+    c.in_ok-text.text.items came c.in-Some.device read.0 c.in_ok-device.ensures.others
     c.in_ok-text.ensures.bytes c.in_ok-text.ensures.others
     (λ known stays. subst (λ text. IsScript text known [] came) c.deref.ensures.value (c.in_ok-events.ensures known stays))
     low)
