@@ -31,8 +31,8 @@ ASIDE = f"{ROOT}/.git/bootswap-build"
 
 # What is told before a build: as measured on 4 processors, all of them taken.
 COSTS = {
-    "bootswap": "the program: from nothing it takes 55 to 80 minutes of one processor, 1.6 GB of disk",
-    "bootswap_core": "the core of the program: from nothing it takes 40 to 60 minutes of one processor, 1.2 GB of disk",
+    "bootswap": "the program: from nothing it takes 55 to 105 minutes of one processor, 1.6 GB of disk",
+    "bootswap_core": "the core of the program: from nothing it takes 40 to 75 minutes of one processor, 1.2 GB of disk",
     "device_calls": "the library: from nothing it takes 30 to 55 minutes of one processor, 1 GB of disk",
 }
 
