@@ -13,8 +13,14 @@ from program import OUT, NotBuilt, asked_of_rt, build, crates_of, text_of
 WHOLE, CORE = "bootswap", "bootswap_core"
 
 # The commands that the core doesn't have, and the word that it doesn't take.
-OF_WHOLE = ("make-device", "make-image", "make-manifest", "extract", "sweep")
+OF_WHOLE = (
+    *("choose", "check", "image", "manifest", "show", "slots", "codes"),
+    *("make-device", "make-image", "make-manifest", "extract", "sweep"),
+)
 EXPLAIN = "--explain"
+
+# The words that ask for the help of a command, which the core has of all commands.
+HELP = ("--help", "-h")
 
 
 class NoToolchain(NotBuilt):
@@ -22,8 +28,11 @@ class NoToolchain(NotBuilt):
 
 
 def needed_for(words):
-    """Returns the name of the program that the words of a command need at least."""
-    return WHOLE if words[:1] and words[0] in OF_WHOLE or EXPLAIN in words else CORE
+    """Returns the name of the program that the words of a command need at least. Without a word it is `choose`."""
+    command, rest = words[:1], words[1:2]
+    if EXPLAIN in words or not command:
+        return WHOLE
+    return WHOLE if command[0] in OF_WHOLE and rest not in ([it] for it in HELP) else CORE
 
 
 def file_of(name):

@@ -1,4 +1,2 @@
-pub mod DeviceLaws
-pub mod ReplyLaws
 mod SlotLaws
-pub mod TextLaws
+mod TextLaws

@@ -7,7 +7,7 @@ use Rattle.sector_map.specs.declared.layout.SectorMap.{SectorMap}
 use Rattle.set_log.specs.declared.state.State.{State}
 use Rattle.answers.specs.SlotsFound.{AreSlotsOf, AreSlotsUpTo}
 use Rattle.answers.specs.declared.slots_found.ImageSlots.{ImageSlots}
-use Rattle.answers.proofs.TextLaws.{range-more}
+use Rattle.device_texts.proofs.TextLaws.{range-more}
 
 -- those of one image more
 pub AreSlotsUpTo-more : (map : SectorMap) (chip : Chip) (state : State) (n : ℕ) (all : List ImageSlots)

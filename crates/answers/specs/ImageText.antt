@@ -7,7 +7,7 @@ use Rattle.certificate.specs.DependencyText.{needs_one_text, needs_text}
 use Rattle.tlv.specs.declared.desc.Desc.{Desc}
 use Rattle.tlv.specs.declared.error.ImageError.{ImageError}
 use Rattle.tlv.specs.Codes.{code_of, name_of}
-use Rattle.answers.specs.AnswerText.{line_text, refused_text}
+use Rattle.device_texts.specs.AnswerText.{line_text, refused_text}
 use Rattle.answers.specs.declared.image.Described.{Described}
 
 -- The lines of a description whose digest has these digits.

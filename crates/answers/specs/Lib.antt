@@ -1,13 +1,9 @@
-pub mod AnswerText
 pub mod CheckEnd
 pub mod ChooseEnd
 pub mod DescribeEnd
-pub mod DeviceFile
-pub mod FlashOf
 pub mod ImageText
 pub mod ManifestEnd
 pub mod ManifestText
-pub mod ReplyText
 pub mod ShowEnd
 pub mod SlotsEnd
 pub mod SlotsFound

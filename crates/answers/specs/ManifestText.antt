@@ -7,7 +7,7 @@ use Rattle.manifest.specs.declared.manifest.Component.{Component}
 use Rattle.manifest.specs.declared.manifest.Manifest.{Manifest}
 use Rattle.manifest.specs.Codes as manifest
 use Rattle.manifest.specs.Component.{kind_text}
-use Rattle.answers.specs.AnswerText.{line_text, refused_text}
+use Rattle.device_texts.specs.AnswerText.{line_text, refused_text}
 
 -- What follows a component: the digest of the image that has to run, where one is asked for.
 abbrev pub precursor_text : Option (List ℕ) → List ℕ

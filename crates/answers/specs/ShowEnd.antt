@@ -12,7 +12,7 @@ use Rattle.set_log.specs.Log.{state_of}
 use Rattle.machine.specs.declared.error.Fault.TheVariants.{NotProvisioned}
 use Rattle.answers.specs.declared.show.ShowEnd.{ShowEnd}
 use Rattle.answers.specs.declared.show.ShowEnd.TheVariants.{Done, Refused, NoMemory, WriteFailed}
-use Rattle.answers.specs.ReplyText.{refused_fault_text}
+use Rattle.device_texts.specs.ReplyText.{refused_fault_text}
 use Rattle.answers.specs.StateText.{state_text}
 
 -- What the trailers of an image ask of a boot.

@@ -10,9 +10,9 @@ use Rattle.certificate.specs.ReportText.{report_text}
 use Rattle.machine.specs.declared.error.Fault.TheVariants.{InvalidSet, RunningDamaged}
 use Rattle.machine.specs.declared.finding.Finding.{Finding}
 use Rattle.machine.specs.declared.finding.Finding.TheVariants as finding
-use Rattle.answers.specs.AnswerText.{line_text}
+use Rattle.device_texts.specs.AnswerText.{line_text}
 use Rattle.answers.specs.ImageText.{description_text}
-use Rattle.answers.specs.ReplyText.{refused_fault_text}
+use Rattle.device_texts.specs.ReplyText.{refused_fault_text}
 use Rattle.answers.specs.declared.slots_found.ImageSlots.{ImageSlots}
 use Rattle.answers.specs.declared.slots_found.SlotContent.{SlotContent}
 use Rattle.answers.specs.declared.slots_found.SlotContent.TheVariants.{Damaged, Erased, Intact}

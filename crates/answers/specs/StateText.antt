@@ -7,8 +7,8 @@ use Rattle.trailer.specs.declared.kinds.SwapType.TheVariants.{Test, Perm, Revert
 use Rattle.set_log.specs.declared.state.Kind.{Kind}
 use Rattle.set_log.specs.declared.state.Kind.TheVariants.{Steady, Swap, Settle, Trial, Back, BackSettle}
 use Rattle.set_log.specs.declared.state.State.{State}
-use Rattle.answers.specs.AnswerText.{line_text}
-use Rattle.answers.specs.ReplyText.{set_text}
+use Rattle.device_texts.specs.AnswerText.{line_text}
+use Rattle.device_texts.specs.ReplyText.{set_text}
 
 -- What a device is in the midst of.
 abbrev pub kind_text : Kind → List ℕ

@@ -1,8 +1,8 @@
 //! `bootswap check`: whether a report is right for a table.
 ghost use Rattle.answers.specs.CheckEnd.{Judges};
 
-use crate::streams::write_all;
 use certificate::{Report, Table, check};
+use device_texts::write_all;
 use std::io::Write;
 
 /// How a check ended.

@@ -3,9 +3,10 @@ ghost use Rattle.std.specs.Prelude.{◌≢◌, ℕ, List};
 ghost use Rattle.answers.specs.ChooseEnd.{Reads, Writes};
 
 use crate::error::ReadError;
-use crate::streams::{read_all, write_all};
+use crate::reading::read_all;
 use certificate::{Table, is_valid, right_reports_have_a_text};
 use chooser::choose;
+use device_texts::write_all;
 use std::alloc::Global;
 use std::io::{Read, Write};
 

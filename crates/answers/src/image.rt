@@ -6,9 +6,8 @@ ghost use Rattle.answers.specs.ImageText.{described_text, description_text, refu
 ghost use Rattle.certificate.specs.DependencyText.{needs_one_text, needs_text};
 ghost use Rattle.common.specs.Lines.{printed_lines};
 
-use crate::refusals::refused_text;
-use crate::streams::write_all;
 use certificate::{Needs, NeedsOne};
+use device_texts::{refused_text, write_all};
 use std::alloc::{AllocError, Global};
 use std::fmt;
 use std::io::Write;

@@ -5,8 +5,7 @@ ghost use Rattle.answers.specs.ManifestText.{component_text, manifest_text, prec
 ghost use Rattle.answers.specs.ManifestText.{refusal_text};
 ghost use Rattle.manifest.specs.Component.{kind_text};
 
-use crate::refusals::refused_text;
-use crate::streams::write_all;
+use device_texts::{refused_text, write_all};
 use manifest::{Component, Identity, Manifest, ManifestError};
 use std::alloc::{AllocError, Global};
 use std::io::Write;

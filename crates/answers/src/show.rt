@@ -5,14 +5,12 @@ ghost use Rattle.flash_model.specs.Chip.{Chip};
 ghost use Rattle.sector_map.specs.Map.{IsLaidOut};
 ghost use Rattle.set_log.specs.Log.{state_of};
 ghost use Rattle.trailer.specs.Fields.{fields_at, trailer_of};
-ghost use Rattle.answers.specs.FlashOf.{IsFlashOf, flash_of};
+ghost use Rattle.device_texts.specs.FlashOf.{IsFlashOf, flash_of};
 ghost use Rattle.answers.specs.ShowEnd.{Shows, stand_text, swap_type_in};
 ghost use Rattle.answers.specs.StateText.{floor_lines, images_text, kind_text, left_text};
 ghost use Rattle.answers.specs.StateText.{swap_lines, swap_type_text};
 
-use crate::flash::flash_of;
-use crate::replies::{Members, refused_fault_text};
-use crate::streams::write_all;
+use device_texts::{Members, flash_of, refused_fault_text, write_all};
 use flash_model::Flash;
 use machine::Fault;
 use sector_map::{SectorMap, Side};

@@ -2,14 +2,13 @@
 ghost use Rattle.std.specs.Prelude.{◌≡◌, IfOk, string_bytes, true};
 ghost use Rattle.flash_model.specs.Chip.{Chip};
 ghost use Rattle.sector_map.specs.Map.{IsLaidOut};
-ghost use Rattle.answers.specs.FlashOf.{IsFlashOf, flash_of};
+ghost use Rattle.device_texts.specs.FlashOf.{IsFlashOf, flash_of};
 ghost use Rattle.answers.specs.SlotsEnd.{IsListingFor, Lists, is_refused};
 
-use crate::flash::flash_of;
 use crate::show::{stand_text, state_on};
 use crate::slots_found::find_slots;
 use crate::slots_text::write_found;
-use crate::streams::write_all;
+use device_texts::{flash_of, write_all};
 use flash_model::Flash;
 use machine::Finding;
 use sector_map::SectorMap;

@@ -5,8 +5,8 @@ ghost use Rattle.answers.specs.SlotsText.{content_text, decision_text, found_tex
 ghost use Rattle.answers.specs.SlotsText.{moved_text, request_text};
 
 use crate::image::description_text;
-use crate::replies::refused_fault_text;
 use crate::slots_found::{ImageSlots, SlotContent, SlotsFound};
+use device_texts::refused_fault_text;
 use machine::{Fault, Finding};
 use std::alloc::{AllocError, Global};
 use std::fmt;

@@ -3,9 +3,9 @@ use Rattle.std.proofs.Common.{◌≤◌, ℕ, List, [], ◌∷◌, Option, arith
 use Rattle.command_ends.specs.declared.answer.Answer.{Answer}
 use Rattle.command_ends.specs.declared.answer.Answer.TheVariants.{Done, Refused, Cut}
 use Rattle.events.specs.declared.event.Event.{Event}
-use Rattle.answers.specs.declared.device.DeviceFile.{DeviceFile}
+use Rattle.device_texts.specs.declared.device.DeviceFile.{DeviceFile}
 use Rattle.command_ends.specs.declared.source.Source.{Source}
-use Rattle.reading_commands.specs.DeviceInput.{GivesDevice}
+use Rattle.reading_devices.specs.DeviceInput.{GivesDevice}
 use Rattle.command_ends.specs.Input.{FileBytes, Gives, KeepsOthers}
 use Rattle.boot_cli.specs.SweepEnd.{AnswersSweep, SweepsDevice}
 use Rattle.reading_scripts.specs.Script.{IsScript, Known, StaysKnown, known_after}

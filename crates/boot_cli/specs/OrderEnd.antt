@@ -4,12 +4,13 @@ use Rattle.command_line.specs.declared.orders.Order.{Order}
 use Rattle.command_line.specs.declared.orders.Order.TheVariants as order
 use Rattle.command_ends.specs.declared.answer.Answer.{Answer}
 use Rattle.command_ends.specs.declared.source.Source.{Source}
-use Rattle.command_ends.specs.Input.{FileBytes, IsNamed}
+use Rattle.command_ends.specs.Input.{AreNamed, FileBytes, IsNamed}
 use Rattle.making_commands.specs.CopyEnd.{AnswersCopy}
 use Rattle.making_commands.specs.NewDeviceEnd.{AnswersNewDevice}
 use Rattle.making_commands.specs.NewImageEnd.{AnswersNewImage}
 use Rattle.making_commands.specs.NewManifestEnd.{AnswersNewManifest}
-use Rattle.core_cli.specs.CoreEnd.{AnswersCore, AreNamed}
+use Rattle.reading_commands.specs.ReadingEnd.{AnswersReading}
+use Rattle.core_cli.specs.CoreEnd.{AnswersCore}
 use Rattle.boot_cli.specs.SweepEnd.{AnswersSweep}
 
 -- What stands for the answer to an order, by the command that it asks for, and what the files hold
@@ -30,5 +31,6 @@ AnswersOrder answer (order.Extract device flash image side out) input file then 
 AnswersOrder answer (order.Sweep device script images choices) input file then old new =
     (one other : Source) × AreNamed device.now script.now one other
     × AnswersSweep answer one other input file old new
-AnswersOrder answer asked input file then old new =
+AnswersOrder answer (order.Device asked) input file then old new =
     AnswersCore answer asked input file then old new
+AnswersOrder answer asked input file then old new = AnswersReading answer asked input file old new

@@ -5,12 +5,12 @@ use Rattle.sector_map.specs.declared.layout.SectorMap.{SectorMap}
 use Rattle.command_ends.specs.declared.answer.Answer.{Answer}
 use Rattle.command_ends.specs.declared.answer.Answer.TheVariants.{Done, Refused, Cut}
 use Rattle.command_ends.specs.declared.source.Source.{Source}
-use Rattle.reading_commands.specs.DeviceInput.{RefusesMap}
+use Rattle.reading_devices.specs.DeviceInput.{RefusesMap}
 use Rattle.command_ends.specs.Input.{FileBytes}
 use Rattle.command_ends.specs.Inputs.{GiveEach}
-use Rattle.answers.specs.declared.device.DeviceFile.{DeviceFile}
-use Rattle.answers.specs.DeviceFile.{IsDeviceFile}
-use Rattle.answers.specs.FlashOf.{IsFlashOf}
+use Rattle.device_texts.specs.declared.device.DeviceFile.{DeviceFile}
+use Rattle.device_texts.specs.DeviceFile.{IsDeviceFile}
+use Rattle.device_texts.specs.FlashOf.{IsFlashOf}
 use Rattle.boot_cli.specs.declared.sweeping.Provisioned.{Provisioned}
 use Rattle.boot_cli.specs.declared.sweeping.Provisioned.TheVariants as made
 use Rattle.reading_scripts.specs.Script.{IsScript, known_after_each}

@@ -1,7 +1,7 @@
 //! The program `bootswap` but for its `main`: its words, and what they ask for. The commands that
-//! write no flash stand in `reading_commands`, and those that make device files and images in
-//! `making_commands`; here are those of a device itself, on a file, that boots, takes uploads and
-//! survives power cuts.
+//! only read stand in `reading_commands`, those that make device files, images and manifests in
+//! `making_commands`, and those of a device itself, which boots, takes uploads and survives power
+//! cuts, in `core_cli`; here is `sweep`, and which of all these an order asks for.
 //!
 //! Promises: status 0 comes only where what the words ask for was done, for what the files that
 //! they name hold; of `sweep` only that it ran, for what it finds is tested; and what `run` writes
@@ -13,6 +13,7 @@
 
 mod program;
 mod sweeping;
+mod words;
 
 pub use answers::{
     CheckEnd, ChooseEnd, DescribeEnd, ManifestEnd, ShowEnd, check_over, choose_over, describe_over,
@@ -22,3 +23,4 @@ pub use command_ends::{Access, FlashFault, Host};
 pub use command_line::{Order, OrderError, Request, request};
 pub use explaining_commands::Remembering;
 pub use program::{cli, run_order};
+pub use words::note_reading;

@@ -4,9 +4,10 @@ ghost use Rattle.boot_cli.specs.OrderEnd.{AnswersOrder};
 
 use crate::sweeping;
 use crate::sweeping::Named;
+use crate::words::request_in;
 use command_ends::{Answer, Host, Refusal, Source, finish};
 use command_line::Order;
-use core_cli::{answer_words, request_in};
+use core_cli::answer_words;
 use explaining_commands::{Remembering, ReplyNotes, UntilFailed, explain_end};
 use making_commands::extract::Copying;
 use making_commands::{extract, make_device, make_image, make_manifest};
@@ -127,9 +128,10 @@ fn perform<H: Host, O: Write, E: Write>(
             };
             sweeping::perform(alloc, named, &choices, host, out, err)
         }
-        _ => {
+        Order::Device(ref order) => {
             let mut notes = ReplyNotes::new(alloc, is_explained.then_some(err));
             core_cli::perform(alloc, order, host, out, &mut notes)
         }
+        _ => reading_commands::perform(alloc, order, host, out),
     }
 }

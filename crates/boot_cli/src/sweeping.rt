@@ -1,17 +1,17 @@
 //! `bootswap sweep`: what comes of a script, with each write of the flash cut.
 ghost use Rattle.std.specs.Prelude.{◌≡◌, ◌≤◌, IfOk};
-ghost use Rattle.answers.specs.DeviceFile.{IsOfFile};
-ghost use Rattle.answers.specs.FlashOf.{IsFlashOf};
+ghost use Rattle.device_texts.specs.DeviceFile.{IsOfFile};
+ghost use Rattle.device_texts.specs.FlashOf.{IsFlashOf};
 ghost use Rattle.command_ends.specs.Status.{status_of_answer};
 ghost use Rattle.boot_cli.specs.SweepEnd.{AnswersSweep, IsWhole};
 
-use answers::{DeviceFile, flash_of, write_all};
 use command_ends::{Answer, FlashFault, Host, Refusal, Source, SourceFault};
 use command_line::SweepChoices;
 use core_cli::provision::{Made, read_images, tell_made};
+use device_texts::{DeviceFile, flash_of, write_all};
 use events::Event;
 use machine::Fault;
-use reading_commands::read_device;
+use reading_devices::read_device;
 use reading_scripts::{load, read_script};
 use sector_map::SectorMap;
 use std::alloc::{AllocError, Global};

@@ -3,8 +3,8 @@
 //! file, that boots, takes uploads and survives power cuts.
 #![tactic(auto)]
 
-use boot_cli::{Remembering, cli};
-use core_cli::{note_reading, refuse_words, words_of};
+use boot_cli::{Remembering, cli, note_reading};
+use core_cli::{refuse_words, words_of};
 use std::io::IsTerminal;
 use std::process::ExitCode;
 use system_files::SystemHost;

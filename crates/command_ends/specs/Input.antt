@@ -10,6 +10,10 @@ abbrev pub IsNamed : List ℕ → Source → Type 0
 IsNamed word StandardInput = word ≡ codes "-"
 IsNamed word (File name) = (word ≢ codes "-") × (name.now ≡ word)
 
+-- The sources that two words name.
+abbrev pub AreNamed : List ℕ → List ℕ → Source → Source → Type 0
+AreNamed first second one other = IsNamed first one × IsNamed second other
+
 -- What the files of a host hold, by their names.
 abbrev pub FileBytes : Type 0
 FileBytes = List ℕ → Option (List ℕ)

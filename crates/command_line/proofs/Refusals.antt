@@ -3,11 +3,12 @@ use Rattle.std.proofs.Common.{◌≡◌, List, rules}
 use Rattle.std.specs.Prelude.{Some}
 use Rattle.clap.specs.Words.{Text, kind_of}
 use Rattle.clap.specs.declared.error.Error.{Error}
-use Rattle.command_line.specs.Faults.{IsRefusal, Says}
+use Rattle.command_words.specs.Faults.{Says}
+use Rattle.command_line.specs.Faults.{IsRefusal}
 use Rattle.command_line.specs.Faults.IsFault.{misuse}
 use Rattle.command_line.specs.Orders.{IsOrder, misuse_of}
-use Rattle.command_line.specs.declared.error.OrderError.{OrderError}
-use Rattle.command_line.specs.declared.error.OrderError.TheVariants.{Usage, NoMemory}
+use Rattle.command_words.specs.declared.error.OrderError.{OrderError}
+use Rattle.command_words.specs.declared.error.OrderError.TheVariants.{Usage, NoMemory}
 use Rattle.command_line.specs.declared.orders.Order.{Order}
 
 pub misused : (words : List Text) (order : Order) (fault : Error) (error : OrderError) → IsOrder words order

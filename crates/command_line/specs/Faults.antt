@@ -1,13 +1,12 @@
 -- What is answered where words give no order.
 use Rattle.std.specs.Prelude.{◌≡◌, ◌≢◌, List, Some, ⊤}
 use Rattle.clap.specs.Words.{IsAmong, Text, fault_of, kind_of}
-use Rattle.clap.specs.declared.error.Error.{Error}
 use Rattle.clap.specs.declared.error.kind.ErrorKind.{ErrorKind}
 use Rattle.clap.specs.declared.error.kind.ErrorKind.TheVariants.{OutOfMemory}
-use Rattle.command_line.specs.Commands.{bootswap}
+use Rattle.command_words.specs.Commands.{bootswap}
 use Rattle.command_line.specs.Orders.{IsOrder, misuse_of}
-use Rattle.command_line.specs.declared.error.OrderError.{OrderError}
-use Rattle.command_line.specs.declared.error.OrderError.TheVariants.{Usage, NoMemory}
+use Rattle.command_words.specs.declared.error.OrderError.{OrderError}
+use Rattle.command_words.specs.declared.error.OrderError.TheVariants.{Usage, NoMemory}
 use Rattle.command_line.specs.declared.orders.Order.{Order}
 
 -- Why words are answered by an error of this kind: `clap` has a fault with them, or they ask for
@@ -22,22 +21,3 @@ pub data IsFault (words : List Text) (kind : ErrorKind) : Type 0 where
 abbrev pub IsRefusal : List Text → OrderError → Type 0
 IsRefusal words (Usage answer) = (kind_of answer ≢ OutOfMemory) × IsFault words (kind_of answer)
 IsRefusal words NoMemory = ⊤
-
--- An answer of `clap` of this kind, or want of memory.
-abbrev pub IsUsage : ErrorKind → OrderError → Type 0
-IsUsage kind (Usage answer) = kind_of answer ≡ kind
-IsUsage kind NoMemory = ⊤
-
--- An answer of `clap` is never want of memory.
-abbrev pub IsTold : OrderError → Type 0
-IsTold (Usage answer) = kind_of answer ≢ OutOfMemory
-IsTold NoMemory = ⊤
-
--- The error says what `clap` answers: want of memory, or else that very answer.
-abbrev pub Says : Error → OrderError → Type 0
-Says answer (Usage error) = (error ≡ answer) × (kind_of answer ≢ OutOfMemory)
-Says answer NoMemory = kind_of answer ≡ OutOfMemory
-
--- Memory ran out.
-abbrev pub IsNoMemory : OrderError → Type 0
-IsNoMemory error = error ≡ NoMemory

@@ -1,5 +1,5 @@
 -- What an order says, by the matches that `clap` gives for the words.
-use Rattle.std.specs.Prelude.{◌≡◌, ℕ, ◌==◌, ◌^◌, ◌<◌, ◌≤◌, Bool, false, true, IsSomeAnd, List, [], ◌∷◌, ◌++◌, Option, Some, None, codes, count_by, if◌then◌else◌, length, map, nat_lt, option_and_then, option_map, option_to_list, unwrap_or, ⊤}
+use Rattle.std.specs.Prelude.{◌≡◌, ℕ, ◌==◌, ◌^◌, ◌<◌, ◌≤◌, Bool, false, true, IsSomeAnd, List, [], ◌∷◌, ◌++◌, Option, Some, None, codes, if◌then◌else◌, length, map, nat_lt, option_and_then, option_map, option_to_list, unwrap_or, ⊤}
 use Rattle.std.specs.Borrow.{Bor}
 use Rattle.std.specs.List.{AllZip, after_first, before_first, position_or_len, slice_split}
 use Rattle.std.specs.Option.{option_map_or}
@@ -14,7 +14,9 @@ use Rattle.sector_map.specs.declared.layout.Side.TheVariants.{Primary, Secondary
 use Rattle.version_order.specs.declared.dependency.Dependency.{Dependency}
 use Rattle.version_order.specs.declared.version.Version.{Version}
 use Rattle.version_order.specs.VersionText.{version_of}
-use Rattle.command_line.specs.Commands.{bootswap}
+use Rattle.command_words.specs.Commands.{bootswap}
+use Rattle.command_words.specs.DeviceOrders as of_device
+use Rattle.command_words.specs.Given.{IsNamed, is_given, is_standard_input, standard_inputs}
 use Rattle.command_line.specs.Needs.{AreNeeds, IsBracketed, IsNeed}
 use Rattle.command_line.specs.declared.orders.NewDevice.{NewDevice}
 use Rattle.command_line.specs.declared.orders.NewComponent.{NewComponent}
@@ -22,7 +24,7 @@ use Rattle.command_line.specs.declared.orders.NewImage.{NewImage}
 use Rattle.command_line.specs.declared.orders.NewManifest.{NewManifest}
 use Rattle.command_line.specs.declared.orders.Order.{Order}
 use Rattle.command_line.specs.declared.orders.SweepChoices.{SweepChoices}
-use Rattle.command_line.specs.declared.orders.Order.TheVariants.{Choose, Check, Image, Manifest, MakeDevice, MakeImage, MakeManifest, Provision, Extract, Show, Slots, Run, Sweep, Codes}
+use Rattle.command_line.specs.declared.orders.Order.TheVariants.{Choose, Check, Image, Manifest, MakeDevice, MakeImage, MakeManifest, Device, Extract, Show, Slots, Sweep, Codes}
 
 -- The subcommand of an order.
 abbrev pub command_of : Order → Text
@@ -33,17 +35,12 @@ command_of (Manifest device file) = codes "manifest"
 command_of (MakeDevice device) = codes "make-device"
 command_of (MakeImage image body values) = codes "make-image"
 command_of (MakeManifest device manifest) = codes "make-manifest"
-command_of (Provision device flash images) = codes "provision"
+command_of (Device order) = of_device.command_of order
 command_of (Extract device flash image side out) = codes "extract"
 command_of (Show device flash) = codes "show"
 command_of (Slots device flash) = codes "slots"
-command_of (Run device flash script durable) = codes "run"
 command_of (Sweep device script images choices) = codes "sweep"
 command_of Codes = codes "codes"
-
--- The matches of a subcommand have this name for an argument.
-abbrev pub IsNamed : List Row → Text → Text → Type 0
-IsNamed rows argument name = first_of argument rows ≡ Some name
 
 -- A word spells this number: in digits alone, below 2 ^ 32.
 abbrev pub IsNumber : Text → ℕ → Type 0
@@ -72,10 +69,6 @@ pub record SaysDevice (rows : List Row) (device : NewDevice) : Type 0 where
   pub vendor : IsNamed rows (codes "vendor") device.vendor.now
   pub class : IsNamed rows (codes "class") device.class.now
   pub trial_boots : HasTrialBoots rows device.trial_boots
-
--- The matches say that an option without a value is given.
-abbrev pub is_given : Text → List Row → Bool
-is_given argument rows = option_map_or (bytes_eq (codes "true")) (first_of argument rows) false
 
 -- The number below a limit that the matches have for an argument, where they have one.
 abbrev pub HasNumber : Text → ℕ → List Row → Option ℕ → Type 0
@@ -179,9 +172,7 @@ HasNames rows (MakeImage image body values) =
     × SaysImage rows values
 HasNames rows (MakeManifest device manifest) =
     IsNamed rows (codes "DEVICE") device.now × SaysManifest rows manifest
-HasNames rows (Provision device flash images) =
-    IsNamed rows (codes "DEVICE") device.now × IsNamed rows (codes "FLASH") flash.now
-    × (all_of (codes "IMAGE") rows ≡ Some (map (λ image. image.now) images.items))
+HasNames rows (Device order) = of_device.HasNames rows order
 HasNames rows (Extract device flash image side out) =
     IsNamed rows (codes "DEVICE") device.now × IsNamed rows (codes "FLASH") flash.now
     × (image_at rows ≡ Some image) × (side_at rows ≡ Some side)
@@ -190,9 +181,6 @@ HasNames rows (Show device flash) =
     IsNamed rows (codes "DEVICE") device.now × IsNamed rows (codes "FLASH") flash.now
 HasNames rows (Slots device flash) =
     IsNamed rows (codes "DEVICE") device.now × IsNamed rows (codes "FLASH") flash.now
-HasNames rows (Run device flash script durable) =
-    IsNamed rows (codes "DEVICE") device.now × IsNamed rows (codes "FLASH") flash.now
-    × IsNamed rows (codes "SCRIPT") script.now × (durable ≡ is_given (codes "durable") rows)
 HasNames rows (Sweep device script images choices) =
     IsNamed rows (codes "DEVICE") device.now × IsNamed rows (codes "SCRIPT") script.now
     × (all_of (codes "IMAGE") rows ≡ Some (map (λ image. image.now) images.items))
@@ -212,20 +200,6 @@ IsOrderOf (Some named) order = Asks named.0 named.1 order
 abbrev pub IsOrder : List Text → Order → Type 0
 IsOrder words = IsOrderOf (subcommand_of bootswap words)
 
--- The subcommand that was named is to be explained, by its matches.
-abbrev pub has_explain : Option (Text × List Row) → Bool
-has_explain None = false
-has_explain (Some named) = is_given (codes "explain") named.1
-
--- The words say that the answer is to be explained.
-abbrev pub is_explained : List Text → Bool
-is_explained words = has_explain (subcommand_of bootswap words)
-
--- What was found is so, and where nothing was found, nothing is so.
-abbrev pub Finds : {T : Type 0} → (T → Type 0) → Option T → Type 0
-Finds IsSo None = (one : _) → IsSo one → ⊥
-Finds IsSo (Some found) = IsSo found
-
 -- The names of the files that a manifest is made of: a flash, where there is one, and then those
 -- that may come.
 abbrev pub files_of : NewManifest → List (Bor Text)
@@ -241,28 +215,18 @@ names_of (Manifest device file) = device ∷ file ∷ []
 names_of (MakeDevice device) = []
 names_of (MakeImage image body values) = image ∷ body ∷ []
 names_of (MakeManifest device manifest) = device ∷ files_of manifest
-names_of (Provision device flash images) = device ∷ flash ∷ images.items
+names_of (Device order) = of_device.names_of order
 names_of (Extract device flash image side out) = device ∷ flash ∷ out ∷ []
 names_of (Show device flash) = device ∷ flash ∷ []
 names_of (Slots device flash) = device ∷ flash ∷ []
-names_of (Run device flash script durable) = device ∷ flash ∷ script ∷ []
 names_of (Sweep device script images choices) = device ∷ script ∷ images.items
 names_of Codes = []
-
--- `-` is standard input.
-abbrev pub is_standard_input : Bor Text → Bool
-is_standard_input name = bytes_eq name.now (codes "-")
-
--- How many of the names are standard input.
-abbrev pub standard_inputs : List (Bor Text) → ℕ
-standard_inputs names = count_by is_standard_input names
 
 -- The file that would be written to is standard input.
 abbrev pub writes_to_standard_input : Order → Bool
 writes_to_standard_input (MakeImage image body values) = is_standard_input image
-writes_to_standard_input (Provision device flash images) = is_standard_input flash
+writes_to_standard_input (Device order) = of_device.writes_to_standard_input order
 writes_to_standard_input (Extract device flash image side out) = is_standard_input out
-writes_to_standard_input (Run device flash script durable) = is_standard_input flash
 writes_to_standard_input (Sweep device script images choices) =
     option_map_or is_standard_input choices.picture false
 writes_to_standard_input _ = false

@@ -3,12 +3,12 @@
 ghost use Rattle.std.specs.Prelude.{◌≡◌, IfOk, codes, map, option_map};
 ghost use Rattle.std.specs.List.{AllZip};
 ghost use Rattle.clap.specs.Words.{found_of, rows_of};
+ghost use Rattle.command_words.specs.Given.{Finds};
 ghost use Rattle.command_line.specs.Needs.{IsBracketed, bracketed_need, need_between};
-ghost use Rattle.command_line.specs.Orders.{Finds, texts_at};
+ghost use Rattle.command_line.specs.Orders.{texts_at};
 
-use crate::commands::named;
-use crate::order_reading::names_in;
 use clap::ArgMatches;
+use command_words::{named, names_in};
 use common::ascii::{cut, number_u8};
 use std::alloc::{AllocError, Global};
 use version_order::{Dependency, Version};

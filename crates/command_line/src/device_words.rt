@@ -3,13 +3,13 @@
 ghost use Rattle.std.specs.Prelude.{◌≡◌, IfOk, map};
 ghost use Rattle.std.specs.List.{AllZip};
 ghost use Rattle.clap.specs.Words.{found_of, rows_of};
-ghost use Rattle.command_line.specs.Orders.{Finds, HasTrialBoots, IsNumber, SaysDevice};
+ghost use Rattle.command_words.specs.Given.{Finds};
+ghost use Rattle.command_line.specs.Orders.{HasTrialBoots, IsNumber, SaysDevice};
 ghost use Rattle.command_line.specs.Orders.{number_at, words_of};
 
-use crate::commands::named;
-use crate::order_reading::name_in;
 use crate::orders::NewDevice;
 use clap::ArgMatches;
+use command_words::{name_in, named};
 use common::ascii::number;
 use common::limits::MOST_TRIAL_BOOTS;
 use std::alloc::{AllocError, Global};

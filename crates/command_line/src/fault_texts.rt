@@ -63,15 +63,6 @@ pub const NO_SAMPLE: &str = "`--sample` is a number, in digits, below 4294967296
 /// The fault of words whose beginning of the draws is no number.
 pub const NO_SEED: &str = "`--seed` is a number, in digits, below 4294967296";
 
-/// The fault of words that are no text.
-pub const NO_TEXT: &str = "invalid UTF-8 was detected in one or more arguments";
-
-/// The fault of an order that names standard input twice.
-pub const TWICE: &str = "standard input, `-`, can be read for one file only";
-
-/// The fault of an order that writes to standard input.
-pub const WRITTEN: &str = "the flash file is written to, so it can't be standard input, `-`";
-
 /// The fault of an order that makes an image on standard input.
 pub const IMAGE_WRITTEN: &str = "the image file is made, so it can't be standard input, `-`";
 

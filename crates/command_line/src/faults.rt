@@ -1,52 +1,28 @@
 //! The faults that the program itself finds in words, as `clap` prints its own.
 
-ghost use Rattle.std.specs.Prelude.{◌≡◌, ◌⊎◌, ◌∷◌, IfOk, codes, nat_lt, option_map};
-ghost use Rattle.std.specs.Str.{bytes_eq};
+ghost use Rattle.std.specs.Prelude.{◌≡◌, ◌⊎◌, ◌∷◌, IfOk, nat_lt, option_map};
 ghost use Rattle.clap.specs.Words.{kind_of};
 ghost use Rattle.clap.specs.declared.error.kind.ErrorKind.TheVariants.{InvalidValue};
 ghost use Rattle.clap.specs.declared.error.kind.ErrorKind.TheVariants.{MissingSubcommand};
-ghost use Rattle.command_line.specs.Faults.{IsTold, IsUsage};
-ghost use Rattle.command_line.specs.Orders.{files_of, misuse_of, names_of, standard_inputs};
+ghost use Rattle.command_words.specs.Faults.{IsUsage};
+ghost use Rattle.command_words.specs.Given.{standard_inputs};
+ghost use Rattle.command_line.specs.Orders.{files_of, misuse_of, names_of};
 ghost use Rattle.command_line.specs.Orders.{writes_to_standard_input};
 
 use crate::bracketed_words::bracketed_in;
-use crate::commands::{Subcommand, named};
 use crate::device_words::{number_in, trial_boots_in};
-use crate::error::OrderError;
+use crate::fault_texts;
 use crate::image_words::{header_size_in, needs_in_words, number_said, version_in};
 use crate::manifest_words::components_in;
-use crate::order_reading::{image_in_words, named_in, request};
+use crate::order_reading::image_in_words;
 use crate::orders::{NewManifest, Order};
-use crate::{commands, fault_texts};
 use clap::error::ErrorKind;
 use clap::{ArgMatches, Error};
-use command_ends::{Escaped, STANDARD_INPUT};
+use command_words::{
+    OrderError, Subcommand, fault_texts as shared_texts, inputs_with, is_standard_input, named,
+    named_in, program_error, standard_inputs, subcommand_error,
+};
 use std::alloc::{AllocError, Global};
-use std::convert::AsStr;
-
-/// The fault of these words, as it is printed: it names them with their control characters escaped.
-/// `fault` is what `request` answered.
-pub fn fault_of<S: AsStr>(alloc: Global, words: &[S], fault: Error) -> OrderError
-    ensures { IsTold result }
-{
-    match escaped_words(alloc, words) {
-        Err(error) => OrderError::from(error),
-        Ok(escaped) => match request(alloc, escaped.as_slice()) {
-            Err(error) => error,
-            Ok(_) => OrderError::from(fault),
-        },
-    }
-}
-
-/// The fault of words that are no text.
-pub fn no_text(alloc: Global) -> OrderError
-    ensures { IsUsage InvalidValue result }
-{
-    match program_error(alloc, ErrorKind::InvalidValue, fault_texts::NO_TEXT) {
-        Ok(error) => OrderError::from(error),
-        Err(error) => OrderError::from(error),
-    }
-}
 
 /// The fault of words that ask for no order, though `clap` takes them: a word of `make-device`,
 /// `make-image`, `make-manifest`, `extract` or `sweep` isn't what it has to be, or they name no
@@ -204,12 +180,6 @@ fn no_subcommand(alloc: Global) -> OrderError
     }
 }
 
-fn program_error(alloc: Global, kind: ErrorKind, text: &str) -> Result<Error, AllocError>
-    ensures { IfOk result (λ error. kind_of error ≡ kind) }
-{
-    commands::bootswap(alloc)?.error(kind, text)
-}
-
 /// The fault of an order that would write to standard input, or read it twice.
 pub(crate) fn misuse(alloc: Global, order: &Order<'_>) -> Result<Option<Error>, AllocError>
     ensures { IfOk result (λ found. option_map kind_of found ≡ misuse_of order.now) }
@@ -217,7 +187,7 @@ pub(crate) fn misuse(alloc: Global, order: &Order<'_>) -> Result<Option<Error>, 
     let (kind, text) = if writes_to_standard_input(order) {
         (ErrorKind::InvalidValue, written_text(order))
     } else if reads_standard_input_twice(order) {
-        (ErrorKind::ArgumentConflict, fault_texts::TWICE)
+        (ErrorKind::ArgumentConflict, shared_texts::TWICE)
     } else {
         return Ok(None);
     };
@@ -230,7 +200,7 @@ fn written_text(order: &Order<'_>) -> &'static str {
     match order {
         Order::MakeImage { .. } | Order::Extract { .. } => fault_texts::IMAGE_WRITTEN,
         Order::Sweep { .. } => fault_texts::PICTURE_WRITTEN,
-        _ => fault_texts::WRITTEN,
+        _ => shared_texts::WRITTEN,
     }
 }
 
@@ -244,36 +214,20 @@ fn subcommand_of(order: &Order<'_>) -> Subcommand {
         Order::MakeDevice { .. } => Subcommand::MakeDevice,
         Order::MakeImage { .. } => Subcommand::MakeImage,
         Order::MakeManifest { .. } => Subcommand::MakeManifest,
-        Order::Provision { .. } => Subcommand::Provision,
+        Order::Device(order) => order.subcommand(),
         Order::Extract { .. } => Subcommand::Extract,
         Order::Show { .. } => Subcommand::Show,
         Order::Slots { .. } => Subcommand::Slots,
-        Order::Run { .. } => Subcommand::Run,
         Order::Sweep { .. } => Subcommand::Sweep,
         Order::Codes => Subcommand::Codes,
     }
-}
-
-/// A fault in the words of a subcommand.
-fn subcommand_error(
-    alloc: Global,
-    subcommand: Subcommand,
-    kind: ErrorKind,
-    text: &str,
-) -> Result<Error, AllocError>
-    ensures { IfOk result (λ error. kind_of error ≡ kind) }
-{
-    let mut command = subcommand
-        .command(alloc)?
-        .bin_name(subcommand.usage_name())?;
-    command.error(kind, text)
 }
 
 fn writes_to_standard_input(order: &Order<'_>) -> bool
     ensures { result ≡ writes_to_standard_input order.now }
 {
     match order {
-        Order::Provision { flash, .. } | Order::Run { flash, .. } => is_standard_input(flash),
+        Order::Device(order) => order.writes_to_standard_input(),
         Order::MakeImage { image, .. } => is_standard_input(image),
         Order::Extract { out, .. } => is_standard_input(out),
         Order::Sweep { choices, .. } => choices.picture.is_some_and(|file| is_standard_input(file)),
@@ -313,38 +267,21 @@ fn reads_standard_input_twice(order: &Order<'_>) -> bool
             device: a,
             flash: b,
         } => is_standard_input(a) && is_standard_input(b),
-        Order::Run {
+        Order::Device(order) => order.reads_standard_input_twice(),
+        Order::Extract {
             device,
             flash,
-            script: last,
+            out,
             ..
-        }
-        | Order::Extract {
-            device,
-            flash,
-            out: last,
-            ..
-        } => standard_inputs(&[*device, *flash, *last]) > 1,
+        } => standard_inputs(&[*device, *flash, *out]) > 1,
         Order::MakeManifest { device, manifest } => inputs_of_manifest(device, manifest) > 1,
-        Order::Provision {
-            device: a,
-            flash: b,
-            images,
-        }
-        | Order::Sweep {
-            device: a,
-            script: b,
+        Order::Sweep {
+            device,
+            script,
             images,
             ..
-        } => inputs_with(a, b, images.as_slice()) > 1,
+        } => inputs_with(device, script, images.as_slice()) > 1,
     }
-}
-
-/// How many of two files and of images are standard input.
-fn inputs_with(one: &str, other: &str, images: &[&str]) -> usize
-    ensures { result ≡ standard_inputs (one.entry ∷ other.entry ∷ images.now) }
-{
-    standard_inputs(&[one, other]).saturating_add(standard_inputs(images))
 }
 
 /// How many of the files that a manifest is made of are standard input.
@@ -363,25 +300,4 @@ fn inputs_of_manifest(device: &str, manifest: &NewManifest<'_>) -> usize
         .filter(|component| is_standard_input(component.file))
         .count();
     (device + flash).saturating_add(components)
-}
-
-fn standard_inputs(names: &[&str]) -> usize
-    ensures { result ≡ standard_inputs names.now }
-{
-    names.iter().filter(|name| is_standard_input(name)).count()
-}
-
-fn is_standard_input(name: &str) -> bool
-    ensures { result ≡ bytes_eq name.now (codes "-") }
-{
-    name == STANDARD_INPUT
-}
-
-fn escaped_words<S: AsStr>(alloc: Global, words: &[S]) -> Result<Vec<String>, AllocError> {
-    let mut escaped = Vec::new(alloc);
-    for word in words {
-        let word = format!(in alloc; "{}", Escaped(word.as_str()))?;
-        escaped.push(word)?;
-    }
-    Ok(escaped)
 }

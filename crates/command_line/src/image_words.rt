@@ -3,16 +3,16 @@
 ghost use Rattle.std.specs.Prelude.{◌≡◌, ◌^◌, IfOk, codes, map, option_map};
 ghost use Rattle.std.specs.List.{AllZip};
 ghost use Rattle.clap.specs.Words.{found_of, rows_of};
+ghost use Rattle.command_words.specs.Given.{Finds};
 ghost use Rattle.command_line.specs.Needs.{AreNeeds, IsNeed, need_of, needs_of, spaced};
-ghost use Rattle.command_line.specs.Orders.{Finds, HasNumber, SaysDependencies, SaysImage};
+ghost use Rattle.command_line.specs.Orders.{HasNumber, SaysDependencies, SaysImage};
 ghost use Rattle.command_line.specs.Orders.{texts_at, version_at};
 
 use crate::bracketed_words::bracketed_in;
-use crate::commands::named;
 use crate::device_words::number_in;
-use crate::order_reading::{name_in, names_in};
 use crate::orders::NewImage;
 use clap::ArgMatches;
+use command_words::{name_in, named, names_in};
 use common::ascii::number_u8;
 use std::alloc::{AllocError, Global};
 use version_order::{Dependency, Version};

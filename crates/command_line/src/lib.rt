@@ -1,5 +1,4 @@
-//! The command line: what the words of a `bootswap` command ask for, and what the program says of
-//! itself.
+//! The command line: what the words of a `bootswap` command ask for.
 //!
 //! Promises: a request has exactly the subcommand, the names of files, the numbers, the version and
 //! the dependencies that `clap`'s definition of the matches gives for the words, names standard
@@ -8,24 +7,16 @@
 //! and not opened. Allocates to read the words and to make texts. The program alone may call it.
 #![tactic(auto)]
 
-mod argument_help;
-mod arguments;
 mod bracketed_words;
-mod codes;
-mod commands;
 mod device_words;
-mod error;
 mod fault_texts;
 mod faults;
-mod help;
 mod image_words;
 mod manifest_words;
 mod order_reading;
 mod orders;
 mod sweep_words;
 
-pub use codes::REFUSALS;
-pub use error::OrderError;
-pub use faults::{fault_of, no_text};
+pub use command_words::{DeviceOrder, OrderError, REFUSALS, fault_of, no_text};
 pub use order_reading::request;
 pub use orders::{NewComponent, NewDevice, NewImage, NewManifest, Order, Request, SweepChoices};

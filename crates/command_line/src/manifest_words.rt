@@ -2,14 +2,14 @@
 
 ghost use Rattle.std.specs.Prelude.{◌≡◌, IfOk, map, option_map};
 ghost use Rattle.clap.specs.Words.{found_of, rows_of};
-ghost use Rattle.command_line.specs.Orders.{AreComponents, Finds, IsComponent, SaysComponents};
+ghost use Rattle.command_words.specs.Given.{Finds};
+ghost use Rattle.command_line.specs.Orders.{AreComponents, IsComponent, SaysComponents};
 ghost use Rattle.command_line.specs.Orders.{SaysManifest, texts_at};
 
-use crate::commands::named;
 use crate::device_words::number_in;
-use crate::order_reading::{name_in, names_in};
 use crate::orders::{NewComponent, NewManifest};
 use clap::ArgMatches;
+use command_words::{name_in, named, names_in};
 use common::ascii::number_u8;
 use common::limits::MOST_IMAGES;
 use std::alloc::{AllocError, Global};

@@ -1,22 +1,24 @@
 //! From words to an order.
 
-ghost use Rattle.std.specs.Prelude.{◌≡◌, IfErr, IfOk, None, codes, map, option_map};
-ghost use Rattle.clap.specs.Words.{HasKind, all_of, fault_of, first_of, found_of, kind_of};
-ghost use Rattle.clap.specs.Words.{rows_of, subcommand_of, subcommand_rows_of};
-ghost use Rattle.command_line.specs.Commands.{bootswap, shape_for};
+ghost use Rattle.std.specs.Prelude.{◌≡◌, IfErr, IfOk, None, codes, map};
+ghost use Rattle.clap.specs.Words.{found_of, rows_of, subcommand_rows_of};
+ghost use Rattle.command_words.specs.Commands.{shape_for};
+ghost use Rattle.command_words.specs.Given.{Finds, is_explained};
 ghost use Rattle.command_line.specs.Faults.{IsRefusal};
-ghost use Rattle.command_line.specs.Orders.{Asks, Finds, IsOrder, IsOrderOf, has_explain, image_at};
-ghost use Rattle.command_line.specs.Orders.{is_explained, is_given, misuse_of, side_at, side_of};
+ghost use Rattle.command_line.specs.Orders.{Asks, IsOrder, IsOrderOf, image_at, misuse_of};
+ghost use Rattle.command_line.specs.Orders.{side_at, side_of};
 
-use crate::commands::{Subcommand, bootswap, named};
 use crate::device_words::device_in;
-use crate::error::OrderError;
 use crate::faults::{misuse, no_order};
 use crate::image_words::image_values_in;
 use crate::manifest_words::manifest_values_in;
 use crate::orders::{Order, Request};
 use crate::sweep_words::sweep_choices_in;
-use clap::{ArgMatches, Error};
+use clap::ArgMatches;
+use command_words::{
+    OrderError, Subcommand, images_in, is_explained, matches_of, name_in, named, named_in,
+    provision_in, run_in,
+};
 use common::ascii::number_u8;
 use sector_map::Side;
 use std::alloc::{AllocError, Global};
@@ -61,25 +63,6 @@ fn request_of<'a>(
     }
 }
 
-/// Whether it is to be said why the answer is as it is.
-fn is_explained(matches: &ArgMatches<'_>) -> bool
-    ensures { result ≡ has_explain (subcommand_rows_of matches.now) }
-{
-    match named_in(matches) {
-        Some((_, names)) => is_given(names, named::EXPLAIN),
-        None => false,
-    }
-}
-
-/// What `clap` finds in the words.
-fn matches_of<'a, S: AsStr>(alloc: Global, words: &'a [S]) -> Result<ArgMatches<'a>, Error>
-    ensures found { IfOk result (λ matches. subcommand_rows_of matches
-        ≡ subcommand_of bootswap (map S.text words.entry.now)) }
-    ensures refused { IfErr result (HasKind (fault_of bootswap (map S.text words.entry.now))) }
-{
-    bootswap(alloc)?.try_get_matches_from(words)
-}
-
 /// The order that a parse found. All its names are there, since `clap` asks for them; its numbers,
 /// versions and dependencies may be none.
 fn order_in<'a>(alloc: Global, matches: &ArgMatches<'a>) -> Result<Option<Order<'a>>, AllocError>
@@ -92,14 +75,6 @@ fn order_in<'a>(alloc: Global, matches: &ArgMatches<'a>) -> Result<Option<Order<
         Some(subcommand) => order_of(alloc, subcommand, names),
         None => Ok(None),
     }
-}
-
-/// The subcommand that was named, with its matches.
-pub(crate) fn named_in<'m, 'a>(matches: &'m ArgMatches<'a>) -> Option<(&'a str, &'m ArgMatches<'a>)>
-    ensures { option_map (λ named. (named.0.now, rows_of (found_of named.1.now))) result
-        ≡ subcommand_rows_of matches.now }
-{
-    matches.subcommand()
 }
 
 /// The order that a subcommand asks for, with the names that it found.
@@ -119,11 +94,11 @@ fn order_of<'a>(
         Subcommand::MakeDevice => make_device_in(alloc, names),
         Subcommand::MakeImage => make_image_in(alloc, names),
         Subcommand::MakeManifest => make_manifest_in(alloc, names),
-        Subcommand::Provision => provision_in(alloc, names),
+        Subcommand::Provision => provision_order_in(alloc, names),
         Subcommand::Extract => Ok(extract_in(names)),
         Subcommand::Show => Ok(show_in(names)),
         Subcommand::Slots => Ok(slots_in(names)),
-        Subcommand::Run => Ok(run_in(names)),
+        Subcommand::Run => Ok(run_order_in(names)),
         Subcommand::Sweep => sweep_in(alloc, names),
         Subcommand::Codes => Ok(Some(Order::Codes)),
     }
@@ -205,35 +180,23 @@ fn make_manifest_in<'a>(
     }
 }
 
-fn provision_in<'a>(alloc: Global, names: &ArgMatches<'a>) -> Result<Option<Order<'a>>, AllocError>
+fn provision_order_in<'a>(
+    alloc: Global,
+    names: &ArgMatches<'a>,
+) -> Result<Option<Order<'a>>, AllocError>
     ensures { IfOk result (Finds (Asks (codes "provision") (rows_of (found_of names.now)))) }
 {
-    let Some(device) = name_in(names, named::DEVICE) else {
-        return Ok(None);
-    };
-    let Some(flash) = name_in(names, named::FLASH) else {
-        return Ok(None);
-    };
-    let Some(images) = images_in(alloc, names)? else {
-        return Ok(None);
-    };
-    Ok(Some(Order::Provision {
-        device,
-        flash,
-        images,
-    }))
-}
-
-/// The images that the words give.
-fn images_in<'a>(alloc: Global, names: &ArgMatches<'a>) -> Result<Option<Vec<&'a str>>, AllocError>
-    ensures { IfOk result (λ found.
-        option_map (λ images. map (λ image. image.now) images.items) found
-        ≡ all_of (codes "IMAGE") (rows_of (found_of names.now))) }
-{
-    match names_in(names, named::IMAGE) {
-        Some(images) => Ok(Some(images.to_vec(alloc)?)),
+    match provision_in(alloc, names)? {
+        Some(order) => Ok(Some(Order::Device(order))),
         None => Ok(None),
     }
+}
+
+fn run_order_in<'a>(names: &ArgMatches<'a>) -> Option<Order<'a>>
+    ensures { Finds (Asks (codes "run") (rows_of (found_of names.now))) result }
+{
+    let order = run_in(names)?;
+    Some(Order::Device(order))
 }
 
 fn extract_in<'a>(names: &ArgMatches<'a>) -> Option<Order<'a>>
@@ -296,21 +259,6 @@ fn slots_in<'a>(names: &ArgMatches<'a>) -> Option<Order<'a>>
     Some(Order::Slots { device, flash })
 }
 
-fn run_in<'a>(names: &ArgMatches<'a>) -> Option<Order<'a>>
-    ensures { Finds (Asks (codes "run") (rows_of (found_of names.now))) result }
-{
-    let device = name_in(names, named::DEVICE)?;
-    let flash = name_in(names, named::FLASH)?;
-    let script = name_in(names, named::SCRIPT)?;
-    let durable = is_given(names, named::DURABLE);
-    Some(Order::Run {
-        device,
-        flash,
-        script,
-        durable,
-    })
-}
-
 fn sweep_in<'a>(alloc: Global, names: &ArgMatches<'a>) -> Result<Option<Order<'a>>, AllocError>
     ensures { IfOk result (Finds (Asks (codes "sweep") (rows_of (found_of names.now)))) }
 {
@@ -332,30 +280,4 @@ fn sweep_in<'a>(alloc: Global, names: &ArgMatches<'a>) -> Result<Option<Order<'a
         images,
         choices,
     }))
-}
-
-/// The name that the words give for this argument.
-pub(crate) fn name_in<'a>(names: &ArgMatches<'a>, argument: &str) -> Option<&'a str>
-    ensures { option_map (λ name. name.now) result
-        ≡ first_of argument.now (rows_of (found_of names.now)) }
-{
-    names.get_str(argument)
-}
-
-/// Whether the words give this option, which has no value.
-pub(crate) fn is_given(names: &ArgMatches<'_>, option: &str) -> bool
-    ensures { result ≡ is_given option.now (rows_of (found_of names.now)) }
-{
-    match name_in(names, option) {
-        Some(value) => value == "true",
-        None => false,
-    }
-}
-
-/// All the names that they give for it.
-pub(crate) fn names_in<'m, 'a>(names: &'m ArgMatches<'a>, argument: &str) -> Option<&'m [&'a str]>
-    ensures { option_map (λ found. map (λ name. name.now) found.now) result
-        ≡ all_of argument.now (rows_of (found_of names.now)) }
-{
-    names.get_strs(argument)
 }

@@ -1,13 +1,13 @@
 //! The words of `sweep`: what is tried and made.
 
 ghost use Rattle.clap.specs.Words.{found_of, rows_of};
-ghost use Rattle.command_line.specs.Orders.{Finds, SaysSweep};
+ghost use Rattle.command_words.specs.Given.{Finds};
+ghost use Rattle.command_line.specs.Orders.{SaysSweep};
 
-use crate::commands::named;
 use crate::image_words::number_said;
-use crate::order_reading::{is_given, name_in};
 use crate::orders::SweepChoices;
 use clap::ArgMatches;
+use command_words::{is_given, name_in, named};
 
 /// What the words say that a sweep tries and makes; none where one of their numbers is none.
 pub fn sweep_choices_in<'a>(names: &ArgMatches<'a>) -> Option<SweepChoices<'a>>

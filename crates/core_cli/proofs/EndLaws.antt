@@ -1,5 +1,5 @@
 -- What was answered, by what was read in turn and written.
-use Rattle.std.proofs.Common.{◌≡◌, ◌≤◌, ℕ, List, [], ◌∷◌, Option, Result, Ok, Err, IfErr, IfOk, ap, arith, inl, refl, subst}
+use Rattle.std.proofs.Common.{◌≡◌, ℕ, List, [], ◌∷◌, Option, Result, Ok, Err, IfErr, IfOk, ap, arith, inl, refl, subst}
 use Rattle.std.specs.Borrow.{Bor}
 use Rattle.command_ends.specs.declared.answer.Answer.{Answer}
 use Rattle.command_ends.specs.declared.answer.Answer.TheVariants.{Done, Refused, Cut}
@@ -10,11 +10,11 @@ use Rattle.command_ends.specs.declared.error.Refusal.TheVariants as no
 use Rattle.machine.specs.declared.error.Fault.{Fault}
 use Rattle.core_cli.specs.declared.provision.Made.{Made}
 use Rattle.core_cli.specs.declared.provision.Made.TheVariants as made
-use Rattle.answers.specs.declared.device.DeviceFile.{DeviceFile}
+use Rattle.device_texts.specs.declared.device.DeviceFile.{DeviceFile}
 use Rattle.command_ends.specs.declared.source.Source.{Source}
 use Rattle.command_ends.specs.declared.source.Source.TheVariants as source
-use Rattle.answers.specs.FlashOf.{IsFlashOf}
-use Rattle.reading_commands.specs.DeviceInput.{GivesDevice}
+use Rattle.device_texts.specs.FlashOf.{IsFlashOf}
+use Rattle.reading_devices.specs.DeviceInput.{GivesDevice}
 use Rattle.command_ends.specs.Input.{FileBytes, Gives, KeepsFiles, KeepsOthers}
 use Rattle.core_cli.specs.ProvisionEnd.{AnswersMade, AnswersProvision, EndsBefore, EndsMade, MakesDevice, ReadsImages}
 use Rattle.core_cli.specs.RunEnd.{AnswersRun, Plays, RunsDevice}

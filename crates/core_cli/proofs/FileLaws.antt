@@ -4,7 +4,7 @@ use Rattle.flash_model.specs.declared.torn.Armed.{Armed}
 use Rattle.flash_model.specs.Chip.{Chip}
 use Rattle.flash_model.specs.Memory.{Memory, with_armed}
 use Rattle.sector_map.specs.declared.layout.SectorMap.{SectorMap}
-use Rattle.answers.specs.FlashOf.{flash_of}
+use Rattle.device_texts.specs.FlashOf.{flash_of}
 use Rattle.core_cli.specs.RunEnd.{armed_chip, armed_flash}
 
 -- a flash in memory, by what contracts see of it

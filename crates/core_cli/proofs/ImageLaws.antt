@@ -14,7 +14,7 @@ use Rattle.sector_map.specs.Part.{Slot}
 use Rattle.sector_map.proofs.Products.{mul_le}
 use Rattle.sector_map.proofs.Places.{before_within}
 use Rattle.command_ends.specs.declared.source.Source.{Source}
-use Rattle.answers.specs.FlashOf.{IsFlashOf}
+use Rattle.device_texts.specs.FlashOf.{IsFlashOf}
 use Rattle.command_ends.specs.Input.{FileBytes, Gives, IsNamed, KeepsFiles, KeepsOthers}
 use Rattle.command_ends.specs.Inputs.{GiveEach, NameFiles, names_of}
 use Rattle.core_cli.specs.ProvisionEnd.{new_flash, with_files}

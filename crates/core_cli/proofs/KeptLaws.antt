@@ -2,8 +2,8 @@
 use Rattle.std.proofs.Common.{ℕ, List, Option}
 use Rattle.std.proofs.KnownBytes.{Appends-kept}
 use Rattle.std.specs.Io.KnownBytes.{Keeps}
-use Rattle.command_line.specs.declared.orders.Order.{Order}
-use Rattle.command_line.specs.declared.orders.Order.TheVariants as order
+use Rattle.command_words.specs.declared.device_orders.DeviceOrder.{DeviceOrder}
+use Rattle.command_words.specs.declared.device_orders.DeviceOrder.TheVariants.{Provision, Run}
 use Rattle.command_ends.specs.declared.answer.Answer.TheVariants.{Done}
 use Rattle.core_cli.specs.declared.provision.Made.{Made}
 use Rattle.core_cli.specs.declared.provision.Made.TheVariants as made
@@ -11,7 +11,6 @@ use Rattle.command_ends.specs.declared.source.Source.{Source}
 use Rattle.command_ends.specs.declared.source.Source.TheVariants as source
 use Rattle.command_ends.specs.Input.{FileBytes}
 use Rattle.command_ends.specs.Inputs.{names_of}
-use Rattle.reading_commands.proofs.AnswerLaws.{AnswersCheck-kept, AnswersChoice-kept, AnswersDescription-kept, AnswersManifest-kept, AnswersShow-kept, AnswersSlots-kept}
 use Rattle.core_cli.specs.CoreEnd.{AnswersCore}
 use Rattle.core_cli.specs.ProvisionEnd.{AnswersMade, AnswersProvision}
 use Rattle.core_cli.specs.RunEnd.{AnswersRun}
@@ -66,53 +65,18 @@ AnswersRun-kept device flash script input file old mid new answered kept = recor
   };
 }
 
-pub AnswersCore-kept : (asked : Order) (input : Option (List ℕ)) (file then : FileBytes)
+pub AnswersCore-kept : (asked : DeviceOrder) (input : Option (List ℕ)) (file then : FileBytes)
     (old mid new : Option (List ℕ))
     → AnswersCore Done asked input file then old mid → Keeps mid new
     → AnswersCore Done asked input file then old new
-AnswersCore-kept (order.Choose table) input file then old mid new answered kept =
-    (answered.0, answered.1, AnswersChoice-kept answered.0 input file old mid new answered.2 kept)
-AnswersCore-kept (order.Check table report) input file then old mid new answered kept = (
-  answered.0,
-  answered.1,
-  answered.2,
-  AnswersCheck-kept answered.0 answered.1 input file old mid new answered.3 kept,
-)
-AnswersCore-kept (order.Image image) input file then old mid new answered kept =
-    (answered.0, answered.1, AnswersDescription-kept answered.0 input file old mid new answered.2 kept)
-AnswersCore-kept (order.Manifest device named) input file then old mid new answered kept = (
-  answered.0,
-  answered.1,
-  answered.2,
-  AnswersManifest-kept answered.0 answered.1 input file old mid new answered.3 kept,
-)
-AnswersCore-kept (order.Provision device flash images) input file then old mid new answered kept = (
+AnswersCore-kept (Provision device flash images) input file then old mid new answered kept = (
   answered.0,
   answered.1,
   AnswersProvision-kept answered.0 (names_of images.items) input file (then flash.now) old mid new answered.2 kept,
 )
-AnswersCore-kept (order.Show device flash) input file then old mid new answered kept = (
-  answered.0,
-  answered.1,
-  answered.2,
-  AnswersShow-kept answered.0 answered.1 input file old mid new answered.3 kept,
-)
-AnswersCore-kept (order.Slots device flash) input file then old mid new answered kept = (
-  answered.0,
-  answered.1,
-  answered.2,
-  AnswersSlots-kept answered.0 answered.1 input file old mid new answered.3 kept,
-)
-AnswersCore-kept (order.Run device flash script durable) input file then old mid new answered kept = (
+AnswersCore-kept (Run device flash script durable) input file then old mid new answered kept = (
   answered.0,
   answered.1,
   answered.2,
   AnswersRun-kept answered.0 (source.File flash) answered.1 input file old mid new answered.3 kept,
 )
-AnswersCore-kept order.Codes input file then old mid new answered kept =
-    Appends-kept old mid new _ answered kept
-AnswersCore-kept (order.MakeDevice device) input file then old mid new answered kept = absurd answered
-AnswersCore-kept (order.MakeImage image body values) input file then old mid new answered kept = absurd answered
-AnswersCore-kept (order.MakeManifest device manifest) input file then old mid new answered kept = absurd answered
-AnswersCore-kept (order.Extract device flash image side out) input file then old mid new answered kept = absurd answered
-AnswersCore-kept (order.Sweep device script images choices) input file then old mid new answered kept = absurd answered

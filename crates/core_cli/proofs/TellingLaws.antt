@@ -21,14 +21,14 @@ use Rattle.command_ends.specs.declared.answer.Answer.TheVariants.{Done}
 use Rattle.command_ends.specs.declared.error.Refusal.{Refusal}
 use Rattle.command_ends.specs.declared.error.Refusal.TheVariants.{FlashFile, NoMemory}
 use Rattle.command_ends.specs.Status.{status_of_refusal}
-use Rattle.answers.specs.declared.device.DeviceFile.{DeviceFile}
-use Rattle.answers.specs.ReplyText.{replies_text, reply_text}
-use Rattle.answers.proofs.ReplyLaws.{replies_text-push}
+use Rattle.device_texts.specs.declared.device.DeviceFile.{DeviceFile}
+use Rattle.device_texts.specs.ReplyText.{replies_text, reply_text}
+use Rattle.device_texts.proofs.ReplyLaws.{replies_text-push}
 use Rattle.common.specs.Lines.{lines_of}
 use Rattle.command_ends.specs.Input.{FileBytes}
 use Rattle.reading_scripts.specs.declared.judging.Kept.{Kept}
 use Rattle.core_cli.specs.RunEnd.{IsMadeOf, answer_after, answer_of, armed_chip, came_by}
-use Rattle.answers.specs.DeviceFile.{setup_of}
+use Rattle.device_texts.specs.DeviceFile.{setup_of}
 use Rattle.core_cli.specs.Telling.{BreaksEvent, BreaksText, PlaysText, TellsAll, TellsEvent, TellsFirst, TellsSome, TellsText}
 use Rattle.reading_scripts.proofs.ScriptLaws.{AreTaken, BringsFirst-none, BringsFirst-taken}
 

@@ -15,15 +15,15 @@ use Rattle.command_ends.specs.declared.error.Refusal.{Refusal}
 use Rattle.command_ends.specs.declared.error.Refusal.TheVariants as no
 use Rattle.core_cli.specs.declared.provision.Made.{Made}
 use Rattle.core_cli.specs.declared.provision.Made.TheVariants as made
-use Rattle.answers.specs.declared.device.DeviceFile.{DeviceFile}
+use Rattle.device_texts.specs.declared.device.DeviceFile.{DeviceFile}
 use Rattle.command_ends.specs.declared.source.Source.{Source}
 use Rattle.command_ends.specs.declared.source.Source.TheVariants.{StandardInput, File}
-use Rattle.answers.specs.DeviceFile.{IsDeviceFile}
-use Rattle.answers.specs.FlashOf.{flash_of}
-use Rattle.reading_commands.specs.DeviceInput.{RefusesMap}
+use Rattle.device_texts.specs.DeviceFile.{IsDeviceFile}
+use Rattle.device_texts.specs.FlashOf.{flash_of}
+use Rattle.reading_devices.specs.DeviceInput.{RefusesMap}
 use Rattle.command_ends.specs.Input.{FileBytes, IsKnownAs, IsNamed}
 use Rattle.command_ends.specs.Inputs.{GiveEach}
-use Rattle.answers.specs.ReplyText.{refused_fault_text}
+use Rattle.device_texts.specs.ReplyText.{refused_fault_text}
 
 -- Bytes of a flash with these files over the fronts of primary slots, from that of this image on.
 abbrev pub with_files : SectorMap → ℕ → List (List ℕ) → List ℕ → List ℕ

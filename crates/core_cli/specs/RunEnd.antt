@@ -15,14 +15,14 @@ use Rattle.machine.specs.declared.reply.Reply.{Reply}
 use Rattle.machine.specs.declared.reply.Reply.TheVariants as reply
 use Rattle.command_ends.specs.declared.answer.Answer.{Answer}
 use Rattle.command_ends.specs.declared.answer.Answer.TheVariants.{Done, Refused, Cut}
-use Rattle.answers.specs.declared.device.DeviceFile.{DeviceFile}
+use Rattle.device_texts.specs.declared.device.DeviceFile.{DeviceFile}
 use Rattle.command_ends.specs.declared.source.Source.{Source}
-use Rattle.answers.specs.DeviceFile.{IsDeviceFile, setup_of}
-use Rattle.answers.specs.FlashOf.{IsFlashOf, flash_of}
-use Rattle.reading_commands.specs.DeviceInput.{RefusesMap}
+use Rattle.device_texts.specs.DeviceFile.{IsDeviceFile, setup_of}
+use Rattle.device_texts.specs.FlashOf.{IsFlashOf, flash_of}
+use Rattle.reading_devices.specs.DeviceInput.{RefusesMap}
 use Rattle.command_ends.specs.Input.{FileBytes}
 use Rattle.command_ends.specs.Inputs.{GiveEach}
-use Rattle.answers.specs.ReplyText.{replies_text}
+use Rattle.device_texts.specs.ReplyText.{replies_text}
 use Rattle.reading_scripts.specs.Script.{IsScript, known_after_each}
 
 -- The flash that has these bytes, of whose writes these are to be cut, as counted from now.

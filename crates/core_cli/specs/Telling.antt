@@ -13,8 +13,8 @@ use Rattle.command_ends.specs.declared.answer.Answer.{Answer}
 use Rattle.command_ends.specs.declared.error.Refusal.{Refusal}
 use Rattle.command_ends.specs.declared.error.Refusal.TheVariants.{FlashFile}
 use Rattle.command_ends.specs.Input.{FileBytes}
-use Rattle.answers.specs.declared.device.DeviceFile.{DeviceFile}
-use Rattle.answers.specs.ReplyText.{replies_text, reply_text}
+use Rattle.device_texts.specs.declared.device.DeviceFile.{DeviceFile}
+use Rattle.device_texts.specs.ReplyText.{replies_text, reply_text}
 use Rattle.reading_scripts.specs.declared.judging.Kept.{Kept}
 use Rattle.reading_scripts.specs.Loading.{BringsAll, BringsFirst}
 use Rattle.core_cli.specs.RunEnd.{IsPlayed, Plays, answer_after, answer_of, came_by}

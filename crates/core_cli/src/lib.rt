@@ -1,6 +1,6 @@
-//! The core of the program `bootswap` but for its `main`: its words, the commands that make a flash a
-//! device's and run a device on one (`provision`, `run`), and those that read (`reading_commands`).
-//! `boot_cli` has those that make files, sweep and explain besides.
+//! The core of the program `bootswap` but for its `main`: its words, and the commands that make a
+//! flash a device's and run a device on one (`provision`, `run`). `boot_cli` has all the others
+//! besides.
 //!
 //! Promises: status 0 comes only where what the words ask for was done, for what the files that they
 //! name hold: a flash is made of exactly the images that the words name, and its file replaced only
@@ -8,7 +8,6 @@
 //! cuts of the script armed on the flash that is made for it. The programs and `boot_cli` may call it.
 #![tactic(auto)]
 
-mod codes;
 mod host_file;
 mod program;
 pub mod provision;
@@ -16,4 +15,4 @@ mod run;
 mod words;
 
 pub use program::{core_cli, perform, run_core_order};
-pub use words::{answer_words, note_reading, refuse_words, request_in, words_of};
+pub use words::{answer_words, refuse_words, words_of};

@@ -1,12 +1,12 @@
-//! The core of the program: the orders that need none of what makes files, sweeps and explains.
+//! The core of the program: the orders that make a flash a device's, and run a device on one.
 ghost use Rattle.std.specs.Prelude.{◌≡◌, IfOk};
 ghost use Rattle.core_cli.specs.CoreEnd.{AnswersCore};
 
-use crate::words::{answer_words, request_in};
-use crate::{codes, provision, run};
+use crate::words::answer_words;
+use crate::{provision, run};
 use command_ends::{Access, Answer, Host, Refusal, Source, finish};
-use command_line::Order;
-use reading_commands::{NoNotes, RunNotes, check, choose, image, manifest_file, show, slots};
+use command_words::{DeviceOrder, device_request};
+use reading_devices::{NoNotes, RunNotes};
 use std::alloc::Global;
 use std::convert::AsStr;
 use std::io::Write;
@@ -15,10 +15,10 @@ use std::io::Write;
 /// failed last, 4 the flash file failed. An order that isn't of the core is refused, and so is one
 /// that is to be explained.
 ///
-/// The first word is the program's own name, and without another one the choice is made over
-/// standard input. All stands in memory of `alloc`. Input comes from `host`, which keeps the file of
-/// a flash. Answers go to `out`, error lines and the words on a wrong usage to `err`, and both are
-/// flushed. After a write that failed nothing more is written, and the status is 1.
+/// The first word is the program's own name. All stands in memory of `alloc`. Input comes from
+/// `host`, which keeps the file of a flash. Answers go to `out`, error lines and the words on a wrong
+/// usage to `err`, and both are flushed. After a write that failed nothing more is written, and the
+/// status is 1.
 pub fn core_cli<S: AsStr, H: Host, O: Write, E: Write>(
     alloc: Global,
     words: &[S],
@@ -26,36 +26,38 @@ pub fn core_cli<S: AsStr, H: Host, O: Write, E: Write>(
     out: &mut O,
     err: &mut E,
 ) -> u8 {
-    match request_in(alloc, words) {
-        Ok(request) if request.is_explained => finish(&Err(Refusal::NotOfCore), out, err),
-        Ok(request) => run_core_order(alloc, request.order, host, out, err),
+    match device_request(alloc, words) {
+        Ok(Some(request)) if !request.is_explained => {
+            run_core_order(alloc, &request.order, host, out, err)
+        }
+        Ok(_) => finish(&Err(Refusal::NotOfCore), out, err),
         Err(error) => answer_words(alloc, words, error, out, err),
     }
 }
 
-/// Runs the command of an order to its exit status: 0 only where the order is of the core, the whole
-/// answer is written, and is a yes.
+/// Runs the command of an order to its exit status: 0 only where the whole answer is written, and is
+/// a yes.
 pub fn run_core_order<H: Host, O: Write, E: Write>(
     alloc: Global,
-    order: Order<'_>,
+    order: &DeviceOrder<'_>,
     host: &mut H,
     out: &mut O,
     err: &mut E,
 ) -> u8
-    ensures { result ≡ 0 → AnswersCore Answer.Done order.entry (H.input host.old) (H.file host.old)
+    ensures { result ≡ 0 → AnswersCore Answer.Done order.now (H.input host.old) (H.file host.old)
         (H.file host.new) (O.contents out.old) (O.contents out.new) }
 {
-    let outcome = perform(alloc, &order, host, out, &mut NoNotes);
+    let outcome = perform(alloc, order, host, out, &mut NoNotes);
     finish(&outcome, out, err)
 }
 
 /// Runs the command of an order. `notes` is told of the replies of a run.
 ///
 /// # Errors
-/// Those of the command; `NotOfCore` where the order is none of the core.
+/// Those of the command.
 pub fn perform<H: Host, O: Write, N: RunNotes>(
     alloc: Global,
-    order: &Order<'_>,
+    order: &DeviceOrder<'_>,
     host: &mut H,
     out: &mut O,
     notes: &mut N,
@@ -65,30 +67,12 @@ pub fn perform<H: Host, O: Write, N: RunNotes>(
         (O.contents out.old) (O.contents out.new)) }
 {
     match *order {
-        Order::Choose { table } => choose::perform(alloc, Source::named(table), host, out),
-        Order::Check { table, report } => {
-            let (table, report) = (Source::named(table), Source::named(report));
-            check::perform(alloc, table, report, host, out)
-        }
-        Order::Image { file } => image::perform(alloc, Source::named(file), host, out),
-        Order::Manifest { device, file } => {
-            let (device, file) = (Source::named(device), Source::named(file));
-            manifest_file::perform(alloc, device, file, host, out)
-        }
-        Order::Provision {
+        DeviceOrder::Provision {
             device,
             flash,
             ref images,
         } => provision::perform(alloc, Source::named(device), flash, images, host, out),
-        Order::Show { device, flash } => {
-            let (device, flash) = (Source::named(device), Source::named(flash));
-            show::perform(alloc, device, flash, host, out)
-        }
-        Order::Slots { device, flash } => {
-            let (device, flash) = (Source::named(device), Source::named(flash));
-            slots::perform(alloc, device, flash, host, out)
-        }
-        Order::Run {
+        DeviceOrder::Run {
             device,
             flash,
             script,
@@ -98,8 +82,6 @@ pub fn perform<H: Host, O: Write, N: RunNotes>(
             let access = access_of(durable);
             run::perform(alloc, device, flash, access, script, host, out, notes)
         }
-        Order::Codes => codes::perform(out),
-        _ => Err(Refusal::NotOfCore),
     }
 }
 

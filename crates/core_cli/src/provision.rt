@@ -2,15 +2,15 @@
 ghost use Rattle.std.specs.Prelude.{◌≡◌, ◌≢◌, ◌+◌, ◌<◌, ◌≤◌, [], IfErr, IfOk, IfSome, OnOk, length, slice_get, string_bytes};
 ghost use Rattle.std.specs.Io.KnownBytes.{Appends};
 ghost use Rattle.flash_model.specs.Torn.{replaced};
-ghost use Rattle.answers.specs.FlashOf.{IsFlashOf};
+ghost use Rattle.device_texts.specs.FlashOf.{IsFlashOf};
 ghost use Rattle.command_ends.specs.Input.{IsKnownAs, IsNamed, KeepsFiles};
 ghost use Rattle.command_ends.specs.Inputs.{LeavesFiles, NameFiles, names_of};
 ghost use Rattle.core_cli.specs.ProvisionEnd.{AnswersMade, AnswersProvision, EndsBefore, EndsMade, IsOther, ReadsImages, done_text, new_flash};
 
-use answers::{flash_of, refused_fault_text, write_all};
 use command_ends::{Answer, FlashFault, Host, Refusal, Source};
+use device_texts::{flash_of, refused_fault_text, write_all};
 use machine::Fault;
-use reading_commands::read_device;
+use reading_devices::read_device;
 use sector_map::{SectorMap, Side};
 use std::alloc::{AllocError, Global};
 use std::io::Write;

@@ -1,15 +1,12 @@
 //! What the words of the command ask for, and what is answered where that is nothing to do.
 
-use command_ends::{Refusal, STANDARD_INPUT, refuse, status_after};
-use command_line::{Order, OrderError, Request, fault_of, no_text, request};
+use command_ends::{Refusal, refuse, status_after};
+use command_words::{OrderError, fault_of, no_text};
 use std::alloc::Global;
 use std::convert::AsStr;
 use std::io::{ErrorKind, Write};
 use std::rt::Env;
 use std::{env, io};
-
-/// Tells who gives no word at a terminal what the program waits for.
-const READING: &[u8] = b"note: reading a table from standard input; `bootswap --help` tells more\n";
 
 /// The words ask for help or the version, which are printed.
 const HELPED: u8 = 0;
@@ -20,29 +17,6 @@ const USAGE: u8 = 2;
 /// The words of the command, the program's own name first.
 pub fn words_of(rt: &(impl Env + AllocGlobal)) -> io::Result<Vec<String>> {
     Ok(env::args(rt)?.collect(rt.alloc())?)
-}
-
-/// Tells that the program reads a table from standard input.
-pub fn note_reading<E: Write>(err: &mut E) {
-    // It is no part of the answer, which goes on without it.
-    let _ = err.write_all(READING);
-}
-
-/// What the words ask for: with none after the program's own name the choice over standard input.
-/// What is read of them stands in memory of `alloc`.
-///
-/// # Errors
-/// Those of [`request`].
-pub fn request_in<'a, S: AsStr>(alloc: Global, words: &'a [S]) -> Result<Request<'a>, OrderError> {
-    if words.len() <= 1 {
-        return Ok(Request {
-            order: Order::Choose {
-                table: STANDARD_INPUT,
-            },
-            is_explained: false,
-        });
-    }
-    request(alloc, words)
 }
 
 /// Prints what stands in the place of an order, and returns the exit status: help and the version go

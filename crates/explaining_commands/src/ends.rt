@@ -3,11 +3,11 @@
 use crate::inputs::{Inputs, inputs_of};
 use crate::refused::{explain_answer, explain_choice};
 use crate::remembering::Remembering;
-use answers::DeviceFile;
 use certificate::Table;
 use command_ends::{Answer, Host, Refusal, Source, SourceFault, SourceRefusal};
-use command_line::Order;
+use command_line::{DeviceOrder, Order};
 use common::lines::first_line;
+use device_texts::DeviceFile;
 use explanations::{
     Shown, explain_device, explain_report_line, explain_running, explain_script_line,
     explain_table_line,
@@ -120,7 +120,7 @@ fn explain_flash<H: Host>(
     host: &Remembering<H>,
 ) -> Result<(), AllocError> {
     match order {
-        Order::Run { flash, .. } | Order::Provision { flash, .. } => {
+        Order::Device(DeviceOrder::Run { flash, .. } | DeviceOrder::Provision { flash, .. }) => {
             explain_error(notes, Source::named(flash), host)
         }
         _ => Ok(()),

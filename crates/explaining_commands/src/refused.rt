@@ -1,22 +1,22 @@
 //! Why an answer is a no or a refusal, and why requests are refused.
 
 ghost use Rattle.std.specs.Prelude.{◌≡◌};
-ghost use Rattle.answers.specs.FlashOf.{IsFlashOf};
+ghost use Rattle.device_texts.specs.FlashOf.{IsFlashOf};
 
 use crate::ends::read;
 use crate::inputs::Inputs;
 use crate::remembering::Remembering;
-use answers::{DeviceFault, DeviceFile, flash_of};
 use arrayvec::ArrayVec;
 use certificate::{Image, Report, Request, Table, is_valid};
 use chooser::choose;
 use command_ends::{Host, Source};
-use command_line::Order;
+use command_line::{DeviceOrder, Order};
 use decision::entry_of;
+use device_texts::{DeviceFault, DeviceFile, flash_of};
 use explanations::{
     explain_image, explain_manifest, explain_map, explain_no, explain_refusals, explain_running,
 };
-use reading_commands::table_on;
+use reading_devices::table_on;
 use sector_map::{SectorMap, Side};
 use std::alloc::{AllocError, Global};
 use std::marker::Brand;
@@ -73,10 +73,10 @@ pub fn explain_answer<H: Host>(
             }
             Err(_) => Ok(()),
         },
-        Order::Provision { images, .. } | Order::Sweep { images, .. } => {
+        Order::Device(DeviceOrder::Provision { images, .. }) | Order::Sweep { images, .. } => {
             explain_images(notes, images.as_slice(), host)
         }
-        Order::Slots { .. } | Order::Run { .. } => {
+        Order::Slots { .. } | Order::Device(DeviceOrder::Run { .. }) => {
             match table_of_flash(alloc, inputs, host)? {
                 Some(table) => explain_running(notes, &table),
                 None => Ok(()),

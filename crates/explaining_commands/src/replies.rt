@@ -1,12 +1,12 @@
 //! Why the replies of a run are as they are.
 
 use crate::uploads::{Uploads, explain_opening};
-use answers::DeviceFile;
+use device_texts::DeviceFile;
 use events::Event;
 use explanations::{explain_manifest, explain_refusals};
 use machine::{Fault, Reply};
 use manifest::Manifest;
-use reading_commands::RunNotes;
+use reading_devices::RunNotes;
 use std::alloc::{AllocError, Global};
 use std::io::Write;
 

@@ -6,7 +6,7 @@
 //! state of it; the lemmas (`proofs/`) say what follows for the passages of a boot and for whole
 //! runs. What follows for every run is promised by functions without a body (`laws`): above all
 //! that each boot which answers a report starts the greatest set. `boot_core` states its contracts
-//! by these definitions, and `answers` prints the replies. Any crate above may cite them.
+//! by these definitions, and `device_texts` prints the replies. Any crate above may cite them.
 #![tactic(auto)]
 
 mod error;

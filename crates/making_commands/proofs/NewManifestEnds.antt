@@ -7,14 +7,14 @@ use Rattle.manifest.specs.declared.error.ManifestError.{ManifestError}
 use Rattle.machine.specs.declared.error.Fault.TheVariants.{RunningDamaged}
 use Rattle.sector_map.specs.declared.layout.SectorMap.{SectorMap}
 use Rattle.flash_model.specs.Chip.{Chip}
-use Rattle.answers.specs.AnswerText.{refused_text}
-use Rattle.answers.specs.ReplyText.{refused_fault_text}
-use Rattle.answers.specs.declared.device.DeviceFile.{DeviceFile}
+use Rattle.device_texts.specs.AnswerText.{refused_text}
+use Rattle.device_texts.specs.ReplyText.{refused_fault_text}
+use Rattle.device_texts.specs.declared.device.DeviceFile.{DeviceFile}
 use Rattle.command_line.specs.declared.orders.NewComponent.{NewComponent}
 use Rattle.command_line.specs.declared.orders.NewManifest.{NewManifest}
 use Rattle.command_ends.specs.declared.answer.Answer.TheVariants.{Done}
 use Rattle.command_ends.specs.declared.source.Source.{Source}
-use Rattle.reading_commands.specs.DeviceInput.{GivesDevice}
+use Rattle.reading_devices.specs.DeviceInput.{GivesDevice}
 use Rattle.command_ends.specs.Input.{FileBytes, KeepsOthers}
 use Rattle.command_ends.proofs.InputLaws.{GiveEach-read}
 use Rattle.making_commands.specs.NewManifestEnd.{AnswersNewManifest, IsFault, RefusesAsked, RefusesRunning, WritesManifest}

@@ -15,7 +15,7 @@ use Rattle.common.proofs.Mapped.{AllZip-push}
 use Rattle.flash_model.specs.Chip.{Chip}
 use Rattle.manifest.specs.declared.manifest.Component.{Component}
 use Rattle.sector_map.specs.declared.layout.SectorMap.{SectorMap}
-use Rattle.answers.specs.FlashOf.{IsFlashOf, flash_of}
+use Rattle.device_texts.specs.FlashOf.{IsFlashOf, flash_of}
 use Rattle.command_line.specs.declared.orders.NewComponent.{NewComponent}
 use Rattle.command_line.specs.declared.orders.NewManifest.{NewManifest}
 use Rattle.command_ends.specs.declared.source.Source.{Source}

@@ -9,15 +9,15 @@ use Rattle.tlv.specs.Fault.{IsFrontFault}
 use Rattle.tlv.specs.Image.{IsIntact}
 use Rattle.tlv.specs.Slot.{slot_bytes}
 use Rattle.tlv.specs.declared.desc.Desc.{Desc}
-use Rattle.answers.specs.AnswerText.{refused_text}
-use Rattle.answers.specs.DeviceFile.{IsDeviceFile}
-use Rattle.answers.specs.FlashOf.{IsFlashOf, flash_of}
-use Rattle.answers.specs.declared.device.DeviceFile.{DeviceFile}
+use Rattle.device_texts.specs.AnswerText.{refused_text}
+use Rattle.device_texts.specs.DeviceFile.{IsDeviceFile}
+use Rattle.device_texts.specs.FlashOf.{IsFlashOf, flash_of}
+use Rattle.device_texts.specs.declared.device.DeviceFile.{DeviceFile}
 use Rattle.command_ends.specs.declared.answer.Answer.{Answer}
 use Rattle.command_ends.specs.declared.answer.Answer.TheVariants.{Done, Refused, Cut}
 use Rattle.command_ends.specs.declared.source.Source.{Source}
 use Rattle.command_ends.specs.declared.source.Source.TheVariants.{StandardInput, File}
-use Rattle.reading_commands.specs.DeviceInput.{RefusesMap}
+use Rattle.reading_devices.specs.DeviceInput.{RefusesMap}
 use Rattle.command_ends.specs.Input.{FileBytes, GiveBoth, IsKnownAs, KeepsFiles}
 use Rattle.making_commands.specs.NewImageEnd.{done_text}
 use Rattle.making_commands.specs.declared.extract.Copied.{Copied}

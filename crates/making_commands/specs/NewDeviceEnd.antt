@@ -5,9 +5,9 @@ use Rattle.uuid.specs.Uuid.{namespace_dns}
 use Rattle.sector_map.specs.declared.error.MapError.{MapError}
 use Rattle.sector_map.specs.Making.{HasSizes, IsMapFault}
 use Rattle.manifest.specs.Ids.{uuid_of}
-use Rattle.answers.specs.declared.device.DeviceFile.{DeviceFile}
-use Rattle.answers.specs.AnswerText.{map_refusal_text}
-use Rattle.answers.specs.DeviceFile.{IsDeviceFile}
+use Rattle.device_texts.specs.declared.device.DeviceFile.{DeviceFile}
+use Rattle.device_texts.specs.AnswerText.{map_refusal_text}
+use Rattle.device_texts.specs.DeviceFile.{IsDeviceFile}
 use Rattle.command_line.specs.declared.orders.NewDevice.{NewDevice}
 use Rattle.command_ends.specs.declared.answer.Answer.{Answer}
 use Rattle.command_ends.specs.declared.answer.Answer.TheVariants.{Done, Refused, Cut}

@@ -9,7 +9,7 @@ use Rattle.tlv.specs.Image.{IsIntact, image_bytes}
 use Rattle.tlv.specs.Making.{IsMakeFault, description_of, image_of}
 use Rattle.tlv.specs.declared.make.error.MakeError.{MakeError}
 use Rattle.tlv.specs.declared.make.spec.ImageSpec.{ImageSpec}
-use Rattle.answers.specs.AnswerText.{refused_text}
+use Rattle.device_texts.specs.AnswerText.{refused_text}
 use Rattle.command_line.specs.declared.orders.NewImage.{NewImage}
 use Rattle.command_ends.specs.declared.answer.Answer.{Answer}
 use Rattle.command_ends.specs.declared.answer.Answer.TheVariants.{Done, Refused, Cut}

@@ -16,17 +16,17 @@ use Rattle.tlv.specs.Image.{BeginsIntact}
 use Rattle.tlv.specs.Slot.{slot_bytes}
 use Rattle.tlv.specs.declared.desc.Desc.{Desc}
 use Rattle.machine.specs.declared.error.Fault.TheVariants.{RunningDamaged}
-use Rattle.answers.specs.AnswerText.{refused_text}
-use Rattle.answers.specs.DeviceFile.{IsDeviceFile}
-use Rattle.answers.specs.FlashOf.{IsFlashOf, flash_of}
-use Rattle.answers.specs.ReplyText.{refused_fault_text}
-use Rattle.answers.specs.declared.device.DeviceFile.{DeviceFile}
+use Rattle.device_texts.specs.AnswerText.{refused_text}
+use Rattle.device_texts.specs.DeviceFile.{IsDeviceFile}
+use Rattle.device_texts.specs.FlashOf.{IsFlashOf, flash_of}
+use Rattle.device_texts.specs.ReplyText.{refused_fault_text}
+use Rattle.device_texts.specs.declared.device.DeviceFile.{DeviceFile}
 use Rattle.command_line.specs.declared.orders.NewComponent.{NewComponent}
 use Rattle.command_line.specs.declared.orders.NewManifest.{NewManifest}
 use Rattle.command_ends.specs.declared.answer.Answer.{Answer}
 use Rattle.command_ends.specs.declared.answer.Answer.TheVariants.{Done, Refused, Cut}
 use Rattle.command_ends.specs.declared.source.Source.{Source}
-use Rattle.reading_commands.specs.DeviceInput.{GivesDevice, RefusesMap}
+use Rattle.reading_devices.specs.DeviceInput.{GivesDevice, RefusesMap}
 use Rattle.command_ends.specs.Input.{FileBytes, IsNamed}
 use Rattle.command_ends.specs.Inputs.{GiveEach, names_of}
 

@@ -12,8 +12,8 @@ use Rattle.manifest.specs.declared.manifest.Manifest.{Manifest}
 use Rattle.tlv.specs.Image.{BeginsIntact}
 use Rattle.tlv.specs.Slot.{slot_bytes}
 use Rattle.tlv.specs.declared.desc.Desc.{Desc}
-use Rattle.answers.specs.FlashOf.{IsFlashOf, flash_of}
-use Rattle.answers.specs.declared.device.DeviceFile.{DeviceFile}
+use Rattle.device_texts.specs.FlashOf.{IsFlashOf, flash_of}
+use Rattle.device_texts.specs.declared.device.DeviceFile.{DeviceFile}
 use Rattle.command_line.specs.declared.orders.NewComponent.{NewComponent}
 use Rattle.command_line.specs.declared.orders.NewManifest.{NewManifest}
 use Rattle.command_ends.specs.declared.source.Source.{Source}

@@ -2,8 +2,8 @@
 ghost use Rattle.std.specs.Prelude.{◌≡◌, ◌≢◌, ◌<◌, ◌≤◌, IfErr, IfOk, length, slice_range, true};
 ghost use Rattle.std.specs.Prelude.{string_bytes};
 ghost use Rattle.sector_map.specs.Map.{IsLaidOut};
-ghost use Rattle.answers.specs.AnswerText.{refused_text};
-ghost use Rattle.answers.specs.FlashOf.{IsFlashOf, flash_of};
+ghost use Rattle.device_texts.specs.AnswerText.{refused_text};
+ghost use Rattle.device_texts.specs.FlashOf.{IsFlashOf, flash_of};
 ghost use Rattle.command_ends.specs.Input.{KeepsFiles};
 ghost use Rattle.making_commands.specs.CopyEnd.{AnswersCopied, AnswersCopy, EndsCopy, IsImageOf};
 ghost use Rattle.making_commands.specs.CopyEnd.{LeavesBoth};
@@ -14,10 +14,10 @@ ghost use Rattle.tlv.specs.Slot.{slot_bytes};
 
 use crate::image_file::{refuse_input, replace};
 use crate::telling::tell;
-use answers::{flash_of, refused_text};
 use command_ends::{Access, Answer, Host, Refusal, Source};
+use device_texts::{flash_of, refused_text};
 use flash_model::Flash;
-use reading_commands::{read_device, read_flash};
+use reading_devices::{read_device, read_flash};
 use sector_map::{SectorMap, Side};
 use std::alloc::{AllocError, Global};
 use std::io::Write;

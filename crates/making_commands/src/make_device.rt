@@ -1,16 +1,16 @@
 //! `bootswap make-device`: the device file of a device, by the sizes of its flash and its names.
 ghost use Rattle.std.specs.Prelude.{◌≡◌, IfOk, OnOk, true, unwrap_or};
 ghost use Rattle.std.specs.Io.KnownBytes.{Appends};
-ghost use Rattle.answers.specs.AnswerText.{map_refusal_text};
-ghost use Rattle.answers.specs.DeviceFile.{IsDeviceFile};
+ghost use Rattle.device_texts.specs.AnswerText.{map_refusal_text};
+ghost use Rattle.device_texts.specs.DeviceFile.{IsDeviceFile};
 ghost use Rattle.making_commands.specs.NewDeviceEnd.{AnswersNewDevice, AreSame, IsAsked};
 ghost use Rattle.sector_map.specs.Making.{HasSizes};
 
 use crate::map_text::map_text;
 use crate::telling::tell;
-use answers::{DeviceFault, DeviceFile, map_refusal_text};
 use command_ends::{Answer, Refusal};
 use command_line::NewDevice;
+use device_texts::{DeviceFault, DeviceFile, map_refusal_text};
 use manifest::{Identity, class_id, vendor_id};
 use sector_map::{MapError, SectorMap};
 use std::alloc::{AllocError, Global};

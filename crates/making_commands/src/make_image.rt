@@ -7,9 +7,9 @@ ghost use Rattle.making_commands.specs.NewImageEnd.{AnswersMade, AnswersNewImage
 
 use crate::image_file::{refuse_input, replace};
 use crate::telling::tell;
-use answers::refused_text;
 use command_ends::{Answer, Host, MOST_FILE, Refusal, Source};
 use command_line::NewImage;
+use device_texts::refused_text;
 use std::alloc::{AllocError, Global};
 use std::io::Write;
 use tlv::{ImageSpec, MakeError, make_image};

@@ -2,8 +2,8 @@
 ghost use Rattle.std.specs.Prelude.{◌≡◌, ◌↔◌, Any, IfNone, IfOk, IfSome, IsTrue, OnOk, length};
 ghost use Rattle.std.specs.Prelude.{string_bytes, true};
 ghost use Rattle.std.specs.Io.KnownBytes.{Appends};
-ghost use Rattle.answers.specs.AnswerText.{refused_text};
-ghost use Rattle.answers.specs.ReplyText.{refused_fault_text};
+ghost use Rattle.device_texts.specs.AnswerText.{refused_text};
+ghost use Rattle.device_texts.specs.ReplyText.{refused_fault_text};
 ghost use Rattle.machine.specs.declared.error.Fault.TheVariants.{RunningDamaged};
 ghost use Rattle.making_commands.specs.NewManifestEnd.{AnswersNewManifest, HaveImages, IsFault};
 ghost use Rattle.making_commands.specs.NewManifestEnd.{Repeats};
@@ -15,12 +15,12 @@ use crate::new_components::read_components;
 use crate::next_boot::write_refusals;
 use crate::precursors::{Precursors, Running, read_precursors};
 use crate::telling::tell;
-use answers::{DeviceFile, refused_fault_text, refused_text};
 use command_ends::{Answer, Host, Refusal, Source};
 use command_line::{NewComponent, NewManifest};
+use device_texts::{DeviceFile, refused_fault_text, refused_text};
 use machine::Fault;
 use manifest::{Identity, Manifest, ManifestError};
-use reading_commands::read_device;
+use reading_devices::read_device;
 use std::alloc::{AllocError, Global};
 use std::io::Write;
 

@@ -1,19 +1,19 @@
 //! The images that have to run where the files of a manifest may come: those that run on a flash.
 ghost use Rattle.std.specs.Prelude.{◌≡◌, ◌<◌, IfOk, true};
 ghost use Rattle.sector_map.specs.Map.{IsLaidOut};
-ghost use Rattle.answers.specs.FlashOf.{IsFlashOf, flash_of};
+ghost use Rattle.device_texts.specs.FlashOf.{IsFlashOf, flash_of};
 ghost use Rattle.making_commands.specs.NewManifestEnd.{HaveImages};
 ghost use Rattle.making_commands.specs.NewManifestSteps.{FindsNone, FindsPrecursor};
 ghost use Rattle.making_commands.specs.NewManifestSteps.{FindsPrecursors, ReadsPrecursors};
 
-use answers::flash_of;
 use arrayvec::ArrayVec;
 use certificate::Table;
 use command_ends::{Access, Host, Refusal, Source};
 use command_line::{NewComponent, NewManifest};
+use device_texts::flash_of;
 use flash_model::Flash;
 use manifest::MOST_COMPONENTS;
-use reading_commands::{read_flash, table_on};
+use reading_devices::{read_flash, table_on};
 use sector_map::{SectorMap, Side};
 use std::alloc::Global;
 use std::marker::Brand;

@@ -2,8 +2,8 @@
 ghost use Rattle.std.specs.Prelude.{◌≡◌, IfErr, OnOk};
 ghost use Rattle.std.specs.Io.KnownBytes.{Appends};
 
-use answers::write_all;
 use command_ends::Refusal;
+use device_texts::write_all;
 use std::io::Write;
 
 /// Writes a text, and flushes it.

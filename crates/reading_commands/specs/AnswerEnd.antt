@@ -1,5 +1,6 @@
 -- What an answer of a command stands for: what its host held, and what was written.
 use Rattle.std.specs.Prelude.{◌⊎◌, ℕ, List, Option}
+use Rattle.command_words.specs.declared.codes.TheConstants.{REFUSALS}
 use Rattle.command_ends.specs.declared.answer.Answer.{Answer}
 use Rattle.command_ends.specs.declared.answer.Answer.TheVariants.{Done, Refused, Cut}
 use Rattle.answers.specs.declared.check.CheckEnd.{CheckEnd}
@@ -13,15 +14,15 @@ use Rattle.answers.specs.declared.show.ShowEnd.{ShowEnd}
 use Rattle.answers.specs.declared.show.ShowEnd.TheVariants as show
 use Rattle.answers.specs.declared.slots.SlotsEnd.{SlotsEnd}
 use Rattle.answers.specs.declared.slots.SlotsEnd.TheVariants as slots
-use Rattle.answers.specs.declared.device.DeviceFile.{DeviceFile}
+use Rattle.device_texts.specs.declared.device.DeviceFile.{DeviceFile}
 use Rattle.command_ends.specs.declared.source.Source.{Source}
 use Rattle.std.specs.Io.KnownBytes.{Appends}
 use Rattle.answers.specs.CheckEnd.{Judges}
 use Rattle.answers.specs.ChooseEnd.{Writes}
 use Rattle.answers.specs.DescribeEnd.{Tells}
-use Rattle.answers.specs.DeviceFile.{IsDeviceFile}
-use Rattle.reading_commands.specs.DeviceInput.{RefusesMap}
-use Rattle.answers.specs.FlashOf.{IsFlashOf, flash_of}
+use Rattle.device_texts.specs.DeviceFile.{IsDeviceFile}
+use Rattle.reading_devices.specs.DeviceInput.{RefusesMap}
+use Rattle.device_texts.specs.FlashOf.{IsFlashOf, flash_of}
 use Rattle.command_ends.specs.Input.{FileBytes, Gives, GiveBoth}
 use Rattle.answers.specs.ManifestEnd.{TellsManifest}
 use Rattle.answers.specs.ShowEnd.{Shows}
@@ -123,3 +124,9 @@ AnswersSlots Refused device flash input files old new =
     ListsDevice slots.Refused device flash input files old new
     ⊎ RefusesMap device input files old new
 AnswersSlots Cut device flash input files old new = ⊥
+
+-- `codes` wrote the list of all codes and names.
+abbrev pub AnswersCodes : Answer → Option (List ℕ) → Option (List ℕ) → Type 0
+AnswersCodes Done old new = Appends old new REFUSALS.now
+AnswersCodes Refused old new = ⊥
+AnswersCodes Cut old new = ⊥

@@ -1,2 +1,2 @@
 pub mod AnswerEnd
-pub mod DeviceInput
+pub mod ReadingEnd

@@ -3,9 +3,9 @@
 ghost use Rattle.std.specs.Prelude.{IfOk};
 ghost use Rattle.reading_commands.specs.AnswerEnd.{AnswersManifest};
 
-use crate::device_input::read_device;
 use answers::{ManifestEnd, tell_over};
 use command_ends::{Answer, Host, MOST_JSON, Refusal, Source};
+use reading_devices::read_device;
 use std::alloc::Global;
 use std::io::Write;
 

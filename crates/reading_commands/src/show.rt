@@ -2,17 +2,17 @@
 ghost use Rattle.std.specs.Prelude.{IfOk};
 ghost use Rattle.reading_commands.specs.AnswerEnd.{AnswersShow};
 
-use crate::device_input::{read_device, read_flash};
 use answers::{ShowEnd, show_over};
 use command_ends::{Access, Answer, Host, Refusal, Source};
+use reading_devices::{read_device, read_flash};
 use std::alloc::Global;
 use std::io::Write;
 use std::marker::Brand;
 use std::sync::ledger::Blank;
 
 /// Reads a device file and the bytes of the device's flash from `host` into memory of `alloc`, and
-/// writes to `out` what stands there. The device file is judged before the
-/// flash is read: where its sizes make no map, that is written. Nothing is changed.
+/// writes to `out` what stands there. The device file is judged before the flash is read: where its
+/// sizes make no map, that is written. Nothing is changed.
 pub fn perform<H: Host, O: Write>(
     alloc: Global,
     device: Source<'_>,

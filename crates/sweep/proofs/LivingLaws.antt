@@ -19,8 +19,8 @@ use Rattle.machine.specs.Passing.{RunsTo, StepsTo}
 use Rattle.machine.specs.Steps.{DeviceEvent}
 use Rattle.machine.specs.declared.reply.Reply.{Reply}
 use Rattle.machine.proofs.Runs.{run_joins, runs_more, runs_none}
-use Rattle.answers.specs.FlashOf.{flash_of}
-use Rattle.answers.proofs.TextLaws.{range-more}
+use Rattle.device_texts.specs.FlashOf.{flash_of}
+use Rattle.device_texts.proofs.TextLaws.{range-more}
 use Rattle.sweep.specs.Cuts.{AreArmedFor, ArmsAll, IsArmedFor, IsTorn}
 use Rattle.sweep.specs.declared.cuts.Cut.{Cut}
 use Rattle.sweep.specs.Living.{HasVersion, Lives, LivesOne, Reboots, held_in, lent_in, with_boots}

@@ -20,9 +20,9 @@ use Rattle.machine.specs.Passing.{RunsTo}
 use Rattle.machine.specs.Reading.{IsReadOf}
 use Rattle.machine.specs.Steps.{DeviceEvent}
 use Rattle.machine.specs.declared.reply.Reply.{Reply}
-use Rattle.answers.specs.declared.device.DeviceFile.{DeviceFile}
-use Rattle.answers.specs.DeviceFile.{setup_of}
-use Rattle.answers.specs.FlashOf.{flash_of}
+use Rattle.device_texts.specs.declared.device.DeviceFile.{DeviceFile}
+use Rattle.device_texts.specs.DeviceFile.{setup_of}
+use Rattle.device_texts.specs.FlashOf.{flash_of}
 use Rattle.sweep.specs.Cuts.{AreArmedFor}
 use Rattle.sweep.specs.declared.cuts.Cut.{Cut}
 use Rattle.sweep.specs.declared.living.Life.{Life}

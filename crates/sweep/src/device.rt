@@ -3,10 +3,10 @@
 ghost use Rattle.std.specs.Prelude.{◌≡◌, false};
 ghost use Rattle.sector_map.specs.Map.{IsLaidOut};
 ghost use Rattle.upload.specs.Sessions.{AllClosed};
-ghost use Rattle.answers.specs.DeviceFile.{IsOfFile, setup_of};
+ghost use Rattle.device_texts.specs.DeviceFile.{IsOfFile, setup_of};
 
-use answers::DeviceFile;
 use boot_core::Device;
+use device_texts::DeviceFile;
 use flash_model::Flash;
 
 /// A device of this file over this flash, on which its map is laid out. It isn't up, and no upload

@@ -2,8 +2,8 @@
 
 ghost use Rattle.std.specs.Prelude.{◌≡◌, IfOk, true};
 ghost use Rattle.flash_model.specs.Memory.{chip_of};
-ghost use Rattle.answers.specs.DeviceFile.{IsOfFile};
-ghost use Rattle.answers.specs.FlashOf.{IsFlashOf};
+ghost use Rattle.device_texts.specs.DeviceFile.{IsOfFile};
+ghost use Rattle.device_texts.specs.FlashOf.{IsFlashOf};
 ghost use Rattle.sweep.specs.Cuts.{ArmsAll};
 ghost use Rattle.sweep.specs.Living.{IsLived, Lives, LivesOne, Reboots, held_in};
 
@@ -11,8 +11,8 @@ use crate::cuts::Cut;
 use crate::device::device_over;
 use crate::notes::{LifeEnd, Notes};
 use crate::running::running_versions;
-use answers::{DeviceFile, flash_of};
 use boot_core::{Device, step};
+use device_texts::{DeviceFile, flash_of};
 use events::Event;
 use flash_model::{Flash, MemFlash};
 use machine::Reply;

@@ -1,8 +1,8 @@
 //! All runs of a sweep.
 
 ghost use Rattle.std.specs.Prelude.{◌≡◌};
-ghost use Rattle.answers.specs.DeviceFile.{IsOfFile};
-ghost use Rattle.answers.specs.FlashOf.{IsFlashOf};
+ghost use Rattle.device_texts.specs.DeviceFile.{IsOfFile};
+ghost use Rattle.device_texts.specs.FlashOf.{IsFlashOf};
 
 use crate::cuts::{Cut, Cuts, TEARS, Tear};
 use crate::device::device_over;
@@ -10,10 +10,10 @@ use crate::found::{Found, Mark, Tally, is_same};
 use crate::living::{Life, live};
 use crate::notes::{CutNote, LifeEnd, had_memory};
 use crate::plan::{Plan, Watch};
-use answers::{DeviceFile, flash_of};
 use arrayvec::ArrayVec;
 use boot_core::step;
 use common::limits::MOST_IMAGES;
+use device_texts::{DeviceFile, flash_of};
 use events::Event;
 use random_numbers::Random;
 use std::alloc::{AllocError, Global};

@@ -1,5 +1,5 @@
 use Rattle.std.proofs.Common.{◌++◌, ◌∙◌, ap, append_assoc, codes, decimal}
-use Rattle.answers.specs.AnswerText.{line_text}
+use Rattle.device_texts.specs.AnswerText.{line_text}
 use Rattle.answers.specs.ManifestText.{component_text}
 use Rattle.answers.proofs.TextLaws.{printed-more}
 use Rattle.answers.proofs.manifest_file.manifest_text.Goals as goal

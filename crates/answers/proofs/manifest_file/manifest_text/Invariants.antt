@@ -1,6 +1,6 @@
 use Rattle.std.proofs.Common.{◌≡◌, ◌++◌, codes, decimal, string_bytes, take}
 use Rattle.common.specs.Lines.{printed_lines}
-use Rattle.answers.specs.AnswerText.{line_text}
+use Rattle.device_texts.specs.AnswerText.{line_text}
 use Rattle.answers.specs.ManifestText.{component_text}
 use Rattle.answers.proofs.manifest_file.manifest_text.Given as goal
 

@@ -1,5 +1,5 @@
 use Rattle.std.proofs.Common.{◌∙◌, append_assoc}
-use Rattle.answers.proofs.TextLaws.{flat_map-range_more}
+use Rattle.device_texts.proofs.TextLaws.{flat_map-range_more}
 use Rattle.answers.proofs.show.write_swaps.Goals as goal
 
 -- The line of one image more, by the trailers of the flash as it was.

@@ -6,7 +6,7 @@ pub returns : goal.returns
 returns g c = λ zero.
     let done = c.finish.ensures.status zero in
     let answered = rw done at c.perform-outcome.ensures in
-    AnswersCore-kept c.args.order (g.H.Host.input c.args.host.now) (g.H.Host.file c.args.host.now)
+    AnswersCore-kept c.args.order.now (g.H.Host.input c.args.host.now) (g.H.Host.file c.args.host.now)
     (g.H.Host.file c.perform-outcome.new.host)
     (g.O.Write.contents c.args.out.now) (g.O.Write.contents c.perform-outcome.new.out) (g.O.Write.contents c.finish.new.out)
     answered c.finish.ensures.kept

@@ -1,6 +1,6 @@
 use Rattle.std.proofs.Common.{subst}
 use Rattle.std.proofs.lemmas.Result.{IfOk-weaker}
-use Rattle.answers.specs.FlashOf.{flash_of}
+use Rattle.device_texts.specs.FlashOf.{flash_of}
 use Rattle.making_commands.specs.NewManifestSteps.{FindsNone, FindsPrecursors}
 use Rattle.making_commands.proofs.NewManifestLaws.{flash_read, none_read}
 use Rattle.making_commands.proofs.precursors.read_precursors.Goals as goal

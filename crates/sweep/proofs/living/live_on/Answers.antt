@@ -1,6 +1,6 @@
 use Rattle.std.proofs.Common.{◌∙◌}
 use Rattle.sweep.proofs.LivingLaws.{armed_flash, lives_join}
-use Rattle.answers.specs.DeviceFile.{setup_of}
+use Rattle.device_texts.specs.DeviceFile.{setup_of}
 use Rattle.sweep.proofs.living.live_on.Goals as goal
 
 -- The device was made over the armed flash, and went through all that comes.

@@ -1,0 +1,33 @@
+//! What the words ask for where there are none.
+
+use command_ends::STANDARD_INPUT;
+use command_line::{Order, OrderError, Request, request};
+use std::alloc::Global;
+use std::convert::AsStr;
+use std::io::Write;
+
+/// Tells who gives no word at a terminal what the program waits for.
+const READING: &[u8] = b"note: reading a table from standard input; `bootswap --help` tells more\n";
+
+/// What the words ask for: with none after the program's own name the choice over standard input.
+/// What is read of them stands in memory of `alloc`.
+///
+/// # Errors
+/// Those of [`request`].
+pub fn request_in<'a, S: AsStr>(alloc: Global, words: &'a [S]) -> Result<Request<'a>, OrderError> {
+    if words.len() <= 1 {
+        return Ok(Request {
+            order: Order::Choose {
+                table: STANDARD_INPUT,
+            },
+            is_explained: false,
+        });
+    }
+    request(alloc, words)
+}
+
+/// Tells that the program reads a table from standard input.
+pub fn note_reading<E: Write>(err: &mut E) {
+    // It is no part of the answer, which goes on without it.
+    let _ = err.write_all(READING);
+}

@@ -1,0 +1,5 @@
+pub mod Aliases
+pub mod Folds
+pub mod Names
+pub mod Program
+pub mod Refusals

@@ -1,0 +1,11 @@
+use Rattle.clap.specs.Words.{app_of}
+use Rattle.command_words.specs.Commands.{program, with_command}
+use Rattle.command_words.specs.declared.commands.TheConstants.{SUBCOMMANDS}
+use Rattle.command_words.proofs.Folds.{fold-more}
+use Rattle.command_words.proofs.commands.bootswap.Goals as goal
+
+-- One subcommand more.
+pub loop-subcommand-preserved : goal.loop-subcommand-preserved
+loop-subcommand-preserved c = fold-more with_command program SUBCOMMANDS
+    c.loop-subcommand.subcommand-index _ (app_of c.loop-subcommand.program) _ c.loop-subcommand-test.true
+    c.loop-subcommand.invariant c.in_ok-program-2.ensures

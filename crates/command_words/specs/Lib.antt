@@ -1,0 +1,5 @@
+pub mod Codes
+pub mod Commands
+pub mod DeviceOrders
+pub mod Faults
+pub mod Given

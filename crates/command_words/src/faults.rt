@@ -1,0 +1,71 @@
+//! Faults in words, as `clap` prints its own.
+
+ghost use Rattle.std.specs.Prelude.{◌≡◌, IfOk};
+ghost use Rattle.clap.specs.Words.{kind_of};
+ghost use Rattle.clap.specs.declared.error.kind.ErrorKind.TheVariants.{InvalidValue};
+ghost use Rattle.command_words.specs.Faults.{IsTold, IsUsage};
+
+use crate::commands::Subcommand;
+use crate::error::OrderError;
+use crate::matching::matches_of;
+use crate::{commands, fault_texts};
+use clap::Error;
+use clap::error::ErrorKind;
+use command_ends::Escaped;
+use std::alloc::{AllocError, Global};
+use std::convert::AsStr;
+
+/// The fault of these words, as it is printed: what `clap` says of them names them with their
+/// control characters escaped. `fault` is what was answered to them.
+pub fn fault_of<S: AsStr>(alloc: Global, words: &[S], fault: Error) -> OrderError
+    ensures { IsTold result }
+{
+    match escaped_words(alloc, words) {
+        Err(error) => OrderError::from(error),
+        Ok(escaped) => match matches_of(alloc, escaped.as_slice()) {
+            Err(error) => OrderError::from(error),
+            Ok(_) => OrderError::from(fault),
+        },
+    }
+}
+
+/// The fault of words that are no text.
+pub fn no_text(alloc: Global) -> OrderError
+    ensures { IsUsage InvalidValue result }
+{
+    match program_error(alloc, ErrorKind::InvalidValue, fault_texts::NO_TEXT) {
+        Ok(error) => OrderError::from(error),
+        Err(error) => OrderError::from(error),
+    }
+}
+
+/// A fault in the words of the program, with what is told of it.
+pub fn program_error(alloc: Global, kind: ErrorKind, text: &str) -> Result<Error, AllocError>
+    ensures { IfOk result (λ error. kind_of error ≡ kind) }
+{
+    commands::bootswap(alloc)?.error(kind, text)
+}
+
+/// A fault in the words of a subcommand, with what is told of it.
+pub fn subcommand_error(
+    alloc: Global,
+    subcommand: Subcommand,
+    kind: ErrorKind,
+    text: &str,
+) -> Result<Error, AllocError>
+    ensures { IfOk result (λ error. kind_of error ≡ kind) }
+{
+    let mut command = subcommand
+        .command(alloc)?
+        .bin_name(subcommand.usage_name())?;
+    command.error(kind, text)
+}
+
+fn escaped_words<S: AsStr>(alloc: Global, words: &[S]) -> Result<Vec<String>, AllocError> {
+    let mut escaped = Vec::new(alloc);
+    for word in words {
+        let word = format!(in alloc; "{}", Escaped(word.as_str()))?;
+        escaped.push(word)?;
+    }
+    Ok(escaped)
+}

@@ -1,0 +1,3 @@
+pub mod DeviceLaws
+pub mod ReplyLaws
+pub mod TextLaws

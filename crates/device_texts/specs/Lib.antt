@@ -1,0 +1,4 @@
+pub mod AnswerText
+pub mod DeviceFile
+pub mod FlashOf
+pub mod ReplyText

@@ -1,0 +1,196 @@
+//! Device files: what a device is, for the commands that name one.
+
+ghost use Rattle.std.specs.Prelude.{◌≡◌, ◌↔◌, ℕ, List, IfErr, IfNone, IfOk, IfSome, IsTrue, map};
+ghost use Rattle.std.specs.List.{AllZip};
+ghost use Rattle.serde_json.specs.View.{view};
+ghost use Rattle.device_texts.specs.DeviceFile.{HasDeviceKeys, IsDeviceFault, IsDeviceFile, IsNumber};
+ghost use Rattle.device_texts.specs.DeviceFile.{IsReadingFault, IsTrialBoots, Spells};
+ghost use Rattle.device_texts.specs.declared.device.DeviceFields.{DeviceFields};
+
+use common::limits::MOST_TRIAL_BOOTS;
+use manifest::json::{array, has_names, json_of, number, number_of, uuid};
+use manifest::{Identity, ManifestError};
+use sector_map::{MapError, SectorMap};
+use serde_json::Value;
+use std::alloc::Global;
+use thiserror::Error;
+use uuid::Uuid;
+
+/// How many boots a trial has where the file doesn't say it.
+const USUAL_TRIAL_BOOTS: u8 = 1;
+
+/// The keys of a device file, in the order of their bytes.
+const KEYS: [&str; 4] = ["class-id", "sector", "sectors", "vendor-id"];
+
+/// The same with the key that may be missing.
+const KEYS_WITH_TRIAL_BOOTS: [&str; 5] = [
+    "class-id",
+    "sector",
+    "sectors",
+    "trial-boots",
+    "vendor-id",
+];
+
+/// What a device file says.
+#[derive(Drop)]
+pub struct DeviceFields {
+    /// The length of a sector in bytes.
+    pub sector_size: u32,
+    /// How many sectors each slot of an image has, an entry for each image.
+    pub sectors: Vec<u32>,
+    /// Who makes the device.
+    pub vendor: Uuid,
+    /// Which class of devices of that vendor it is of.
+    pub class: Uuid,
+    /// How many boots a trial has, 1 to [`MOST_TRIAL_BOOTS`].
+    pub trial_boots: u8,
+}
+
+/// What a device is.
+#[derive(Clone, Copy)]
+pub struct DeviceFile {
+    /// Where the parts of its flash lie.
+    pub map: SectorMap,
+    /// For whom manifests are that it takes: of its vendor, its class, and for images of its map.
+    pub identity: Identity,
+    /// How many boots a trial has, 1 to [`MOST_TRIAL_BOOTS`].
+    pub trial_boots: u8,
+}
+
+/// Why bytes are no device file.
+#[derive(Clone, Copy, Debug, Error)]
+pub enum DeviceFault {
+    /// They aren't the JSON text of an object with exactly the keys of a device file and with what
+    /// has to stand there.
+    #[error("no device file")]
+    Malformed,
+    /// They are, and its sizes make no map.
+    #[error("{0}")]
+    Map(MapError),
+    /// Memory ran out.
+    #[error("no memory for the device file")]
+    NoMemory,
+}
+
+impl DeviceFile {
+    /// The device of a file.
+    ///
+    /// `bytes` are the whole file, of any length: a JSON text (RFC 8259) of one object with exactly
+    /// the keys that docs/FORMATS.md lists. What is read stands in memory of `alloc` meanwhile; the
+    /// answer doesn't allocate.
+    ///
+    /// # Errors
+    /// `Malformed` where the value of the text isn't such an object; `Map`, with the first check
+    /// that fails, where it is and its sizes make no map; `NoMemory` where memory is refused.
+    pub fn read(alloc: Global, bytes: &[u8]) -> Result<DeviceFile, DeviceFault>
+        ensures read { IfOk result (IsDeviceFile bytes.now) }
+        ensures fault { IfErr result (IsDeviceFault bytes.now) }
+    {
+        let value = match json_of(alloc, bytes) {
+            Ok(value) => value,
+            Err(ManifestError::NotJson) => return Err(DeviceFault::Malformed),
+            Err(_) => return Err(DeviceFault::NoMemory),
+        };
+        let fields = fields_of(alloc, &value)?;
+        match SectorMap::new(fields.sector_size, fields.sectors.as_slice()) {
+            Ok(map) => Ok(device_of(&fields, map)),
+            Err(fault) => Err(DeviceFault::Map(fault)),
+        }
+    }
+}
+
+/// The device of these fields, whose sizes make this map.
+fn device_of(fields: &DeviceFields, map: SectorMap) -> DeviceFile
+    ensures map { result.map ≡ map }
+    ensures vendor { result.identity.vendor ≡ fields.now.vendor }
+    ensures class { result.identity.class ≡ fields.now.class }
+    ensures images { result.identity.images ≡ result.map.images }
+    ensures trial_boots { result.trial_boots ≡ fields.now.trial_boots }
+{
+    DeviceFile {
+        map,
+        identity: Identity {
+            vendor: fields.vendor,
+            class: fields.class,
+            images: map.images,
+        },
+        trial_boots: fields.trial_boots,
+    }
+}
+
+/// What a value says of a device.
+fn fields_of(alloc: Global, value: &Value) -> Result<DeviceFields, DeviceFault>
+    ensures spelled { IfOk result (Spells (view value.now)) }
+    ensures fault { IfErr result (IsReadingFault
+        ((fields : DeviceFields) × Spells (view value.now) fields)) }
+{
+    if !has_keys(value) {
+        return Err(DeviceFault::Malformed);
+    }
+    let Some(sector_size) = number(value, "sector") else {
+        return Err(DeviceFault::Malformed);
+    };
+    let Some(values) = array(value, "sectors") else {
+        return Err(DeviceFault::Malformed);
+    };
+    let sectors = numbers_of(alloc, values.as_slice())?;
+    let Some(vendor) = uuid(value, "vendor-id") else {
+        return Err(DeviceFault::Malformed);
+    };
+    let Some(class) = uuid(value, "class-id") else {
+        return Err(DeviceFault::Malformed);
+    };
+    let Some(trial_boots) = trial_boots(value) else {
+        return Err(DeviceFault::Malformed);
+    };
+    Ok(DeviceFields {
+        sector_size,
+        sectors,
+        vendor,
+        class,
+        trial_boots,
+    })
+}
+
+/// Whether a value is an object with the keys of a device file.
+fn has_keys(value: &Value) -> bool
+    ensures { IsTrue result ↔ HasDeviceKeys (view value.now) }
+{
+    has_names(value, KEYS.as_slice()) || has_names(value, KEYS_WITH_TRIAL_BOOTS.as_slice())
+}
+
+/// The numbers below 2^32 that these values are, each.
+fn numbers_of(alloc: Global, values: &[Value]) -> Result<Vec<u32>, DeviceFault>
+    ensures numbers { IfOk result
+        (λ numbers. AllZip IsNumber (map view values.now) numbers.items) }
+    ensures fault { IfErr result (IsReadingFault
+        ((numbers : List ℕ) × AllZip IsNumber (map view values.now) numbers)) }
+{
+    let mut numbers = Vec::new(alloc);
+    for value in values {
+        let Some(number) = number_of(value) else {
+            return Err(DeviceFault::Malformed);
+        };
+        let Ok(()) = numbers.push(number) else {
+            return Err(DeviceFault::NoMemory);
+        };
+    }
+    Ok(numbers)
+}
+
+/// How many boots a trial has; none where what is said of it is no number from 1 to
+/// [`MOST_TRIAL_BOOTS`].
+fn trial_boots(value: &Value) -> Option<u8>
+    ensures found { IfSome result (IsTrialBoots (view value.now)) }
+    ensures other { IfNone result ((boots : ℕ) → IsTrialBoots (view value.now) boots → ⊥) }
+{
+    if value.get("trial-boots").is_none() {
+        return Some(USUAL_TRIAL_BOOTS);
+    }
+    let boots = u8::try_from(number(value, "trial-boots")?).ok()?;
+    if 1 <= boots && boots <= MOST_TRIAL_BOOTS {
+        Some(boots)
+    } else {
+        None
+    }
+}

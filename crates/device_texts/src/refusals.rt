@@ -1,0 +1,42 @@
+//! The texts of refusals, for standard output.
+ghost use Rattle.std.specs.Prelude.{◌≡◌, IfOk, string_bytes};
+ghost use Rattle.device_texts.specs.AnswerText.{map_refusal_text, refused_group_text, refused_text};
+
+use sector_map::MapError;
+use std::alloc::{AllocError, Global};
+
+/// The line `refused CODE NAME`: the number and the name of what was wrong, as text in memory of
+/// `alloc`.
+///
+/// # Errors
+/// `AllocError` where that memory is refused.
+pub fn refused_text(alloc: Global, code: u8, name: &str) -> Result<String, AllocError>
+    ensures { IfOk result (λ text. string_bytes text ≡ refused_text code name.now) }
+{
+    format!(in alloc; "refused {code} {name}\n")
+}
+
+/// The text `refused GROUP CODE NAME`: what a layer below refused, by the layer's word, the number
+/// and the name.
+pub fn refused_group_text(
+    alloc: Global,
+    group: &str,
+    code: u8,
+    name: &str,
+) -> Result<String, AllocError>
+    ensures { IfOk result
+        (λ text. string_bytes text ≡ refused_group_text group.now code name.now) }
+{
+    format!(in alloc; "refused {group} {code} {name}\n")
+}
+
+/// The line `refused map CODE NAME`: the first check of the sizes of a device file that fails, by
+/// its number and its name, as text in memory of `alloc`.
+///
+/// # Errors
+/// `AllocError` where that memory is refused.
+pub fn map_refusal_text(alloc: Global, fault: MapError) -> Result<String, AllocError>
+    ensures { IfOk result (λ text. string_bytes text ≡ map_refusal_text fault) }
+{
+    refused_group_text(alloc, "map", fault.code(), fault.name())
+}
