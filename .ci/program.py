@@ -31,8 +31,8 @@ ASIDE = f"{ROOT}/.git/bootswap-build"
 
 # What is told before a build: as measured on 4 processors, all of them taken.
 COSTS = {
-    "bootswap": "the program: from nothing it takes 55 to 105 minutes of one processor, 1.6 GB of disk",
-    "bootswap_core": "the core of the program: from nothing it takes 40 to 75 minutes of one processor, 1.2 GB of disk",
+    "bootswap": "the program: from nothing it takes 50 to 90 minutes of one processor, 1.9 GB of disk",
+    "bootswap_core": "the core of the program: from nothing it takes 30 to 55 minutes of one processor, 1.2 GB of disk",
     "device_calls": "the library: from nothing it takes 30 to 55 minutes of one processor, 1 GB of disk",
 }
 
@@ -41,8 +41,9 @@ COSTS = {
 MEMORY, MEMORY_OF_JOB = 2_300_000_000, 800_000_000
 
 # The most processes that are of use to one check, and how many seconds of a processor a check takes
-# for which one more is of use. Each reads the libraries below for itself.
-MOST_JOBS, SECONDS_OF_JOB = 4, 80
+# for which the second one is of use. Each reads the libraries below for itself: a third one for
+# `boot_core` took 100 seconds of a processor more, and it was done no sooner.
+MOST_JOBS, SECONDS_OF_JOB = 2, 80
 
 # How much less of a processor a check gets that little waits for, as a niceness.
 LEAST_URGENT = 19
@@ -55,45 +56,45 @@ URGENT, MORE = 0.75, 2
 # which crates others wait for longest, and nothing else. Lines are a poor guess of it: much of
 # `command_words` and `manifest` is what `clap` and JSON bring.
 SECONDS = {
-    "answers": 140,
-    "boot_cli": 115,
-    "boot_core": 320,
+    "answers": 141,
+    "boot_cli": 120,
+    "boot_core": 261,
     "bootswap": 90,
-    "bootswap_core": 95,
-    "certificate": 230,
-    "chooser": 100,
-    "command_ends": 76,
-    "command_line": 150,
-    "command_words": 195,
-    "common": 31,
-    "core_cli": 150,
-    "decision": 46,
+    "bootswap_core": 88,
+    "certificate": 231,
+    "chooser": 75,
+    "command_ends": 62,
+    "command_line": 190,
+    "command_words": 165,
+    "common": 24,
+    "core_cli": 140,
+    "decision": 41,
     "device_calls": 187,
-    "device_texts": 103,
-    "events": 28,
-    "explaining_commands": 150,
-    "explanations": 245,
-    "file_flash": 47,
-    "flash_model": 95,
-    "image_header": 48,
-    "machine": 55,
-    "making_commands": 225,
-    "manifest": 132,
-    "random_numbers": 9,
-    "reading_commands": 100,
-    "reading_devices": 50,
-    "reading_scripts": 93,
-    "script": 82,
-    "sector_map": 51,
-    "set_log": 86,
+    "device_texts": 85,
+    "events": 22,
+    "explaining_commands": 160,
+    "explanations": 290,
+    "file_flash": 39,
+    "flash_model": 90,
+    "image_header": 38,
+    "machine": 45,
+    "making_commands": 179,
+    "manifest": 114,
+    "random_numbers": 10,
+    "reading_commands": 71,
+    "reading_devices": 40,
+    "reading_scripts": 85,
+    "script": 65,
+    "sector_map": 42,
+    "set_log": 79,
     "slice_flash": 45,
-    "swap_scratch": 52,
-    "sweep": 190,
-    "system_files": 100,
-    "tlv": 195,
-    "trailer": 125,
-    "upload": 150,
-    "version_order": 45,
+    "swap_scratch": 42,
+    "sweep": 210,
+    "system_files": 81,
+    "tlv": 200,
+    "trailer": 112,
+    "upload": 110,
+    "version_order": 38,
 }
 
 TARGET = "x86_64-unknown-linux-gnu"
