@@ -25,7 +25,7 @@ def build_over_rt(archive, target):
         crate.made = f"{crate.folder}/out/rlib/{crate.name}.rlib"
     crates[-1].target, crates[-1].made = target, archive
     # Other checks go on beside it, and one process takes the least of the processors in all.
-    words = crates[-1].words(os.path.dirname(asked_of_rt("doc")), 1)
+    words = crates[-1].words(os.path.dirname(asked_of_rt("doc")))
     return ran(words, cwd=crates[-1].folder)[0]
 
 

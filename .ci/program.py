@@ -1,10 +1,10 @@
 """Proves and builds the program `bootswap` or its core, for the command of that name, and the static library of
 `bindings/build` and `web/build`.
 
-Each crate is proved by the toolchain's `rattle build`, over the statements of the crates below it. At most half again
-as many processes work at once as there are processors, and as many as memory allows. What is built stands in out/build:
-a library NAME.rlib for each crate, and beside it NAME.stamp, which says of what sources it was made. So a build that
-was broken off goes on with the crates that it had not yet built.
+Each crate is proved by the toolchain's `rattle build` in one process, over the statements of the crates below it. As
+many work at once as there are processors, and as memory allows. What is built stands in out/build: a library NAME.rlib
+for each crate, and beside it NAME.stamp, which says of what sources it was made. So a build that was broken off goes on
+with the crates that it had not yet built.
 """
 
 import contextlib
@@ -31,19 +31,13 @@ ASIDE = f"{ROOT}/.git/bootswap-build"
 
 # What is told before a build: as measured on 4 processors, all of them taken.
 COSTS = {
-    "bootswap": "the program: from nothing it takes 50 to 90 minutes of one processor, 1.9 GB of disk",
-    "bootswap_core": "the core of the program: from nothing it takes 30 to 55 minutes of one processor, 1.2 GB of disk",
-    "device_calls": "the library: from nothing it takes 30 to 55 minutes of one processor, 1 GB of disk",
+    "bootswap": "the program: from nothing it takes 45 to 80 minutes of one processor, 1.8 GB of disk",
+    "bootswap_core": "the core of the program: from nothing it takes 25 to 45 minutes of one processor, 1.1 GB of disk",
+    "device_calls": "the library: from nothing it takes 25 to 45 minutes of one processor, 1 GB of disk",
 }
 
-# The most memory that the check of a crate has taken, in bytes, and what each further process of
-# one takes.
-MEMORY, MEMORY_OF_JOB = 2_300_000_000, 800_000_000
-
-# The most processes that are of use to one check, and how many seconds of a processor a check takes
-# for which the second one is of use. Each reads the libraries below for itself: a third one for
-# `boot_core` took 100 seconds of a processor more, and it was done no sooner.
-MOST_JOBS, SECONDS_OF_JOB = 2, 80
+# The most memory that the check of a crate has taken, in bytes.
+MEMORY = 2_300_000_000
 
 # How much less of a processor a check gets that little waits for, as a niceness.
 LEAST_URGENT = 19
@@ -56,45 +50,45 @@ URGENT, MORE = 0.75, 2
 # which crates others wait for longest, and nothing else. Lines are a poor guess of it: much of
 # `command_words` and `manifest` is what `clap` and JSON bring.
 SECONDS = {
-    "answers": 141,
-    "boot_cli": 120,
-    "boot_core": 261,
-    "bootswap": 90,
-    "bootswap_core": 88,
-    "certificate": 231,
-    "chooser": 75,
-    "command_ends": 62,
-    "command_line": 190,
-    "command_words": 165,
-    "common": 24,
-    "core_cli": 140,
-    "decision": 41,
-    "device_calls": 187,
-    "device_texts": 85,
-    "events": 22,
-    "explaining_commands": 160,
-    "explanations": 290,
-    "file_flash": 39,
-    "flash_model": 90,
-    "image_header": 38,
-    "machine": 45,
-    "making_commands": 179,
-    "manifest": 114,
-    "random_numbers": 10,
-    "reading_commands": 71,
-    "reading_devices": 40,
-    "reading_scripts": 85,
-    "script": 65,
-    "sector_map": 42,
-    "set_log": 79,
+    "answers": 114,
+    "boot_cli": 89,
+    "boot_core": 155,
+    "bootswap": 70,
+    "bootswap_core": 60,
+    "certificate": 185,
+    "chooser": 62,
+    "command_ends": 47,
+    "command_line": 160,
+    "command_words": 143,
+    "common": 19,
+    "core_cli": 110,
+    "decision": 35,
+    "device_calls": 150,
+    "device_texts": 67,
+    "events": 16,
+    "explaining_commands": 126,
+    "explanations": 218,
+    "file_flash": 29,
+    "flash_model": 53,
+    "image_header": 29,
+    "image_reading": 105,
+    "machine": 40,
+    "making_commands": 142,
+    "manifest": 83,
+    "random_numbers": 8,
+    "reading_commands": 52,
+    "reading_inputs": 86,
+    "script": 52,
+    "sector_map": 31,
+    "set_log": 62,
     "slice_flash": 45,
-    "swap_scratch": 42,
-    "sweep": 210,
-    "system_files": 81,
-    "tlv": 200,
-    "trailer": 112,
-    "upload": 110,
-    "version_order": 38,
+    "swap_scratch": 36,
+    "sweep": 144,
+    "system_files": 65,
+    "tlv": 53,
+    "trailer": 80,
+    "upload": 90,
+    "version_order": 27,
 }
 
 TARGET = "x86_64-unknown-linux-gnu"
@@ -143,7 +137,7 @@ class Crate:
         """Returns whether a build before this one made it of these sources. Of a program only its own stamp tells."""
         return not self.is_program and os.path.exists(self.made) and text_of(self.stamp) == self.digest(toolchain)
 
-    def words(self, kit, jobs):
+    def words(self, kit):
         """Returns the order to prove and build it."""
         words = [f"{kit}/bin/rattle", "build", "--crate-name", self.name]
         words += ["src/main.rt" if self.is_program else "src/lib.rt"]
@@ -154,7 +148,7 @@ class Crate:
         for folder in sorted({f"{kit}/rlibs", *(os.path.dirname(it.made) for it in self.below())}):
             words += ["-L", f"dependency={folder}"]
         words += ["--antt-project", f"{kit}/rattle/logic/antt-project.json", "--logic-built", f"{kit}/logic_built"]
-        words += ["--jobs", str(jobs), "--links", f"{self.name}=", "-o", self.made]
+        words += ["--jobs", "1", "--links", f"{self.name}=", "-o", self.made]
         if self.is_program:
             return [*words, "--toolchain", f"{kit}/toolchain", "--backend", "rattle"]
         if self.is_static:
@@ -218,9 +212,9 @@ class Build:
         self.what = COSTS[crates[-1].name]
         self.left = [it for it in crates if not it.is_built(toolchain)]
         self.running, self.processes, self.is_stopped = {}, set(), False
-        self.processors, self.memory = len(os.sched_getaffinity(0)), 0.9 * free_memory()
-        # A check with several processes has parts in which one of them works and the others wait.
-        self.most = self.processors + self.processors // 2
+        # A check could have several processes, but each reads the libraries below for itself: a second one takes a fifth
+        # to a half more of a processor.
+        self.most, self.fit = len(os.sched_getaffinity(0)), int(0.9 * free_memory() // MEMORY)
         # How long the proofs take that wait for each other, from a crate on.
         self.behind = {it: it.seconds for it in crates}
         for crate in reversed(crates):
@@ -232,66 +226,52 @@ class Build:
 
     def run(self):
         """Proves and builds all that is left."""
-        at_once = min(self.most, max(int(self.memory // MEMORY), 0))
-        if not at_once:
+        if self.fit <= 0:
             raise NotBuilt(f"a check takes up to {MEMORY / 1e9:.1f} GB of memory, and less is free")
+        at_once = min(self.most + MORE, self.fit, len(self.left))
         tell(
             f"proving and building {self.what}, and up to {at_once * MEMORY / 1e9:.1f} GB of memory; {len(self.left)} "
-            f"crates are left, {at_once} side by side"
+            f"crates are left, at most {at_once} side by side"
         )
         with ThreadPoolExecutor(self.most + MORE) as pool:
             try:
                 while self.left or self.running:
                     self.start_what_fits(pool)
                     for ran in wait(self.running, return_when=FIRST_COMPLETED).done:
-                        crate, _ = self.running.pop(ran)
-                        self.end(crate, ran.result())
+                        self.end(self.running.pop(ran), ran.result())
             finally:
                 self.stop()
         tell(f"built ({self.seconds()})")
 
     def start_what_fits(self, pool):
         """Starts the crates that are ready, those with the longest way behind them first."""
-        waits = [*self.left, *[crate for crate, _ in self.running.values()]]
+        waits = [*self.left, *self.running.values()]
         ready = [it for it in self.left if not any(crate in waits for crate in it.below())]
         ready.sort(key=lambda it: -self.behind[it])
-        for place, crate in enumerate(ready):
-            jobs = self.jobs_for(crate, len(ready) - place)
-            if not jobs:
-                continue
-            niceness = self.niceness_of(crate)
-            self.left.remove(crate)
-            self.running[pool.submit(self.build, crate, jobs, niceness)] = crate, jobs
+        for crate in ready:
+            if self.has_room(crate):
+                niceness = self.niceness_of(crate)
+                self.left.remove(crate)
+                self.running[pool.submit(self.build, crate, niceness)] = crate
 
-    def jobs_for(self, crate, waiting):
-        """Returns how many processes a crate may have, behind which so many wait that are ready with it: none where
-        all processes or the memory are taken.
-
-        The crate that the longest way is behind has two at least, for all the others wait for it in the end.
-        """
-        taken = [jobs for _, jobs in self.running.values()]
-        idle = self.most - sum(taken)
-        room = self.memory - sum(MEMORY + (jobs - 1) * MEMORY_OF_JOB for jobs in taken) - MEMORY
-        part = self.behind[crate] / self.longest()
-        if idle + (MORE if part >= URGENT else 0) <= 0 or room < 0:
-            return 0
-        least = 2 if part == 1 and self.processors > 1 else 1
-        most = min(MOST_JOBS, 1 + int(crate.seconds // SECONDS_OF_JOB))
-        return min(most, max(least, idle // waiting), 1 + int(room // MEMORY_OF_JOB))
+    def has_room(self, crate):
+        """Returns whether a crate may start beside those that are under way."""
+        most = self.most + (MORE if self.behind[crate] >= URGENT * self.longest() else 0)
+        return len(self.running) < min(most, self.fit)
 
     def longest(self):
         """Returns how long the proofs take that wait for each other, of those that aren't done."""
-        return max(self.behind[it] for it in [*self.left, *[it for it, _ in self.running.values()]])
+        return max(self.behind[it] for it in [*self.left, *self.running.values()])
 
-    def build(self, crate, jobs, niceness):
+    def build(self, crate, niceness):
         """Proves and builds a crate, and returns whether that was done, and what was said."""
         if os.path.isfile(crate.stamp):
             os.remove(crate.stamp)
         digest = crate.digest(self.toolchain)
-        status, said = self.call(crate.words(self.kit, jobs), crate.folder, niceness)
+        status, said = self.call(crate.words(self.kit), crate.folder, niceness)
         if status == -signal.SIGKILL and not self.is_stopped:
-            # Most likely for memory, of which one process needs the least.
-            status, said = self.call(crate.words(self.kit, 1), crate.folder)
+            # Most likely for memory, of which there may be more now.
+            status, said = self.call(crate.words(self.kit), crate.folder)
         if not status and crate.is_program:
             status, more = self.call(link_words(self.kit, crate.made, f"{OUT}/{crate.name}"), crate.folder)
             said += more
@@ -333,7 +313,7 @@ class Build:
             it.write(f"== {crate.name}\n{said}\n")
         if not is_done:
             raise NotBuilt(f"{crate.name} isn't proved, or can't be built; what was said is in {LOG}")
-        under_way = ", ".join(it.name for it, _ in self.running.values())
+        under_way = ", ".join(it.name for it in self.running.values())
         more = f", {under_way} under way" if under_way else ""
         left = len(self.left) + len(self.running)
         tell(f"{crate.name} is proved ({self.seconds()}); {left} left{more}")
