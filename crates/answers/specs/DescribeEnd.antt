@@ -1,10 +1,10 @@
 -- What a description leaves with a writer, by how it ends.
 use Rattle.std.specs.Prelude.{◌≡◌, ◌⊎◌, ℕ, List, take, Option}
 use Rattle.std.specs.Io.KnownBytes.{Keeps, Appends}
-use Rattle.tlv.specs.declared.desc.Desc.{Desc}
-use Rattle.tlv.specs.declared.error.ImageError.{ImageError}
-use Rattle.tlv.specs.Fault.{IsFirstFault}
-use Rattle.tlv.specs.Image.{IsIntact}
+use Rattle.image_reading.specs.declared.desc.Desc.{Desc}
+use Rattle.image_reading.specs.declared.error.ImageError.{ImageError}
+use Rattle.image_reading.specs.Fault.{IsFirstFault}
+use Rattle.image_reading.specs.Image.{IsIntact}
 use Rattle.answers.specs.ImageText.{description_text, refusal_text}
 use Rattle.answers.specs.declared.image.DescribeEnd.{DescribeEnd}
 use Rattle.answers.specs.declared.image.DescribeEnd.TheVariants.{Done, Refused, NoMemory, WriteFailed}

@@ -4,9 +4,9 @@ use Rattle.hex.specs.Hex.{encode_lower}
 use Rattle.common.specs.Lines.{printed_lines}
 use Rattle.version_order.specs.VersionText.{version_text}
 use Rattle.certificate.specs.DependencyText.{needs_one_text, needs_text}
-use Rattle.tlv.specs.declared.desc.Desc.{Desc}
-use Rattle.tlv.specs.declared.error.ImageError.{ImageError}
-use Rattle.tlv.specs.Codes.{code_of, name_of}
+use Rattle.image_reading.specs.declared.desc.Desc.{Desc}
+use Rattle.image_reading.specs.declared.error.ImageError.{ImageError}
+use Rattle.image_reading.specs.Codes.{code_of, name_of}
 use Rattle.device_texts.specs.AnswerText.{line_text, refused_text}
 use Rattle.answers.specs.declared.image.Described.{Described}
 

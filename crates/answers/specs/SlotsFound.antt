@@ -7,9 +7,9 @@ use Rattle.sector_map.specs.declared.layout.Side.{Side}
 use Rattle.sector_map.specs.declared.layout.Side.TheVariants.{Primary, Secondary}
 use Rattle.sector_map.specs.Map.{length_of, start_of}
 use Rattle.sector_map.specs.Part.{Slot, is_member}
-use Rattle.tlv.specs.Fault.{IsFrontFault}
-use Rattle.tlv.specs.Image.{BeginsIntact}
-use Rattle.tlv.specs.Slot.{slot_bytes}
+use Rattle.image_reading.specs.Fault.{IsFrontFault}
+use Rattle.image_reading.specs.Image.{BeginsIntact}
+use Rattle.image_reading.specs.Slot.{slot_bytes}
 use Rattle.trailer.specs.Standing.{standing_of}
 use Rattle.trailer.specs.Status.{status_count_of}
 use Rattle.swap_scratch.specs.Used.{steps_of}

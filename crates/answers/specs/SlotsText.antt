@@ -5,7 +5,7 @@ use Rattle.common.specs.Lines.{◌␣◌}
 use Rattle.trailer.specs.declared.kinds.Kind.{Kind}
 use Rattle.trailer.specs.declared.kinds.Kind.TheVariants as request
 use Rattle.swap_scratch.specs.declared.progress.Progress.{Progress}
-use Rattle.tlv.specs.Codes.{code_of, name_of}
+use Rattle.image_reading.specs.Codes.{code_of, name_of}
 use Rattle.certificate.specs.ReportText.{report_text}
 use Rattle.machine.specs.declared.error.Fault.TheVariants.{InvalidSet, RunningDamaged}
 use Rattle.machine.specs.declared.finding.Finding.{Finding}

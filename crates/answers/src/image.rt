@@ -8,10 +8,10 @@ ghost use Rattle.common.specs.Lines.{printed_lines};
 
 use certificate::{Needs, NeedsOne};
 use device_texts::{refused_text, write_all};
+use image_reading::{Desc, ImageError, describe};
 use std::alloc::{AllocError, Global};
 use std::fmt;
 use std::io::Write;
-use tlv::{Desc, ImageError, describe};
 use version_order::{Dependency, Group};
 
 /// How a description ended.

@@ -11,11 +11,11 @@ use arrayvec::ArrayVec;
 use common::limits::MOST_IMAGES;
 use decision::find;
 use flash_model::{Flash, is_erased};
+use image_reading::{Desc, ImageError, SlotError, describe_slot};
 use machine::Finding;
 use sector_map::{SectorMap, Side, is_member};
 use set_log::{Kind as Record, State};
 use swap_scratch::{Progress, swap_progress};
-use tlv::{Desc, ImageError, SlotError, describe_slot};
 use trailer::{Kind, standing};
 
 /// What a slot begins with.

@@ -9,7 +9,7 @@ use Rattle.sector_map.specs.declared.layout.SectorMap.{SectorMap}
 use Rattle.sector_map.specs.declared.layout.Side.TheVariants.{Primary}
 use Rattle.sector_map.proofs.PartBytes.{length_part, part_inside}
 use Rattle.sector_map.proofs.Places.{before_none}
-use Rattle.tlv.specs.Slot.{slot_bytes}
+use Rattle.image_reading.specs.Slot.{slot_bytes}
 
 -- The slot of a map's first image has fewer than 2 ^ 32 bytes.
 pub slot_small : (map : SectorMap) (chip : Chip) → IsLaidOut map chip → map.images ≡ 1

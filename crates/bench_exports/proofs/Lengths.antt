@@ -1,8 +1,8 @@
 -- The length that a description names.
 use Rattle.std.proofs.Common.{◌≡◌, ◌+◌, ◌≤◌, ◌∙◌, ℕ, List, [], ◌++◌, length, ap, arith, rules}
 use Rattle.std.proofs.lemmas.List.{length-append}
-use Rattle.tlv.specs.declared.desc.Desc.{Desc}
-use Rattle.tlv.specs.Image.{BeginsIntact, IsIntact, image_bytes}
+use Rattle.image_reading.specs.declared.desc.Desc.{Desc}
+use Rattle.image_reading.specs.Image.{BeginsIntact, IsIntact, image_bytes}
 
 -- An intact image is all of the bytes.
 pub length-intact : (bytes : List ℕ) (description : Desc) → IsIntact bytes description → length bytes ≡ description.length

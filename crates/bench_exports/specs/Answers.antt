@@ -1,10 +1,10 @@
 -- Answers as one number, and what each says.
 use Rattle.std.specs.Prelude.{◌≡◌, ℕ, ◌+◌, ◌*◌, ◌^◌, ◌<◌, ◌-◌, List, [], ◌∷◌, ◌++◌, length, replicate, take}
-use Rattle.tlv.specs.declared.desc.Desc.{Desc}
-use Rattle.tlv.specs.declared.error.ImageError.{ImageError}
-use Rattle.tlv.specs.Codes.{code_of}
-use Rattle.tlv.specs.Fault.{IsFirstFault, IsFrontFault}
-use Rattle.tlv.specs.Image.{BeginsIntact, IsIntact}
+use Rattle.image_reading.specs.declared.desc.Desc.{Desc}
+use Rattle.image_reading.specs.declared.error.ImageError.{ImageError}
+use Rattle.image_reading.specs.Codes.{code_of}
+use Rattle.image_reading.specs.Fault.{IsFirstFault, IsFrontFault}
+use Rattle.image_reading.specs.Image.{BeginsIntact, IsIntact}
 use Rattle.certificate.specs.declared.table.Table.{Table}
 use Rattle.certificate.specs.declared.report.ReportedImage.{ReportedImage}
 use Rattle.certificate.specs.declared.report.Report.{Report}

@@ -3,13 +3,13 @@
 ghost use Rattle.std.specs.Prelude.{◌≡◌};
 ghost use Rattle.byteorder.specs.Endian.{big_number};
 ghost use Rattle.sha2.specs.Sha256.{sha256};
-ghost use Rattle.tlv.specs.Image.{IsIntact};
-ghost use Rattle.tlv.specs.declared.desc.Desc.{Desc};
+ghost use Rattle.image_reading.specs.Image.{IsIntact};
+ghost use Rattle.image_reading.specs.declared.desc.Desc.{Desc};
 ghost use Rattle.bench_exports.specs.Answers.{IsDescribeAnswer};
 
 use byteorder::{BigEndian, ByteOrder};
+use image_reading::describe;
 use sha2::{Digest, Sha256};
-use tlv::describe;
 
 /// The answer above which a refusal has the number of its check.
 const REFUSED: u64 = 1 << 63;

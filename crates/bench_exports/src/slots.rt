@@ -5,16 +5,16 @@ ghost use Rattle.std.specs.Prelude.{◌≡◌, ◌≤◌, length, vec_len, IfOk,
 ghost use Rattle.flash_model.specs.Memory.{chip_of};
 ghost use Rattle.sector_map.specs.Map.{IsLaidOut};
 ghost use Rattle.sector_map.specs.declared.layout.Side.TheVariants.{Primary};
-ghost use Rattle.tlv.specs.Slot.{slot_bytes};
+ghost use Rattle.image_reading.specs.Slot.{slot_bytes};
 ghost use Rattle.bench_exports.specs.Answers.{IsFrontAnswer, IsSlotAnswer, flash_of, slot_of};
 
 use crate::counted::Counted;
 use flash_model::{Flash, MemFlash};
+use image_reading::{SlotError, describe_slot};
 use sector_map::{SectorMap, Side};
 use std::alloc::{AllocError, Global};
 use std::marker::Brand;
 use std::sync::ledger::{Blank, Ledger};
-use tlv::{SlotError, describe_slot};
 
 /// The length in bytes of a sector of the flash.
 const SECTOR_SIZE: u32 = 131_072;

@@ -5,13 +5,13 @@ use Rattle.command_ends.specs.declared.answer.Answer.TheVariants.{Done, Refused,
 use Rattle.events.specs.declared.event.Event.{Event}
 use Rattle.device_texts.specs.declared.device.DeviceFile.{DeviceFile}
 use Rattle.command_ends.specs.declared.source.Source.{Source}
-use Rattle.reading_devices.specs.DeviceInput.{GivesDevice}
+use Rattle.reading_inputs.specs.DeviceInput.{GivesDevice}
 use Rattle.command_ends.specs.Input.{FileBytes, Gives, KeepsOthers}
 use Rattle.boot_cli.specs.SweepEnd.{AnswersSweep, SweepsDevice}
-use Rattle.reading_scripts.specs.Script.{IsScript, Known, StaysKnown, known_after}
+use Rattle.reading_inputs.specs.Script.{IsScript, Known, StaysKnown, known_after}
 use Rattle.command_ends.specs.Status.{status_of_answer}
 use Rattle.command_ends.proofs.InputLaws.{GiveEach-one, GiveEach-read}
-use Rattle.reading_scripts.proofs.ScriptLaws.{StaysKnown-itself, StaysKnown-read}
+use Rattle.reading_inputs.proofs.ScriptLaws.{StaysKnown-itself, StaysKnown-read}
 
 AnswersSweep-swept : (answer : Answer) (device script : Source) (input : Option (List ℕ)) (file : FileBytes)
     (old new : Option (List ℕ)) → status_of_answer answer ≤ 1 → SweepsDevice device script input file

@@ -5,7 +5,7 @@ use Rattle.sector_map.specs.declared.layout.SectorMap.{SectorMap}
 use Rattle.command_ends.specs.declared.answer.Answer.{Answer}
 use Rattle.command_ends.specs.declared.answer.Answer.TheVariants.{Done, Refused, Cut}
 use Rattle.command_ends.specs.declared.source.Source.{Source}
-use Rattle.reading_devices.specs.DeviceInput.{RefusesMap}
+use Rattle.reading_inputs.specs.DeviceInput.{RefusesMap}
 use Rattle.command_ends.specs.Input.{FileBytes}
 use Rattle.command_ends.specs.Inputs.{GiveEach}
 use Rattle.device_texts.specs.declared.device.DeviceFile.{DeviceFile}
@@ -13,7 +13,7 @@ use Rattle.device_texts.specs.DeviceFile.{IsDeviceFile}
 use Rattle.device_texts.specs.FlashOf.{IsFlashOf}
 use Rattle.boot_cli.specs.declared.sweeping.Provisioned.{Provisioned}
 use Rattle.boot_cli.specs.declared.sweeping.Provisioned.TheVariants as made
-use Rattle.reading_scripts.specs.Script.{IsScript, known_after_each}
+use Rattle.reading_inputs.specs.Script.{IsScript, known_after_each}
 
 -- A flash that was made has as many bytes as its map.
 abbrev pub IsWhole : SectorMap → Provisioned → Type 0

@@ -7,7 +7,7 @@ use crate::sweeping::Named;
 use crate::words::request_in;
 use command_ends::{Answer, Host, Refusal, Source, finish};
 use command_line::Order;
-use core_cli::answer_words;
+use command_words::answer_words;
 use explaining_commands::{Remembering, ReplyNotes, UntilFailed, explain_end};
 use making_commands::extract::Copying;
 use making_commands::{extract, make_device, make_image, make_manifest};

@@ -18,9 +18,9 @@ use Rattle.trailer.specs.Fields.{erased_fields, fields_at}
 use Rattle.set_log.specs.Log.{state_of}
 use Rattle.set_log.specs.Record.{fits}
 use Rattle.set_log.proofs.Table.{fits_of}
-use Rattle.tlv.specs.declared.desc.Desc.{Desc}
-use Rattle.tlv.specs.Image.{IsIntact}
-use Rattle.tlv.proofs.Descriptions.{front-unique}
+use Rattle.image_reading.specs.declared.desc.Desc.{Desc}
+use Rattle.image_reading.specs.Image.{IsIntact}
+use Rattle.image_reading.proofs.Descriptions.{front-unique}
 use Rattle.certificate.specs.declared.table.Table.{Table}
 use Rattle.certificate.specs.declared.table.Image.{Image}
 use Rattle.certificate.specs.declared.table.Entry.{Entry}

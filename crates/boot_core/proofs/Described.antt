@@ -7,12 +7,12 @@ use Rattle.sector_map.specs.declared.layout.Side.{Side}
 use Rattle.sector_map.specs.Part.{Slot}
 use Rattle.sector_map.specs.Map.{IsLaidOut, IsMap, slot_sectors}
 use Rattle.sector_map.proofs.PartBytes.{length_part}
-use Rattle.tlv.specs.declared.desc.Desc.{Desc}
-use Rattle.tlv.specs.declared.error.ImageError.{ImageError}
-use Rattle.tlv.specs.Fault.{IsFrontFault}
-use Rattle.tlv.specs.Image.{BeginsIntact}
-use Rattle.tlv.specs.Slot.{slot_bytes}
-use Rattle.tlv.proofs.Descriptions.{front-unique, front_has_no_fault}
+use Rattle.image_reading.specs.declared.desc.Desc.{Desc}
+use Rattle.image_reading.specs.declared.error.ImageError.{ImageError}
+use Rattle.image_reading.specs.Fault.{IsFrontFault}
+use Rattle.image_reading.specs.Image.{BeginsIntact}
+use Rattle.image_reading.specs.Slot.{slot_bytes}
+use Rattle.image_reading.proofs.Descriptions.{front-unique, front_has_no_fault}
 use Rattle.boot_core.specs.SwapSize.{IsUsed}
 use Rattle.decision.proofs.Described.{described_front}
 

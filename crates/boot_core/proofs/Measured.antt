@@ -8,8 +8,8 @@ use Rattle.sector_map.specs.declared.layout.Side.{Side}
 use Rattle.sector_map.specs.Part.{Log, is_member, only, trailers_on}
 use Rattle.sector_map.specs.Map.{Keeps, slot_sectors}
 use Rattle.trailer.specs.Fields.{Fields}
-use Rattle.tlv.specs.declared.desc.Desc.{Desc}
-use Rattle.tlv.specs.Image.{BeginsIntact}
+use Rattle.image_reading.specs.declared.desc.Desc.{Desc}
+use Rattle.image_reading.specs.Image.{BeginsIntact}
 use Rattle.swap_scratch.specs.Used.{sectors_for, used_of}
 use Rattle.swap_scratch.specs.Swap.{share, steps_in_all, sum_over}
 use Rattle.upload.specs.View.{View, view}

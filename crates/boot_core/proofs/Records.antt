@@ -1,5 +1,5 @@
 -- The next record keeps the table of records, since the one that stands keeps it.
-use Rattle.std.proofs.Common.{◌≡◌, ◌≢◌, ℕ, ◌^◌, ◌<◌, ◌≤◌, ◌==◌, ◌&&◌, Bool, true, false, not, nat_le, nat_lt, List, Option, Some, None, IsSome, slice_index, arith, refl, sym, ◌∙◌, subst, ⊎_elim}
+use Rattle.std.proofs.Common.{◌≡◌, ◌≢◌, ℕ, ◌+◌, if◌then◌else◌, ◌^◌, ◌<◌, ◌≤◌, ◌==◌, ◌&&◌, Bool, true, false, not, nat_le, nat_lt, List, Option, Some, None, IsSome, slice_index, arith, refl, sym, ◌∙◌, subst, ⊎_elim}
 use Rattle.std.proofs.lemmas.Bool.{and_from, and_parts}
 use Rattle.std.proofs.lemmas.Bool.Decides.{leb_tells}
 use Rattle.std.proofs.Math.Nat.{div-le_self}
@@ -107,3 +107,8 @@ fits_back map chip s read is =
     let asked = kind_of_read map chip s Trial read is in
     fits_next map chip s Back 0 read
     (and_from (not (s.mask == 0)) _ (and_parts (not (s.mask == 0)) (nat_le s.left 6) asked).0 refl)
+
+-- one sector is erased at most, where no place is free
+pub one_erase : (free : Bool) (old new : ℕ) → new ≡ old + (if free then 0 else 1) → new ≤ old + 1
+one_erase true old new erased = omega (arith, erased)
+one_erase false old new erased = omega (arith, erased)

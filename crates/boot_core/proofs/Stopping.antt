@@ -1,6 +1,6 @@
 -- A device that the flash stopped: it isn't up and has no uploads, and its flash is off as the cut
 -- left it.
-use Rattle.std.proofs.Common.{◌≡◌, ℕ, ◌+◌, Bool, true, false, List, Option, Some, Result, Ok, Err, IsErrOf, arith, refl, sym, ◌∙◌, ap, subst, ⊎_elim, inl, inr}
+use Rattle.std.proofs.Common.{rules, ◌≡◌, ℕ, ◌+◌, Bool, true, false, List, Option, Some, Result, Ok, Err, IfOk, IsErrOf, arith, refl, sym, ◌∙◌, ap, subst, ⊎_elim, inl, inr}
 use Rattle.std.specs.Borrow.{Bor}
 use Rattle.events.specs.declared.event.Event.TheVariants as event
 use Rattle.flash_model.specs.Chip.{Chip, Ends, IsCut, IsUncut}
@@ -37,9 +37,11 @@ use Rattle.machine.specs.declared.reply.Reply.TheVariants.{Done, Refused, Cut}
 use Rattle.machine.proofs.Confirming.{rest_stands}
 use Rattle.machine.proofs.Stepping.{steps_no_state, steps_not_up}
 use Rattle.machine.proofs.Uploading.{TakesRow, rest_steady, steps_on_trial}
-use Rattle.boot_core.specs.Answers.{EndsCall, error_reply, fault_reply, is_stop, is_stopped}
+use Rattle.machine.specs.Boots.{is_answer}
+use Rattle.boot_core.specs.Answers.{EndsCall, IsBootReply, error_reply, fault_reply, is_stop, is_stopped, reply_of_boot}
 use Rattle.boot_core.specs.Device.{seen}
 use Rattle.boot_core.specs.Ready.{IsReadiness}
+use Rattle.boot_core.specs.Wear.{IsWorn}
 
 true_false : true ≡ false → ⊥
 true_false e = cc
@@ -129,6 +131,79 @@ pub boot_stopped : (setup : Setup) (old new : Chip) (told tnew : List (Option Up
     → StepsTo setup (seen old told up) (seen new tnew false) event.Boot (fault_reply (no.Flash error))
 boot_stopped setup old new told tnew up none cuts flash.Cut ends on = boot_down setup old new told tnew up none cuts
 boot_stopped setup old new told tnew up none cuts flash.Off ends on = absurd (true_false (sym on ∙ ends.off refl))
+
+-- .. and where the flash was on it was cut, and something was written
+pub not_uncut : (old new : Chip) (error : FlashError) → Ends {T = Reply} (Err error) old new → old.is_on ≡ true
+    → cut_of (fault_reply (no.Flash error)) ≡ 0 → ⊥
+not_uncut old new flash.Cut ends on uncut = omega (arith, uncut)
+not_uncut old new flash.Off ends on uncut = true_false (sym on ∙ ends.off refl)
+
+pub stopped_worn : (map : SectorMap) (state : State) (old new : Chip) (error : FlashError)
+    → Ends {T = Reply} (Err error) old new → old.is_on ≡ true → cut_of (fault_reply (no.Flash error)) ≡ 0
+    → IsWorn map state.kind state.mask old new (fault_reply (no.Flash error))
+stopped_worn map state old new error ends on uncut = absurd (not_uncut old new error ends on uncut)
+
+not_idle : (old new : Chip) (error : FlashError) → Ends {T = Reply} (Err error) old new → old.is_on ≡ true
+    → new ≡ old → ⊥
+not_idle old new flash.Cut ends on same = omega (arith, (ends.cut refl).cuts, ap (λ (chip : Chip). chip.cuts) same)
+not_idle old new flash.Off ends on same = true_false (sym on ∙ ends.off refl)
+
+-- so that there was a record
+pub not_empty : (old new : Chip) (error : FlashError) → Ends {T = Reply} (Err error) old new → old.is_on ≡ true
+    → new ≡ old → (result : Result Reply Fault) → result ≡ Err no.NotProvisioned
+not_empty old new error ends on same result = absurd (not_idle old new error ends on same)
+
+pub stopped_ends : {T : Type 0} (old new : Chip) (told tnew : List (Option Upload)) (up upn : Bool) → AllClosed tnew
+    → upn ≡ false → (error : FlashError) → Ends {T = T} (Err error) old new
+    → EndsCall (fault_reply (no.Flash error)) (seen old told up) (seen new tnew upn)
+stopped_ends old new told tnew up upn none down flash.Cut ends = record {
+  cuts = (ends.cut refl).cuts;
+  power = λ e. absurd (omega (arith, e));
+  off = λ e more. absurd (omega (arith, more));
+  down = λ e. down;
+  closed = λ e. none;
+}
+stopped_ends old new told tnew up upn none down flash.Off ends =
+    let stays : new ≡ old = ends.asleep (ends.off refl) in
+    let cuts : new.cuts ≡ old.cuts = ap (λ (chip : Chip). chip.cuts) stays in
+    record {
+      cuts = omega (arith, cuts);
+      power = λ e. ap (λ (chip : Chip). chip.is_on) stays;
+      off = λ e more. ends.off refl;
+      down = λ e. down;
+      closed = λ e. none;
+    }
+
+-- a call that ended by a reply of its own
+pub ended : (old new : Chip) (told tnew : List (Option Upload)) (up upn : Bool) (reply : Reply) → cut_of reply ≡ 0
+    → is_stopped reply ≡ false → IsUncut old new → EndsCall reply (seen old told up) (seen new tnew upn)
+ended old new told tnew up upn reply none unstopped uncut = record {
+  cuts = omega (arith, none, uncut.cuts);
+  power = λ e. uncut.on;
+  off = λ e. absurd (true_false (sym e ∙ unstopped));
+  down = λ e. absurd (true_false (sym e ∙ unstopped));
+  closed = λ e. absurd (true_false (sym e ∙ unstopped));
+}
+
+-- .. as a boot does
+boot_ended : (reply : Reply) → IsBootReply reply → (cut_of reply ≡ 0) × (is_stopped reply ≡ false)
+boot_ended reply told = search rules
+
+pub ended_ends : (old new : Chip) (told tnew : List (Option Upload)) (up upn : Bool) (given reply : Reply)
+    → given ≡ reply → IsBootReply reply → Ends (Ok reply) old new
+    → EndsCall given (seen old told up) (seen new tnew upn)
+ended_ends old new told tnew up upn given reply is replied ends =
+    let none = boot_ended reply replied in
+    subst (λ r. EndsCall r (seen old told up) (seen new tnew upn)) (sym is)
+    (ended old new told tnew up upn reply none.0 none.1 ends.uncut)
+
+pub unprovisioned : (result : Result Reply Fault) → IfOk result (λ reply. is_answer reply ≡ true)
+    → reply_of_boot result ≡ Refused no.NotProvisioned → result ≡ Err no.NotProvisioned
+unprovisioned result answers is = search rules
+
+-- a fault of the flash is passed on as one
+pub no_own : (error : FlashError) (given : Fault) → given ≡ no.Flash error → is_stop given ≡ false → ⊥
+no_own error given is own = true_false (sym (ap is_stop is) ∙ own)
 
 -- a confirmation that the flash stopped
 pub confirm_stopped : (setup : Setup) (old new : Chip) (told tnew : List (Option Upload)) (up upn : Bool) (i : ℕ)

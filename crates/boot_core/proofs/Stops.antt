@@ -1,5 +1,5 @@
 -- What a reply tells is told of the finding that it comes of.
-use Rattle.std.proofs.Common.{rules, ◌≡◌, ◌∙◌, ℕ, Bool, true, false, List, Some, ap, refl, sym, subst}
+use Rattle.std.proofs.Common.{rules, ◌≡◌, ◌∙◌, ℕ, Bool, true, false, List, Some, None, Result, Ok, Err, IfOk, ap, refl, sym, subst}
 use Rattle.flash_model.specs.Chip.{Chip}
 use Rattle.flash_model.specs.declared.error.FlashError.{FlashError}
 use Rattle.flash_model.specs.declared.error.FlashError.TheVariants as flash
@@ -17,8 +17,10 @@ use Rattle.machine.specs.declared.finding.Finding.{Finding}
 use Rattle.machine.specs.declared.finding.Finding.TheVariants.{Decided, Damaged, Invalid}
 use Rattle.machine.specs.declared.error.Fault.TheVariants as no
 use Rattle.machine.specs.declared.reply.Reply.TheVariants.{Refused}
+use Rattle.machine.specs.declared.reply.Reply.{Reply}
 use Rattle.boot_core.specs.Answers.{fault_reply, is_stopped}
 use Rattle.boot_core.specs.Found.{IsKeptFor, IsStopped, IsSwapAloneFor, IsToldAgain}
+use Rattle.boot_core.specs.Wear.{TakesNothing}
 
 -- a reply comes of one finding, but for what was decided
 pub one_finding : (P : Finding → Type 0) → ((table : Table) (report : Report) → P (Decided table report))
@@ -120,8 +122,28 @@ settle_stopped map state old new told is stops = record {
   settle = λ e. stops;
 }
 
+-- whether a record is none of a passage
+abbrev pub at_rest : Kind → Bool
+at_rest log.Steady = true
+at_rest log.Swap = false
+at_rest log.Settle = false
+at_rest log.Trial = false
+at_rest log.Back = false
+at_rest log.BackSettle = false
+
+pub not_at_rest : (kind : Kind) → at_rest kind ≡ false → kind ≡ log.Steady → ⊥
+not_at_rest kind other steady = true_false (sym (ap at_rest steady) ∙ other)
+
 some_same : (x y : State) → Some x ≡ Some y → x ≡ y
 some_same x y e = cc
+
+some_none : (x : State) → Some x ≡ None → ⊥
+some_none x e = cc
+
+-- a record was read, so that one stood
+pub stood_none : (map : SectorMap) (chip : Chip) (read : State) → state_of map chip ≡ Some read
+    → state_of map chip ≡ None → ⊥
+stood_none map chip read stood none = some_none read (sym stood ∙ none)
 
 -- from the record that was read
 pub read_stopped : (map : SectorMap) (old mid new : Chip) (read state : State) (told : Finding) → mid ≡ old
@@ -130,6 +152,14 @@ pub read_stopped : (map : SectorMap) (old mid new : Chip) (read state : State) (
 read_stopped map old mid new read state told same is stood stops =
     subst (λ s. IsStopped map s old new told) (some_same read state (sym is ∙ stood))
     (subst (λ chip. IsStopped map read chip new told) same stops)
+
+pub read_idle : (map : SectorMap) (old mid new : Chip) (read : State) (result : Result Reply FlashError) → mid ≡ old
+    → state_of map old ≡ Some read → (read.kind ≡ log.Steady → IfOk result (λ reply. TakesNothing reply → new ≡ mid))
+    → IfOk result (λ reply. (state : State) → state_of map old ≡ Some state → state.kind ≡ log.Steady
+    → TakesNothing reply → new ≡ old)
+read_idle map old mid new read (Ok reply) same is idle = λ state stood kind takes.
+    idle (ap (λ (s : State). s.kind) (some_same read state (sym is ∙ stood)) ∙ kind) takes ∙ same
+read_idle map old mid new read (Err error) same is idle = tt
 
 -- .. and answers nothing
 pub flash_unanswered : (error : FlashError) → is_answer (fault_reply (no.Flash error)) ≡ false
@@ -140,3 +170,11 @@ flash_unanswered flash.Off = refl
 pub flash_stopped_it : (error : FlashError) → is_stopped (fault_reply (no.Flash error)) ≡ true
 flash_stopped_it flash.Cut = refl
 flash_stopped_it flash.Off = refl
+
+-- .. and takes nothing
+flash_takes : (error : FlashError) → TakesNothing (fault_reply (no.Flash error)) → ⊥
+flash_takes flash.Cut takes = takes
+flash_takes flash.Off takes = takes
+
+pub flash_idle : (error : FlashError) (old new : Chip) → TakesNothing (fault_reply (no.Flash error)) → new ≡ old
+flash_idle error old new takes = absurd (flash_takes error takes)

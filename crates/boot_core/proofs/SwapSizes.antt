@@ -8,7 +8,7 @@ use Rattle.sector_map.specs.declared.layout.Side.TheVariants.{Primary, Secondary
 use Rattle.sector_map.specs.Part.{TrailerOf, is_member, only, same_side}
 use Rattle.sector_map.specs.Map.{Keeps}
 use Rattle.trailer.specs.Fields.{Fields, erased_fields}
-use Rattle.tlv.specs.Image.{BeginsIntact}
+use Rattle.image_reading.specs.Image.{BeginsIntact}
 use Rattle.upload.specs.View.{View, view}
 use Rattle.upload.proofs.Views.{view_kept}
 use Rattle.machine.specs.Prepared.{IsRoomFor, IsRoomForBoth}

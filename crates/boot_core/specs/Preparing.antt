@@ -7,7 +7,7 @@ use Rattle.sector_map.specs.declared.layout.Side.{Side}
 use Rattle.sector_map.specs.Map.{Keeps, slot_sectors}
 use Rattle.sector_map.specs.Part.{TrailerOf, is_member, only, trailers_on}
 use Rattle.swap_scratch.specs.Swap.{share}
-use Rattle.tlv.specs.Slot.{slot_bytes}
+use Rattle.image_reading.specs.Slot.{slot_bytes}
 use Rattle.upload.specs.View.{view}
 use Rattle.machine.specs.Prepared.{IsPrepared}
 use Rattle.machine.specs.Wear.{members}

@@ -11,9 +11,9 @@ use Rattle.trailer.specs.Fields.{erased_fields, fields_at}
 use Rattle.set_log.specs.Log.{state_of}
 use Rattle.set_log.specs.declared.state.Kind.TheVariants.{Steady}
 use Rattle.set_log.specs.declared.state.State.{State}
-use Rattle.tlv.specs.declared.desc.Desc.{Desc}
-use Rattle.tlv.specs.Image.{BeginsIntact, IsIntact}
-use Rattle.tlv.specs.Slot.{slot_bytes}
+use Rattle.image_reading.specs.declared.desc.Desc.{Desc}
+use Rattle.image_reading.specs.Image.{BeginsIntact, IsIntact}
+use Rattle.image_reading.specs.Slot.{slot_bytes}
 use Rattle.certificate.specs.declared.table.Table.{Table}
 use Rattle.certificate.specs.declared.table.Image.{Image}
 use Rattle.certificate.specs.declared.table.Request.TheVariants as request

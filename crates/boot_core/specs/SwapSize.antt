@@ -2,8 +2,8 @@
 use Rattle.std.specs.Prelude.{◌≡◌, ℕ, max, List, length, Some}
 use Rattle.sector_map.specs.declared.layout.Side.{Side}
 use Rattle.sector_map.specs.declared.layout.Side.TheVariants.{Primary, Secondary}
-use Rattle.tlv.specs.declared.desc.Desc.{Desc}
-use Rattle.tlv.specs.Image.{BeginsIntact}
+use Rattle.image_reading.specs.declared.desc.Desc.{Desc}
+use Rattle.image_reading.specs.Image.{BeginsIntact}
 use Rattle.upload.specs.View.{View}
 use Rattle.machine.specs.Prepared.{IsPrepared}
 

@@ -5,8 +5,8 @@ ghost use Rattle.boot_core.specs.Preparing.{IsSwapSizeIn, IsUsedIn, TellsSize};
 ghost use Rattle.boot_core.specs.Preparing.{Prepares, PreparesImage, PreparesMember};
 
 use flash_model::{Flash, FlashError};
+use image_reading::{SlotError, describe_slot};
 use sector_map::{SectorMap, Side, is_member};
-use tlv::{SlotError, describe_slot};
 use trailer::{clear, write_size};
 
 /// How many bytes of a slot a swap has to move: those of the image that it begins with, or all of

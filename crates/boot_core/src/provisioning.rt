@@ -3,7 +3,7 @@
 ghost use Rattle.std.specs.Prelude.{◌≡◌, ℕ, ◌≤◌, List, slice_index};
 ghost use Rattle.sector_map.specs.Map.{HasImage, IsLaidOut};
 ghost use Rattle.sector_map.specs.Part.{trailers_of};
-ghost use Rattle.tlv.specs.Image.{BeginsIntact};
+ghost use Rattle.image_reading.specs.Image.{BeginsIntact};
 ghost use Rattle.boot_core.specs.Provisioned.{AreCounters, IsBegunAfresh, IsReadThere};
 ghost use Rattle.boot_core.specs.Provisioned.{IsRunningRow, provided};
 ghost use Rattle.boot_core.specs.Provisions.{AreClearedIn, IsClearedIn, IsRowIn};
@@ -16,10 +16,10 @@ use certificate::{Image, Request, Table, is_valid};
 use common::limits::MOST_IMAGES;
 use decision::entry_of;
 use flash_model::{Flash, FlashError};
+use image_reading::{Desc, SlotError, describe_slot};
 use machine::{Fault, Reading};
 use sector_map::{SectorMap, Side};
 use set_log::{Kind, State, start};
-use tlv::{Desc, SlotError, describe_slot};
 use trailer::clear;
 
 /// The row of an image that runs, by its description: nothing is requested, and its own counter is

@@ -4,7 +4,7 @@
 #![tactic(auto)]
 
 use boot_cli::{Remembering, cli, note_reading};
-use core_cli::{refuse_words, words_of};
+use command_words::{refuse_words, words_of};
 use std::io::IsTerminal;
 use std::process::ExitCode;
 use system_files::SystemHost;

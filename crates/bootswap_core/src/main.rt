@@ -2,7 +2,8 @@
 //! takes uploads and survives power cuts.
 #![tactic(auto)]
 
-use core_cli::{core_cli, refuse_words, words_of};
+use command_words::{refuse_words, words_of};
+use core_cli::core_cli;
 use std::io::IsTerminal;
 use std::process::ExitCode;
 use system_files::SystemHost;

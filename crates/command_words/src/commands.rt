@@ -278,7 +278,7 @@ impl Subcommand {
     }
 
     /// The subcommand, as `clap` is told of it.
-    pub fn command<'a>(self, alloc: Global) -> Result<Command<'a>, AllocError>
+    pub(crate) fn command<'a>(self, alloc: Global) -> Result<Command<'a>, AllocError>
         ensures { IfOk result (λ command. shape_of command ≡ shape_for self) }
     {
         let name: &'a str = self.name();

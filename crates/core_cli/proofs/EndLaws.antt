@@ -14,14 +14,14 @@ use Rattle.device_texts.specs.declared.device.DeviceFile.{DeviceFile}
 use Rattle.command_ends.specs.declared.source.Source.{Source}
 use Rattle.command_ends.specs.declared.source.Source.TheVariants as source
 use Rattle.device_texts.specs.FlashOf.{IsFlashOf}
-use Rattle.reading_devices.specs.DeviceInput.{GivesDevice}
+use Rattle.reading_inputs.specs.DeviceInput.{GivesDevice}
 use Rattle.command_ends.specs.Input.{FileBytes, Gives, KeepsFiles, KeepsOthers}
 use Rattle.core_cli.specs.ProvisionEnd.{AnswersMade, AnswersProvision, EndsBefore, EndsMade, MakesDevice, ReadsImages}
 use Rattle.core_cli.specs.RunEnd.{AnswersRun, Plays, RunsDevice}
-use Rattle.reading_scripts.specs.Script.{IsScript, Known, StaysKnown, known_after}
+use Rattle.reading_inputs.specs.Script.{IsScript, Known, StaysKnown, known_after}
 use Rattle.command_ends.specs.Status.{status_of_answer}
 use Rattle.command_ends.proofs.InputLaws.{GiveEach-one, GiveEach-read}
-use Rattle.reading_scripts.proofs.ScriptLaws.{StaysKnown-itself, StaysKnown-read}
+use Rattle.reading_inputs.proofs.ScriptLaws.{StaysKnown-itself, StaysKnown-read}
 
 -- what comes of making a flash isn't that the power failed
 not_cut : (made : Made) (old new : Option (List ℕ)) → AnswersMade Cut made old new → ⊥

@@ -26,11 +26,11 @@ use Rattle.device_texts.specs.ReplyText.{replies_text, reply_text}
 use Rattle.device_texts.proofs.ReplyLaws.{replies_text-push}
 use Rattle.common.specs.Lines.{lines_of}
 use Rattle.command_ends.specs.Input.{FileBytes}
-use Rattle.reading_scripts.specs.declared.judging.Kept.{Kept}
+use Rattle.reading_inputs.specs.declared.judging.Kept.{Kept}
 use Rattle.core_cli.specs.RunEnd.{IsMadeOf, answer_after, answer_of, armed_chip, came_by}
 use Rattle.device_texts.specs.DeviceFile.{setup_of}
 use Rattle.core_cli.specs.Telling.{BreaksEvent, BreaksText, PlaysText, TellsAll, TellsEvent, TellsFirst, TellsSome, TellsText}
-use Rattle.reading_scripts.proofs.ScriptLaws.{AreTaken, BringsFirst-none, BringsFirst-taken}
+use Rattle.reading_inputs.proofs.ScriptLaws.{AreTaken, BringsFirst-none, BringsFirst-taken}
 
 -- the last reply says what a run comes to
 answer_of-push : (replies : List Reply) (reply : Reply) → answer_of (replies ++ reply ∷ []) ≡ answer_after (Some reply)

@@ -20,7 +20,7 @@ use Rattle.command_ends.specs.declared.source.Source.{Source}
 use Rattle.command_ends.specs.declared.source.Source.TheVariants.{StandardInput, File}
 use Rattle.device_texts.specs.DeviceFile.{IsDeviceFile}
 use Rattle.device_texts.specs.FlashOf.{flash_of}
-use Rattle.reading_devices.specs.DeviceInput.{RefusesMap}
+use Rattle.reading_inputs.specs.DeviceInput.{RefusesMap}
 use Rattle.command_ends.specs.Input.{FileBytes, IsKnownAs, IsNamed}
 use Rattle.command_ends.specs.Inputs.{GiveEach}
 use Rattle.device_texts.specs.ReplyText.{refused_fault_text}

@@ -19,11 +19,11 @@ use Rattle.device_texts.specs.declared.device.DeviceFile.{DeviceFile}
 use Rattle.command_ends.specs.declared.source.Source.{Source}
 use Rattle.device_texts.specs.DeviceFile.{IsDeviceFile, setup_of}
 use Rattle.device_texts.specs.FlashOf.{IsFlashOf, flash_of}
-use Rattle.reading_devices.specs.DeviceInput.{RefusesMap}
+use Rattle.reading_inputs.specs.DeviceInput.{RefusesMap}
 use Rattle.command_ends.specs.Input.{FileBytes}
 use Rattle.command_ends.specs.Inputs.{GiveEach}
 use Rattle.device_texts.specs.ReplyText.{replies_text}
-use Rattle.reading_scripts.specs.Script.{IsScript, known_after_each}
+use Rattle.reading_inputs.specs.Script.{IsScript, known_after_each}
 
 -- The flash that has these bytes, of whose writes these are to be cut, as counted from now.
 abbrev pub armed_chip : SectorMap → List ℕ → List Armed → Chip

@@ -15,8 +15,8 @@ use Rattle.command_ends.specs.declared.error.Refusal.TheVariants.{FlashFile}
 use Rattle.command_ends.specs.Input.{FileBytes}
 use Rattle.device_texts.specs.declared.device.DeviceFile.{DeviceFile}
 use Rattle.device_texts.specs.ReplyText.{replies_text, reply_text}
-use Rattle.reading_scripts.specs.declared.judging.Kept.{Kept}
-use Rattle.reading_scripts.specs.Loading.{BringsAll, BringsFirst}
+use Rattle.reading_inputs.specs.declared.judging.Kept.{Kept}
+use Rattle.reading_inputs.specs.Loading.{BringsAll, BringsFirst}
 use Rattle.core_cli.specs.RunEnd.{IsPlayed, Plays, answer_after, answer_of, came_by}
 
 -- A writer took a beginning of a text and no more, or there was no memory for the text. The flash

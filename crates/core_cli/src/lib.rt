@@ -1,6 +1,6 @@
-//! The core of the program `bootswap` but for its `main`: its words, and the commands that make a
-//! flash a device's and run a device on one (`provision`, `run`). `boot_cli` has all the others
-//! besides.
+//! The core of the program `bootswap` but for its `main`: the commands that make a flash a device's
+//! and run a device on one (`provision`, `run`), as the words of the command ask for them. `boot_cli`
+//! has all the others besides.
 //!
 //! Promises: status 0 comes only where what the words ask for was done, for what the files that they
 //! name hold: a flash is made of exactly the images that the words name, and its file replaced only
@@ -12,7 +12,5 @@ mod host_file;
 mod program;
 pub mod provision;
 mod run;
-mod words;
 
 pub use program::{core_cli, perform, run_core_order};
-pub use words::{answer_words, refuse_words, words_of};

@@ -2,11 +2,10 @@
 ghost use Rattle.std.specs.Prelude.{◌≡◌, IfOk};
 ghost use Rattle.core_cli.specs.CoreEnd.{AnswersCore};
 
-use crate::words::answer_words;
 use crate::{provision, run};
 use command_ends::{Access, Answer, Host, Refusal, Source, finish};
-use command_words::{DeviceOrder, device_request};
-use reading_devices::{NoNotes, RunNotes};
+use command_words::{DeviceOrder, answer_words, device_request};
+use reading_inputs::{NoNotes, RunNotes};
 use std::alloc::Global;
 use std::convert::AsStr;
 use std::io::Write;

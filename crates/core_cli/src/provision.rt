@@ -10,7 +10,7 @@ ghost use Rattle.core_cli.specs.ProvisionEnd.{AnswersMade, AnswersProvision, End
 use command_ends::{Answer, FlashFault, Host, Refusal, Source};
 use device_texts::{flash_of, refused_fault_text, write_all};
 use machine::Fault;
-use reading_devices::read_device;
+use reading_inputs::read_device;
 use sector_map::{SectorMap, Side};
 use std::alloc::{AllocError, Global};
 use std::io::Write;

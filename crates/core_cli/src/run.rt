@@ -8,7 +8,7 @@ ghost use Rattle.sector_map.specs.Map.{IsLaidOut};
 ghost use Rattle.device_texts.specs.DeviceFile.{IsOfFile};
 ghost use Rattle.device_texts.specs.FlashOf.{IsFlashOf};
 ghost use Rattle.device_texts.specs.ReplyText.{reply_text};
-ghost use Rattle.reading_scripts.specs.Loading.{armed_in, came_of};
+ghost use Rattle.reading_inputs.specs.Loading.{armed_in, came_of};
 ghost use Rattle.core_cli.specs.RunEnd.{AnswersRun, answer_after, armed_flash};
 ghost use Rattle.core_cli.specs.Telling.{BreaksEvent, BreaksOff, BreaksText, PlaysText, TellsEvent, TellsFirst, TellsText};
 ghost use Rattle.command_ends.specs.declared.source.Source.TheVariants as source;
@@ -21,8 +21,9 @@ use events::Event;
 use file_flash::{FileFlash, FlashFile};
 use flash_model::{Flash, MemFlash};
 use machine::Reply;
-use reading_devices::{RunNotes, read_device, read_flash};
-use reading_scripts::{Cut, Judged, Lines, Sources, judge, read_script};
+use reading_inputs::{
+    Cut, Judged, Lines, RunNotes, Sources, judge, read_device, read_flash, read_script,
+};
 use script::Line;
 use sector_map::SectorMap;
 use std::alloc::{AllocError, Global};

@@ -1,10 +1,10 @@
 -- What a slot begins with, by what is described of it.
 use Rattle.std.proofs.Common.{◌≡◌, ℕ, List, length, Option, Some, None, refl, sym, ◌∙◌, ap, append-nil}
-use Rattle.tlv.specs.declared.desc.Desc.{Desc}
-use Rattle.tlv.specs.declared.error.ImageError.{ImageError}
-use Rattle.tlv.specs.Fault.{IsFrontFault}
-use Rattle.tlv.specs.Image.{BeginsIntact, IsIntact, image_bytes}
-use Rattle.tlv.proofs.Descriptions.{front_has_no_fault}
+use Rattle.image_reading.specs.declared.desc.Desc.{Desc}
+use Rattle.image_reading.specs.declared.error.ImageError.{ImageError}
+use Rattle.image_reading.specs.Fault.{IsFrontFault}
+use Rattle.image_reading.specs.Image.{BeginsIntact, IsIntact, image_bytes}
+use Rattle.image_reading.proofs.Descriptions.{front_has_no_fault}
 use Rattle.common.specs.Bytes.{Starts}
 use Rattle.upload.specs.Steady.{IsFront}
 

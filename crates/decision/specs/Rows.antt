@@ -8,7 +8,7 @@ use Rattle.sector_map.specs.declared.layout.Side.TheVariants.{Secondary}
 use Rattle.certificate.specs.declared.table.Entry.{Entry}
 use Rattle.certificate.specs.declared.table.Image.{Image}
 use Rattle.certificate.specs.declared.table.Request.{Request}
-use Rattle.tlv.specs.Slot.{slot_bytes}
+use Rattle.image_reading.specs.Slot.{slot_bytes}
 use Rattle.trailer.specs.Fields.{fields_at}
 use Rattle.upload.specs.Device.{DeviceState, Wanted}
 use Rattle.upload.specs.Steady.{IsFront, IsRequested}

@@ -10,9 +10,9 @@ use arrayvec::ArrayVec;
 use certificate::{Entry, Image, Request, Table};
 use common::limits::MOST_IMAGES;
 use flash_model::{Flash, FlashError};
+use image_reading::{Desc, SlotError, describe_slot};
 use machine::Reading;
 use sector_map::{SectorMap, Side, is_member};
-use tlv::{Desc, SlotError, describe_slot};
 use trailer::standing;
 
 /// What a decision knows of an image, by its description.

@@ -1,11 +1,11 @@
 -- What an image says of itself, as C has it.
 use Rattle.std.specs.Prelude.{◌≡◌, ℕ, List, length, slice_get, Some}
 use Rattle.version_order.specs.declared.group.Group.{Group}
-use Rattle.tlv.specs.declared.desc.Desc.{Desc}
-use Rattle.tlv.specs.declared.error.ImageError.{ImageError}
-use Rattle.tlv.specs.Codes.{code_of}
-use Rattle.tlv.specs.Fault.{IsFirstFault, IsFrontFault}
-use Rattle.tlv.specs.Image.{BeginsIntact, IsIntact}
+use Rattle.image_reading.specs.declared.desc.Desc.{Desc}
+use Rattle.image_reading.specs.declared.error.ImageError.{ImageError}
+use Rattle.image_reading.specs.Codes.{code_of}
+use Rattle.image_reading.specs.Fault.{IsFirstFault, IsFrontFault}
+use Rattle.image_reading.specs.Image.{BeginsIntact, IsIntact}
 use Rattle.device_calls.specs.declared.description.Description.{Description}
 use Rattle.device_calls.specs.declared.description.ToldGroup.{ToldGroup}
 use Rattle.device_calls.specs.Told.{AreToldNeeds, told_version}

@@ -10,7 +10,7 @@ use Rattle.certificate.specs.declared.report.Report.{Report}
 use Rattle.certificate.specs.declared.report.ReportedImage.{ReportedImage}
 use Rattle.flash_model.specs.Codes as flash
 use Rattle.manifest.specs.Codes as manifest
-use Rattle.tlv.specs.Codes as image
+use Rattle.image_reading.specs.Codes as image
 use Rattle.upload.specs.Codes as upload
 use Rattle.upload.specs.declared.error.UploadError.TheVariants.{NotAnImage}
 use Rattle.machine.specs.Codes.{code_of}

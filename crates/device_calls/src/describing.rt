@@ -6,8 +6,8 @@ ghost use Rattle.device_calls.specs.Description.{AnswersDescription};
 
 use crate::description::{Description, NO_DESCRIPTION, description_of};
 use crate::numbers::DONE;
+use image_reading::describe;
 use sha2::{Digest as _, Sha256};
-use tlv::describe;
 
 /// The SHA-256 of some bytes.
 #[repr(C)]

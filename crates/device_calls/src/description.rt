@@ -8,7 +8,7 @@ use crate::told::{
     NO_NEED, NO_VERSION, ToldNeed, ToldVersion, alternatives_of, need_of, version_of,
 };
 use common::limits::{MOST_ALTERNATIVES, MOST_DEPENDENCIES, MOST_GROUPS};
-use tlv::Desc;
+use image_reading::Desc;
 use version_order::{Dependency, Group};
 
 /// A group: one of these images in its version at least.

@@ -7,11 +7,11 @@ ghost use Rattle.device_calls.specs.Slots.{AnswersSlot, DescribesSlot, IsSide};
 use crate::description::{Description, NO_DESCRIPTION, description_of};
 use crate::numbers::{DONE, NO_IMAGE};
 use crate::setup::{Setup, make};
+use image_reading::{SlotError, describe_slot};
 use sector_map::{SectorMap, Side};
 use slice_flash::SliceFlash;
 use std::marker::Brand;
 use std::sync::ledger::{Blank, Ledger};
-use tlv::{SlotError, describe_slot};
 
 /// The side that a number tells.
 fn side_of(number: u8) -> Option<Side>

@@ -4,7 +4,7 @@ use Rattle.std.specs.List.{flat_map, list_any, range_with_len}
 use Rattle.common.specs.declared.limits.TheConstants.{MOST_IMAGES}
 use Rattle.common.specs.Lines.{◌␣◌}
 use Rattle.sector_map.specs.Part.{is_member}
-use Rattle.tlv.specs.Codes as image
+use Rattle.image_reading.specs.Codes as image
 use Rattle.manifest.specs.Codes as manifest
 use Rattle.upload.specs.declared.error.UploadError.{UploadError}
 use Rattle.upload.specs.declared.error.UploadError.TheVariants.{NotAnImage}

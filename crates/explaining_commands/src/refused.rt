@@ -16,12 +16,12 @@ use device_texts::{DeviceFault, DeviceFile, flash_of};
 use explanations::{
     explain_image, explain_manifest, explain_map, explain_no, explain_refusals, explain_running,
 };
-use reading_devices::table_on;
+use image_reading::{ImageError, describe};
+use reading_inputs::table_on;
 use sector_map::{SectorMap, Side};
 use std::alloc::{AllocError, Global};
 use std::marker::Brand;
 use std::sync::ledger::{Blank, Ledger};
-use tlv::{ImageError, describe};
 
 /// Adds why each request is refused by the choice that was told: that over a table, or over that of
 /// a flash.

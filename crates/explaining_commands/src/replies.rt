@@ -6,7 +6,7 @@ use events::Event;
 use explanations::{explain_manifest, explain_refusals};
 use machine::{Fault, Reply};
 use manifest::Manifest;
-use reading_devices::RunNotes;
+use reading_inputs::RunNotes;
 use std::alloc::{AllocError, Global};
 use std::io::Write;
 

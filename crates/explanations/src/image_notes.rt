@@ -5,9 +5,9 @@ use crate::image_areas::{
     number_at, protected_area, unprotected_area,
 };
 use image_header::{ACCEPTED_FLAGS, HEADER_LENGTH, Header};
+use image_reading::ImageError;
 use sha2::{Digest, Sha256};
 use std::alloc::AllocError;
-use tlv::ImageError;
 
 /// Adds where bytes fail this check of an image, and what stands there. Bytes are numbered from 0.
 pub fn explain_image(

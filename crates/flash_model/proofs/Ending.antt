@@ -79,3 +79,13 @@ ends_done value done old new ends = ends_well done old new ends.uncut ends.aslee
 pub ends_then : {T U : Type 0} (value : T) (result : Result U FlashError) (old mid new : Chip)
     → Ends (Ok value) old mid → Ends result mid new → Ends result old new
 ends_then value result old mid new first last = ends_after result old mid new first.uncut first.asleep last
+
+-- A write that is cut.
+pub ends_cut : {T : Type 0} {old new : Chip} → old.is_on ≡ true → new.cuts ≡ old.cuts + 1 → new.is_on ≡ false
+    → Ends {T = T} (Err Cut) old new
+ends_cut on cuts off = record {
+  asleep = λ asleep. absurd (true_false (sym on ∙ asleep));
+  uncut = tt;
+  cut = λ is. record { cuts = cuts; off = off };
+  off = λ is. cc;
+}

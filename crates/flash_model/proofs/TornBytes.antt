@@ -52,6 +52,19 @@ pub length-replaced : (at : ℕ) (range bytes : List ℕ) → at + length range 
     → length (replaced at range bytes) ≡ length bytes
 length-replaced at range bytes inside = simp (length-append, length-take, length-drop) (omega arith)
 
+-- A range is put where it stands.
+pub same_replaced : (at n : ℕ) (bytes : List ℕ) → at + n ≤ length bytes
+    → bytes ≡ replaced at (slice_range bytes at (at + n)) bytes
+same_replaced at n bytes inside =
+    let range : List ℕ = slice_range bytes at (at + n) in
+    let behind : List ℕ = drop at bytes in
+    let is : take n behind ≡ range = ap (λ k. take k behind) (omega arith) in
+    let long : n ≡ length range = sym (length_range bytes at (at + n) ∙ omega arith) in
+    let rest : drop n behind ≡ drop (at + length range) bytes =
+    drop-drop n at bytes ∙ ap (λ k. drop (at + k) bytes) long in
+    sym (take-append-drop at bytes) ∙ ap (λ all. take at bytes ++ all)
+    (sym (take-append-drop n behind) ∙ ap (λ r. r ++ drop n behind) is ∙ ap (λ r. range ++ r) rest)
+
 -- All other bytes are as they were.
 pub outside_of_replaced : (at n : ℕ) (range : List ℕ) (old new : Chip) → length range ≡ n
     → at + n ≤ length old.bytes → new.bytes ≡ replaced at range old.bytes

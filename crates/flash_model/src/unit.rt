@@ -33,7 +33,6 @@ pub fn is_unit_erased<F: Flash>(flash: &mut F, at: u32) -> Result<bool, FlashErr
 /// # Errors
 /// `Cut` where power failed: the unit holds any bytes, so it is erased or set; all else is as it
 /// was, and the flash is off. `Off` where it was off before: nothing changed.
-#[tactic(auto, using(crate::proofs::Units::set_of_reads))]
 pub fn set_unit<F: Flash>(flash: &mut F, at: u32) -> Result<(), FlashError>
     requires inside { at + 8 ≤ size_of (F.chip flash.old) }
     requires erased { IsErased (F.chip flash.old) at 8 }

@@ -7,8 +7,8 @@ use Rattle.flash_model.specs.Chip.{Chip}
 use Rattle.sector_map.specs.declared.layout.SectorMap.{SectorMap}
 use Rattle.sector_map.specs.declared.layout.Side.TheVariants.{Secondary}
 use Rattle.sector_map.specs.Part.{is_member}
-use Rattle.tlv.specs.declared.desc.Desc.{Desc}
-use Rattle.tlv.specs.Image.{IsIntact}
+use Rattle.image_reading.specs.declared.desc.Desc.{Desc}
+use Rattle.image_reading.specs.Image.{IsIntact}
 use Rattle.upload.specs.View.{view}
 use Rattle.upload.specs.Device.{DeviceState, Wanted}
 use Rattle.common.specs.Bytes.{Starts}

@@ -1,9 +1,9 @@
 -- The table of a state is the only one.
 use Rattle.std.proofs.Common.{◌≡◌, ℕ, Bool, true, false, List, [], ◌∷◌, length, Option, Some, None, refl, sym, ◌∙◌}
 use Rattle.std.proofs.Common.{ap, subst, arith, slice_get, slice_index, suc}
-use Rattle.tlv.specs.declared.desc.Desc.{Desc}
-use Rattle.tlv.specs.Image.{IsIntact}
-use Rattle.tlv.proofs.Descriptions.{intact-unique}
+use Rattle.image_reading.specs.declared.desc.Desc.{Desc}
+use Rattle.image_reading.specs.Image.{IsIntact}
+use Rattle.image_reading.proofs.Descriptions.{intact-unique}
 use Rattle.upload.proofs.Images.{same_front}
 use Rattle.machine.specs.States.{entry_of}
 use Rattle.upload.specs.Device.{DeviceState, Wanted}

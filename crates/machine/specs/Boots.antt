@@ -12,8 +12,8 @@ use Rattle.certificate.specs.declared.report.Report.{Report}
 use Rattle.certificate.specs.Combination.{IsValid, IsGreatest, running_set}
 use Rattle.certificate.specs.Rightness.{IsRight, taken_in}
 use Rattle.certificate.specs.StandardOrder.{IsInStandardOrder}
-use Rattle.tlv.specs.declared.desc.Desc.{Desc}
-use Rattle.tlv.specs.Image.{IsIntact}
+use Rattle.image_reading.specs.declared.desc.Desc.{Desc}
+use Rattle.image_reading.specs.Image.{IsIntact}
 use Rattle.upload.specs.Device.{DeviceState, Machine, Trial, Wanted}
 use Rattle.machine.specs.States.{entry_of, IsConfirmed, IsRaised, IsBegun, running_after, settled, taken_for_good}
 use Rattle.machine.specs.States.{taken_on_trial, reverted, tried_again, with_confirmed}

@@ -1,8 +1,8 @@
 -- A set that is ready to be swapped: no status unit is set, and the size has room for both images.
 use Rattle.std.specs.Prelude.{◌≡◌, ℕ, ◌≤◌, true, List, length, Some}
 use Rattle.sector_map.specs.declared.layout.Side.{Side}
-use Rattle.tlv.specs.declared.desc.Desc.{Desc}
-use Rattle.tlv.specs.Image.{IsIntact}
+use Rattle.image_reading.specs.declared.desc.Desc.{Desc}
+use Rattle.image_reading.specs.Image.{IsIntact}
 use Rattle.upload.specs.View.{View}
 use Rattle.common.specs.Bytes.{Starts}
 

@@ -8,8 +8,8 @@ use Rattle.certificate.specs.declared.table.Image.{Image}
 use Rattle.certificate.specs.declared.table.Table.{Table}
 use Rattle.certificate.specs.Combination.{entry_in, IsValid, running_set}
 use Rattle.certificate.specs.Rightness.{taken_in}
-use Rattle.tlv.specs.declared.desc.Desc.{Desc}
-use Rattle.tlv.specs.Image.{IsIntact}
+use Rattle.image_reading.specs.declared.desc.Desc.{Desc}
+use Rattle.image_reading.specs.Image.{IsIntact}
 use Rattle.upload.specs.View.{View}
 use Rattle.upload.specs.Device.{DeviceState, Trial, Wanted}
 use Rattle.upload.specs.Steady.{IsFront, IsImageAt}

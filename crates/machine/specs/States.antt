@@ -3,8 +3,8 @@ use Rattle.std.specs.Prelude.{◌≡◌, ℕ, ◌+◌, ◌<◌, ◌≤◌, ◌==
 use Rattle.std.specs.Prelude.{option_and_then, slice_index, if◌then◌else◌}
 use Rattle.certificate.specs.declared.table.Entry.{Entry}
 use Rattle.sector_map.specs.Part.{is_member}
-use Rattle.tlv.specs.declared.desc.Desc.{Desc}
-use Rattle.tlv.specs.Image.{IsIntact}
+use Rattle.image_reading.specs.declared.desc.Desc.{Desc}
+use Rattle.image_reading.specs.Image.{IsIntact}
 use Rattle.upload.specs.Device.{DeviceState, Machine, Trial, Wanted, no_session}
 
 -- What a decision knows of an image, by its description.

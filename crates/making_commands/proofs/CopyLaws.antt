@@ -10,9 +10,9 @@ use Rattle.sector_map.specs.declared.layout.Side.{Side}
 use Rattle.sector_map.specs.Map.{IsLaidOut, start_of}
 use Rattle.sector_map.specs.Part.{Slot}
 use Rattle.sector_map.proofs.PartBytes.{length_part, part_inside, range_of_part}
-use Rattle.tlv.specs.Image.{BeginsIntact, IsIntact, image_bytes}
-use Rattle.tlv.specs.Slot.{slot_bytes}
-use Rattle.tlv.specs.declared.desc.Desc.{Desc}
+use Rattle.image_reading.specs.Image.{BeginsIntact, IsIntact, image_bytes}
+use Rattle.image_reading.specs.Slot.{slot_bytes}
+use Rattle.image_reading.specs.declared.desc.Desc.{Desc}
 use Rattle.device_texts.specs.FlashOf.{IsFlashOf, flash_of}
 use Rattle.device_texts.specs.declared.device.DeviceFile.{DeviceFile}
 use Rattle.command_ends.specs.declared.answer.Answer.{Answer}
@@ -21,7 +21,7 @@ use Rattle.command_ends.specs.declared.error.Refusal.{Refusal}
 use Rattle.command_ends.specs.declared.error.Refusal.TheVariants as no
 use Rattle.command_ends.specs.declared.source.Source.{Source}
 use Rattle.command_ends.specs.declared.source.Source.TheVariants.{StandardInput, File}
-use Rattle.reading_devices.specs.DeviceInput.{GivesDevice}
+use Rattle.reading_inputs.specs.DeviceInput.{GivesDevice}
 use Rattle.command_ends.specs.Input.{FileBytes, Gives, KeepsFiles, KeepsOthers}
 use Rattle.command_ends.proofs.InputLaws.{GiveBoth-read}
 use Rattle.command_ends.proofs.InputLaws.{KeepsFiles-twice}

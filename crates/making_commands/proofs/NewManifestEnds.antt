@@ -14,7 +14,7 @@ use Rattle.command_line.specs.declared.orders.NewComponent.{NewComponent}
 use Rattle.command_line.specs.declared.orders.NewManifest.{NewManifest}
 use Rattle.command_ends.specs.declared.answer.Answer.TheVariants.{Done}
 use Rattle.command_ends.specs.declared.source.Source.{Source}
-use Rattle.reading_devices.specs.DeviceInput.{GivesDevice}
+use Rattle.reading_inputs.specs.DeviceInput.{GivesDevice}
 use Rattle.command_ends.specs.Input.{FileBytes, KeepsOthers}
 use Rattle.command_ends.proofs.InputLaws.{GiveEach-read}
 use Rattle.making_commands.specs.NewManifestEnd.{AnswersNewManifest, IsFault, RefusesAsked, RefusesRunning, WritesManifest}

@@ -4,11 +4,11 @@ use Rattle.std.specs.Io.KnownBytes.{Appends}
 use Rattle.flash_model.specs.Chip.{Chip}
 use Rattle.sector_map.specs.declared.layout.SectorMap.{SectorMap}
 use Rattle.sector_map.specs.declared.layout.Side.{Side}
-use Rattle.tlv.specs.Codes.{code_of, name_of}
-use Rattle.tlv.specs.Fault.{IsFrontFault}
-use Rattle.tlv.specs.Image.{IsIntact}
-use Rattle.tlv.specs.Slot.{slot_bytes}
-use Rattle.tlv.specs.declared.desc.Desc.{Desc}
+use Rattle.image_reading.specs.Codes.{code_of, name_of}
+use Rattle.image_reading.specs.Fault.{IsFrontFault}
+use Rattle.image_reading.specs.Image.{IsIntact}
+use Rattle.image_reading.specs.Slot.{slot_bytes}
+use Rattle.image_reading.specs.declared.desc.Desc.{Desc}
 use Rattle.device_texts.specs.AnswerText.{refused_text}
 use Rattle.device_texts.specs.DeviceFile.{IsDeviceFile}
 use Rattle.device_texts.specs.FlashOf.{IsFlashOf, flash_of}
@@ -17,7 +17,7 @@ use Rattle.command_ends.specs.declared.answer.Answer.{Answer}
 use Rattle.command_ends.specs.declared.answer.Answer.TheVariants.{Done, Refused, Cut}
 use Rattle.command_ends.specs.declared.source.Source.{Source}
 use Rattle.command_ends.specs.declared.source.Source.TheVariants.{StandardInput, File}
-use Rattle.reading_devices.specs.DeviceInput.{RefusesMap}
+use Rattle.reading_inputs.specs.DeviceInput.{RefusesMap}
 use Rattle.command_ends.specs.Input.{FileBytes, GiveBoth, IsKnownAs, KeepsFiles}
 use Rattle.making_commands.specs.NewImageEnd.{done_text}
 use Rattle.making_commands.specs.declared.extract.Copied.{Copied}

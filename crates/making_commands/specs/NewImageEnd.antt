@@ -5,7 +5,7 @@ use Rattle.std.specs.Io.KnownBytes.{Appends}
 use Rattle.std.specs.List.{AllZip}
 use Rattle.version_order.specs.declared.dependency.Dependency.{Dependency}
 use Rattle.tlv.specs.Codes.{make_code_of, make_name_of}
-use Rattle.tlv.specs.Image.{IsIntact, image_bytes}
+use Rattle.image_reading.specs.Image.{IsIntact, image_bytes}
 use Rattle.tlv.specs.Making.{IsMakeFault, description_of, image_of}
 use Rattle.tlv.specs.declared.make.error.MakeError.{MakeError}
 use Rattle.tlv.specs.declared.make.spec.ImageSpec.{ImageSpec}

@@ -12,9 +12,9 @@ use Rattle.manifest.specs.declared.error.ManifestError.{ManifestError}
 use Rattle.manifest.specs.declared.error.ManifestError.TheVariants.{NoComponent, RepeatedComponent}
 use Rattle.manifest.specs.declared.manifest.Component.{Component}
 use Rattle.manifest.specs.declared.manifest.Manifest.{Manifest}
-use Rattle.tlv.specs.Image.{BeginsIntact}
-use Rattle.tlv.specs.Slot.{slot_bytes}
-use Rattle.tlv.specs.declared.desc.Desc.{Desc}
+use Rattle.image_reading.specs.Image.{BeginsIntact}
+use Rattle.image_reading.specs.Slot.{slot_bytes}
+use Rattle.image_reading.specs.declared.desc.Desc.{Desc}
 use Rattle.machine.specs.declared.error.Fault.TheVariants.{RunningDamaged}
 use Rattle.device_texts.specs.AnswerText.{refused_text}
 use Rattle.device_texts.specs.DeviceFile.{IsDeviceFile}
@@ -26,7 +26,7 @@ use Rattle.command_line.specs.declared.orders.NewManifest.{NewManifest}
 use Rattle.command_ends.specs.declared.answer.Answer.{Answer}
 use Rattle.command_ends.specs.declared.answer.Answer.TheVariants.{Done, Refused, Cut}
 use Rattle.command_ends.specs.declared.source.Source.{Source}
-use Rattle.reading_devices.specs.DeviceInput.{GivesDevice, RefusesMap}
+use Rattle.reading_inputs.specs.DeviceInput.{GivesDevice, RefusesMap}
 use Rattle.command_ends.specs.Input.{FileBytes, IsNamed}
 use Rattle.command_ends.specs.Inputs.{GiveEach, names_of}
 

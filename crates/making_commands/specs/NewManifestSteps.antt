@@ -9,9 +9,9 @@ use Rattle.manifest.specs.Fault.{IsManifest}
 use Rattle.manifest.specs.declared.identity.Identity.{Identity}
 use Rattle.manifest.specs.declared.manifest.Component.{Component}
 use Rattle.manifest.specs.declared.manifest.Manifest.{Manifest}
-use Rattle.tlv.specs.Image.{BeginsIntact}
-use Rattle.tlv.specs.Slot.{slot_bytes}
-use Rattle.tlv.specs.declared.desc.Desc.{Desc}
+use Rattle.image_reading.specs.Image.{BeginsIntact}
+use Rattle.image_reading.specs.Slot.{slot_bytes}
+use Rattle.image_reading.specs.declared.desc.Desc.{Desc}
 use Rattle.device_texts.specs.FlashOf.{IsFlashOf, flash_of}
 use Rattle.device_texts.specs.declared.device.DeviceFile.{DeviceFile}
 use Rattle.command_line.specs.declared.orders.NewComponent.{NewComponent}

@@ -8,22 +8,22 @@ ghost use Rattle.command_ends.specs.Input.{KeepsFiles};
 ghost use Rattle.making_commands.specs.CopyEnd.{AnswersCopied, AnswersCopy, EndsCopy, IsImageOf};
 ghost use Rattle.making_commands.specs.CopyEnd.{LeavesBoth};
 ghost use Rattle.making_commands.specs.NewImageEnd.{EndsUnmade};
-ghost use Rattle.tlv.specs.Codes.{code_of, name_of};
-ghost use Rattle.tlv.specs.Fault.{IsFrontFault};
-ghost use Rattle.tlv.specs.Slot.{slot_bytes};
+ghost use Rattle.image_reading.specs.Codes.{code_of, name_of};
+ghost use Rattle.image_reading.specs.Fault.{IsFrontFault};
+ghost use Rattle.image_reading.specs.Slot.{slot_bytes};
 
 use crate::image_file::{refuse_input, replace};
 use crate::telling::tell;
 use command_ends::{Access, Answer, Host, Refusal, Source};
 use device_texts::{flash_of, refused_text};
 use flash_model::Flash;
-use reading_devices::{read_device, read_flash};
+use image_reading::{ImageError, SlotError, describe_slot};
+use reading_inputs::{read_device, read_flash};
 use sector_map::{SectorMap, Side};
 use std::alloc::{AllocError, Global};
 use std::io::Write;
 use std::marker::Brand;
 use std::sync::ledger::{Blank, Ledger};
-use tlv::{ImageError, SlotError, describe_slot};
 
 /// Which slot is copied, and into which file.
 #[derive(Clone, Copy)]

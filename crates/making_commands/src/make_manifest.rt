@@ -20,7 +20,7 @@ use command_line::{NewComponent, NewManifest};
 use device_texts::{DeviceFile, refused_fault_text, refused_text};
 use machine::Fault;
 use manifest::{Identity, Manifest, ManifestError};
-use reading_devices::read_device;
+use reading_inputs::read_device;
 use std::alloc::{AllocError, Global};
 use std::io::Write;
 

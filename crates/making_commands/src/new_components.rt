@@ -8,11 +8,11 @@ use arrayvec::ArrayVec;
 use certificate::Table;
 use command_ends::{Host, MOST_FILE, Refusal, Source, SourceFault};
 use command_line::NewComponent;
+use image_reading::{Desc, ImageError, describe};
 use manifest::{Component, MOST_COMPONENTS};
 use sector_map::SectorMap;
 use sha2::{Digest, Sha256};
 use std::alloc::{AllocError, Global};
-use tlv::{Desc, ImageError, describe};
 
 /// The components of a manifest for these files, which are read from `host` one after the other
 /// into memory of `alloc`, where these images have to run. Adds to `notes` which files a device with

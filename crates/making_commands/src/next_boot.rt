@@ -5,8 +5,8 @@ use certificate::{Reason, Request, Table, is_valid};
 use chooser::choose;
 use command_line::NewComponent;
 use decision::entry_of;
+use image_reading::{Desc, ImageError};
 use std::alloc::AllocError;
-use tlv::{Desc, ImageError};
 
 /// Requests for an image of a table, if there is one, what a file says of itself.
 pub fn request(table: &mut Option<Table>, image: u8, file: Result<Desc, ImageError>) {

@@ -12,13 +12,13 @@ use command_ends::{Access, Host, Refusal, Source};
 use command_line::{NewComponent, NewManifest};
 use device_texts::flash_of;
 use flash_model::Flash;
+use image_reading::describe_slot;
 use manifest::MOST_COMPONENTS;
-use reading_devices::{read_flash, table_on};
+use reading_inputs::{read_flash, table_on};
 use sector_map::{SectorMap, Side};
 use std::alloc::Global;
 use std::marker::Brand;
 use std::sync::ledger::{Blank, Ledger};
-use tlv::describe_slot;
 
 /// The images that run where the files of a manifest may come.
 #[derive(Drop)]

@@ -21,7 +21,7 @@ use Rattle.answers.specs.CheckEnd.{Judges}
 use Rattle.answers.specs.ChooseEnd.{Writes}
 use Rattle.answers.specs.DescribeEnd.{Tells}
 use Rattle.device_texts.specs.DeviceFile.{IsDeviceFile}
-use Rattle.reading_devices.specs.DeviceInput.{RefusesMap}
+use Rattle.reading_inputs.specs.DeviceInput.{RefusesMap}
 use Rattle.device_texts.specs.FlashOf.{IsFlashOf, flash_of}
 use Rattle.command_ends.specs.Input.{FileBytes, Gives, GiveBoth}
 use Rattle.answers.specs.ManifestEnd.{TellsManifest}

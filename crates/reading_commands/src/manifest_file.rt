@@ -5,7 +5,7 @@ ghost use Rattle.reading_commands.specs.AnswerEnd.{AnswersManifest};
 
 use answers::{ManifestEnd, tell_over};
 use command_ends::{Answer, Host, MOST_JSON, Refusal, Source};
-use reading_devices::read_device;
+use reading_inputs::read_device;
 use std::alloc::Global;
 use std::io::Write;
 

@@ -4,7 +4,7 @@ ghost use Rattle.reading_commands.specs.AnswerEnd.{AnswersShow};
 
 use answers::{ShowEnd, show_over};
 use command_ends::{Access, Answer, Host, Refusal, Source};
-use reading_devices::{read_device, read_flash};
+use reading_inputs::{read_device, read_flash};
 use std::alloc::Global;
 use std::io::Write;
 use std::marker::Brand;

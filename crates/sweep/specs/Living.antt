@@ -11,7 +11,7 @@ use Rattle.sector_map.specs.declared.layout.SectorMap.{SectorMap}
 use Rattle.sector_map.specs.declared.layout.Side.TheVariants.{Primary}
 use Rattle.version_order.specs.declared.version.Version.{Version}
 use Rattle.certificate.specs.declared.table.Entry.{Entry}
-use Rattle.tlv.specs.Slot.{slot_bytes}
+use Rattle.image_reading.specs.Slot.{slot_bytes}
 use Rattle.upload.specs.Sessions.{AllClosed}
 use Rattle.upload.specs.Steady.{IsFront}
 use Rattle.machine.specs.Holding.{DeviceView}

@@ -5,8 +5,8 @@ use Rattle.std.specs.Borrow.{Bor}
 use Rattle.std.specs.List.{AllByRecursion, flat_map}
 use Rattle.common.proofs.Mapped.{All-from_AllByRecursion-map}
 use Rattle.version_order.specs.declared.dependency.Dependency.{Dependency}
-use Rattle.tlv.specs.Area.{entries_bytes, entry_bytes}
-use Rattle.tlv.specs.Fields.{FitsDependency, FitsGroup}
+use Rattle.image_reading.specs.Area.{entries_bytes, entry_bytes}
+use Rattle.image_reading.specs.Fields.{FitsDependency, FitsGroup}
 use Rattle.tlv.specs.Making.{HasAlternatives, group_entry, group_of, groups_of}
 use Rattle.tlv.proofs.MakingSteps.{mapped_more, pieces_more}
 use Rattle.tlv.proofs.ProtectedLaws.{groups_size, length-group_entry}

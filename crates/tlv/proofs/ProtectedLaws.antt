@@ -8,11 +8,11 @@ use Rattle.std.specs.List.{AllByRecursion, filter}
 use Rattle.common.proofs.Lists.{AllByRecursion-append}
 use Rattle.version_order.specs.declared.dependency.Dependency.{Dependency}
 use Rattle.version_order.specs.declared.group.Group.{Group}
-use Rattle.tlv.specs.Area.{Entry, FitsArea, FitsEntry, entries_bytes, entry_bytes, values_of}
-use Rattle.tlv.specs.Fields.{SpellCounter, counter_bytes, counter_kind, dependency_bytes, dependency_kind, group_bytes, group_kind}
+use Rattle.image_reading.specs.Area.{Entry, FitsArea, FitsEntry, entries_bytes, entry_bytes, values_of}
+use Rattle.image_reading.specs.Fields.{SpellCounter, counter_bytes, counter_kind, dependency_bytes, dependency_kind, group_bytes, group_kind}
 use Rattle.tlv.specs.Making.{AreGroups, HasAlternatives, area_size_of, counter_entries, dependency_entry, group_entry, need_entries}
-use Rattle.tlv.proofs.FieldLaws.{values_of-other, values_of-same}
-use Rattle.tlv.proofs.GroupLaws.{length-alternatives_bytes}
+use Rattle.image_reading.proofs.FieldLaws.{values_of-other, values_of-same}
+use Rattle.image_reading.proofs.GroupLaws.{length-alternatives_bytes}
 
 -- The protected entries, counter first.
 abbrev entries_for : Option ℕ → List Dependency → List Group → List Entry

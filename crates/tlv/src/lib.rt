@@ -1,47 +1,17 @@
-//! Images, second part: the entries of MCUboot's image format, and what a whole image says of
-//! itself (MCUboot, design document, "Image format").
+//! Images, third part: makes an image of the values that it is to have (MCUboot, design document,
+//! "Image format"), and hands on the calls of `image_reading`, so that whoever makes images has one
+//! crate for both.
 //!
-//! Promises: an area is walked entry by entry; a file is described exactly where its bytes are an
-//! intact image, and its description ([`Desc`]) lists what that image says of itself; a slot is
-//! described exactly where it begins with an intact image; each refusal is the first check that
-//! fails; a flash that is off is told from a slot without an image, and no flash is changed; of the
-//! values that an image is to have ([`ImageSpec`]) the intact image is made that has them. Does not
-//! allocate but to make an image.
-//!
-//! One type of entry isn't MCUboot's but bootswap's own: a group (0xA0), which lists dependencies
-//! of which one has to be met.
-//!
-//! One reader serves bytes in memory, a file in a slot and the front of a slot, and has one proof:
-//! it reads span by span ([`Span`]), and hashes a flash by pieces of 256 bytes. Whoever reads or
-//! makes images may call the crate.
+//! Promises: of the values that an image is to have ([`ImageSpec`]) the intact image is made that has
+//! them, and a refusal is the lowest that applies. Allocates the image. Tools of a host may call it;
+//! what a device needs to know of images is in `image_reading` alone.
 #![tactic(auto)]
 
-mod desc;
-mod describing;
-mod error;
-mod fields;
-mod format;
-mod front;
-mod gathering;
-mod groups;
-mod laws;
 mod make;
-mod medium;
-mod met;
-mod slot;
-mod slot_tlvs;
-mod span;
-mod tlvs;
-mod walk;
 
-pub use desc::Desc;
-pub use describing::describe;
-pub use error::{ImageError, SlotError};
-pub use laws::{
-    a_walk_gives_the_entries_of_its_area, no_image_begins_another, one_front_is_an_image,
+pub use image_reading::{
+    Desc, ImageError, SlotError, SlotTlv, SlotTlvs, Span, Tlv, Tlvs,
+    a_walk_gives_the_entries_of_its_area, describe, describe_file, describe_slot, digest_file,
+    no_image_begins_another, one_front_is_an_image,
 };
 pub use make::{ImageSpec, MakeError, make_image};
-pub use slot::{describe_file, describe_slot, digest_file};
-pub use slot_tlvs::{SlotTlv, SlotTlvs};
-pub use span::Span;
-pub use tlvs::{Tlv, Tlvs};

@@ -28,7 +28,6 @@ fn says_nothing(trailer: &Trailer) -> bool
 }
 
 /// Whether the status units of a trailer are erased.
-#[tactic(auto, using(crate::proofs::Places::trailer_fits))]
 fn are_statuses_erased<F: Flash>(
     flash: &mut F,
     map: &SectorMap,

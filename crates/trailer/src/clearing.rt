@@ -10,7 +10,6 @@ use flash_model::{Flash, FlashError, is_erased};
 use sector_map::{SectorMap, Side};
 
 /// Whether a trailer is all erased.
-#[tactic(auto, using(crate::proofs::Places::trailer_fits))]
 fn is_trailer_erased<F: Flash>(
     flash: &mut F,
     map: &SectorMap,
@@ -46,7 +45,6 @@ pub(crate) fn erase_trailer<F: Flash>(
 /// # Errors
 /// `Cut` where power failed: the trailer holds any bytes, and all else is as it was. `Off` where
 /// the flash was off before: nothing changed.
-#[tactic(auto, using(crate::proofs::Erased::erased_fields_at))]
 pub fn clear<F: Flash>(
     flash: &mut F,
     map: &SectorMap,

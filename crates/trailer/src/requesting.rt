@@ -59,7 +59,6 @@ pub fn request<F: Flash>(
 /// # Errors
 /// `Cut` where power failed: `image_ok` is as it was or set, and all else as it was. `Off` where
 /// the flash was off before: nothing changed.
-#[tactic(auto, using(crate::proofs::FieldUnits::either_image_ok, crate::proofs::FieldUnits::kept_image_ok))]
 pub fn set_ok<F: Flash>(flash: &mut F, map: &SectorMap, image: u8) -> Result<(), FlashError>
     requires { HasImage map.now image (F.chip flash.old) }
     ensures { Confirms map.now image (F.chip flash.old) (F.chip flash.new) result }

@@ -42,7 +42,6 @@ fn size_in(unit: &[u8; 8], limit: u32) -> Option<u32>
 /// # Errors
 /// `Cut` where power failed: the unit holds any bytes, and all else is as it was. `Off` where the
 /// flash was off before: nothing changed.
-#[tactic(auto, using(crate::proofs::Places::units_alone, crate::proofs::OwnFields::own_size, crate::proofs::SizeUnits::size_written))]
 pub fn write_size<F: Flash>(
     flash: &mut F,
     map: &SectorMap,
@@ -66,7 +65,6 @@ pub fn write_size<F: Flash>(
 ///
 /// # Errors
 /// `Off` where the flash was off. Nothing changes in any case.
-#[tactic(auto, using(crate::proofs::SizeUnits::size_is))]
 pub fn read_size<F: Flash>(
     flash: &mut F,
     map: &SectorMap,

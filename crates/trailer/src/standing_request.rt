@@ -12,7 +12,6 @@ use flash_model::{Flash, FlashError, is_unit_erased};
 use sector_map::{SectorMap, Side};
 
 /// Whether the first unit of a slot is set.
-#[tactic(auto, using(crate::proofs::Places::slot_fits))]
 pub(crate) fn is_front_set<F: Flash>(
     flash: &mut F,
     map: &SectorMap,

@@ -23,7 +23,6 @@ pub(crate) fn status_units(map: &SectorMap, image: u8) -> u32
 }
 
 /// Whether a status unit of a trailer is erased. Status units are counted from 0.
-#[tactic(auto, using(crate::proofs::Places::trailer_fits, crate::proofs::Places::trailer_addressed))]
 fn is_status_erased<F: Flash>(
     flash: &mut F,
     map: &SectorMap,
@@ -47,7 +46,6 @@ fn is_status_erased<F: Flash>(
 ///
 /// # Errors
 /// `Off` where the flash was off. Nothing changes in any case.
-#[tactic(auto, using(crate::proofs::StatusUnits::units_are))]
 pub fn status_count<F: Flash>(
     flash: &mut F,
     map: &SectorMap,

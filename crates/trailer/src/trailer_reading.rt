@@ -11,7 +11,6 @@ use flash_model::{Flash, FlashError};
 use sector_map::{SectorMap, Side};
 
 /// Whether `image_ok` of a trailer is set.
-#[tactic(auto, using(crate::proofs::FieldUnits::image_ok_is))]
 pub(crate) fn is_image_ok_set<F: Flash>(
     flash: &mut F,
     map: &SectorMap,

@@ -1,9 +1,9 @@
 -- Images at the front of a slot.
 use Rattle.std.proofs.Common.{◌≡◌, ℕ, List, [], ◌∷◌, ◌++◌, true, refl, sym, ◌∙◌, ap, subst, append_assoc}
 use Rattle.trailer.specs.Standing.{first_is_set}
-use Rattle.tlv.specs.declared.desc.Desc.{Desc}
-use Rattle.tlv.specs.Image.{BeginsWithImage, Image, IsIntact, image_bytes}
-use Rattle.tlv.proofs.ImageLaws.{image-unique}
+use Rattle.image_reading.specs.declared.desc.Desc.{Desc}
+use Rattle.image_reading.specs.Image.{BeginsWithImage, Image, IsIntact, image_bytes}
+use Rattle.image_reading.proofs.ImageLaws.{image-unique}
 use Rattle.common.specs.Bytes.{Starts}
 
 -- an image at the front, and what follows it

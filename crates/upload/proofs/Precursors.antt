@@ -1,7 +1,7 @@
 -- The digest of the image at the front of a slot.
 use Rattle.std.proofs.Common.{◌≡◌, List, ℕ, Option, Some, subst, sym}
-use Rattle.tlv.specs.declared.desc.Desc.{Desc}
-use Rattle.tlv.specs.Image.{BeginsIntact}
+use Rattle.image_reading.specs.declared.desc.Desc.{Desc}
+use Rattle.image_reading.specs.Image.{BeginsIntact}
 use Rattle.upload.specs.Accepted.{FrontHasDigest}
 
 module _ (slot : List ℕ) (precursor : Option (List ℕ)) (digest : List ℕ) (asks : precursor ≡ Some digest) where

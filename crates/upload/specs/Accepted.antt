@@ -9,8 +9,8 @@ use Rattle.sector_map.specs.Map.{length_of, start_of}
 use Rattle.flash_model.specs.Units.{are_erased}
 use Rattle.trailer.specs.Fields.{erased_fields, trailer_bytes}
 use Rattle.trailer.specs.Standing.{kind_of}
-use Rattle.tlv.specs.declared.desc.Desc.{Desc}
-use Rattle.tlv.specs.Image.{IsIntact}
+use Rattle.image_reading.specs.declared.desc.Desc.{Desc}
+use Rattle.image_reading.specs.Image.{IsIntact}
 use Rattle.manifest.specs.declared.manifest.Component.{Component}
 use Rattle.upload.specs.declared.error.UploadError.{UploadError}
 use Rattle.upload.specs.declared.error.UploadError.TheVariants as no

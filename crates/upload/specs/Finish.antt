@@ -5,7 +5,7 @@ use Rattle.flash_model.specs.declared.error.FlashError.TheVariants as flash
 use Rattle.sector_map.specs.declared.layout.Side.TheVariants.{Secondary}
 use Rattle.trailer.specs.Fields.{erased_fields}
 use Rattle.trailer.specs.Standing.{requested_fields}
-use Rattle.tlv.specs.Fault.{IsFirstFault}
+use Rattle.image_reading.specs.Fault.{IsFirstFault}
 use Rattle.upload.specs.declared.error.UploadError.{UploadError}
 use Rattle.upload.specs.declared.error.UploadError.TheVariants as no
 use Rattle.upload.specs.View.{View}

@@ -8,8 +8,8 @@ use Rattle.trailer.specs.declared.kinds.Kind as request
 use Rattle.set_log.specs.declared.state.Kind.{Kind}
 use Rattle.set_log.specs.declared.state.Kind.TheVariants.{Steady}
 use Rattle.set_log.specs.declared.state.State.{State}
-use Rattle.tlv.specs.declared.desc.Desc.{Desc}
-use Rattle.tlv.specs.Image.{IsIntact}
+use Rattle.image_reading.specs.declared.desc.Desc.{Desc}
+use Rattle.image_reading.specs.Image.{IsIntact}
 use Rattle.upload.specs.View.{View}
 use Rattle.upload.specs.Device.{DeviceState, Wanted}
 

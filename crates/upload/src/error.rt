@@ -5,8 +5,8 @@ ghost use Rattle.upload.specs.Codes.{code_of, name_of};
 ghost use Rattle.upload.specs.declared.error.UploadError.{UploadError};
 
 use flash_model::FlashError;
+use image_reading::ImageError;
 use thiserror::Error;
-use tlv::ImageError;
 
 /// Why a call of [`Uploads`](crate::Uploads) is refused. The numbers are 1 to 11, in this order.
 #[derive(Clone, Copy, Debug, PartialEq, Eq, Error)]

@@ -16,8 +16,8 @@ use crate::sessions::{UNIT, Upload, Uploads};
 use crate::slots::write_slot;
 use arrayvec::ArrayVec;
 use flash_model::{Flash, FlashError};
+use image_reading::{SlotError, describe_file, digest_file};
 use sector_map::{SectorMap, Side};
-use tlv::{SlotError, describe_file, digest_file};
 use trailer::request;
 
 const ERASED_UNIT: [u8; UNIT] = [0xff, 0xff, 0xff, 0xff, 0xff, 0xff, 0xff, 0xff];

@@ -9,10 +9,10 @@ ghost use Rattle.upload.specs.Judging.{ReadsState};
 
 use crate::error::UploadError;
 use flash_model::{Flash, FlashError};
+use image_reading::{SlotError, describe_slot};
 use manifest::{Component, Manifest};
 use sector_map::{SectorMap, Side};
 use set_log::{LogError, State, read_state};
-use tlv::{SlotError, describe_slot};
 
 /// Whether each component fits the slot of its image.
 fn all_fit(map: &SectorMap, components: &[Component]) -> bool

@@ -2,13 +2,13 @@
 
 ghost use Rattle.std.specs.Prelude.{◌≡◌, ◌↔◌, ◌≤◌, ◌++◌, IsTrue, OnOk, length, map};
 ghost use Rattle.std.specs.List.{AllByRecursion};
-ghost use Rattle.tlv.specs.Area.{entries_bytes, entry_bytes};
-ghost use Rattle.tlv.specs.Fields.{FitsDependency, FitsGroup, alternatives_bytes, group_kind};
+ghost use Rattle.image_reading.specs.Area.{entries_bytes, entry_bytes};
+ghost use Rattle.image_reading.specs.Fields.{FitsDependency, FitsGroup, alternatives_bytes, group_kind};
 ghost use Rattle.tlv.specs.Making.{AreGroups, HasAlternatives, group_entry, groups_of};
 
-use crate::format::{DEPENDENCY_LENGTH, GROUP_KIND, HEAD_LENGTH};
 use crate::make::entries::{push_dependency, push_head};
 use common::limits::{MOST_ALTERNATIVES, MOST_GROUPS};
+use image_reading::format::{DEPENDENCY_LENGTH, GROUP_KIND, HEAD_LENGTH};
 use std::alloc::{AllocError, Allocator};
 use version_order::Dependency;
 

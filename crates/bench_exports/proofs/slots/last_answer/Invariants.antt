@@ -1,6 +1,6 @@
 use Rattle.std.proofs.Common.{◌≡◌}
 use Rattle.sector_map.specs.declared.layout.Side.TheVariants.{Primary}
-use Rattle.tlv.specs.Slot.{slot_bytes}
+use Rattle.image_reading.specs.Slot.{slot_bytes}
 use Rattle.bench_exports.specs.Answers.{IsFrontAnswer}
 use Rattle.bench_exports.proofs.slots.last_answer.Given as goal
 

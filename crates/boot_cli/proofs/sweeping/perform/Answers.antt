@@ -1,7 +1,7 @@
 use Rattle.std.proofs.Common.{[], subst}
 use Rattle.std.proofs.lemmas.Result.{IfOk-weaker}
-use Rattle.reading_scripts.specs.Loading.{came_in}
-use Rattle.reading_scripts.specs.Script.{IsScript}
+use Rattle.reading_inputs.specs.Loading.{came_in}
+use Rattle.reading_inputs.specs.Script.{IsScript}
 use Rattle.device_texts.proofs.DeviceLaws.{IsOfFile-read}
 use Rattle.boot_cli.proofs.SweepLaws.{AnswersSweep-read}
 use Rattle.boot_cli.proofs.sweeping.perform.Goals as goal

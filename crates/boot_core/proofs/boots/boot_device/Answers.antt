@@ -1,16 +1,17 @@
-use Rattle.std.proofs.Common.{rules, ◌≡◌, ◌+◌, Err, ap, inl, inr, sym, subst, ◌∙◌}
+use Rattle.std.proofs.Common.{refl, ◌≡◌, ◌+◌, Err, ap, inl, inr, sym, subst, ◌∙◌}
 use Rattle.events.specs.declared.event.Event.TheVariants as event
 use Rattle.upload.specs.View.{view}
 use Rattle.upload.proofs.OpenOnes.{open_none}
+use Rattle.upload.proofs.Ends.{err_passed}
 use Rattle.machine.specs.Boots.{is_answer}
 use Rattle.machine.specs.Passing.{StepsTo}
 use Rattle.machine.specs.declared.error.Fault.TheVariants as no
 use Rattle.machine.proofs.Stepping.{steps_boot}
 use Rattle.boot_core.specs.Answers.{IsBootReply}
 use Rattle.boot_core.specs.Device.{made, seen}
-use Rattle.boot_core.proofs.Stopping.{boot_stopped}
+use Rattle.boot_core.proofs.Stopping.{boot_stopped, ended_ends, not_empty, not_uncut, stopped_ends, stopped_worn, unprovisioned}
 use Rattle.boot_core.specs.Wear.{IsWorn, TakesNothing}
-use Rattle.boot_core.proofs.Stops.{flash_stopped, flash_stopped_it, flash_unanswered}
+use Rattle.boot_core.proofs.Stops.{flash_idle, flash_stopped, flash_stopped_it, flash_unanswered}
 use Rattle.boot_core.proofs.boots.boot_device.Goals as goal
 
 pub returns : goal.returns
@@ -33,7 +34,9 @@ returns g c = record {
   answers = λ on uncut s stands sound.
       ap is_answer c.conclude.ensures.is ∙ c.in_ok-reply.ensures.answers s stands sound;
   empty = c.boot.ensures.empty;
-  refused = search rules;
+  refused = λ on none.
+      unprovisioned c.conclude.result c.conclude.ensures.answers
+      (c.conclude.ensures.is ∙ c.in_ok-reply.ensures.refused none);
   erases = λ on uncut state s stood stands. subst
       (λ reply. IsWorn c.args.map.now state.kind state.mask (g.F.Flash.chip c.args.flash.now)
       (g.F.Flash.chip c.boot.new.flash) reply)
@@ -42,29 +45,33 @@ returns g c = record {
       c.in_ok-reply.ensures.stops state finding permanent stood (sym c.conclude.ensures.is ∙ is);
   idle = λ state stood kind takes. c.in_ok-reply.ensures.idle state stood kind
       (subst (λ reply. TakesNothing reply) c.conclude.ensures.is takes);
-  ends = search rules;
+  ends = ended_ends _ _ _ _ _ _ _ _ c.conclude.ensures.is c.in_ok-reply.ensures.told c.in_ok-reply.ensures.ends;
 }
 
 pub returns-in_err-reply : goal.returns-in_err-reply
 returns-in_err-reply g c =
-    let passed : c.from_residual.result ≡ Err (no.Flash c.in_err-reply.field-0.0) = search rules in
+    let error = c.in_err-reply.field-0.0 in
+    let old = g.F.Flash.chip c.args.flash.now in
+    let new = g.F.Flash.chip c.boot.new.flash in
+    let ends = c.in_err-reply.ensures.ends in
+    let passed : c.from_residual.result ≡ Err (no.Flash error) = err_passed _ _ c.from_residual.ensures.1 in
     rw passed (record {
       laid = c.boot.ensures.laid;
       on_map = c.boot.ensures.on_map;
-      opens = open_none (view c.args.map.now (g.F.Flash.chip c.boot.new.flash)) c.new.result.sessions c.new.ensures;
+      opens = open_none (view c.args.map.now new) c.new.result.sessions c.new.ensures;
       closed = c.new.ensures;
       steps = λ identity on.
           boot_stopped (made c.args.map.now identity (c.args.left + 1)) _ _ _ _ _ c.new.ensures c.boot.ensures.stands
-          c.in_err-reply.field-0.0 c.in_err-reply.ensures.ends on;
+          error ends on;
       ok = tt;
-      up = sym (flash_unanswered c.in_err-reply.field-0.0);
-      told = inr (flash_stopped_it c.in_err-reply.field-0.0);
-      answers = search rules;
+      up = sym (flash_unanswered error);
+      told = inr (flash_stopped_it error);
+      answers = λ on uncut s stands sound. absurd (not_uncut old new error ends on uncut);
       empty = c.boot.ensures.empty;
-      refused = search rules;
-      erases = search rules;
+      refused = λ on none. not_empty old new error ends on (c.boot.ensures.empty none) (Err (no.Flash error));
+      erases = λ on uncut state s stood stands. stopped_worn c.args.map.now state old new error ends on uncut;
       stops = λ state finding permanent stood is.
-          flash_stopped c.args.map.now state _ _ c.in_err-reply.field-0.0 finding permanent is;
-      idle = search rules;
-      ends = search rules;
+          flash_stopped c.args.map.now state old new error finding permanent is;
+      idle = λ state stood kind takes. flash_idle error old new takes;
+      ends = stopped_ends old new _ _ _ _ c.new.ensures refl error ends;
     })

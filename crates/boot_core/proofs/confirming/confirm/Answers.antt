@@ -1,11 +1,10 @@
-use Rattle.std.proofs.Common.{rules}
 use Rattle.machine.proofs.Confirming.{confirm_cut, confirm_ends}
 use Rattle.machine.proofs.Stepping.{if_ok_both}
 use Rattle.boot_core.proofs.confirming.confirm.Goals as goal
 
 pub returns-then-on_trial : goal.returns-then-on_trial
 returns-then-on_trial g c = record {
-  outside = search rules;
+  outside = rw c.read_state.ensures.same at c.confirm_image.ensures.outside;
   cut = λ cut.
       confirm_cut c.args.map.now _ _ _ c.in-Ok.state c.args.image c.read_state.ensures.same c.in-Ok.ensures.answers.0
       (c.is_trial-on_trial.ensures.yes c.if-on_trial.true) c.confirm_image.ensures.stands
@@ -14,6 +13,6 @@ returns-then-on_trial g c = record {
       confirm_ends c.args.map.now _ _ _ c.in-Ok.state c.args.image c.read_state.ensures.same c.in-Ok.ensures.answers.0
       (c.is_trial-on_trial.ensures.yes c.if-on_trial.true) b done none)
       c.confirm_image.ensures.done c.confirm_image.ensures.none;
-  same = search rules;
-  ends = search rules;
+  same = rw c.read_state.ensures.same at c.confirm_image.ensures.same;
+  ends = rw c.read_state.ensures.same at c.confirm_image.ensures.ends;
 }

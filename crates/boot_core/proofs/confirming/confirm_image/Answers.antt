@@ -1,26 +1,29 @@
 use Rattle.std.proofs.Common.{rules, arith, ◌≡◌, ◌<◌, true}
 use Rattle.sector_map.specs.Part.{is_member}
+use Rattle.upload.proofs.Ends.{err_passed}
 use Rattle.machine.proofs.Confirming.{confirm_either, confirm_yes}
+use Rattle.boot_core.proofs.Passed.{err_ends, ok_ends}
 use Rattle.boot_core.proofs.confirming.confirm_image.Goals as goal
 
 pub returns-in_err-set_ok : goal.returns-in_err-set_ok
-returns-in_err-set_ok g c = record {
-  outside = search rules;
-  stands =
-      let lt : c.args.image < c.args.map.now.images = omega arith in
-      let member : is_member c.args.state.now.mask c.args.image ≡ true = search rules in
-      confirm_either c.args.map.now _ _ c.args.state.now c.args.image c.requires.read lt member
-      c.set_ok.ensures.outside c.set_ok.ensures.either;
-  done = search rules;
-  none = search rules;
-  tried = search rules;
-  same = search rules;
-  ends = search rules;
-}
+returns-in_err-set_ok g c =
+    rw (err_passed c.from_residual.result c.in_err-set_ok.field-0.0 c.from_residual.ensures.1) (record {
+      outside = c.set_ok.ensures.outside;
+      stands =
+          let lt : c.args.image < c.args.map.now.images = omega arith in
+          let member : is_member c.args.state.now.mask c.args.image ≡ true = search rules in
+          confirm_either c.args.map.now _ _ c.args.state.now c.args.image c.requires.read lt member
+          c.set_ok.ensures.outside c.set_ok.ensures.either;
+      done = tt;
+      none = tt;
+      tried = search rules;
+      same = tt;
+      ends = err_ends c.in_err-set_ok.ensures.ends;
+    })
 
 pub returns : goal.returns
 returns g c = record {
-  outside = search rules;
+  outside = c.set_ok.ensures.outside;
   stands =
       let lt : c.args.image < c.args.map.now.images = omega arith in
       let member : is_member c.args.state.now.mask c.args.image ≡ true = search rules in
@@ -34,5 +37,5 @@ returns g c = record {
   none = search rules;
   tried = search rules;
   same = search rules;
-  ends = search rules;
+  ends = ok_ends c.in_ok-set_ok.ensures.ends;
 }

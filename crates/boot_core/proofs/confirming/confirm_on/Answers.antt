@@ -1,45 +1,50 @@
-use Rattle.std.proofs.Common.{rules, refl, subst, sym}
+use Rattle.std.proofs.Common.{refl, subst, sym}
 use Rattle.events.specs.declared.event.Event.TheVariants as event
+use Rattle.sector_map.proofs.Parts.{laid_out_kept}
+use Rattle.upload.proofs.OpenOnes.{open_none}
 use Rattle.machine.specs.Passing.{StepsTo}
 use Rattle.machine.proofs.Stepping.{steps_confirmed, steps_not_on_trial}
 use Rattle.machine.proofs.Uploading.{open_confirmed}
+use Rattle.machine.specs.declared.error.Fault.TheVariants as no
+use Rattle.machine.specs.declared.reply.Reply.TheVariants.{Done, Refused}
 use Rattle.boot_core.specs.Answers.{fault_reply}
 use Rattle.boot_core.specs.Device.{made, seen}
-use Rattle.boot_core.proofs.Stopping.{confirm_stopped}
+use Rattle.boot_core.proofs.Stopping.{confirm_stopped, ended, no_own, stopped_ends}
+use Rattle.boot_core.proofs.NotReady.{not_down}
 use Rattle.boot_core.proofs.confirming.confirm_on.Goals as goal
 
 pub returns-in-Ok-true : goal.returns-in-Ok-true
 returns-in-Ok-true g c = record {
-  laid = search rules;
+  laid = laid_out_kept c.args.map.now _ _ _ c.requires.laid_out c.confirm.ensures.outside;
   opens =
       open_confirmed c.args.map.now _ _ c.args.image _ c.confirm.ensures.outside c.requires.opens;
   steps = λ identity boots on.
       steps_confirmed (made c.args.map.now identity boots) _ _ _ c.args.image c.if-not-is_up.false _ _ c.in-Ok-true.field-0-test
       c.confirm.ensures.outside c.in-Ok-true.ensures.ok;
-  outside = search rules;
-  down = search rules;
-  refused = search rules;
-  ends = search rules;
+  outside = c.confirm.ensures.outside;
+  down = not_down _ _ _ c.if-not-is_up.false;
+  refused = tt;
+  ends = ended _ _ _ _ _ _ Done refl refl c.in-Ok-true.ensures.ends.uncut;
 }
 
 pub returns-in-Ok-false : goal.returns-in-Ok-false
 returns-in-Ok-false g c = record {
-  laid = search rules;
+  laid = laid_out_kept c.args.map.now _ _ _ c.requires.laid_out c.confirm.ensures.outside;
   opens =
       open_confirmed c.args.map.now _ _ c.args.image _ c.confirm.ensures.outside c.requires.opens;
   steps = λ identity boots on.
       steps_not_on_trial (made c.args.map.now identity boots) _ _ _ c.args.image c.if-not-is_up.false _ _ c.in-Ok-false.field-0-test
       c.confirm.ensures.outside c.in-Ok-false.ensures.ok;
-  outside = search rules;
-  down = search rules;
-  refused = search rules;
-  ends = search rules;
+  outside = c.confirm.ensures.outside;
+  down = not_down _ _ _ c.if-not-is_up.false;
+  refused = λ own. c.in-Ok-false.ensures.same c.in-Ok-false.field-0-test;
+  ends = ended _ _ _ _ _ _ (Refused no.NotOnTrial) refl refl c.in-Ok-false.ensures.ends.uncut;
 }
 
 pub returns-in-Err : goal.returns-in-Err
 returns-in-Err g c = record {
-  laid = search rules;
-  opens = search rules;
+  laid = laid_out_kept c.args.map.now _ _ _ c.requires.laid_out c.confirm.ensures.outside;
+  opens = open_none _ _ (c.stop.ensures.closed refl);
   steps = λ identity boots on.
       subst (λ fault. StepsTo (made c.args.map.now identity boots)
       (seen (g.F.Flash.chip c.args.flash.now) c.args.uploads.now.sessions c.args.is_up.now)
@@ -48,8 +53,9 @@ returns-in-Err g c = record {
       (confirm_stopped (made c.args.map.now identity boots) _ _ _ _ _ _ c.args.image c.if-not-is_up.false c.in-Err.error
       c.in-Err.ensures.ends on (c.stop.ensures.closed refl) (c.stop.ensures.down refl)
       c.in-Err.ensures.cut);
-  outside = search rules;
-  down = search rules;
-  refused = search rules;
-  ends = search rules;
+  outside = c.confirm.ensures.outside;
+  down = not_down _ _ _ c.if-not-is_up.false;
+  refused = λ own. absurd (no_own c.in-Err.error c.stop.result c.stop.ensures.is own);
+  ends = rw c.stop.ensures.is (stopped_ends _ _ _ _ _ _ (c.stop.ensures.closed refl) (c.stop.ensures.down refl)
+      c.in-Err.error c.in-Err.ensures.ends);
 }

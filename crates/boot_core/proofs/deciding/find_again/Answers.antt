@@ -1,4 +1,4 @@
-use Rattle.std.proofs.Common.{rules, ◌≡◌, arith, subst, sym}
+use Rattle.std.proofs.Common.{◌≡◌, arith, subst, sym}
 use Rattle.upload.specs.View.{view}
 use Rattle.machine.specs.Boots.{IsReported}
 use Rattle.machine.specs.Reading.{HasImages, IsFinding}
@@ -6,11 +6,12 @@ use Rattle.machine.proofs.Unique.{one_greatest, one_table}
 use Rattle.machine.proofs.FoundAgain.{chosen_again, found_again, none_damaged, valid_again}
 use Rattle.decision.specs.Found.{HasTable, IsFindingAt}
 use Rattle.boot_core.proofs.Masks.{set_found}
+use Rattle.boot_core.proofs.Passed.{ok_ends}
 use Rattle.boot_core.proofs.deciding.find_again.Goals as goal
 
 pub returns-then-taken_mask-mask : goal.returns-then-taken_mask-mask
 returns-then-taken_mask-mask g c = record {
-  same = search rules;
+  same = c.find.ensures.same;
   ok = λ s table permanent can decision.
       let found : IsReported s c.in-Decided.table c.in-Decided.report =
       subst (λ f. IsFinding s f) c.in-Decided.is (c.in_ok-table.ensures.ok s can) in
@@ -18,9 +19,9 @@ returns-then-taken_mask-mask g c = record {
       (chosen_again _ table s c.args.mask permanent c.in-Decided.report
       (one_table s c.in-Decided.table table found.rows decision.chosen.rows) decision found.greatest) in
       c.if-taken_mask-mask.true (sym same);
-  set = search rules;
-  whole = search rules;
-  rows = search rules;
+  set = tt;
+  whole = tt;
+  rows = tt;
   told = (
     subst (λ f. IsFindingAt (view c.args.map.now (g.F.Flash.chip c.args.flash.now)) c.args.mask f)
         c.in-Decided.is c.in_ok-table.ensures.front,
@@ -35,32 +36,32 @@ returns-then-taken_mask-mask g c = record {
               c.if-taken_mask-mask.true (sym same),
         ),
   );
-  ends = search rules;
+  ends = ok_ends c.in_ok-table.ensures.ends;
 }
 
 pub returns-in-Damaged : goal.returns-in-Damaged
 returns-in-Damaged g c = record {
-  same = search rules;
+  same = c.find.ensures.same;
   ok = λ s table permanent can decision. none_damaged s table c.args.mask permanent c.in-Damaged.image decision
       (subst (λ f. IsFinding s f) c.in-Damaged.is (c.in_ok-table.ensures.ok s can));
-  set = search rules;
-  whole = search rules;
-  rows = search rules;
+  set = tt;
+  whole = tt;
+  rows = tt;
   told = subst (λ f. IsFindingAt (view c.args.map.now (g.F.Flash.chip c.args.flash.now)) c.args.mask f)
       c.in-Damaged.is c.in_ok-table.ensures.front;
-  ends = search rules;
+  ends = ok_ends c.in_ok-table.ensures.ends;
 }
 
 pub returns-in-Invalid : goal.returns-in-Invalid
 returns-in-Invalid g c = record {
-  same = search rules;
+  same = c.find.ensures.same;
   ok = λ s table permanent can decision.
       let found = subst (λ f. IsFinding s f) c.in-Invalid.is (c.in_ok-table.ensures.ok s can) in
       found.2 (valid_again found.0 table s c.args.mask permanent
       (one_table s found.0 table found.1 decision.chosen.rows) decision);
-  set = search rules;
-  whole = search rules;
-  rows = search rules;
+  set = tt;
+  whole = tt;
+  rows = tt;
   told = (
     subst (λ f. IsFindingAt (view c.args.map.now (g.F.Flash.chip c.args.flash.now)) c.args.mask f)
         c.in-Invalid.is c.in_ok-table.ensures.front,
@@ -68,12 +69,12 @@ returns-in-Invalid g c = record {
         let found = subst (λ f. IsFinding s f) c.in-Invalid.is (c.in_ok-table.ensures.ok s can) in
         (found.0, found.1, λ valid greatest. found.2 valid),
   );
-  ends = search rules;
+  ends = ok_ends c.in_ok-table.ensures.ends;
 }
 
 pub returns-else-taken_mask-mask : goal.returns-else-taken_mask-mask
 returns-else-taken_mask-mask g c = record {
-  same = search rules;
+  same = c.find.ensures.same;
   ok = λ s table permanent can decision.
       let found : IsReported s c.in-Decided.table c.in-Decided.report =
       subst (λ f. IsFinding s f) c.in-Decided.is (c.in_ok-table.ensures.ok s can) in
@@ -84,6 +85,6 @@ returns-else-taken_mask-mask g c = record {
       c.if-taken_mask-mask.false c.taken_mask.ensures.each;
   whole = subst (λ f. HasImages c.args.map.now.images f) c.in-Decided.is c.in_ok-table.ensures.whole;
   rows = subst (λ f. HasTable c.args.map.now.images f) c.in-Decided.is c.in_ok-table.ensures.rows;
-  told = search rules;
-  ends = search rules;
+  told = tt;
+  ends = ok_ends c.in_ok-table.ensures.ends;
 }

@@ -1,14 +1,30 @@
-use Rattle.std.proofs.Common.{rules, ◌≡◌, sym, subst, true}
+use Rattle.std.proofs.Common.{arith, ap, ◌≡◌, sym, subst, true}
 use Rattle.std.proofs.lemmas.Result.{on_ok_weaker}
 use Rattle.flash_model.specs.Units.{are_erased}
+use Rattle.flash_model.specs.Chip.{Chip}
 use Rattle.sector_map.specs.Map.{Keeps}
 use Rattle.sector_map.specs.Part.{TrailerOf, only}
-use Rattle.sector_map.proofs.Parts.{keeps_trans}
+use Rattle.sector_map.proofs.Parts.{keeps_trans, laid_out_kept}
 use Rattle.trailer.specs.Fields.{bytes_at, fields_at, trailer_bytes}
 use Rattle.trailer.proofs.Erased.{erased_range}
-use Rattle.boot_core.proofs.Passed.{then_ends}
+use Rattle.upload.proofs.Ends.{err_passed}
+use Rattle.boot_core.proofs.Passed.{err_ends, then_ends, then_err}
 use Rattle.boot_core.proofs.SwapSizes.{made_ready, sized}
+use Rattle.boot_core.proofs.Records.{one_erase}
 use Rattle.boot_core.proofs.preparing.prepare_image.Goals as goal
+
+pub swap_length-requires : goal.swap_length-requires
+swap_length-requires g c = record {
+  laid_out = laid_out_kept c.args.map.now _ _ _ c.requires.laid_out c.clear.ensures.outside;
+  there = c.requires.there;
+}
+
+pub write_size-requires-clause-image : goal.write_size-requires-clause-image
+write_size-requires-clause-image g c = record {
+  laid_out = rw c.swap_length.ensures.same
+      (laid_out_kept c.args.map.now _ _ _ c.requires.laid_out c.clear.ensures.outside);
+  there = c.requires.there;
+}
 
 pub write_size-requires-clause-erased : goal.write_size-requires-clause-erased
 write_size-requires-clause-erased g c = subst
@@ -34,6 +50,31 @@ returns g c = record {
       (written c.in_ok-size.ensures.some c.in_ok-size.ensures.most))
       c.write_size.ensures.outside)
       c.write_size.ensures.ok;
-  erases = search rules;
+  erases = on_ok_weaker c.write_size.result
+      (λ written. omega (
+        arith,
+        written,
+        ap (λ (chip : Chip). chip.erases) c.swap_length.ensures.same,
+        one_erase _ _ _ c.in_ok-clear.ensures.erases,
+      ))
+      c.write_size.ensures.erases;
   ends = then_ends (then_ends c.in_ok-clear.ensures.ends c.in_ok-size.ensures.ends) c.write_size.ensures.ends;
 }
+
+pub returns-in_err-clear : goal.returns-in_err-clear
+returns-in_err-clear g c =
+    rw (err_passed c.from_residual.result c.in_err-clear.field-0.0 c.from_residual.ensures.1) (record {
+      outside = c.clear.ensures.outside;
+      ok = tt;
+      erases = tt;
+      ends = err_ends c.in_err-clear.ensures.ends;
+    })
+
+pub returns-in_err-size : goal.returns-in_err-size
+returns-in_err-size g c =
+    rw (err_passed c.from_residual-in_err-size.result c.in_err-size.field-0.0 c.from_residual-in_err-size.ensures.1) (record {
+      outside = rw c.swap_length.ensures.same c.clear.ensures.outside;
+      ok = tt;
+      erases = tt;
+      ends = then_err c.in_ok-clear.ensures.ends c.in_err-size.ensures.ends;
+    })

@@ -1,4 +1,5 @@
-use Rattle.std.proofs.Common.{rules, arith}
+use Rattle.std.proofs.Common.{rules, refl, arith}
+use Rattle.flash_model.proofs.Ending.{asleep_trans, ends_well, uncut_refl, uncut_trans}
 use Rattle.sector_map.proofs.Parts.{keeps_refl, keeps_trans, laid_out_kept}
 use Rattle.swap_scratch.proofs.Sums.{sum_none, sum_more}
 use Rattle.boot_core.proofs.SwapSizes.{ready_more}
@@ -10,8 +11,8 @@ loop-image-init g c = record {
   outside = keeps_refl _ _ _;
   ready = λ i lt member. absurd (omega arith);
   erases = omega (arith, sum_none);
-  uncut = search rules;
-  asleep = search rules;
+  uncut = uncut_refl _;
+  asleep = λ off. refl;
 }
 
 pub loop-image-preserved : goal.loop-image-preserved
@@ -23,15 +24,15 @@ loop-image-preserved g c =
       ready = ready_more c.args.map.now c.args.mask c.loop-image.image c.args.side _ _ kept.ready
           c.prepare_member.ensures.kept c.in_ok-prepare_member.ensures.ok;
       erases = omega (arith, kept.erases, c.in_ok-prepare_member.ensures.erases, sum_more);
-      uncut = search rules;
-      asleep = search rules;
+      uncut = uncut_trans _ _ _ kept.uncut c.in_ok-prepare_member.ensures.ends.uncut;
+      asleep = asleep_trans _ _ _ kept.uncut kept.asleep c.in_ok-prepare_member.ensures.ends.asleep;
     }
 
 pub returns : goal.returns
 returns g c = record {
-  outside = search rules;
+  outside = c.loop-image.invariant.outside;
   ok = λ i lt member. (c.loop-image.invariant.ready i (omega arith) member).prepared;
-  ready = search rules;
+  ready = λ i lt member. c.loop-image.invariant.ready i (omega arith) member;
   erases = search rules;
-  ends = search rules;
+  ends = ends_well _ _ _ c.loop-image.invariant.uncut c.loop-image.invariant.asleep;
 }

@@ -1,12 +1,14 @@
-use Rattle.std.proofs.Common.{rules, subst}
+use Rattle.std.proofs.Common.{arith, ◌∙◌, subst}
 use Rattle.sector_map.specs.declared.layout.Side.TheVariants.{Secondary}
-use Rattle.tlv.specs.Slot.{slot_bytes}
+use Rattle.image_reading.specs.Slot.{slot_bytes}
+use Rattle.upload.proofs.Ends.{err_passed}
 use Rattle.boot_core.specs.SwapSize.{IsUsed}
+use Rattle.boot_core.proofs.Passed.{err_ends, then_err, then_ok}
 use Rattle.boot_core.proofs.preparing.swap_length.Goals as goal
 
 pub returns : goal.returns
 returns g c = record {
-  same = search rules;
+  same = c.used_length-2.ensures.same ∙ c.used_length.ensures.same;
   ok = record {
     primary = c.in_ok-running.running;
     secondary = c.in_ok-asked.asked;
@@ -15,7 +17,27 @@ returns g c = record {
         c.used_length.ensures.same c.in_ok-asked.ensures.ok;
     larger = c.max.ensures;
   };
-  some = search rules;
-  most = search rules;
-  ends = search rules;
+  some = omega (arith, c.max.ensures, c.in_ok-running.ensures.some);
+  most = omega (arith, c.max.ensures, c.in_ok-running.ensures.most, c.in_ok-asked.ensures.most);
+  ends = then_ok c.in_ok-running.ensures.ends c.in_ok-asked.ensures.ends;
 }
+
+pub returns-in_err-running : goal.returns-in_err-running
+returns-in_err-running g c =
+    rw (err_passed c.from_residual.result c.in_err-running.field-0.0 c.from_residual.ensures.1) (record {
+      same = c.used_length.ensures.same;
+      ok = tt;
+      some = tt;
+      most = tt;
+      ends = err_ends c.in_err-running.ensures.ends;
+    })
+
+pub returns-in_err-asked : goal.returns-in_err-asked
+returns-in_err-asked g c =
+    rw (err_passed c.from_residual-in_err-asked.result c.in_err-asked.field-0.0 c.from_residual-in_err-asked.ensures.1) (record {
+      same = c.used_length-2.ensures.same ∙ c.used_length.ensures.same;
+      ok = tt;
+      some = tt;
+      most = tt;
+      ends = then_err c.in_ok-running.ensures.ends c.in_err-asked.ensures.ends;
+    })

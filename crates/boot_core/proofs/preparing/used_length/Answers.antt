@@ -1,6 +1,7 @@
 use Rattle.std.proofs.Common.{rules, arith}
-use Rattle.tlv.specs.Slot.{slot_bytes}
+use Rattle.image_reading.specs.Slot.{slot_bytes}
 use Rattle.boot_core.proofs.Described.{described_fits, described_used, fault_used, slot_long, slot_small}
+use Rattle.boot_core.proofs.Passed.{here_ends}
 use Rattle.boot_core.proofs.preparing.used_length.Goals as goal
 
 pub overflow_cast-result : goal.overflow_cast-result
@@ -12,19 +13,19 @@ overflow_cast-result g c =
 
 pub returns-in-Ok : goal.returns-in-Ok
 returns-in-Ok g c = record {
-  same = search rules;
+  same = c.describe_slot.ensures.same;
   ok = described_used
       (slot_bytes c.args.map.now (g.F.Flash.chip c.args.flash.now) c.args.image c.args.side)
       c.in-Ok.description c.in-Ok.ensures.described;
   some = search rules;
   most = described_fits c.args.map.now (g.F.Flash.chip c.args.flash.now) c.args.image
       c.args.side c.in-Ok.description c.requires.laid_out c.in-Ok.ensures.described;
-  ends = search rules;
+  ends = rw c.describe_slot.ensures.same here_ends;
 }
 
 pub returns-in-Err-Image : goal.returns-in-Err-Image
 returns-in-Err-Image g c = record {
-  same = search rules;
+  same = c.describe_slot.ensures.same;
   ok =
       let fault = rw c.in-Err-Image.field-0-is at c.in-Err-Image.ensures.fault in
       fault_used (slot_bytes c.args.map.now (g.F.Flash.chip c.args.flash.now) c.args.image c.args.side)
@@ -37,5 +38,5 @@ returns-in-Err-Image g c = record {
       ));
   some = search rules;
   most = search rules;
-  ends = search rules;
+  ends = rw c.describe_slot.ensures.same here_ends;
 }

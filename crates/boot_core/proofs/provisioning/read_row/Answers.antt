@@ -1,5 +1,5 @@
 use Rattle.std.proofs.Common.{rules}
-use Rattle.tlv.proofs.Descriptions.{front_has_no_fault}
+use Rattle.image_reading.proofs.Descriptions.{front_has_no_fault}
 use Rattle.boot_core.specs.Provisioned.{running_bytes}
 use Rattle.boot_core.proofs.provisioning.read_row.Goals as goal
 

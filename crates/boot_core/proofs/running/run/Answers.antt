@@ -1,4 +1,4 @@
-use Rattle.std.proofs.Common.{rules, arith, ◌≡◌, ◌+◌, [], ◌∷◌}
+use Rattle.std.proofs.Common.{rules, arith, ◌≡◌, ◌∙◌, ◌+◌, [], ◌∷◌}
 use Rattle.std.proofs.lemmas.List.{take_more}
 use Rattle.machine.specs.Steps.{cuts_in}
 use Rattle.machine.proofs.Runs.{cuts_on, runs_on}
@@ -11,10 +11,10 @@ loop-event-preserved g c =
     ≡ c.loop-event.device.here.flash.cuts + cuts_in (c.step-reply.result ∷ []) =
     omega (arith, c.step-reply.ensures.cuts) in
     record {
-      setup = search rules;
-      on = search rules;
-      room = search rules;
-      filled = search rules;
+      setup = c.step-reply.ensures.setup ∙ so_far.setup;
+      on = c.step-reply.ensures.on;
+      room = omega (arith, c.in-Ok.ensures.capacity, so_far.room);
+      filled = omega (arith, c.in-Ok.ensures.len, so_far.filled);
       count = search rules;
       runs = runs_on _ _ _ _ _ _ _ _ _ _ _ so_far.setup
           (take_more c.args.events.now c.loop-event.event-index _ (omega arith)) c.in-Ok.ensures.items so_far.runs

@@ -8,6 +8,7 @@ use Rattle.sector_map.proofs.Parts.{laid_out_kept}
 use Rattle.set_log.specs.Log.{state_of}
 use Rattle.set_log.specs.declared.state.State.{State}
 use Rattle.upload.specs.View.{view}
+use Rattle.upload.proofs.Ends.{err_passed}
 use Rattle.machine.specs.Reading.{CanRead, IsFoundAgain}
 use Rattle.machine.specs.Wear.{IsSetFound}
 use Rattle.decision.specs.Found.{HasTable}
@@ -32,6 +33,29 @@ record_settle-requires g c = record {
       ∙ c.carry_swap.ensures.recorded ∙ c.requires.recorded.read;
   kind = c.requires.recorded.kind;
 }
+
+pub find_again-requires : goal.find_again-requires
+find_again-requires g c = record {
+  laid_out = laid_out_kept c.args.map.now _ _ _ c.requires.recorded.laid_out c.carry_swap.ensures.outside;
+}
+
+pub returns-in_err-table : goal.returns-in_err-table
+returns-in_err-table g c =
+    rw (err_passed c.from_residual-in_err-table.result c.in_err-table.field-0.0 c.from_residual-in_err-table.ensures.1)
+    (record {
+      laid = subst (λ chip. IsLaidOut c.args.map.now chip) (sym c.find_again.ensures.same)
+          (laid_out_kept c.args.map.now _ _ _ c.requires.recorded.laid_out c.carry_swap.ensures.outside);
+      on_map = λ start was.
+          rw c.find_again.ensures.same (on_more _ _ start _ _ c.carry_swap.ensures.outside was);
+      stands = λ s table was.
+          rw c.find_again.ensures.same (inl (inl (c.carry_swap.ensures.stands s table _ was)));
+      ok = tt;
+      erases = tt;
+      set = tt;
+      told = tt;
+      alone = tt;
+      ends = then_err c.in_ok-carry_swap.ensures.ends c.in_err-table.ensures.ends;
+    })
 
 pub returns-in_err-settle-in-Decided : goal.returns-in_err-settle-in-Decided
 returns-in_err-settle-in-Decided g c =

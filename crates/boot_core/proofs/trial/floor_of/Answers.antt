@@ -1,13 +1,14 @@
-use Rattle.std.proofs.Common.{rules, subst}
+use Rattle.std.proofs.Common.{subst}
 use Rattle.machine.specs.Reading.{IsReadOf}
 use Rattle.machine.proofs.Trying.{floor_raised}
+use Rattle.boot_core.proofs.Passed.{ok_ends}
 use Rattle.boot_core.proofs.trial.floor_of.Goals as goal
 
 pub returns-in-Some : goal.returns-in-Some
 returns-in-Some g c = record {
-  same = search rules;
+  same = c.read_slot.ensures.same;
   ok = λ held front.
       floor_raised held c.in-Some.entry c.args.floor c.max.result
       (subst (λ found. IsReadOf held found) c.in-Some.is (c.in_ok-read_slot.ensures.ok held front)) c.max.ensures;
-  ends = search rules;
+  ends = ok_ends c.in_ok-read_slot.ensures.ends;
 }

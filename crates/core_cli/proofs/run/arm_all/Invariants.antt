@@ -1,6 +1,6 @@
 use Rattle.std.proofs.Common.{◌≡◌, ◌++◌}
 use Rattle.flash_model.specs.Memory.{chip_of, memory_of, with_armed}
-use Rattle.reading_scripts.specs.Loading.{armed_in}
+use Rattle.reading_inputs.specs.Loading.{armed_in}
 use Rattle.core_cli.proofs.run.arm_all.Given as goal
 
 -- all else of the flash is as it was, no write was counted, and the cuts so far stand behind those

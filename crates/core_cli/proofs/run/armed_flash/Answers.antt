@@ -1,7 +1,7 @@
 use Rattle.std.proofs.Common.{◌∙◌, ap}
 use Rattle.file_flash.specs.FileFlash.{new_over}
 use Rattle.flash_model.specs.Memory.{memory_of}
-use Rattle.reading_scripts.specs.Loading.{armed_in}
+use Rattle.reading_inputs.specs.Loading.{armed_in}
 use Rattle.core_cli.proofs.FileLaws.{armed-chip, armed-flash}
 use Rattle.core_cli.proofs.run.armed_flash.Goals as goal
 

@@ -1,8 +1,8 @@
 use Rattle.std.proofs.Common.{subst}
-use Rattle.reading_scripts.specs.Loading.{AreCutsOf, BringsAll, armed_in}
+use Rattle.reading_inputs.specs.Loading.{AreCutsOf, BringsAll, armed_in}
 use Rattle.device_texts.proofs.DeviceLaws.{IsOfFile-read}
 use Rattle.core_cli.proofs.EndLaws.{AnswersRun-read}
-use Rattle.reading_scripts.proofs.ScriptLaws.{IsScript-brought}
+use Rattle.reading_inputs.proofs.ScriptLaws.{IsScript-brought}
 use Rattle.core_cli.proofs.run.perform.Goals as goal
 
 -- The device is one of a file.

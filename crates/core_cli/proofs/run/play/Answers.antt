@@ -1,6 +1,6 @@
 use Rattle.std.proofs.Common.{◌∙◌, ap}
 use Rattle.common.proofs.Results.{IfErr-passed}
-use Rattle.reading_scripts.specs.Loading.{armed_in}
+use Rattle.reading_inputs.specs.Loading.{armed_in}
 use Rattle.core_cli.proofs.TellingLaws.{PlaysText-told, TellsFirst-all, TellsFirst-none, TellsFirst-some}
 use Rattle.core_cli.proofs.run.play.Goals as goal
 

@@ -1,7 +1,7 @@
 use Rattle.std.proofs.Common.{◌+◌, ◌∷◌, ◌++◌, [], ap, arith, eqb-true, length, length-append, refl, rules, sym, ◌∙◌}
 use Rattle.common.proofs.Results.{IfErr-passed}
-use Rattle.reading_scripts.specs.Loading.{came_of}
-use Rattle.reading_scripts.proofs.ScriptLaws.{AreTaken-cut, AreTaken-event, AreTaken-none, BringsAll-taken}
+use Rattle.reading_inputs.specs.Loading.{came_of}
+use Rattle.reading_inputs.proofs.ScriptLaws.{AreTaken-cut, AreTaken-event, AreTaken-none, BringsAll-taken}
 use Rattle.core_cli.proofs.TellingLaws.{BreaksText-some, TellsAll-more, TellsAll-none, TellsSome-all, TellsSome-more}
 use Rattle.core_cli.proofs.run.tell_each.Goals as goal
 

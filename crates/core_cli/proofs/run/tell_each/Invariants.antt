@@ -1,7 +1,7 @@
 use Rattle.std.proofs.Common.{◌≡◌, ◌+◌, ◌≤◌, ℕ, List, length, true}
 use Rattle.events.specs.declared.event.Event.{Event}
 use Rattle.core_cli.specs.Telling.{TellsAll}
-use Rattle.reading_scripts.proofs.ScriptLaws.{AreTaken}
+use Rattle.reading_inputs.proofs.ScriptLaws.{AreTaken}
 use Rattle.core_cli.proofs.run.tell_each.Given as goal
 
 -- the device is what it was made as, with power; what the lines so far bring came, and the replies

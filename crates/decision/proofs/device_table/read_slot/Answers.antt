@@ -1,5 +1,5 @@
 use Rattle.std.proofs.Common.{rules, sym, subst}
-use Rattle.tlv.specs.Slot.{slot_bytes}
+use Rattle.image_reading.specs.Slot.{slot_bytes}
 use Rattle.machine.specs.Boots.{IsEntryOf}
 use Rattle.machine.proofs.Rows.{read_some}
 use Rattle.decision.proofs.Described.{described_front, described_held, fault_front, fault_held}

@@ -1,8 +1,8 @@
 use Rattle.std.proofs.Common.{◌≡◌, ◌∙◌, ◌+◌, ℕ, List, ap, arith, length, subst}
 use Rattle.std.specs.Prelude.{slice_range}
 use Rattle.flash_model.specs.Memory.{chip_of}
-use Rattle.tlv.specs.Fault.{IsFrontFault}
-use Rattle.tlv.specs.Slot.{slot_bytes}
+use Rattle.image_reading.specs.Fault.{IsFrontFault}
+use Rattle.image_reading.specs.Slot.{slot_bytes}
 use Rattle.command_ends.specs.Input.{IsKnownAs}
 use Rattle.making_commands.specs.CopyEnd.{IsImageOf}
 use Rattle.making_commands.proofs.CopyLaws.{copy_inside, copy_is}

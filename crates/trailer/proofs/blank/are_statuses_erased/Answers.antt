@@ -1,3 +1,4 @@
+use Rattle.trailer.proofs.Places.{trailer_fits}
 use Rattle.std.proofs.Common.{◌≡◌, ◌*◌, ◌↔◌, IsTrue, arith, subst}
 use Rattle.flash_model.specs.Chip.{IsErased}
 use Rattle.trailer.specs.Fields.{fields_at}
@@ -25,3 +26,6 @@ returns g c =
       erases = c.is_erased.ensures.erases;
       ends = ends_done _ _ _ _ c.in_ok-erased.ensures.ends;
     }
+
+pub is_erased-requires : goal.is_erased-requires
+is_erased-requires g c = grind (arith, trailer_fits)

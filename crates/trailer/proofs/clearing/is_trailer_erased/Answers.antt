@@ -1,4 +1,5 @@
-use Rattle.std.proofs.Common.{refl}
+use Rattle.trailer.proofs.Places.{trailer_fits}
+use Rattle.std.proofs.Common.{refl, arith}
 use Rattle.trailer.proofs.Erased.{tells_trailer}
 use Rattle.flash_model.proofs.Ending.{ends_passed, ends_done}
 use Rattle.trailer.proofs.Told.{tells_nothing}
@@ -18,3 +19,6 @@ returns g c =
       erases = c.is_erased.ensures.erases;
       ends = ends_done _ _ _ _ c.in_ok-erased.ensures.ends;
     }
+
+pub is_erased-requires : goal.is_erased-requires
+is_erased-requires g c = grind (arith, trailer_fits)

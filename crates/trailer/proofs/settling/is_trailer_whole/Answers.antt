@@ -1,4 +1,5 @@
-use Rattle.std.proofs.Common.{◌∙◌}
+use Rattle.std.proofs.lemmas.Grind.{common_steps}
+use Rattle.std.proofs.Common.{◌∙◌, arith}
 use Rattle.flash_model.proofs.Ending.{ends_passed, ends_then}
 use Rattle.trailer.proofs.Told.{decides_nothing}
 use Rattle.trailer.proofs.settling.is_trailer_whole.Goals as goal
@@ -20,3 +21,9 @@ returns-in_err-magic g c = decides_nothing _ _ _ _
     (ends_then _ _ _ _ _ c.in_ok-copy_done.ensures.ends
     (ends_then _ _ _ _ _ c.in_ok-image_ok.ensures.ends
     (ends_passed _ _ _ _ c.from_residual-in_err-magic.ensures.1 c.in_err-magic.ensures.ends)))
+
+pub returns-else-image_ok : goal.returns-else-image_ok
+returns-else-image_ok g c = grind (arith, common_steps)
+
+pub returns-then-image_ok : goal.returns-then-image_ok
+returns-then-image_ok g c = grind (arith, common_steps)

@@ -1,7 +1,7 @@
 use Rattle.std.proofs.Common.{arith, ◌∙◌, ap, not, refl}
 use Rattle.sector_map.specs.Part.{Slot}
 use Rattle.trailer.proofs.Erased.{tells_range}
-use Rattle.trailer.proofs.Places.{some_slot, sector_of_part}
+use Rattle.trailer.proofs.Places.{some_slot, sector_of_part, slot_fits}
 use Rattle.flash_model.proofs.Ending.{ends_passed, ends_done}
 use Rattle.trailer.proofs.Told.{tells_nothing}
 use Rattle.trailer.proofs.standing_request.is_front_set.Goals as goal
@@ -26,3 +26,6 @@ returns g c =
       erases = c.is_unit_erased.ensures.erases;
       ends = ends_done _ _ _ _ c.in_ok-erased.ensures.ends;
     }
+
+pub is_unit_erased-requires : goal.is_unit_erased-requires
+is_unit_erased-requires g c = grind (arith, slot_fits)

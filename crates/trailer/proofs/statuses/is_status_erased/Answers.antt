@@ -1,6 +1,6 @@
 use Rattle.std.proofs.Common.{◌+◌, ◌*◌, arith}
 use Rattle.sector_map.specs.Part.{TrailerOf}
-use Rattle.trailer.proofs.Places.{trailer_size}
+use Rattle.trailer.proofs.Places.{trailer_size, trailer_addressed, trailer_fits}
 use Rattle.trailer.proofs.Erased.{tells_range}
 use Rattle.flash_model.proofs.Ending.{ends_passed, ends_done}
 use Rattle.trailer.proofs.Told.{tells_nothing}
@@ -27,3 +27,9 @@ returns g c =
       erases = c.is_unit_erased.ensures.erases;
       ends = ends_done _ _ _ _ c.in_ok-erased.ensures.ends;
     }
+
+pub overflow_add-trailer_start : goal.overflow_add-trailer_start
+overflow_add-trailer_start g c = grind (arith, trailer_addressed)
+
+pub is_unit_erased-requires : goal.is_unit_erased-requires
+is_unit_erased-requires g c = grind (arith, trailer_fits)

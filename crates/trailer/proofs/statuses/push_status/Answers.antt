@@ -1,5 +1,5 @@
 use Rattle.std.proofs.Common.{◌+◌, ◌*◌, ◌∙◌, ap, arith}
-use Rattle.trailer.proofs.Places.{trailer_fits}
+use Rattle.trailer.proofs.Places.{trailer_fits, trailer_addressed}
 use Rattle.trailer.proofs.StatusUnits.{status_aligned, status_alone, status_fit, status_is_erased, own_status, pushed}
 use Rattle.flash_model.specs.Chip.{Chip}
 use Rattle.flash_model.proofs.Ending.{at_error, ends_passed, ends_then, ends_done}
@@ -74,3 +74,6 @@ returns g c =
       ends = ends_then _ _ _ _ _ c.in_ok-count.ensures.ends
           (ends_done _ _ _ _ c.in_ok-set_unit.ensures.ends);
     }
+
+pub overflow_add-trailer_start : goal.overflow_add-trailer_start
+overflow_add-trailer_start g c = grind (arith, trailer_addressed)

@@ -16,3 +16,6 @@ returns-then-branch g c =
       erases = search rules;
       ends = search rules;
     }
+
+pub returns : goal.returns
+returns g c = grind (arith, units_are)

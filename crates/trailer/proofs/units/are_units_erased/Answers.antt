@@ -1,3 +1,4 @@
+use Rattle.trailer.proofs.Places.{place_fits}
 use Rattle.std.proofs.Common.{arith}
 use Rattle.trailer.proofs.Erased.{tells_units}
 use Rattle.flash_model.proofs.Ending.{ends_passed, ends_done}
@@ -19,3 +20,11 @@ returns g c =
       erases = c.is_erased.ensures.erases;
       ends = ends_done _ _ _ _ c.in_ok-erased.ensures.ends;
     }
+
+pub is_erased-requires : goal.is_erased-requires
+is_erased-requires g c = omega (
+  arith,
+  c.place_of.ensures,
+  place_fits c.args.map.now (g.F.Flash.chip c.args.flash.now) c.args.image
+      c.args.from_end c.args.side c.requires.laid_out c.requires.there c.requires.within,
+)

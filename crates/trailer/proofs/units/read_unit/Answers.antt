@@ -1,6 +1,6 @@
 use Rattle.std.proofs.Common.{◌≡◌, arith, length, sym}
 use Rattle.flash_model.proofs.Ending.{ends_passed, ends_done}
-use Rattle.trailer.proofs.Places.{read_of_trailer}
+use Rattle.trailer.proofs.Places.{read_of_trailer, place_fits}
 use Rattle.trailer.proofs.Told.{tells_nothing}
 use Rattle.trailer.proofs.units.read_unit.Goals as goal
 
@@ -20,3 +20,11 @@ returns g c =
       erases = c.in_ok-read.ensures.erases;
       ends = ends_done _ _ _ _ c.in_ok-read.ensures.ends;
     }
+
+pub read-requires : goal.read-requires
+read-requires g c = omega (
+  arith,
+  c.place_of.ensures,
+  place_fits c.args.map.now (g.F.Flash.chip c.args.flash.now) c.args.image
+      c.args.from_end c.args.side c.requires.laid_out c.requires.there c.requires.within,
+)

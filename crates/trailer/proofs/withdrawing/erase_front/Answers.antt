@@ -1,9 +1,9 @@
-use Rattle.std.proofs.Common.{◌+◌, ◌∙◌, sym, ap, if◌then◌else◌}
+use Rattle.std.proofs.Common.{◌+◌, ◌∙◌, sym, ap, if◌then◌else◌, arith}
 use Rattle.std.proofs.lemmas.Bool.{false≢true}
 use Rattle.flash_model.specs.Chip.{Chip}
 use Rattle.flash_model.proofs.Ending.{at_error, ends_passed, ends_then, ends_done}
 use Rattle.sector_map.proofs.Parts.{laid_out_kept}
-use Rattle.trailer.proofs.Places.{slot_alone}
+use Rattle.trailer.proofs.Places.{slot_alone, slot_within}
 use Rattle.trailer.proofs.Withdrawal.{front_erased, rest_of_erase, sector_erased}
 use Rattle.trailer.proofs.withdrawing.erase_front.Goals as goal
 
@@ -51,3 +51,6 @@ returns g c =
       ends = ends_then _ _ _ _ _ c.in_ok-is_front_set.ensures.ends
           (ends_done _ _ _ _ c.in_ok-erase.ensures.ends);
     }
+
+pub erase-requires : goal.erase-requires
+erase-requires g c = grind (arith, slot_within)

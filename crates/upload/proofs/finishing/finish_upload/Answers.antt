@@ -1,9 +1,10 @@
 use Rattle.std.proofs.Common.{◌-◌, arith, ◌∙◌, ap, subst}
 use Rattle.std.proofs.Common.{Err, Ok, length-append, refl, sym}
+use Rattle.std.proofs.lemmas.Grind.{common_steps}
 use Rattle.sector_map.specs.declared.layout.Side.TheVariants.{Secondary}
 use Rattle.sector_map.specs.Part.{Slot, incoming_of}
 use Rattle.sector_map.specs.Map.{Keeps}
-use Rattle.sector_map.proofs.Parts.{keeps_wider}
+use Rattle.sector_map.proofs.Parts.{keeps_wider, laid_out_kept}
 use Rattle.sector_map.proofs.Touched.{slot_of_incoming}
 use Rattle.sector_map.proofs.PartBytes.{length_part}
 use Rattle.trailer.specs.Fields.{fields_at}
@@ -120,3 +121,13 @@ returns-in_err-request g c =
           (g.F.Flash.chip c.request.new.flash)) c.judge.ensures.same
           (ends_flash c.in_err-request.field-0.0 _ _ c.in_err-request.ensures.ends));
     })
+
+pub request-requires-clause-image : goal.request-requires-clause-image
+request-requires-clause-image g c = record {
+  laid_out = rw c.judge.ensures.same (laid_out_kept c.args.map.now _ _ (g.F.Flash.chip c.write_last.new.flash)
+      c.requires.laid_out c.write_last.ensures.outside);
+  there = c.requires.open.1.there;
+}
+
+pub returns-then-upload : goal.returns-then-upload
+returns-then-upload g c = grind (arith, common_steps)

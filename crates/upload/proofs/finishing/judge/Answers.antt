@@ -1,9 +1,11 @@
-use Rattle.std.proofs.Common.{rules, ◌∙◌, refl, take, subst}
+use Rattle.std.proofs.Common.{rules, ◌∙◌, refl, sym, take, subst}
+use Rattle.std.specs.Cmp.Lexicographic.{same_text}
+use Rattle.std.proofs.lemmas.Bool.{not-false}
 use Rattle.sector_map.specs.Map.{part_of}
 use Rattle.sector_map.specs.Part.{Slot}
 use Rattle.sector_map.specs.declared.layout.Side.TheVariants.{Secondary}
-use Rattle.tlv.specs.Fault.{IsFirstFault}
-use Rattle.tlv.specs.Image.{IsIntact}
+use Rattle.image_reading.specs.Fault.{IsFirstFault}
+use Rattle.image_reading.specs.Image.{IsIntact}
 use Rattle.upload.specs.declared.error.UploadError.TheVariants as no
 use Rattle.upload.proofs.Ends.{ends_flash, ends_read, err_passed}
 use Rattle.upload.proofs.finishing.judge.Goals as goal
@@ -20,7 +22,8 @@ pub returns-in-Ok : goal.returns-in-Ok
 returns-in-Ok g c = record {
   same = c.describe_file.ensures.same ∙ c.digest_file.ensures.same;
   judges = (
-    search rules,
+    sym c.in_ok-found.ensures.ok
+        ∙ same_text c.in_ok-found.found c.args.digest.now (sym (not-false _ (sym c.if-ne.ensures))),
     (
       c.in-Ok.field-0,
       subst (λ chip. IsIntact (take c.args.size (part_of c.args.map.now chip (Slot c.args.image Secondary)))

@@ -2,8 +2,8 @@ use Rattle.std.proofs.Common.{◌≡◌, true, Ok, Err, Result, ◌∙◌, ap, s
 use Rattle.sector_map.specs.Map.{part_of}
 use Rattle.sector_map.specs.Part.{Slot}
 use Rattle.sector_map.specs.declared.layout.Side.TheVariants.{Primary}
-use Rattle.tlv.specs.declared.desc.Desc.{Desc}
-use Rattle.tlv.specs.declared.error.SlotError.{SlotError}
+use Rattle.image_reading.specs.declared.desc.Desc.{Desc}
+use Rattle.image_reading.specs.declared.error.SlotError.{SlotError}
 use Rattle.upload.proofs.Ends.{reads_well, true_false}
 use Rattle.upload.proofs.Precursors.{has_front, front_has}
 use Rattle.upload.proofs.judging.follows.Goals as goal

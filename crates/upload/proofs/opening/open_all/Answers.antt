@@ -24,6 +24,13 @@ loop-component-init g c = record {
   asleep = λ off. refl;
 }
 
+pub open_one-requires : goal.open_one-requires
+open_one-requires g c = record {
+  laid_out = laid_out_kept c.args.map.now _ _ (g.F.Flash.chip c.loop-component.flash) c.requires.laid_out
+      c.loop-component.invariant.outside;
+  there = c.requires.there c.loop-component.component-index blank c.loop-component-test.true;
+}
+
 pub returns-in_err-open_one : goal.returns-in_err-open_one
 returns-in_err-open_one g c =
     let cs = c.args.components.now in

@@ -70,3 +70,10 @@ loop-index-preserved g c =
       asleep = asleep_trans _ (g.F.Flash.chip c.loop-index.flash) _ all.uncut all.asleep
           c.erase_sector.ensures.ends.asleep;
     }
+
+pub erase_sector-requires-clause-image : goal.erase_sector-requires-clause-image
+erase_sector-requires-clause-image g c = record {
+  laid_out = laid_out_kept c.args.map.now _ _ (g.F.Flash.chip c.loop-index.flash) c.requires.laid_out
+      c.loop-index.invariant.outside;
+  there = c.requires.there;
+}

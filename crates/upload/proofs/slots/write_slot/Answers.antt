@@ -1,9 +1,13 @@
-use Rattle.std.proofs.Common.{rules, ◌+◌, ◌<◌, length, arith, ap, subst, sym}
+use Rattle.std.proofs.Common.{rules, ◌+◌, ◌<◌, length, arith, ap, refl, subst, sym}
+use Rattle.std.proofs.lemmas.Bool.{eqb-true}
+use Rattle.std.proofs.lemmas.List.{append-nil, nil_from_length}
 use Rattle.std.proofs.lemmas.Result.{on_ok_weaker}
 use Rattle.sector_map.specs.declared.layout.Side.TheVariants.{Secondary}
 use Rattle.sector_map.specs.Part.{Slot}
+use Rattle.sector_map.proofs.Parts.{keeps_refl}
 use Rattle.sector_map.proofs.PartBytes.{keeps_write, range_inside}
 use Rattle.flash_model.specs.Chip.{IsErased}
+use Rattle.flash_model.proofs.Ending.{ends_well, uncut_refl}
 use Rattle.upload.proofs.Writing.{behind_erased, slot_aligned, written_more}
 use Rattle.upload.proofs.slots.write_slot.Goals as goal
 
@@ -33,6 +37,16 @@ program-requires-clause-place g c =
     let unit = slot_aligned c.args.map.now c.args.image c.args.at c.requires.behind.place.0 c.requires.behind.laid_out.is_map
     c.requires.behind.place.1 in
     omega (arith, unit, c.slot_start.ensures)
+
+pub returns-then-is_empty : goal.returns-then-is_empty
+returns-then-is_empty g c =
+    let none = nil_from_length c.args.bytes.now (eqb-true _ 0 (sym c.if-is_empty.ensures)) in
+    record {
+      outside = keeps_refl _ _ _;
+      ok = λ front long was. rw (none, append-nil) was;
+      erases = refl;
+      ends = ends_well _ _ _ (uncut_refl _) (λ off. refl);
+    }
 
 pub returns : goal.returns
 returns g c = record {

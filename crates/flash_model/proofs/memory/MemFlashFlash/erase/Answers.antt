@@ -1,5 +1,7 @@
-use Rattle.std.proofs.Common.{ℕ, ◌+◌, ◌*◌, ◌≤◌, length, rules, arith, refl, sym, ◌∙◌}
-use Rattle.std.proofs.lemmas.List.{length-replicate}
+use Rattle.std.proofs.Common.{ℕ, ◌+◌, ◌*◌, ◌≤◌, length, arith, refl, sym, ap, ◌∙◌}
+use Rattle.std.proofs.lemmas.List.{length-replicate, take_at}
+use Rattle.std.proofs.lemmas.Bool.{false≢true}
+use Rattle.flash_model.proofs.Ending.{ends_cut, ends_well}
 use Rattle.flash_model.proofs.MemoryLaws.{same_memory, torn_for_next, writes_done, writes_cut}
 use Rattle.flash_model.proofs.TornBytes.{blank_inside, items_after, erased_of_replaced, items_after_torn_blank, length-replaced, outside_of_replaced, outside_of_torn}
 use Rattle.flash_model.proofs.memory.MemFlashFlash.erase.Goals as goal
@@ -14,25 +16,28 @@ returns-in-None-clause-chip g c =
     record {
       outside = outside_of_replaced _ _ _ _ _ long within
           (items_after _ _ _ _ (rw c.deref_mut.ensures.value at c.blank.ensures.bytes) (length-replaced _ _ _ inside)
-          (search rules)) refl refl refl;
+          (sym flash.bytes.ok.0)) refl refl refl;
       ok = erased_of_replaced _ _ _ _ inside
           (items_after _ _ _ _ (rw c.deref_mut.ensures.value at c.blank.ensures.bytes) (length-replaced _ _ _ inside)
-          (search rules));
-      on = search rules;
-      erases = search rules;
-      uncounted = search rules;
-      ends = search rules;
+          (sym flash.bytes.ok.0));
+      on = c.if-not-self.false;
+      erases = c.add.ensures.amount;
+      uncounted = tt;
+      ends = ends_well _ _ _ (record { on = refl; cuts = refl })
+          (λ off. absurd (false≢true (sym off ∙ c.if-not-self.false)));
     }
 
 pub returns-in-None-clause-memory : goal.returns-in-None-clause-memory
 returns-in-None-clause-memory g c =
     let flash = c.args.self.now in
     let inside = blank_inside c.args.sector flash.sectors flash.sector_size flash.bytes.items c.requires flash.whole in
-    writes_done _ _ _ _ _ (search rules)
-    (sym (torn_for_next _ _ _ flash.armed_below c.saturating_add-self.ensures) ∙ search rules)
+    writes_done _ _ _ _ _ c.if-not-self.false
+    (sym (torn_for_next flash.armed.items flash.writes c.saturating_add-self.result flash.armed_below
+    c.saturating_add-self.ensures)
+    ∙ sym (rw c.deref.ensures.value at c.in-None.ensures))
     (same_memory _ _ _ _ _ _ _ _ _ _ _ _
-    (items_after _ _ _ _ (rw c.deref_mut.ensures.value at c.blank.ensures.bytes) (length-replaced _ _ _ inside) (search rules))
-    refl (search rules) (search rules))
+    (items_after _ _ _ _ (rw c.deref_mut.ensures.value at c.blank.ensures.bytes) (length-replaced _ _ _ inside) (sym flash.bytes.ok.0))
+    refl c.add.ensures.amount c.saturating_add-self.ensures)
 
 pub returns-in-Some-clause-chip : goal.returns-in-Some-clause-chip
 returns-in-Some-clause-chip g c =
@@ -41,22 +46,43 @@ returns-in-Some-clause-chip g c =
     record {
       outside = outside_of_torn c.in-Some.torn.now _ _ _ _ _ (length-replicate {A = ℕ} flash.sector_size 255) inside
           (items_after_torn_blank c.in-Some.torn.now _ _ _ _ _
-          (rw c.deref_mut-in-Some.ensures.value at c.tear_erase.ensures.bytes) inside (search rules))
+          (rw c.deref_mut-in-Some.ensures.value at c.tear_erase.ensures.bytes) inside (sym flash.bytes.ok.0))
           refl refl refl;
-      ok = search rules;
-      on = search rules;
-      erases = search rules;
-      uncounted = search rules;
-      ends = search rules;
+      ok = tt;
+      on = tt;
+      erases = tt;
+      uncounted = refl;
+      ends = ends_cut c.if-not-self.false c.add-in-Some.ensures.amount refl;
     }
 
 pub returns-in-Some-clause-memory : goal.returns-in-Some-clause-memory
 returns-in-Some-clause-memory g c =
     let flash = c.args.self.now in
     let inside = blank_inside c.args.sector flash.sectors flash.sector_size flash.bytes.items c.requires flash.whole in
-    writes_cut _ _ c.in-Some.torn.now _ _ _ (search rules)
-    (sym (torn_for_next _ _ _ flash.armed_below c.saturating_add-self.ensures) ∙ search rules)
+    writes_cut _ _ c.in-Some.torn.now _ _ _ c.if-not-self.false
+    (sym (torn_for_next flash.armed.items flash.writes c.saturating_add-self.result flash.armed_below
+    c.saturating_add-self.ensures) ∙ sym (rw c.deref.ensures.value at c.in-Some.ensures))
     (same_memory _ _ _ _ _ _ _ _ _ _ _ _
     (items_after_torn_blank c.in-Some.torn.now _ _ _ _ _
-    (rw c.deref_mut-in-Some.ensures.value at c.tear_erase.ensures.bytes) inside (search rules))
-    (search rules) refl (search rules))
+    (rw c.deref_mut-in-Some.ensures.value at c.tear_erase.ensures.bytes) inside (sym flash.bytes.ok.0))
+    c.add-in-Some.ensures.amount refl c.saturating_add-self.ensures)
+
+pub invariant_of-self-clause-whole : goal.invariant_of-self-clause-whole
+invariant_of-self-clause-whole g c =
+    let flash = c.args.self.now in
+    let same = c.blank.auto.all ∙ c.deref_mut.ensures.len in
+    ap length (take_at _ _ _ same) ∙ same ∙ flash.bytes.ok.0 ∙ flash.whole
+
+pub invariant_of-self-clause-are_bytes : goal.invariant_of-self-clause-are_bytes
+invariant_of-self-clause-are_bytes g c k =
+    rw (take_at _ _ _ (c.blank.auto.all ∙ c.deref_mut.ensures.len)) (c.blank.ensures.are_bytes k)
+
+pub invariant_of-self-in-Some-clause-whole : goal.invariant_of-self-in-Some-clause-whole
+invariant_of-self-in-Some-clause-whole g c =
+    let flash = c.args.self.now in
+    let same = c.tear_erase.auto.all ∙ c.deref_mut-in-Some.ensures.len in
+    ap length (take_at _ _ _ same) ∙ same ∙ flash.bytes.ok.0 ∙ flash.whole
+
+pub invariant_of-self-in-Some-clause-are_bytes : goal.invariant_of-self-in-Some-clause-are_bytes
+invariant_of-self-in-Some-clause-are_bytes g c k =
+    rw (take_at _ _ _ (c.tear_erase.auto.all ∙ c.deref_mut-in-Some.ensures.len)) (c.tear_erase.ensures.are_bytes k)

@@ -1,5 +1,5 @@
 use Rattle.std.proofs.Common.{◌≡◌, ◌≤◌, ◌*◌, length, map, take}
-use Rattle.tlv.specs.Area.{entries_bytes}
+use Rattle.image_reading.specs.Area.{entries_bytes}
 use Rattle.tlv.specs.Making.{group_entry, groups_of}
 use Rattle.tlv.proofs.make.groups.groups_length.Given as goal
 

@@ -1,5 +1,5 @@
 use Rattle.std.proofs.lemmas.List.{take_all}
-use Rattle.tlv.specs.Fields.{FitsDependency, dependency_bytes}
+use Rattle.image_reading.specs.Fields.{FitsDependency, dependency_bytes}
 use Rattle.tlv.proofs.MakingSteps.{each_more, pieces_more}
 use Rattle.tlv.proofs.make.groups.push_alternatives.Goals as goal
 

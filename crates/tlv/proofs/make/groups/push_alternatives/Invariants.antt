@@ -1,6 +1,6 @@
 use Rattle.std.proofs.Common.{◌≡◌, ◌++◌, take}
 use Rattle.std.specs.List.{AllByRecursion}
-use Rattle.tlv.specs.Fields.{FitsDependency, alternatives_bytes}
+use Rattle.image_reading.specs.Fields.{FitsDependency, alternatives_bytes}
 use Rattle.tlv.proofs.make.groups.push_alternatives.Given as goal
 
 abbrev pub invariant-loop-alternative : goal.invariant-loop-alternative

@@ -1,7 +1,7 @@
 use Rattle.std.proofs.Common.{arith}
 use Rattle.std.proofs.lemmas.Result.{on_ok_weaker}
-use Rattle.tlv.specs.Fields.{alternatives_bytes, group_kind}
-use Rattle.tlv.proofs.GroupLaws.{length-alternatives_bytes}
+use Rattle.image_reading.specs.Fields.{alternatives_bytes, group_kind}
+use Rattle.image_reading.proofs.GroupLaws.{length-alternatives_bytes}
 use Rattle.tlv.proofs.MakingSteps.{entry_written}
 use Rattle.tlv.proofs.make.groups.push_group.Goals as goal
 

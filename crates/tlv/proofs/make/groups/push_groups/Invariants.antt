@@ -1,7 +1,7 @@
 use Rattle.std.proofs.Common.{◌≡◌, ◌++◌, map, take}
 use Rattle.std.specs.List.{AllByRecursion}
-use Rattle.tlv.specs.Area.{entries_bytes}
-use Rattle.tlv.specs.Fields.{FitsGroup}
+use Rattle.image_reading.specs.Area.{entries_bytes}
+use Rattle.image_reading.specs.Fields.{FitsGroup}
 use Rattle.tlv.specs.Making.{group_entry, groups_of}
 use Rattle.tlv.proofs.make.groups.push_groups.Given as goal
 

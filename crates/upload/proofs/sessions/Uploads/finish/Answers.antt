@@ -1,4 +1,6 @@
-use Rattle.std.proofs.Common.{rules}
+use Rattle.std.proofs.Common.{arith, ◌∙◌, sym}
+use Rattle.std.proofs.lemmas.Grind.{common_steps}
+use Rattle.std.proofs.lemmas.Option.{none-some, same_Some}
 use Rattle.upload.proofs.Views.{view_kept}
 use Rattle.upload.proofs.FinishRow.{finish_row, finish_open}
 use Rattle.upload.proofs.sessions.Uploads.finish.Goals as goal
@@ -10,12 +12,16 @@ returns g c =
     record {
       outside = c.finish_upload-answer.ensures.outside;
       all_open = finish_open c.args.image _ _ kept told _ _ c.take.ensures.rest _ c.close_after.ensures;
-      finishes = search rules;
-      none = search rules;
-      closes = search rules;
+      finishes = λ u written is. rw (← same_Some _ _ (c.in-Some.ensures.value ∙ is))
+          (c.finish_upload-answer.ensures.finish written);
+      none = λ none. absurd (none-some c.in-Some.upload (sym none ∙ sym c.in-Some.ensures.value));
+      closes = λ plain. rw (c.close_after.ensures.same plain) c.take.ensures.rest;
       closed = c.close_after.ensures.closed;
       row = finish_row c.args.image _ _ kept told _ _ c.in-Some.upload c.in-Some.ensures.value c.take.ensures.rest
           _ c.finish_upload-answer.ensures.finish c.close_after.ensures;
       erases = c.finish_upload-answer.ensures.erases;
       ends = c.finish_upload-answer.ensures.ends;
     }
+
+pub returns-in_default : goal.returns-in_default
+returns-in_default g c = grind (arith, common_steps)

@@ -1,4 +1,5 @@
 use Rattle.std.proofs.Common.{rules, arith, refl, sym, ◌∙◌, Some, None}
+use Rattle.std.proofs.lemmas.Grind.{common_steps}
 use Rattle.upload.specs.View.{view}
 use Rattle.upload.proofs.Views.{view_kept}
 use Rattle.upload.proofs.Frames.{others_slot, with_with}
@@ -68,3 +69,6 @@ returns-in-Err g c =
       erases = tt;
       ends = ends_flash c.in-Err.error _ _ c.in-Err.ensures.ends;
     }
+
+pub returns-in_default : goal.returns-in_default
+returns-in_default g c = grind (arith, common_steps)

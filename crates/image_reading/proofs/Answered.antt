@@ -1,0 +1,78 @@
+-- Bytes have one answer: a description, or the first check that fails.
+use Rattle.std.proofs.Common.{◌≡◌, Bool, true, false, List, ℕ, Result, Ok, Err, ap}
+use Rattle.std.specs.Prelude.{IfErr, IfOk}
+use Rattle.image_reading.specs.declared.desc.Desc.{Desc}
+use Rattle.image_reading.specs.declared.error.ImageError.{ImageError}
+use Rattle.image_reading.specs.declared.error.SlotError.{SlotError}
+use Rattle.image_reading.specs.declared.error.SlotError.TheVariants.{Image, Flash, NoMemory}
+use Rattle.image_reading.specs.Fault.{IsFirstFault, IsFrontFault}
+use Rattle.image_reading.specs.Image.{BeginsIntact, IsIntact}
+use Rattle.image_reading.specs.Slot.{IsSlotFault}
+use Rattle.image_reading.proofs.Descriptions.{front-unique, front_has_no_fault, intact-unique, intact_has_no_fault}
+use Rattle.image_reading.proofs.FirstFaults.{first_fault-unique}
+
+-- There is one description at most, one fault at most, and not both.
+pub record IsAnswered (Intact : Desc → Type 0) (Fails : ImageError → Type 0) : Type 0 where
+  pub description : (first second : Desc) → Intact first → Intact second → first ≡ second
+  pub fault : (first second : ImageError) → Fails first → Fails second → first ≡ second
+  pub apart : (description : Desc) (fault : ImageError) → Intact description → Fails fault → ⊥
+
+-- So it is for whole bytes ..
+pub whole_answered : (bytes : List ℕ) → IsAnswered (IsIntact bytes) (IsFirstFault bytes)
+whole_answered bytes = record {
+  description = intact-unique bytes;
+  fault = first_fault-unique bytes;
+  apart = intact_has_no_fault bytes;
+}
+
+-- .. and for what bytes begin with.
+pub front_answered : (bytes : List ℕ) → IsAnswered (BeginsIntact bytes) (IsFrontFault bytes)
+front_answered bytes = record {
+  description = front-unique bytes;
+  fault = λ first second a b. first_fault-unique bytes first second a.0 b.0;
+  apart = front_has_no_fault bytes;
+}
+
+-- A description is the only answer, and so is a fault: in memory ..
+pub only_description : (Intact : Desc → Type 0) (Fails : ImageError → Type 0) (result : Result Desc ImageError)
+    → IsAnswered Intact Fails → IfOk result Intact → IfErr result Fails
+    → (description : Desc) → Intact description → result ≡ Ok description
+only_description Intact Fails (Ok found) one described failed description intact =
+    ap Ok (one.description found description described intact)
+only_description Intact Fails (Err fault) one described failed description intact =
+    absurd (one.apart description fault intact failed)
+
+pub only_fault : (Intact : Desc → Type 0) (Fails : ImageError → Type 0) (result : Result Desc ImageError)
+    → IsAnswered Intact Fails → IfOk result Intact → IfErr result Fails
+    → (fault : ImageError) → Fails fault → result ≡ Err fault
+only_fault Intact Fails (Ok found) one described failed fault fails =
+    absurd (one.apart found fault described fails)
+only_fault Intact Fails (Err first) one described failed fault fails = ap Err (one.fault first fault failed fails)
+
+-- .. and in a flash that is on.
+not_off : (was_on : Bool) → was_on ≡ true → was_on ≡ false → ⊥
+not_off was_on on off = cc
+
+pub only_slot_description : (Intact : Desc → Type 0) (Fails : ImageError → Type 0) (was_on : Bool)
+    (result : Result Desc SlotError) → IsAnswered Intact Fails → IfOk result Intact
+    → IfErr result (IsSlotFault was_on Fails) → was_on ≡ true
+    → (description : Desc) → Intact description → result ≡ Ok description
+only_slot_description Intact Fails was_on (Ok found) one described failed on description intact =
+    ap Ok (one.description found description described intact)
+only_slot_description Intact Fails was_on (Err (Image fault)) one described failed on description intact =
+    absurd (one.apart description fault intact failed.1)
+only_slot_description Intact Fails was_on (Err (Flash error)) one described failed on description intact =
+    absurd (not_off was_on on failed.0)
+only_slot_description Intact Fails was_on (Err NoMemory) one described failed on description intact = absurd failed
+
+pub only_slot_fault : (Intact : Desc → Type 0) (Fails : ImageError → Type 0) (was_on : Bool)
+    (result : Result Desc SlotError) → IsAnswered Intact Fails → IfOk result Intact
+    → IfErr result (IsSlotFault was_on Fails) → was_on ≡ true
+    → (fault : ImageError) → Fails fault → result ≡ Err (Image fault)
+only_slot_fault Intact Fails was_on (Ok found) one described failed on fault fails =
+    absurd (one.apart found fault described fails)
+only_slot_fault Intact Fails was_on (Err (Image first)) one described failed on fault fails =
+    ap (λ (e : ImageError). Err (Image e)) (one.fault first fault failed.1 fails)
+only_slot_fault Intact Fails was_on (Err (Flash error)) one described failed on fault fails =
+    absurd (not_off was_on on failed.0)
+only_slot_fault Intact Fails was_on (Err NoMemory) one described failed on fault fails = absurd failed

@@ -1,0 +1,110 @@
+-- What a walk over the entries of one type keeps of what they spell.
+use Rattle.std.proofs.Common.{◌≡◌, ℕ, ◌+◌, ◌<◌, ◌≤◌, Bool, true, false, List, [], ◌∷◌, ◌++◌, length, map, refl, sym, ap, subst, ◌∙◌, arith}
+use Rattle.std.specs.List.{AllByRecursion, Any}
+use Rattle.std.proofs.lemmas.Bool.{le-ltb, lt-ltb, ltb-true, ltb-false}
+use Rattle.std.proofs.lemmas.List.{append-nil, append_assoc, length-map, length-take, length_push, map-append, take_all, take-append-le}
+use Rattle.common.proofs.Items.{AllByRecursion-push, Any-between}
+use Rattle.image_reading.specs.Gathered.{Kept, Spelling}
+
+-- one value more is spelled
+spelled_more : {X : Type 0} (bytes : X → List ℕ) (values left : List (List ℕ)) (value : List ℕ) (found : List X)
+    (item : X) → values ≡ map bytes found ++ value ∷ left → value ≡ bytes item
+    → values ≡ map bytes (found ++ item ∷ []) ++ left
+spelled_more bytes values left value found item so_far is =
+    so_far ∙ ap (λ (v : List ℕ). map bytes found ++ v ∷ left) is
+    ∙ sym (append_assoc (map bytes found) (bytes item ∷ []) left)
+    ∙ ap (λ (t : List (List ℕ)). t ++ left) (sym (map-append bytes found (item ∷ [])))
+
+-- nothing is read yet
+pub Kept-none : {X : Type 0} (spelling : Spelling X) (most : ℕ) (values : List (List ℕ))
+    → Kept spelling most values values [] false
+Kept-none {X = X} spelling most values = record {
+  found = [];
+  fit = tt;
+  spelled = refl;
+  first = sym (take_all {A = X} most [] (omega arith));
+  over = sym (le-ltb most 0 (omega arith));
+}
+
+-- one thing for which there is room
+pub Kept-push : {X : Type 0} (spelling : Spelling X) (most : ℕ) (values left : List (List ℕ)) (value : List ℕ)
+    (items : List X) (too_many : Bool) (item : X) → Kept spelling most values (value ∷ left) items too_many
+    → spelling.Fits item → value ≡ spelling.bytes item → length items < most
+    → Kept spelling most values left (items ++ item ∷ []) too_many
+Kept-push {X = X} spelling most values left value items too_many item kept fits is room =
+    let few : length kept.found < most = omega (arith, room, ap length kept.first, length-take most kept.found) in
+    let all : items ≡ kept.found = kept.first ∙ take_all most kept.found (omega (arith, few)) in
+    let one : length (kept.found ++ item ∷ []) ≡ length kept.found + 1 = length_push kept.found item in
+    record {
+      found = kept.found ++ item ∷ [];
+      fit = AllByRecursion-push spelling.Fits kept.found item kept.fit fits;
+      spelled = spelled_more spelling.bytes values left value kept.found item kept.spelled is;
+      first = ap (λ (t : List X). t ++ item ∷ []) all
+          ∙ sym (take_all most (kept.found ++ item ∷ []) (omega (arith, few, one)));
+      over = kept.over ∙ le-ltb most (length kept.found) (omega (arith, few))
+          ∙ sym (le-ltb most (length (kept.found ++ item ∷ [])) (omega (arith, few, one)));
+    }
+
+-- one for which there is none
+pub Kept-over : {X : Type 0} (spelling : Spelling X) (most : ℕ) (values left : List (List ℕ)) (value : List ℕ)
+    (items : List X) (too_many : Bool) (item : X) → Kept spelling most values (value ∷ left) items too_many
+    → spelling.Fits item → value ≡ spelling.bytes item → most ≤ length items
+    → Kept spelling most values left items true
+Kept-over spelling most values left value items too_many item kept fits is full =
+    let many : most ≤ length kept.found = omega (arith, full, ap length kept.first, length-take most kept.found) in
+    let one : length (kept.found ++ item ∷ []) ≡ length kept.found + 1 = length_push kept.found item in
+    record {
+      found = kept.found ++ item ∷ [];
+      fit = AllByRecursion-push spelling.Fits kept.found item kept.fit fits;
+      spelled = spelled_more spelling.bytes values left value kept.found item kept.spelled is;
+      first = kept.first ∙ sym (take-append-le most kept.found (item ∷ []) many);
+      over = sym (lt-ltb most (length (kept.found ++ item ∷ [])) (omega (arith, many, one)));
+    }
+
+-- a value that hasn't the form
+pub Kept-bad : {X : Type 0} (spelling : Spelling X) (most : ℕ) (values left : List (List ℕ)) (value : List ℕ)
+    (items : List X) (too_many : Bool) → Kept spelling most values (value ∷ left) items too_many
+    → (spelling.IsForm value → ⊥) → Any (λ v. spelling.IsForm v → ⊥) values
+Kept-bad spelling most values left value items too_many kept bad =
+    let Bad = λ (v : List ℕ). spelling.IsForm v → ⊥ in
+    subst (Any Bad) (sym kept.spelled) (Any-between Bad (map spelling.bytes kept.found) left value bad)
+
+-- All values are spelled, by things that fit.
+pub record AreSpelled {X : Type 0} (spelling : Spelling X) (values : List (List ℕ)) (items : List X) : Type 0 where
+  pub fit : AllByRecursion spelling.Fits items
+  pub spelled : values ≡ map spelling.bytes items
+
+pub count_spelled : {X : Type 0} (spelling : Spelling X) (values : List (List ℕ)) (items : List X)
+    → AreSpelled spelling values items → length values ≡ length items
+count_spelled spelling values items all = ap length all.spelled ∙ length-map items spelling.bytes
+
+-- At the end all values are spelled by what was found ..
+pub found_at_end : {X : Type 0} (spelling : Spelling X) (most : ℕ) (values : List (List ℕ)) (items : List X)
+    (too_many : Bool) (kept : Kept spelling most values [] items too_many) → AreSpelled spelling values kept.found
+found_at_end spelling most values items too_many kept =
+    record { fit = kept.fit; spelled = kept.spelled ∙ append-nil (map spelling.bytes kept.found) }
+
+-- .. which is too many, where that was noted ..
+pub many_at_end : {X : Type 0} (spelling : Spelling X) (most : ℕ) (values : List (List ℕ)) (items : List X)
+    (too_many : Bool) → Kept spelling most values [] items too_many → too_many ≡ true → most < length values
+many_at_end spelling most values items too_many kept over =
+    let many : most < length kept.found = ltb-true most (length kept.found) (sym kept.over ∙ over) in
+    let count = count_spelled spelling values kept.found (found_at_end spelling most values items too_many kept) in
+    omega (arith, many, count)
+
+-- .. and not where it wasn't ..
+pub few_at_end : {X : Type 0} (spelling : Spelling X) (most : ℕ) (values : List (List ℕ)) (items : List X)
+    (too_many : Bool) → Kept spelling most values [] items too_many → too_many ≡ false → length values ≤ most
+few_at_end spelling most values items too_many kept within =
+    let few = ltb-false most (length kept.found) (sym kept.over ∙ within) in
+    let count = count_spelled spelling values kept.found (found_at_end spelling most values items too_many kept) in
+    omega (arith, few, count)
+
+-- .. and then all of it was kept.
+pub kept_at_end : {X : Type 0} (spelling : Spelling X) (most : ℕ) (values : List (List ℕ)) (items : List X)
+    (too_many : Bool) → Kept spelling most values [] items too_many → too_many ≡ false
+    → AreSpelled spelling values items
+kept_at_end spelling most values items too_many kept within =
+    let few = ltb-false most (length kept.found) (sym kept.over ∙ within) in
+    let all : items ≡ kept.found = kept.first ∙ take_all most kept.found few in
+    subst (AreSpelled spelling values) (sym all) (found_at_end spelling most values items too_many kept)

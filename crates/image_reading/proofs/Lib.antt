@@ -1,0 +1,17 @@
+pub mod AreaLaws
+pub mod Areas
+pub mod Descriptions
+pub mod FieldLaws
+pub mod FirstFaults
+pub mod Answered
+pub mod Fronts
+pub mod GroupLaws
+pub mod Headers
+pub mod ImageLaws
+pub mod Kept
+pub mod Needs
+pub mod Occurrences
+pub mod Parts
+pub mod Slots
+pub mod Spans
+pub mod Walks

@@ -1,0 +1,43 @@
+-- What was gathered of entries can be read, and what is gathered where there are none.
+use Rattle.std.proofs.Common.{◌≡◌, ℕ, List, [], length, sym, ap, subst, arith}
+use Rattle.common.specs.declared.limits.TheConstants.{MOST_DEPENDENCIES, MOST_GROUPS}
+use Rattle.flash_model.specs.Chip.{Chip}
+use Rattle.version_order.specs.declared.dependency.Dependency.{Dependency}
+use Rattle.version_order.specs.declared.group.Group.{Group}
+use Rattle.image_reading.specs.declared.gathering.Occurrence.{Occurrence}
+use Rattle.image_reading.specs.declared.gathering.Occurrence.TheVariants.{Absent, Once, Repeated}
+use Rattle.image_reading.specs.declared.met.Met.{Met}
+use Rattle.image_reading.specs.declared.span.Span.{Span}
+use Rattle.image_reading.specs.Area.{values_of}
+use Rattle.image_reading.specs.Fields.{counter_kind, dependency_kind, group_kind}
+use Rattle.image_reading.specs.Gathered.{CanReadOccurrence, HasGatheredProtected, HaveMetDependencies, HaveMetGroups, IsOccurrence}
+use Rattle.image_reading.specs.Reading.{values_read}
+use Rattle.image_reading.specs.Span.{bytes_of}
+use Rattle.image_reading.proofs.AreaLaws.{entries_of-none, first_entry-short}
+
+-- What occurs once can be read.
+pub CanReadOccurrence-met : (chip : Chip) (values left : List (List ℕ)) (occurrence : Occurrence)
+    → IsOccurrence chip values left occurrence → CanReadOccurrence chip occurrence
+CanReadOccurrence-met chip values left Absent so_far = tt
+CanReadOccurrence-met chip values left (Once value) so_far = so_far.1
+CanReadOccurrence-met chip values left Repeated so_far = tt
+
+-- Bytes of which there are none hold no values ..
+no_values : (kind : ℕ) (bytes : List ℕ) → length bytes ≡ 0 → values_read kind bytes ≡ []
+no_values kind bytes none =
+    ap (values_of kind) (entries_of-none bytes (first_entry-short bytes (omega (arith, none))))
+
+-- .. so that nothing is gathered of them.
+pub HasGatheredProtected-none : (chip : Chip) (entries : Span) (dependencies : Met Dependency MOST_DEPENDENCIES)
+    (groups : Met Group MOST_GROUPS) → length (bytes_of chip entries) ≡ 0
+    → ((values : List (List ℕ)) → HaveMetDependencies values values dependencies)
+    → ((values : List (List ℕ)) → HaveMetGroups values values groups)
+    → HasGatheredProtected chip
+    (record { entries = entries; dependencies = dependencies; groups = groups; counter = Absent })
+HasGatheredProtected-none chip entries dependencies groups none fresh fresh_groups = record {
+  dependencies = subst (λ (values : List (List ℕ)). HaveMetDependencies values [] dependencies)
+      (sym (no_values dependency_kind (bytes_of chip entries) none)) (fresh []);
+  groups = subst (λ (values : List (List ℕ)). HaveMetGroups values [] groups)
+      (sym (no_values group_kind (bytes_of chip entries) none)) (fresh_groups []);
+  counter = no_values counter_kind (bytes_of chip entries) none;
+}

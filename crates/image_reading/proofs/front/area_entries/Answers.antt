@@ -1,0 +1,76 @@
+use Rattle.std.proofs.Common.{◌+◌, ◌≤◌, length, refl, sym, subst, ◌∙◌, arith}
+use Rattle.std.proofs.lemmas.Bool.{true≢false}
+use Rattle.image_reading.specs.Fault.{IsAreaFault, IsTotal}
+use Rattle.image_reading.specs.Span.{bytes_of}
+use Rattle.image_reading.proofs.Areas.{area_read, magic_read, total_read}
+use Rattle.image_reading.proofs.front.area_entries.Goals as goal
+
+pub returns-clause-found : goal.returns-clause-found
+returns-clause-found g c =
+    let chip = g.M.Medium.chip c.args.medium.now in
+    let bytes = bytes_of chip c.args.bytes in
+    let read =
+    area_read bytes (bytes_of chip c.after-area.result) (bytes_of chip c.after.result)
+    (bytes_of chip c.first.result) c.args.place c.head-own_magic.result.0 c.head-own_magic.result.1
+    c.from-total.result (c.after-area.ensures.bytes chip) c.head-own_magic.ensures.first
+    c.head-own_magic.ensures.second c.from-total.ensures (c.after.ensures.bytes chip)
+    (c.first.ensures.bytes chip) in
+    let allowed : IsTotal c.args.expected c.from-total.result =
+    subst (IsTotal c.args.expected) (sym c.from-total.ensures) (c.is_total.ensures.0 c.if-not-is_total.false) in
+    let total = subst (IsTotal c.args.expected) (sym read.total_is) allowed in
+    (((omega arith, read.magic_is ∙ c.if-own_magic-magic.false), total), omega (arith, read.total_is))
+
+pub returns-clause-entries : goal.returns-clause-entries
+returns-clause-entries g c =
+    let chip = g.M.Medium.chip c.args.medium.now in
+    (area_read (bytes_of chip c.args.bytes) (bytes_of chip c.after-area.result) (bytes_of chip c.after.result)
+    (bytes_of chip c.first.result) c.args.place c.head-own_magic.result.0 c.head-own_magic.result.1
+    c.from-total.result (c.after-area.ensures.bytes chip) c.head-own_magic.ensures.first
+    c.head-own_magic.ensures.second c.from-total.ensures (c.after.ensures.bytes chip)
+    (c.first.ensures.bytes chip)).entries_are
+
+pub returns-then-bytes-place-clause-fault : goal.returns-then-bytes-place-clause-fault
+returns-then-bytes-place-clause-fault g c =
+    IsAreaFault.no_head (λ head. omega (arith, head, c.requires.readable.whole, c.if-bytes-place.true)) refl
+
+pub returns-then-own_magic-magic-clause-fault : goal.returns-then-own_magic-magic-clause-fault
+returns-then-own_magic-magic-clause-fault g c =
+    let chip = g.M.Medium.chip c.args.medium.now in
+    let magic_is =
+    magic_read (bytes_of chip c.args.bytes) (bytes_of chip c.after-area.result) c.args.place
+    c.head-own_magic.result.0 (c.after-area.ensures.bytes chip) c.head-own_magic.ensures.first in
+    IsAreaFault.other_magic (omega (arith, c.requires.readable.whole, c.if-bytes-place.false))
+    (λ is. c.if-own_magic-magic.true (sym magic_is ∙ is)) refl
+
+pub returns-then-not-is_total-clause-fault : goal.returns-then-not-is_total-clause-fault
+returns-then-not-is_total-clause-fault g c =
+    let chip = g.M.Medium.chip c.args.medium.now in
+    let bytes = bytes_of chip c.args.bytes in
+    let area = bytes_of chip c.after-area.result in
+    let at = c.after-area.ensures.bytes chip in
+    let magic_is = magic_read bytes area c.args.place c.head-own_magic.result.0 at c.head-own_magic.ensures.first in
+    let total_is = total_read bytes area c.args.place c.head-own_magic.result.1 at c.head-own_magic.ensures.second in
+    IsAreaFault.bad_total
+    (omega (arith, c.requires.readable.whole, c.if-bytes-place.false), magic_is ∙ c.if-own_magic-magic.false)
+    (λ allowed. true≢false (sym (c.is_total.ensures.1 (subst (IsTotal c.args.expected) total_is allowed))
+    ∙ c.if-not-is_total.true)) refl
+
+pub returns-then-area-total-clause-fault : goal.returns-then-area-total-clause-fault
+returns-then-area-total-clause-fault g c =
+    let chip = g.M.Medium.chip c.args.medium.now in
+    let bytes = bytes_of chip c.args.bytes in
+    let area = bytes_of chip c.after-area.result in
+    let at = c.after-area.ensures.bytes chip in
+    let head : c.args.place + 4 ≤ length bytes = omega (arith, c.requires.readable.whole, c.if-bytes-place.false) in
+    let magic_is = magic_read bytes area c.args.place c.head-own_magic.result.0 at c.head-own_magic.ensures.first in
+    let total_is = total_read bytes area c.args.place c.head-own_magic.result.1 at c.head-own_magic.ensures.second in
+    let allowed = subst (IsTotal c.args.expected) (sym total_is) (c.is_total.ensures.0 c.if-not-is_total.false) in
+    IsAreaFault.cut_off ((head, magic_is ∙ c.if-own_magic-magic.false), allowed)
+    (omega (
+      arith,
+      c.requires.readable.whole,
+      total_is,
+      c.from-total.ensures,
+      c.if-area-total.true,
+      c.after-area.ensures.len,
+    )) refl

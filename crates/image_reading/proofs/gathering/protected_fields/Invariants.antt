@@ -1,0 +1,25 @@
+use Rattle.std.proofs.Common.{◌≡◌}
+use Rattle.image_reading.specs.Fields.{counter_kind, dependency_kind, group_kind}
+use Rattle.image_reading.specs.Gathered.{HaveMetDependencies, HaveMetGroups, IsOccurrence}
+use Rattle.image_reading.specs.Reading.{rest_of}
+use Rattle.image_reading.specs.SlotTlvs.{slot_tlvs_rest, slot_values_left, values_at}
+use Rattle.image_reading.specs.Span.{CanRead, bytes_of}
+use Rattle.image_reading.proofs.gathering.protected_fields.Given as goal
+
+abbrev pub invariant-loop-entry : goal.invariant-loop-entry
+invariant-loop-entry g l = record {
+  same : g.M.Medium.chip l.medium ≡ g.M.Medium.chip l.fn.medium;
+  readable : CanRead (g.M.Medium.chip l.fn.medium) (slot_tlvs_rest l.protected);
+  rest : rest_of (bytes_of (g.M.Medium.chip l.fn.medium) (slot_tlvs_rest l.protected))
+      ≡ rest_of (bytes_of (g.M.Medium.chip l.fn.medium) l.fn.area);
+  dependencies : HaveMetDependencies (values_at dependency_kind (g.M.Medium.chip l.fn.medium) l.fn.area)
+      (slot_values_left dependency_kind (g.M.Medium.chip l.fn.medium) l.protected) l.dependencies;
+  groups : HaveMetGroups (values_at group_kind (g.M.Medium.chip l.fn.medium) l.fn.area)
+      (slot_values_left group_kind (g.M.Medium.chip l.fn.medium) l.protected) l.groups;
+  counter : IsOccurrence (g.M.Medium.chip l.fn.medium)
+      (values_at counter_kind (g.M.Medium.chip l.fn.medium) l.fn.area)
+      (slot_values_left counter_kind (g.M.Medium.chip l.fn.medium) l.protected) l.counter;
+}
+
+abbrev pub decreases-loop-entry : goal.decreases-loop-entry
+decreases-loop-entry g l = (slot_tlvs_rest l.protected).len

@@ -1,0 +1,53 @@
+use Rattle.std.proofs.Common.{ℕ, List, Ok, ap, take, subst, ◌∙◌, rules}
+use Rattle.common.proofs.Results.{IfErr-passed}
+use Rattle.image_reading.specs.Fault.{IsFirstFault}
+use Rattle.image_reading.specs.Image.{IsIntact}
+use Rattle.image_reading.specs.Slot.{file_bytes}
+use Rattle.image_reading.proofs.Answered.{whole_answered, only_slot_description, only_slot_fault}
+use Rattle.image_reading.proofs.slot.describe_file.Goals as goal
+
+pub returns-in_err-description-clause-fault : goal.returns-in_err-description-clause-fault
+returns-in_err-description-clause-fault g c =
+    let chip = g.F.Flash.chip c.args.flash.now in
+    let slot = c.slot_span.ensures.bytes chip c.requires.laid_out in
+    let same = c.first-file.ensures.bytes chip ∙ ap (take c.args.len) slot in
+    let fault = c.in_err-description.field-0.0 in
+    let own = rw c.read.ensures.same at c.in_err-description.ensures.fault in
+    let here = subst (λ (bytes : List ℕ). IsFirstFault bytes fault) same own in
+    IfErr-passed _ _ _ c.from_residual-in_err-description.ensures.1 (c.in_ok-read.ensures.on, here)
+
+pub returns-clause-described : goal.returns-clause-described
+returns-clause-described g c =
+    let chip = g.F.Flash.chip c.args.flash.now in
+    let slot = c.slot_span.ensures.bytes chip c.requires.laid_out in
+    let same = c.first-file.ensures.bytes chip ∙ ap (take c.args.len) slot in
+    let own = rw c.read.ensures.same at c.in_ok-description.ensures.described in
+    subst (λ (bytes : List ℕ). IsIntact bytes c.in_ok-description.description) same own
+
+pub returns-in_err-description-clause-only : goal.returns-in_err-description-clause-only
+returns-in_err-description-clause-only g c =
+    let chip = g.F.Flash.chip c.args.flash.now in
+    let bytes = file_bytes c.args.map.now chip c.args.image c.args.side c.args.len in
+    only_slot_description (IsIntact bytes) (IsFirstFault bytes) chip.is_on _ (whole_answered bytes) (search rules)
+    (returns-in_err-description-clause-fault g c)
+
+pub returns-in_err-description-clause-refused : goal.returns-in_err-description-clause-refused
+returns-in_err-description-clause-refused g c =
+    let chip = g.F.Flash.chip c.args.flash.now in
+    let bytes = file_bytes c.args.map.now chip c.args.image c.args.side c.args.len in
+    only_slot_fault (IsIntact bytes) (IsFirstFault bytes) chip.is_on _ (whole_answered bytes) (search rules)
+    (returns-in_err-description-clause-fault g c)
+
+pub returns-clause-only : goal.returns-clause-only
+returns-clause-only g c =
+    let chip = g.F.Flash.chip c.args.flash.now in
+    let bytes = file_bytes c.args.map.now chip c.args.image c.args.side c.args.len in
+    only_slot_description (IsIntact bytes) (IsFirstFault bytes) chip.is_on (Ok c.in_ok-description.description)
+    (whole_answered bytes) (returns-clause-described g c) tt
+
+pub returns-clause-refused : goal.returns-clause-refused
+returns-clause-refused g c =
+    let chip = g.F.Flash.chip c.args.flash.now in
+    let bytes = file_bytes c.args.map.now chip c.args.image c.args.side c.args.len in
+    only_slot_fault (IsIntact bytes) (IsFirstFault bytes) chip.is_on (Ok c.in_ok-description.description)
+    (whole_answered bytes) (returns-clause-described g c) tt

@@ -1,0 +1,51 @@
+use Rattle.std.proofs.Common.{ℕ, List, Ok, subst, rules}
+use Rattle.common.proofs.Results.{IfErr-passed}
+use Rattle.image_reading.specs.Fault.{IsFrontFault}
+use Rattle.image_reading.specs.Image.{BeginsIntact}
+use Rattle.image_reading.specs.Slot.{slot_bytes}
+use Rattle.image_reading.proofs.Answered.{front_answered, only_slot_description, only_slot_fault}
+use Rattle.image_reading.proofs.slot.describe_slot.Goals as goal
+
+pub returns-in_err-description-clause-fault : goal.returns-in_err-description-clause-fault
+returns-in_err-description-clause-fault g c =
+    let chip = g.F.Flash.chip c.args.flash.now in
+    let same = c.slot_span.ensures.bytes chip c.requires.laid_out in
+    let fault = c.in_err-description.field-0.0 in
+    let own = rw c.read.ensures.same at c.in_err-description.ensures.fault in
+    let here = subst (λ (bytes : List ℕ). IsFrontFault bytes fault) same own in
+    IfErr-passed _ _ _ c.from_residual-in_err-description.ensures.1 (c.in_ok-read.ensures.on, here)
+
+pub returns-clause-described : goal.returns-clause-described
+returns-clause-described g c =
+    let chip = g.F.Flash.chip c.args.flash.now in
+    let same = c.slot_span.ensures.bytes chip c.requires.laid_out in
+    let own = rw c.read.ensures.same at c.in_ok-description.ensures.described in
+    subst (λ (bytes : List ℕ). BeginsIntact bytes c.in_ok-description.description) same own
+
+pub returns-in_err-description-clause-only : goal.returns-in_err-description-clause-only
+returns-in_err-description-clause-only g c =
+    let chip = g.F.Flash.chip c.args.flash.now in
+    let bytes = slot_bytes c.args.map.now chip c.args.image c.args.side in
+    only_slot_description (BeginsIntact bytes) (IsFrontFault bytes) chip.is_on _ (front_answered bytes) (search rules)
+    (returns-in_err-description-clause-fault g c)
+
+pub returns-in_err-description-clause-refused : goal.returns-in_err-description-clause-refused
+returns-in_err-description-clause-refused g c =
+    let chip = g.F.Flash.chip c.args.flash.now in
+    let bytes = slot_bytes c.args.map.now chip c.args.image c.args.side in
+    only_slot_fault (BeginsIntact bytes) (IsFrontFault bytes) chip.is_on _ (front_answered bytes) (search rules)
+    (returns-in_err-description-clause-fault g c)
+
+pub returns-clause-only : goal.returns-clause-only
+returns-clause-only g c =
+    let chip = g.F.Flash.chip c.args.flash.now in
+    let bytes = slot_bytes c.args.map.now chip c.args.image c.args.side in
+    only_slot_description (BeginsIntact bytes) (IsFrontFault bytes) chip.is_on (Ok c.in_ok-description.description)
+    (front_answered bytes) (returns-clause-described g c) tt
+
+pub returns-clause-refused : goal.returns-clause-refused
+returns-clause-refused g c =
+    let chip = g.F.Flash.chip c.args.flash.now in
+    let bytes = slot_bytes c.args.map.now chip c.args.image c.args.side in
+    only_slot_fault (BeginsIntact bytes) (IsFrontFault bytes) chip.is_on (Ok c.in_ok-description.description)
+    (front_answered bytes) (returns-clause-described g c) tt

@@ -1,0 +1,54 @@
+-- The numbers and the names of the faults of an image and of a slot.
+use Rattle.std.specs.Prelude.{ℕ, List, codes}
+use Rattle.image_reading.specs.declared.error.ImageError.{ImageError}
+use Rattle.image_reading.specs.declared.error.ImageError.TheVariants as image_error
+use Rattle.image_reading.specs.declared.error.SlotError.{SlotError}
+use Rattle.image_reading.specs.declared.error.SlotError.TheVariants as slot_error
+
+-- The numbers of an image's faults. The order of the checks is another: that of `IsFirstFault`.
+abbrev pub code_of : ImageError → ℕ
+code_of image_error.Short = 1
+code_of image_error.BadMagic = 2
+code_of image_error.BadHeaderSize = 3
+code_of image_error.UnsupportedFlags = 4
+code_of image_error.Truncated = 5
+code_of image_error.BadTlvMagic = 6
+code_of image_error.BadTlvSize = 7
+code_of image_error.NoDigest = 8
+code_of image_error.TwoDigests = 9
+code_of image_error.BadDigest = 10
+code_of image_error.BadDependency = 11
+code_of image_error.TooManyDependencies = 12
+code_of image_error.TrailingBytes = 13
+code_of image_error.BadCounter = 14
+code_of image_error.TooManyGroups = 15
+
+-- Their names.
+abbrev pub name_of : ImageError → List ℕ
+name_of image_error.Short = codes "Short"
+name_of image_error.BadMagic = codes "BadMagic"
+name_of image_error.BadHeaderSize = codes "BadHeaderSize"
+name_of image_error.UnsupportedFlags = codes "UnsupportedFlags"
+name_of image_error.Truncated = codes "Truncated"
+name_of image_error.BadTlvMagic = codes "BadTlvMagic"
+name_of image_error.BadTlvSize = codes "BadTlvSize"
+name_of image_error.NoDigest = codes "NoDigest"
+name_of image_error.TwoDigests = codes "TwoDigests"
+name_of image_error.BadDigest = codes "BadDigest"
+name_of image_error.BadDependency = codes "BadDependency"
+name_of image_error.TooManyDependencies = codes "TooManyDependencies"
+name_of image_error.TrailingBytes = codes "TrailingBytes"
+name_of image_error.BadCounter = codes "BadCounter"
+name_of image_error.TooManyGroups = codes "TooManyGroups"
+
+-- The numbers of the reasons why the image in a slot isn't described.
+abbrev pub slot_code_of : SlotError → ℕ
+slot_code_of (slot_error.Image fault) = 1
+slot_code_of (slot_error.Flash error) = 2
+slot_code_of slot_error.NoMemory = 3
+
+-- Their names.
+abbrev pub slot_name_of : SlotError → List ℕ
+slot_name_of (slot_error.Image fault) = codes "Image"
+slot_name_of (slot_error.Flash error) = codes "Flash"
+slot_name_of slot_error.NoMemory = codes "NoMemory"

@@ -1,0 +1,137 @@
+-- The fields that entries hold, by the values of the entries of their type.
+use Rattle.std.specs.Prelude.{◌≡◌, ◌≢◌, ℕ, ◌*◌, ◌^◌, ◌<◌, ◌≤◌, ◌⊎◌, List, [], ◌∷◌, length, map, take, drop, slice_index}
+use Rattle.std.specs.List.{AllByRecursion, Any, flat_map}
+use Rattle.byteorder.specs.Endian.{little_bytes}
+use Rattle.sha2.specs.Sha256.{sha256}
+use Rattle.common.specs.declared.limits.TheConstants.{MOST_ALTERNATIVES, MOST_DEPENDENCIES, MOST_GROUPS}
+use Rattle.version_order.specs.declared.dependency.Dependency.{Dependency}
+use Rattle.version_order.specs.declared.group.Group.{Group}
+use Rattle.version_order.specs.VersionText.{FitsFields}
+use Rattle.image_header.specs.Header.{version_bytes}
+use Rattle.image_reading.specs.declared.error.ImageError.{ImageError}
+use Rattle.image_reading.specs.declared.error.ImageError.TheVariants.{NoDigest, TwoDigests, BadDigest, BadDependency, TooManyDependencies, BadCounter, TooManyGroups}
+
+-- The types of the entries that are read: `IMAGE_TLV_SHA256`, `IMAGE_TLV_DEPENDENCY`,
+-- `IMAGE_TLV_SEC_CNT`, and a group's, which is bootswap's own.
+abbrev pub digest_kind : ℕ
+digest_kind = 0x10
+
+abbrev pub dependency_kind : ℕ
+dependency_kind = 0x40
+
+abbrev pub counter_kind : ℕ
+counter_kind = 0x50
+
+abbrev pub group_kind : ℕ
+group_kind = 0xA0
+
+-- ---- the digest
+
+-- There is one value, the SHA-256 of these bytes (FIPS 180-4).
+abbrev pub SpellDigest : List (List ℕ) → List ℕ → Type 0
+SpellDigest values hashed = values ≡ sha256 hashed ∷ []
+
+-- Why values are not that: the first check that fails.
+abbrev pub IsDigestFault : List (List ℕ) → List ℕ → ImageError → Type 0
+IsDigestFault values hashed NoDigest = values ≡ []
+IsDigestFault values hashed TwoDigests = 2 ≤ length values
+IsDigestFault values hashed BadDigest = (length values ≡ 1) × (SpellDigest values hashed → ⊥)
+IsDigestFault values hashed other = ⊥
+
+-- ---- dependencies
+
+-- A dependency's twelve bytes: the image's number, three zero bytes, the minimum version.
+abbrev pub dependency_bytes : Dependency → List ℕ
+dependency_bytes dependency = dependency.image ∷ 0 ∷ 0 ∷ 0 ∷ version_bytes dependency.minimum
+
+-- A dependency's numbers fit their fields.
+pub record FitsDependency (dependency : Dependency) : Type 0 where
+  pub image : dependency.image < 2 ^ 8
+  pub minimum : FitsFields dependency.minimum
+
+-- Values spell these dependencies, in order.
+pub record SpellDependencies (values : List (List ℕ)) (dependencies : List Dependency)
+    : Type 0 where
+  pub fit : AllByRecursion FitsDependency dependencies
+  pub spelled : values ≡ map dependency_bytes dependencies
+
+-- A value has the form of a dependency: 12 bytes, and zero in the three after the image's number.
+pub record IsDependencyForm (value : List ℕ) : Type 0 where
+  pub size : length value ≡ 12
+  pub first : slice_index value 1 ≡ 0
+  pub second : slice_index value 2 ≡ 0
+  pub third : slice_index value 3 ≡ 0
+
+-- Some value hasn't that form.
+abbrev pub HasBadDependency : List (List ℕ) → Type 0
+HasBadDependency values = Any (λ value. IsDependencyForm value → ⊥) values
+
+-- ---- groups
+
+-- The bytes of dependencies, one after the other.
+abbrev pub alternatives_bytes : List Dependency → List ℕ
+alternatives_bytes alternatives = flat_map dependency_bytes alternatives
+
+-- A group's bytes: those of its alternatives, each as of a dependency.
+abbrev pub group_bytes : Group → List ℕ
+group_bytes group = alternatives_bytes group.alternatives.items
+
+-- A group has one alternative at least, not too many, and the numbers of each fit their fields.
+pub record FitsGroup (group : Group) : Type 0 where
+  pub some : 1 ≤ length group.alternatives.items
+  pub most : length group.alternatives.items ≤ MOST_ALTERNATIVES
+  pub fit : AllByRecursion FitsDependency group.alternatives.items
+
+-- Values spell these groups, in order.
+pub record SpellGroups (values : List (List ℕ)) (groups : List Group) : Type 0 where
+  pub fit : AllByRecursion FitsGroup groups
+  pub spelled : values ≡ map group_bytes groups
+
+-- A value has the form of a group: it is one to four pieces of 12 bytes, and each has the form of a
+-- dependency.
+pub record IsGroupForm (value : List ℕ) : Type 0 where
+  pub count : ℕ
+  pub some : 1 ≤ count
+  pub most : count ≤ MOST_ALTERNATIVES
+  pub size : length value ≡ 12 * count
+  pub each : (k : ℕ) → k < count → IsDependencyForm (take 12 (drop (12 * k) value))
+
+-- Some value hasn't that form.
+abbrev pub HasBadGroup : List (List ℕ) → Type 0
+HasBadGroup values = Any (λ value. IsGroupForm value → ⊥) values
+
+-- ---- dependencies and groups
+
+-- Each value of a dependency and each of a group has its form.
+abbrev pub HaveForms : List (List ℕ) → List (List ℕ) → Type 0
+HaveForms dependencies groups = (HasBadDependency dependencies → ⊥) × (HasBadGroup groups → ⊥)
+
+-- Why values are not dependencies and groups that an image may have: the first check that fails.
+abbrev pub IsDependencyFault : List (List ℕ) → List (List ℕ) → ImageError → Type 0
+IsDependencyFault dependencies groups BadDependency =
+    HasBadDependency dependencies ⊎ HasBadGroup groups
+IsDependencyFault dependencies groups TooManyDependencies =
+    HaveForms dependencies groups × (MOST_DEPENDENCIES < length dependencies)
+IsDependencyFault dependencies groups TooManyGroups = HaveForms dependencies groups
+    × (length dependencies ≤ MOST_DEPENDENCIES) × (MOST_GROUPS < length groups)
+IsDependencyFault dependencies groups other = ⊥
+
+-- ---- the security counter
+
+-- A security counter's four bytes.
+abbrev pub counter_bytes : ℕ → List ℕ
+counter_bytes counter = little_bytes 4 counter
+
+-- There is one value, which spells this counter, or none, and the counter is 0.
+abbrev pub SpellCounter : List (List ℕ) → ℕ → Type 0
+SpellCounter values counter = (counter < 2 ^ 32)
+    × (((values ≡ []) × (counter ≡ 0)) ⊎ (values ≡ counter_bytes counter ∷ []))
+
+-- There are two values or more, or one hasn't four bytes.
+abbrev pub HasBadCounter : List (List ℕ) → Type 0
+HasBadCounter values = (2 ≤ length values) ⊎ Any (λ value. length value ≢ 4) values
+
+-- Why values are not a security counter.
+abbrev pub IsCounterFault : List (List ℕ) → ImageError → Type 0
+IsCounterFault values BadCounter = HasBadCounter values
+IsCounterFault values other = ⊥

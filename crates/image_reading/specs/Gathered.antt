@@ -1,0 +1,80 @@
+-- What a walk over the entries of an area has gathered. Of all values of a type, those before the
+-- ones that are left were met.
+use Rattle.std.specs.Prelude.{◌≡◌, ℕ, ◌≤◌, Bool, true, false, ltb, List, [], ◌∷◌, ◌++◌, length, map, take, ⊤}
+use Rattle.std.specs.List.{AllByRecursion, Any}
+use Rattle.common.specs.declared.limits.TheConstants.{MOST_DEPENDENCIES, MOST_GROUPS}
+use Rattle.flash_model.specs.Chip.{Chip}
+use Rattle.version_order.specs.declared.dependency.Dependency.{Dependency}
+use Rattle.version_order.specs.declared.group.Group.{Group}
+use Rattle.image_reading.specs.declared.gathering.Occurrence.{Occurrence}
+use Rattle.image_reading.specs.declared.gathering.Occurrence.TheVariants.{Absent, Once, Repeated}
+use Rattle.image_reading.specs.declared.gathering.ProtectedFields.{ProtectedFields}
+use Rattle.image_reading.specs.declared.gathering.UnprotectedFields.{UnprotectedFields}
+use Rattle.image_reading.specs.declared.met.Met.{Met}
+use Rattle.image_reading.specs.Fields.{FitsDependency, FitsGroup, IsDependencyForm, IsGroupForm, counter_kind, dependency_bytes, dependency_kind, digest_kind, group_bytes, group_kind}
+use Rattle.image_reading.specs.SlotTlvs.{values_at}
+use Rattle.image_reading.specs.Span.{CanRead, bytes_of}
+
+-- No value was met, or one, which lies at a place that can be read, or there are two or more.
+abbrev pub IsOccurrence : Chip → List (List ℕ) → List (List ℕ) → Occurrence → Type 0
+IsOccurrence chip values left Absent = values ≡ left
+IsOccurrence chip values left (Once value) =
+    (values ≡ bytes_of chip value ∷ left) × CanRead chip value
+IsOccurrence chip values left Repeated = 2 ≤ length values
+
+-- The value that lies somewhere can be read.
+abbrev pub CanReadOccurrence : Chip → Occurrence → Type 0
+CanReadOccurrence chip (Once value) = CanRead chip value
+CanReadOccurrence chip other = ⊤
+
+-- What the values of a type spell: what fits the fields, its bytes, and the form of such bytes.
+pub record Spelling (X : Type 0) : Type 1 where
+  pub Fits : X → Type 0
+  pub bytes : X → List ℕ
+  pub IsForm : List ℕ → Type 0
+
+abbrev pub dependency_spelling : Spelling Dependency
+dependency_spelling = record {
+  Fits = FitsDependency;
+  bytes = dependency_bytes;
+  IsForm = IsDependencyForm;
+}
+
+abbrev pub group_spelling : Spelling Group
+group_spelling = record { Fits = FitsGroup; bytes = group_bytes; IsForm = IsGroupForm }
+
+-- The values that were met spell things, of which as many are kept as an image may have.
+pub record Kept {X : Type 0} (spelling : Spelling X) (most : ℕ) (values left : List (List ℕ))
+    (items : List X) (too_many : Bool) : Type 0 where
+  pub found : List X
+  pub fit : AllByRecursion spelling.Fits found
+  pub spelled : values ≡ map spelling.bytes found ++ left
+  pub first : items ≡ take most found
+  pub over : too_many ≡ ltb most (length found)
+
+-- They do so, or it was noted that one of them hasn't the form for it.
+pub record HasMet {X : Type 0} (spelling : Spelling X) (most : ℕ) (values left : List (List ℕ))
+    (met : Met X most) : Type 0 where
+  pub bad : met.bad ≡ true → Any (λ value. spelling.IsForm value → ⊥) values
+  pub kept : met.bad ≡ false → Kept spelling most values left met.kept.items met.too_many
+
+-- Dependencies were met ..
+abbrev pub HaveMetDependencies : List (List ℕ) → List (List ℕ)
+    → Met Dependency MOST_DEPENDENCIES → Type 0
+HaveMetDependencies values left met = HasMet dependency_spelling MOST_DEPENDENCIES values left met
+
+-- .. and groups.
+abbrev pub HaveMetGroups : List (List ℕ) → List (List ℕ) → Met Group MOST_GROUPS → Type 0
+HaveMetGroups values left met = HasMet group_spelling MOST_GROUPS values left met
+
+-- The dependencies, the groups and the security counter of a protected area were gathered ..
+pub record HasGatheredProtected (chip : Chip) (fields : ProtectedFields) : Type 0 where
+  pub dependencies : HaveMetDependencies (values_at dependency_kind chip fields.entries) []
+      fields.dependencies
+  pub groups : HaveMetGroups (values_at group_kind chip fields.entries) [] fields.groups
+  pub counter : IsOccurrence chip (values_at counter_kind chip fields.entries) [] fields.counter
+
+-- .. and the digest of an unprotected one.
+abbrev pub HasGatheredUnprotected : Chip → UnprotectedFields → Type 0
+HasGatheredUnprotected chip fields =
+    IsOccurrence chip (values_at digest_kind chip fields.entries) [] fields.digest

@@ -1,0 +1,112 @@
+-- Images: header, body, protected area and unprotected area, one after the other (MCUboot, design
+-- document, "Image format").
+use Rattle.std.specs.Prelude.{◌≡◌, ℕ, ◌+◌, ◌≤◌, ◌==◌, List, [], ◌++◌, length, if◌then◌else◌}
+use Rattle.sha2.specs.Sha256.{sha256}
+use Rattle.common.specs.declared.limits.TheConstants.{MOST_DEPENDENCIES, MOST_GROUPS}
+use Rattle.image_header.specs.declared.header.Header.{Header}
+use Rattle.image_header.specs.Header.{FitsHeader, IsAccepted, header_bytes}
+use Rattle.image_reading.specs.declared.desc.Desc.{Desc}
+use Rattle.image_reading.specs.Area.{Entry, FitsArea, area_bytes, protected_magic, unprotected_magic, values_of}
+use Rattle.image_reading.specs.Fields.{HasBadCounter, HaveForms, SpellCounter, SpellDependencies, SpellDigest, SpellGroups, counter_kind, dependency_kind, digest_kind, group_kind}
+
+-- The parts of an image.
+pub record Image : Type 0 where
+  pub header : Header
+  -- what fills the header up to its length
+  pub filler : List ℕ
+  pub body : List ℕ
+  pub protected : List Entry
+  pub unprotected : List Entry
+
+-- The protected area, which is absent where its length is 0.
+abbrev pub protected_bytes : Image → List ℕ
+protected_bytes image =
+    if image.header.protected_size == 0 then [] else area_bytes protected_magic image.protected
+
+-- What the digest is taken of: header, body and protected area.
+abbrev pub hashed_bytes : Image → List ℕ
+hashed_bytes image =
+    header_bytes image.header ++ (image.filler ++ (image.body ++ protected_bytes image))
+
+-- The bytes of an image.
+abbrev pub image_bytes : Image → List ℕ
+image_bytes image = hashed_bytes image ++ area_bytes unprotected_magic image.unprotected
+
+-- The header says how long each part is, and is accepted.
+pub record IsWellFormed (image : Image) : Type 0 where
+  pub fits : FitsHeader image.header
+  pub accepted : IsAccepted image.header
+  pub header_size : 32 + length image.filler ≡ image.header.header_size
+  pub body_size : length image.body ≡ image.header.body_size
+  pub protected_size : length (protected_bytes image) ≡ image.header.protected_size
+  pub protected : FitsArea image.protected
+  pub unprotected : FitsArea image.unprotected
+  -- an area that is absent has no entries
+  pub absent : image.header.protected_size ≡ 0 → image.protected ≡ []
+
+-- Bytes begin with this image, and these follow it.
+pub record BeginsWithImage (bytes : List ℕ) (image : Image) (trailing : List ℕ) : Type 0 where
+  pub formed : IsWellFormed image
+  pub parts : bytes ≡ image_bytes image ++ trailing
+
+-- The values of the entries that are read: the digest in the unprotected area, dependencies, groups
+-- and security counter in the protected one. They are skipped in the other area, as other types
+-- are.
+abbrev pub digest_values : Image → List (List ℕ)
+digest_values image = values_of digest_kind image.unprotected
+
+abbrev pub dependency_values : Image → List (List ℕ)
+dependency_values image = values_of dependency_kind image.protected
+
+abbrev pub group_values : Image → List (List ℕ)
+group_values image = values_of group_kind image.protected
+
+abbrev pub counter_values : Image → List (List ℕ)
+counter_values image = values_of counter_kind image.protected
+
+-- The checks of an image's entries in their order. Each name says that its own check passes, and
+-- all before it: the digest is that of header, body and protected area ..
+abbrev pub PassesDigest : Image → Type 0
+PassesDigest image = SpellDigest (digest_values image) (hashed_bytes image)
+
+-- .. each dependency and each group has its form ..
+abbrev pub PassesDependencies : Image → Type 0
+PassesDependencies image =
+    PassesDigest image × HaveForms (dependency_values image) (group_values image)
+
+-- .. there are not too many dependencies ..
+abbrev pub PassesDependencyCount : Image → Type 0
+PassesDependencyCount image =
+    PassesDependencies image × (length (dependency_values image) ≤ MOST_DEPENDENCIES)
+
+-- .. nor too many groups ..
+abbrev pub PassesGroupCount : Image → Type 0
+PassesGroupCount image = PassesDependencyCount image × (length (group_values image) ≤ MOST_GROUPS)
+
+-- .. and the security counter is one of four bytes, or there is none.
+abbrev pub PassesCounter : Image → Type 0
+PassesCounter image = PassesGroupCount image × (HasBadCounter (counter_values image) → ⊥)
+
+-- All checks of an image's entries pass.
+abbrev pub PassesEntries : Image → Type 0
+PassesEntries image = PassesCounter image
+
+-- A description says what an image says of itself.
+pub record Describes (image : Image) (description : Desc) : Type 0 where
+  pub version : description.version ≡ image.header.version
+  pub flags : description.flags ≡ image.header.flags
+  pub length_of : description.length ≡ length (image_bytes image)
+  pub digest : description.digest ≡ sha256 (hashed_bytes image)
+  pub dependencies : SpellDependencies (dependency_values image) description.dependencies.items
+  pub groups : SpellGroups (group_values image) description.groups.items
+  pub counter : SpellCounter (counter_values image) description.counter
+
+-- Whole bytes are an intact image, of which this is the description.
+abbrev pub IsIntact : List ℕ → Desc → Type 0
+IsIntact bytes description = (image : Image)
+    × BeginsWithImage bytes image [] × Describes image description × PassesEntries image
+
+-- Bytes begin with an intact image, of which this is the description, whatever follows it.
+abbrev pub BeginsIntact : List ℕ → Desc → Type 0
+BeginsIntact bytes description = (front : List ℕ) × (rest : List ℕ)
+    × (bytes ≡ front ++ rest) × IsIntact front description

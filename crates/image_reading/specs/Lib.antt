@@ -1,0 +1,14 @@
+pub mod Area
+pub mod Image
+pub mod Fault
+pub mod Codes
+pub mod Reading
+pub mod Walk
+pub mod Tlv
+pub mod Fields
+pub mod Span
+pub mod Memory
+pub mod SlotTlvs
+pub mod Gathered
+pub mod Front
+pub mod Slot

@@ -1,0 +1,26 @@
+-- The bytes of a slot and of a file in it, and why no image is described there.
+use Rattle.std.specs.Prelude.{◌≡◌, ℕ, Bool, false, true, List, take}
+use Rattle.flash_model.specs.Chip.{Chip}
+use Rattle.flash_model.specs.declared.error.FlashError.TheVariants.{Off}
+use Rattle.sector_map.specs.declared.layout.SectorMap.{SectorMap}
+use Rattle.sector_map.specs.declared.layout.Side.{Side}
+use Rattle.sector_map.specs.Part.{Slot}
+use Rattle.sector_map.specs.Map.{part_of}
+use Rattle.image_reading.specs.declared.error.ImageError.{ImageError}
+use Rattle.image_reading.specs.declared.error.SlotError.{SlotError}
+use Rattle.image_reading.specs.declared.error.SlotError.TheVariants.{Image, Flash, NoMemory}
+
+-- The bytes of a slot ..
+abbrev pub slot_bytes : SectorMap → Chip → ℕ → Side → List ℕ
+slot_bytes map chip image side = part_of map chip (Slot image side)
+
+-- .. and of a file of so many bytes that stands at its front.
+abbrev pub file_bytes : SectorMap → Chip → ℕ → Side → ℕ → List ℕ
+file_bytes map chip image side len = take len (slot_bytes map chip image side)
+
+-- The flash was on and a check of the image is the first that fails, or the flash was off. Want of
+-- memory is no answer.
+abbrev pub IsSlotFault : Bool → (ImageError → Type 0) → SlotError → Type 0
+IsSlotFault was_on Fails (Image fault) = (was_on ≡ true) × Fails fault
+IsSlotFault was_on Fails (Flash fault) = (was_on ≡ false) × (fault ≡ Off)
+IsSlotFault was_on Fails NoMemory = ⊥

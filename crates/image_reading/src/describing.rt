@@ -1,0 +1,105 @@
+//! What an image says of itself, where it is intact.
+
+ghost use Rattle.std.specs.Prelude.{◌≡◌, ℕ, List, [], Err, IfErr, IfOk, Ok, OnOk};
+ghost use Rattle.sha2.specs.Sha256.{sha256};
+ghost use Rattle.image_reading.specs.Fault.{IsFirstFault, IsFrontFault};
+ghost use Rattle.image_reading.specs.Fields.{IsDigestFault, SpellDigest};
+ghost use Rattle.image_reading.specs.Gathered.{CanReadOccurrence, IsOccurrence};
+ghost use Rattle.image_reading.specs.Image.{BeginsIntact, IsIntact};
+ghost use Rattle.image_reading.specs.Span.{CanRead, bytes_of};
+ghost use Rattle.image_reading.specs.declared.desc.Desc.{Desc};
+ghost use Rattle.image_reading.specs.declared.error.ImageError.{ImageError};
+
+use crate::desc::Desc;
+use crate::error::ImageError;
+use crate::fields::{checked_needs, counter, digest_value, is_digest};
+use crate::front::Front;
+use crate::gathering::Occurrence;
+use crate::medium::{Medium, Memory};
+use crate::span::Span;
+
+/// What the image says of itself that these bytes are, all of them. Does not allocate.
+///
+/// # Errors
+///
+/// The first check that fails, in this order: header, protected area, unprotected area, digest, the
+/// forms of dependencies and groups, how many dependencies there are, how many groups, security
+/// counter, and that nothing follows the image. `NoDigest`, `TwoDigests` and what comes after them
+/// in this order are found only where the bytes begin with an image by its areas.
+pub fn describe(bytes: &[u8]) -> Result<Desc, ImageError>
+    // What is described is an intact image, so described.
+    ensures described { IfOk result (IsIntact bytes.now) }
+    // Each intact image is described.
+    ensures only { (description : Desc) → IsIntact bytes.now description → result ≡ Ok description }
+    // The error is the first check that fails ..
+    ensures fault { IfErr result (IsFirstFault bytes.now) }
+    // .. and where one fails first, that is the error.
+    ensures refused { (fault : ImageError) → IsFirstFault bytes.now fault → result ≡ Err fault }
+{
+    let whole = Span {
+        at: 0,
+        len: bytes.len(),
+    };
+    describe_whole(&mut Memory { bytes }, whole)
+}
+
+/// What the image says of itself that these bytes are, all of them.
+pub(crate) fn describe_whole<M: Medium>(medium: &mut M, bytes: Span) -> Result<Desc, ImageError>
+    requires { CanRead (M.chip medium.old) bytes }
+    ensures same { M.chip medium.new ≡ M.chip medium.old }
+    ensures described { IfOk result (IsIntact (bytes_of (M.chip medium.old) bytes)) }
+    ensures fault { IfErr result (IsFirstFault (bytes_of (M.chip medium.old) bytes)) }
+{
+    let description = describe_front(medium, bytes)?;
+    if description.length < bytes.len as u64 {
+        return Err(ImageError::TrailingBytes);
+    }
+    Ok(description)
+}
+
+/// What the image says of itself that these bytes begin with, whatever follows it.
+pub(crate) fn describe_front<M: Medium>(medium: &mut M, bytes: Span) -> Result<Desc, ImageError>
+    requires { CanRead (M.chip medium.old) bytes }
+    ensures same { M.chip medium.new ≡ M.chip medium.old }
+    ensures described { IfOk result (BeginsIntact (bytes_of (M.chip medium.old) bytes)) }
+    ensures fault { IfErr result (IsFrontFault (bytes_of (M.chip medium.old) bytes)) }
+{
+    let front = Front::read(medium, bytes)?;
+    let digest = own_digest(medium, front.hashed, front.unprotected.digest)?;
+    // Dependencies and groups are moved out of the front: what else it says is taken first.
+    let (header, length, counter_entry) = (front.header, front.length, front.protected.counter);
+    let needs = checked_needs(front.protected.dependencies, front.protected.groups)?;
+    let counter = counter(medium, counter_entry)?;
+    Ok(Desc {
+        version: header.version,
+        counter,
+        flags: header.flags,
+        dependencies: needs.dependencies,
+        groups: needs.groups,
+        digest,
+        length: length as u64,
+    })
+}
+
+// The SHA-256 of the hashed bytes, where the one digest entry holds that.
+fn own_digest<M: Medium>(
+    medium: &mut M,
+    hashed: Span,
+    entry: Occurrence,
+) -> Result<[u8; 32], ImageError>
+    requires hashed { CanRead (M.chip medium.old) hashed }
+    requires entry { CanReadOccurrence (M.chip medium.old) entry }
+    ensures same { M.chip medium.new ≡ M.chip medium.old }
+    ensures own { IfOk result (λ digest. digest ≡ sha256 (bytes_of (M.chip medium.old) hashed)) }
+    ensures entry { (values : List (List ℕ)) → IsOccurrence (M.chip medium.old) values [] entry
+        → OnOk result (SpellDigest values (bytes_of (M.chip medium.old) hashed)) }
+    ensures fault { (values : List (List ℕ)) → IsOccurrence (M.chip medium.old) values [] entry
+        → IfErr result (IsDigestFault values (bytes_of (M.chip medium.old) hashed)) }
+{
+    let value = digest_value(entry)?;
+    let digest = medium.digest(hashed);
+    if !is_digest(medium, value, &digest) {
+        return Err(ImageError::BadDigest);
+    }
+    Ok(digest)
+}

@@ -1,0 +1,165 @@
+//! The fields that entries hold: digest, security counter and dependencies; and dependencies and
+//! groups together.
+
+ghost use Rattle.std.specs.Prelude.{◌≡◌, ◌≢◌, ◌↔◌, ℕ, ◌≤◌, ◌∷◌, [], List, length, IsTrue, IfOk, IfErr, IfSome, IfNone};
+ghost use Rattle.flash_model.specs.Chip.{Chip};
+ghost use Rattle.image_reading.specs.Fields.{FitsDependency, IsCounterFault, IsDependencyFault, IsDependencyForm, IsDigestFault, SpellCounter, SpellDependencies, SpellGroups, counter_bytes, dependency_bytes};
+ghost use Rattle.image_reading.specs.Gathered.{CanReadOccurrence, HaveMetDependencies, HaveMetGroups, IsOccurrence};
+ghost use Rattle.image_reading.specs.Span.{CanRead, bytes_of};
+
+use crate::error::ImageError;
+use crate::format::{COUNTER_LENGTH, DEPENDENCY_LENGTH, DIGEST_LENGTH};
+use crate::gathering::Occurrence;
+use crate::medium::Medium;
+use crate::met::{Met, Spelled};
+use crate::span::Span;
+use arrayvec::ArrayVec;
+use byteorder::{ByteOrder, LittleEndian};
+use common::limits::{MOST_DEPENDENCIES, MOST_GROUPS};
+use version_order::{Dependency, Group, Version};
+
+/// Where the value of the one digest entry lies.
+///
+/// `NoDigest` where there is none, `TwoDigests` where there are two or more.
+pub(crate) fn digest_value(digest: Occurrence) -> Result<Span, ImageError>
+    ensures ok { (chip : Chip) (values : List (List ℕ)) → IsOccurrence chip values [] digest
+        → IfOk result (λ value. values ≡ bytes_of chip value ∷ []) }
+    ensures readable { (chip : Chip) → CanReadOccurrence chip digest → IfOk result (CanRead chip) }
+    // These two faults come whatever the digest is to be.
+    ensures err { (chip : Chip) (values : List (List ℕ)) → IsOccurrence chip values [] digest
+        → (hashed : List ℕ) → IfErr result (IsDigestFault values hashed) }
+{
+    match digest {
+        Occurrence::Absent => Err(ImageError::NoDigest),
+        Occurrence::Once(value) => Ok(value),
+        Occurrence::Repeated => Err(ImageError::TwoDigests),
+    }
+}
+
+/// Whether a value is this digest.
+pub(crate) fn is_digest<M: Medium>(medium: &mut M, value: Span, digest: &[u8; 32]) -> bool
+    requires { CanRead (M.chip medium.old) value }
+    ensures same { M.chip medium.new ≡ M.chip medium.old }
+    ensures is { IsTrue result ↔ (bytes_of (M.chip medium.old) value ≡ digest.now) }
+{
+    if value.len != DIGEST_LENGTH {
+        return false;
+    }
+    let mut own = [0; DIGEST_LENGTH];
+    medium.read(value, &mut own);
+    own == *digest
+}
+
+/// The security counter, 0 where there is none.
+///
+/// `BadCounter` where there are two or more, or its value isn't four bytes long.
+pub(crate) fn counter<M: Medium>(medium: &mut M, counter: Occurrence) -> Result<u32, ImageError>
+    requires { CanReadOccurrence (M.chip medium.old) counter }
+    ensures same { M.chip medium.new ≡ M.chip medium.old }
+    ensures ok { (values : List (List ℕ)) → IsOccurrence (M.chip medium.old) values [] counter
+        → IfOk result (SpellCounter values) }
+    ensures err { (values : List (List ℕ)) → IsOccurrence (M.chip medium.old) values [] counter
+        → IfErr result (IsCounterFault values) }
+{
+    match counter {
+        Occurrence::Absent => Ok(0),
+        Occurrence::Once(value) => counter_at(medium, value).ok_or(ImageError::BadCounter),
+        Occurrence::Repeated => Err(ImageError::BadCounter),
+    }
+}
+
+// The counter that the value at a place spells, if it has the length of one.
+fn counter_at<M: Medium>(medium: &mut M, value: Span) -> Option<u32>
+    requires { CanRead (M.chip medium.old) value }
+    ensures same { M.chip medium.new ≡ M.chip medium.old }
+    ensures spelled { IfSome result (λ counter.
+        bytes_of (M.chip medium.old) value ≡ counter_bytes counter) }
+    ensures none { IfNone result (length (bytes_of (M.chip medium.old) value) ≢ 4) }
+{
+    if value.len != COUNTER_LENGTH {
+        return None;
+    }
+    let mut counter = [0; COUNTER_LENGTH];
+    medium.read(value, &mut counter);
+    Some(LittleEndian::read_u32(&counter))
+}
+
+impl Spelled for Dependency {
+    ghost use Rattle.image_reading.specs.Gathered.{dependency_spelling};
+
+    ghost spelling = { dependency_spelling };
+
+    fn at<M: Medium>(medium: &mut M, value: Span) -> Option<Dependency> {
+        if value.len != DEPENDENCY_LENGTH {
+            return None;
+        }
+        let mut dependency = [0; DEPENDENCY_LENGTH];
+        medium.read(value, &mut dependency);
+        dependency_of(&dependency)
+    }
+}
+
+// The dependency that twelve bytes spell, if they have the form of one.
+fn dependency_of(value: &[u8]) -> Option<Dependency>
+    requires { length value.now ≡ 12 }
+    ensures fits { IfSome result FitsDependency }
+    ensures spelled { IfSome result (λ dependency. value.now ≡ dependency_bytes dependency) }
+    ensures none { IfNone result (IsDependencyForm value.now → ⊥) }
+{
+    if value[1] != 0 || value[2] != 0 || value[3] != 0 {
+        return None;
+    }
+    let minimum = Version {
+        major: value[4],
+        minor: value[5],
+        revision: LittleEndian::read_u16(&value[6..]),
+        build: LittleEndian::read_u32(&value[8..]),
+    };
+    Some(Dependency {
+        image: value[0],
+        minimum,
+    })
+}
+
+/// What an image asks of the images of the device.
+#[derive(Drop)]
+pub(crate) struct Needs {
+    /// The dependencies, in the order of their entries.
+    pub(crate) dependencies: ArrayVec<Dependency, MOST_DEPENDENCIES>,
+    /// The groups, in the order of their entries.
+    pub(crate) groups: ArrayVec<Group, MOST_GROUPS>,
+}
+
+/// The dependencies and the groups, once all are met.
+///
+/// `BadDependency` where the value of one hasn't its form; `TooManyDependencies` where none is so,
+/// but there are more than [`MOST_DEPENDENCIES`] dependencies; `TooManyGroups` where there aren't,
+/// but there are more than [`MOST_GROUPS`] groups.
+pub(crate) fn checked_needs(
+    dependencies: Met<Dependency, MOST_DEPENDENCIES>,
+    groups: Met<Group, MOST_GROUPS>,
+) -> Result<Needs, ImageError>
+    ensures dependencies { (values : List (List ℕ)) → HaveMetDependencies values [] dependencies
+        → IfOk result (λ needs. SpellDependencies values needs.dependencies.items) }
+    ensures groups { (values : List (List ℕ)) → HaveMetGroups values [] groups
+        → IfOk result (λ needs. SpellGroups values needs.groups.items) }
+    ensures few_dependencies { IfOk result (λ needs.
+        length needs.dependencies.items ≤ MOST_DEPENDENCIES) }
+    ensures few_groups { IfOk result (λ needs. length needs.groups.items ≤ MOST_GROUPS) }
+    ensures err { (values others : List (List ℕ)) → HaveMetDependencies values [] dependencies
+        → HaveMetGroups others [] groups → IfErr result (IsDependencyFault values others) }
+{
+    if dependencies.bad || groups.bad {
+        return Err(ImageError::BadDependency);
+    }
+    if dependencies.too_many {
+        return Err(ImageError::TooManyDependencies);
+    }
+    if groups.too_many {
+        return Err(ImageError::TooManyGroups);
+    }
+    Ok(Needs {
+        dependencies: dependencies.kept,
+        groups: groups.kept,
+    })
+}

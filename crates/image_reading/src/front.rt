@@ -1,0 +1,181 @@
+//! The front of bytes: the image that they begin with.
+
+ghost use Rattle.std.specs.Prelude.{◌≡◌, ◌+◌, ◌↔◌, ◌^◌, ◌<◌, None, Some, IfOk, IfErr, IsTrue, OnErr, OnOk};
+ghost use Rattle.image_header.specs.Header.{IsHeaderFault};
+ghost use Rattle.image_reading.specs.Area.{protected_magic, unprotected_magic};
+ghost use Rattle.image_reading.specs.Fault.{BeginsAccepted, HasWholeArea, IsArea, IsAreaFault, IsFrontFault, IsTotal, entries_at};
+ghost use Rattle.image_reading.specs.Front.{HasGathered, IsFront, IsProtected};
+ghost use Rattle.image_reading.specs.Gathered.{HasGatheredProtected, HasGatheredUnprotected};
+ghost use Rattle.image_reading.specs.Span.{CanRead, bytes_of};
+
+use crate::error::ImageError;
+use crate::format::{HEAD_LENGTH, PROTECTED_MAGIC, UNPROTECTED_MAGIC};
+use crate::gathering::{
+    Occurrence, ProtectedFields, UnprotectedFields, protected_fields, unprotected_fields,
+};
+use crate::medium::Medium;
+use crate::met::Met;
+use crate::span::Span;
+use crate::walk::head;
+use image_header::{HEADER_LENGTH, Header, HeaderError};
+
+/// The image that bytes begin with: header, body, protected area and unprotected area.
+#[derive(Drop)]
+pub(crate) struct Front {
+    /// The header.
+    pub(crate) header: Header,
+    /// What the digest is taken of: header, body and protected area.
+    pub(crate) hashed: Span,
+    /// What the protected area says.
+    pub(crate) protected: ProtectedFields,
+    /// What the unprotected area says.
+    pub(crate) unprotected: UnprotectedFields,
+    /// The length of the image in bytes.
+    pub(crate) length: usize,
+}
+
+impl Front {
+    /// The image that bytes begin with, whatever its entries say and whatever follows it.
+    ///
+    /// # Errors
+    ///
+    /// The first check of header and areas that fails.
+    pub(crate) fn read<M: Medium>(medium: &mut M, bytes: Span) -> Result<Front, ImageError>
+        requires { CanRead (M.chip medium.old) bytes }
+        ensures same { M.chip medium.new ≡ M.chip medium.old }
+        // What is found is an image, by its parts, and what its areas say.
+        ensures found { IfOk result
+            (IsFront (M.chip medium.old) (bytes_of (M.chip medium.old) bytes)) }
+        ensures gathered { IfOk result (HasGathered (M.chip medium.old)) }
+        // Which check fails.
+        ensures fault { IfErr result (IsFrontFault (bytes_of (M.chip medium.old) bytes)) }
+    {
+        let header = header(medium, bytes)?;
+        let protected_place = usize::from(header.header_size) + header.body_size as usize;
+        let protected = protected_area(medium, bytes, protected_place, header.protected_size)?;
+        let unprotected_place = protected_place + usize::from(header.protected_size);
+        let unprotected = unprotected_area(medium, bytes, unprotected_place)?;
+        Ok(Front {
+            header,
+            hashed: bytes.first(unprotected_place),
+            protected,
+            unprotected,
+            length: unprotected_place + HEAD_LENGTH + unprotected.entries.len,
+        })
+    }
+}
+
+// The header.
+fn header<M: Medium>(medium: &mut M, bytes: Span) -> Result<Header, HeaderError>
+    requires { CanRead (M.chip medium.old) bytes }
+    ensures same { M.chip medium.new ≡ M.chip medium.old }
+    ensures read { IfOk result (BeginsAccepted (bytes_of (M.chip medium.old) bytes)) }
+    ensures fault { IfErr result (IsHeaderFault (bytes_of (M.chip medium.old) bytes)) }
+{
+    if bytes.len < HEADER_LENGTH {
+        return Err(HeaderError::Short);
+    }
+    let mut header = [0; HEADER_LENGTH];
+    medium.read(bytes.first(HEADER_LENGTH), &mut header);
+    Header::read(&header)
+}
+
+// What the protected area says, which has `size` bytes: nothing where it is absent.
+fn protected_area<M: Medium>(
+    medium: &mut M,
+    bytes: Span,
+    place: usize,
+    size: u16,
+) -> Result<ProtectedFields, ImageError>
+    requires readable { CanRead (M.chip medium.old) bytes }
+    requires near { place < 2 ^ 62 }
+    ensures same { M.chip medium.new ≡ M.chip medium.old }
+    ensures found { IfOk result (λ fields. IsProtected (bytes_of (M.chip medium.old) bytes)
+        place size (bytes_of (M.chip medium.old) fields.entries)) }
+    ensures gathered { IfOk result (HasGatheredProtected (M.chip medium.old)) }
+    ensures some { OnErr result (0 < size) }
+    ensures fault { IfErr result
+        (IsAreaFault (bytes_of (M.chip medium.old) bytes) place protected_magic (Some size)) }
+{
+    if size == 0 {
+        return Ok(ProtectedFields {
+            entries: bytes.first(0),
+            dependencies: Met::new(),
+            groups: Met::new(),
+            counter: Occurrence::Absent,
+        });
+    }
+    let entries = area_entries(medium, bytes, place, PROTECTED_MAGIC, Some(size))?;
+    protected_fields(medium, entries).ok_or(ImageError::BadTlvSize)
+}
+
+// What the unprotected area says.
+fn unprotected_area<M: Medium>(
+    medium: &mut M,
+    bytes: Span,
+    place: usize,
+) -> Result<UnprotectedFields, ImageError>
+    requires readable { CanRead (M.chip medium.old) bytes }
+    requires near { place < 2 ^ 62 }
+    ensures same { M.chip medium.new ≡ M.chip medium.old }
+    ensures found { OnOk result
+        (IsArea (bytes_of (M.chip medium.old) bytes) place unprotected_magic None) }
+    ensures entries { IfOk result (λ fields. bytes_of (M.chip medium.old) fields.entries
+        ≡ entries_at (bytes_of (M.chip medium.old) bytes) place) }
+    ensures readable { IfOk result (λ fields. CanRead (M.chip medium.old) fields.entries) }
+    ensures gathered { IfOk result (HasGatheredUnprotected (M.chip medium.old)) }
+    ensures fault { IfErr result
+        (IsAreaFault (bytes_of (M.chip medium.old) bytes) place unprotected_magic None) }
+{
+    let entries = area_entries(medium, bytes, place, UNPROTECTED_MAGIC, None)?;
+    unprotected_fields(medium, entries).ok_or(ImageError::BadTlvSize)
+}
+
+// Where the entries of the area lie that begins at a place, with this magic number; its length is
+// the one that is expected, if any. That they fill it isn't seen yet.
+fn area_entries<M: Medium>(
+    medium: &mut M,
+    bytes: Span,
+    place: usize,
+    magic: u16,
+    expected: Option<u16>,
+) -> Result<Span, ImageError>
+    requires readable { CanRead (M.chip medium.old) bytes }
+    requires near { place < 2 ^ 62 }
+    ensures same { M.chip medium.new ≡ M.chip medium.old }
+    ensures found { OnOk result
+        (HasWholeArea (bytes_of (M.chip medium.old) bytes) place magic expected) }
+    ensures entries { IfOk result (λ entries. bytes_of (M.chip medium.old) entries
+        ≡ entries_at (bytes_of (M.chip medium.old) bytes) place) }
+    ensures readable { IfOk result (CanRead (M.chip medium.old)) }
+    ensures short { IfOk result (λ entries. 4 + entries.len < 2 ^ 16) }
+    ensures fault { IfErr result
+        (IsAreaFault (bytes_of (M.chip medium.old) bytes) place magic expected) }
+{
+    if bytes.len < place + HEAD_LENGTH {
+        return Err(ImageError::Truncated);
+    }
+    let area = bytes.after(place);
+    let (own_magic, total) = head(medium, area);
+    if own_magic != magic {
+        return Err(ImageError::BadTlvMagic);
+    }
+    if !is_total(expected, total) {
+        return Err(ImageError::BadTlvSize);
+    }
+    let total = usize::from(total);
+    if area.len < total {
+        return Err(ImageError::Truncated);
+    }
+    Ok(area.after(HEAD_LENGTH).first(total - HEAD_LENGTH))
+}
+
+// Whether an area may have this length.
+fn is_total(expected: Option<u16>, total: u16) -> bool
+    ensures { IsTrue result ↔ IsTotal expected total }
+{
+    match expected {
+        Some(size) => total == size && usize::from(total) >= HEAD_LENGTH,
+        None => usize::from(total) >= HEAD_LENGTH,
+    }
+}

@@ -1,0 +1,155 @@
+//! What stands in a slot.
+
+ghost use Rattle.std.specs.Prelude.{◌≡◌, ◌<◌, ◌≤◌, Err, IfErr, IfOk, Ok, OnErr, OnOk, false, true};
+ghost use Rattle.flash_model.specs.Chip.{Chip, Ends};
+ghost use Rattle.flash_model.specs.declared.error.FlashError.{FlashError};
+ghost use Rattle.sector_map.specs.Map.{IsLaidOut, length_of};
+ghost use Rattle.sector_map.specs.Part.{Slot};
+ghost use Rattle.sha2.specs.Sha256.{sha256};
+ghost use Rattle.image_reading.specs.Fault.{IsFirstFault, IsFrontFault};
+ghost use Rattle.image_reading.specs.Image.{BeginsIntact, IsIntact};
+ghost use Rattle.image_reading.specs.Slot.{IsSlotFault, file_bytes, slot_bytes};
+ghost use Rattle.image_reading.specs.Span.{CanRead, bytes_of};
+ghost use Rattle.image_reading.specs.declared.desc.Desc.{Desc};
+ghost use Rattle.image_reading.specs.declared.error.ImageError.{ImageError};
+ghost use Rattle.image_reading.specs.declared.error.SlotError.{SlotError};
+
+use crate::desc::Desc;
+use crate::describing::{describe_front, describe_whole};
+use crate::error::SlotError;
+use crate::medium::Medium;
+use crate::span::Span;
+use flash_model::{Flash, FlashError};
+use sector_map::{SectorMap, Side};
+
+/// What the image says of itself that a slot begins with, whatever follows it. Does not allocate.
+///
+/// The map is laid out on the flash and has the image, which is told by its number from 0. Header,
+/// body and protected area are read once for the digest, by pieces of 256 bytes at most. Beside
+/// that the header, the first four bytes of each area, the type and length of each entry, and the
+/// values of digest, dependencies, groups and security counter are read once at most, and nothing
+/// else is.
+///
+/// # Errors
+/// `Image` with the first check that fails, as of [`describe`](crate::describe), but that bytes may
+/// follow the image; an image may reach to the slot's end. `Flash(Off)` where the flash was off.
+/// Nothing changes in any case.
+pub fn describe_slot<F: Flash>(
+    flash: &mut F,
+    map: &SectorMap,
+    image: u8,
+    side: Side,
+) -> Result<Desc, SlotError>
+    requires laid_out { IsLaidOut map.now (F.chip flash.old) }
+    requires there { image < map.now.images }
+    ensures same { F.chip flash.new ≡ F.chip flash.old }
+    // What is described is an intact image that the slot begins with, so described.
+    ensures described { IfOk result
+        (BeginsIntact (slot_bytes map.now (F.chip flash.old) image side)) }
+    // Each is described.
+    ensures only { (F.chip flash.old).is_on ≡ true → (description : Desc)
+        → BeginsIntact (slot_bytes map.now (F.chip flash.old) image side) description
+        → result ≡ Ok description }
+    // The error is the first check that fails, or that the flash was off ..
+    ensures fault { IfErr result (IsSlotFault (F.chip flash.old).is_on
+        (IsFrontFault (slot_bytes map.now (F.chip flash.old) image side))) }
+    // .. and where a check fails first, that is the error.
+    ensures refused { (F.chip flash.old).is_on ≡ true → (fault : ImageError)
+        → IsFrontFault (slot_bytes map.now (F.chip flash.old) image side) fault
+        → result ≡ Err (SlotError.Image fault) }
+    ensures on { OnOk result ((F.chip flash.old).is_on ≡ true) }
+    ensures off { (F.chip flash.old).is_on ≡ false
+        → result ≡ Err (SlotError.Flash FlashError.Off) }
+{
+    // A read of no bytes is answered only by a flash that is on, and of such a flash no read fails.
+    flash.read(0, &mut [])?;
+    let description = describe_front(flash, slot_span(map, image, side))?;
+    Ok(description)
+}
+
+/// What the image says of itself that the first `len` bytes of a slot are, all of them:
+/// [`describe`](crate::describe) of them. Does not allocate.
+///
+/// The map is laid out on the flash and has the image, which is told by its number from 0; the slot
+/// has as many bytes.
+///
+/// # Errors
+/// `Image` with the first check that fails, as of [`describe`](crate::describe). `Flash(Off)` where
+/// the flash was off. Nothing changes in any case.
+pub fn describe_file<F: Flash>(
+    flash: &mut F,
+    map: &SectorMap,
+    image: u8,
+    side: Side,
+    len: u32,
+) -> Result<Desc, SlotError>
+    requires laid_out { IsLaidOut map.now (F.chip flash.old) }
+    requires there { image < map.now.images }
+    requires room { len ≤ length_of map.now (Slot image side) }
+    ensures same { F.chip flash.new ≡ F.chip flash.old }
+    // What is described is an intact image, so described.
+    ensures described { IfOk result
+        (IsIntact (file_bytes map.now (F.chip flash.old) image side len)) }
+    // Each is described.
+    ensures only { (F.chip flash.old).is_on ≡ true → (description : Desc)
+        → IsIntact (file_bytes map.now (F.chip flash.old) image side len) description
+        → result ≡ Ok description }
+    // The error is the first check that fails, or that the flash was off ..
+    ensures fault { IfErr result (IsSlotFault (F.chip flash.old).is_on
+        (IsFirstFault (file_bytes map.now (F.chip flash.old) image side len))) }
+    // .. and where a check fails first, that is the error.
+    ensures refused { (F.chip flash.old).is_on ≡ true → (fault : ImageError)
+        → IsFirstFault (file_bytes map.now (F.chip flash.old) image side len) fault
+        → result ≡ Err (SlotError.Image fault) }
+    ensures on { OnOk result ((F.chip flash.old).is_on ≡ true) }
+    ensures off { (F.chip flash.old).is_on ≡ false
+        → result ≡ Err (SlotError.Flash FlashError.Off) }
+{
+    flash.read(0, &mut [])?;
+    let file = slot_span(map, image, side).first(len as usize);
+    let description = describe_whole(flash, file)?;
+    Ok(description)
+}
+
+/// The SHA-256 of the first `len` bytes of a slot (FIPS 180-4). Does not allocate.
+///
+/// The map is laid out on the flash and has the image, which is told by its number from 0; the slot
+/// has as many bytes. They are read by pieces of 256 bytes at most.
+///
+/// # Errors
+/// `Off` where the flash was off. Nothing changes in any case.
+pub fn digest_file<F: Flash>(
+    flash: &mut F,
+    map: &SectorMap,
+    image: u8,
+    side: Side,
+    len: u32,
+) -> Result<[u8; 32], FlashError>
+    requires laid_out { IsLaidOut map.now (F.chip flash.old) }
+    requires there { image < map.now.images }
+    requires room { len ≤ length_of map.now (Slot image side) }
+    ensures same { F.chip flash.new ≡ F.chip flash.old }
+    ensures ok { IfOk result (λ digest.
+        digest ≡ sha256 (file_bytes map.now (F.chip flash.old) image side len)) }
+    ensures erases { OnOk result ((F.chip flash.new).erases ≡ (F.chip flash.old).erases) }
+    ensures ends { Ends result (F.chip flash.old) (F.chip flash.new) }
+{
+    flash.read(0, &mut [])?;
+    let file = slot_span(map, image, side).first(len as usize);
+    Ok(flash.digest(file))
+}
+
+// Where a slot lies.
+fn slot_span(map: &SectorMap, image: u8, side: Side) -> Span
+    requires { image < map.now.images }
+    ensures bytes { (chip : Chip) → IsLaidOut map.now chip
+        → bytes_of chip result ≡ slot_bytes map.now chip image side }
+    ensures readable { (chip : Chip) → IsLaidOut map.now chip → chip.is_on ≡ true
+        → CanRead chip result }
+    ensures len { result.len ≡ length_of map.now (Slot image side) }
+{
+    Span {
+        at: map.slot_start(image, side) as usize,
+        len: map.slot_length(image) as usize,
+    }
+}

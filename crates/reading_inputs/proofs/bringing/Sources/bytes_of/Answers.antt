@@ -1,0 +1,20 @@
+use Rattle.std.proofs.Common.{◌∙◌, Some, ap, refl, subst, sym}
+use Rattle.std.proofs.lemmas.Option.{slice_get-get_or}
+use Rattle.script.specs.Said.{said_file}
+use Rattle.reading_inputs.specs.Loading.{Brings}
+use Rattle.reading_inputs.specs.Script.{ReadsFile}
+use Rattle.reading_inputs.proofs.ScriptLaws.{Brings-kept}
+use Rattle.reading_inputs.proofs.bringing.Sources.bytes_of.Goals as goal
+
+-- What was kept is what the line names.
+pub returns-in-Ok-clause-brought : goal.returns-in-Ok-clause-brought
+returns-in-Ok-clause-brought g c =
+    let kept = c.args.self.now.kept.now in
+    let files = g.H.Host.file c.args.self.now.host.now in
+    let item = c.in-Some.kept.now in
+    let found = c.in-Some.ensures.lookup.3 in
+    subst (λ bytes. Brings kept files (ReadsFile (said_file c.args.file) bytes))
+    (sym (c.in-Ok.ensures.items ∙ c.deref.ensures.value))
+    (Brings-kept kept files c.args.used.now item (said_file c.args.file)
+    (slice_get-get_or kept c.args.used.now item found.0 ∙ ap Some (sym (found.1 item)))
+    (c.if-not-is_same_text.ensures refl))

@@ -1,0 +1,41 @@
+use Rattle.std.proofs.Common.{eqb-true, subst, sym}
+use Rattle.command_ends.proofs.InputLaws.{KeepsFiles-itself, KeepsFiles-twice, kept_itself}
+use Rattle.reading_inputs.specs.Loading.{AreKept, armed_in}
+use Rattle.reading_inputs.proofs.ScriptLaws.{AreCutsOf-all, CutSoFar, CutSoFar-more, CutSoFar-none}
+use Rattle.reading_inputs.proofs.judging.judge.Goals as goal
+
+-- No line was judged yet.
+pub loop-lines-init : goal.loop-lines-init
+loop-lines-init g c = record {
+  cuts = subst (λ cuts. CutSoFar c.args.text.now c.of-lines.result.rest.now (armed_in cuts)) (sym c.new.ensures.items)
+      (CutSoFar-none c.args.text.now c.of-lines.result.rest.now c.of-lines.ensures.all);
+  kept = subst (λ kept. AreKept kept (g.H.Host.input c.args.host.now) (g.H.Host.file c.args.host.now))
+      (sym c.new-2.ensures.items) tt;
+  files = KeepsFiles-itself (g.H.Host.file c.args.host.now);
+  input = λ unread. kept_itself (g.H.Host.input c.args.host.now);
+}
+
+-- One line more was judged.
+pub loop-lines-preserved : goal.loop-lines-preserved
+loop-lines-preserved g c =
+    let before = c.loop-lines.invariant in
+    let kept = c.in_ok-judge_line.ensures.kept _ _ before.files before.input before.kept in
+    record {
+      cuts = CutSoFar-more c.args.text.now c.loop-lines.lines c.next_line.new.self c.in_ok-line.line
+          (armed_in c.loop-lines.judged.cuts.items) (armed_in c.judge_line.new.judged.cuts.items)
+          c.in_ok-line.ensures.next c.in_ok-judge_line.ensures.cuts before.cuts;
+      kept = kept.0;
+      files = KeepsFiles-twice _ _ _ before.files c.judge_line.ensures.files;
+      input = kept.1;
+    }
+
+-- One line could not be judged, and its file may have been read.
+pub returns-in_err-judge_line-clause-files : goal.returns-in_err-judge_line-clause-files
+returns-in_err-judge_line-clause-files g c =
+    KeepsFiles-twice _ _ _ c.loop-lines.invariant.files c.judge_line.ensures.files
+
+-- All lines were judged.
+pub returns-clause-cuts : goal.returns-clause-cuts
+returns-clause-cuts g c =
+    AreCutsOf-all c.args.text.now c.loop-lines.lines.rest.now (armed_in c.loop-lines.judged.cuts.items)
+    (eqb-true _ _ (sym c.loop-lines-test.ensures)) c.loop-lines.invariant.cuts

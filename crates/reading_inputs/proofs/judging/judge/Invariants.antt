@@ -1,0 +1,20 @@
+use Rattle.std.proofs.Common.{◌≡◌, false, length}
+use Rattle.std.specs.Io.KnownBytes.{Keeps}
+use Rattle.command_ends.specs.Input.{KeepsFiles}
+use Rattle.reading_inputs.specs.Loading.{AreKept, armed_in}
+use Rattle.reading_inputs.proofs.ScriptLaws.{CutSoFar}
+use Rattle.reading_inputs.proofs.judging.judge.Given as goal
+
+-- the cuts so far are those of the lines so far, and of what lines name that can't be read again all
+-- is kept, as of the host as it was; its files are as they were, and its input too, unless a line
+-- named it
+abbrev pub invariant-loop-lines : goal.invariant-loop-lines
+invariant-loop-lines g l = record {
+  cuts : CutSoFar l.text l.lines.rest.now (armed_in l.judged.cuts.items);
+  kept : AreKept l.judged.kept.items (g.H.Host.input l.fn.host) (g.H.Host.file l.fn.host);
+  files : KeepsFiles (g.H.Host.file l.fn.host) (g.H.Host.file l.host);
+  input : l.judged.is_input_read ≡ false → Keeps (g.H.Host.input l.fn.host) (g.H.Host.input l.host);
+}
+
+abbrev pub decreases-loop-lines : goal.decreases-loop-lines
+decreases-loop-lines g l = length l.lines.rest.now

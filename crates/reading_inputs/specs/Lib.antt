@@ -1,0 +1,3 @@
+pub mod DeviceInput
+pub mod Loading
+pub mod Script

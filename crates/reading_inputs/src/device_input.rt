@@ -1,0 +1,101 @@
+//! What the commands of a device read: its device file, and the bytes of its flash.
+ghost use Rattle.std.specs.Prelude.{IfOk};
+ghost use Rattle.std.specs.Io.KnownBytes.{Appends, Keeps};
+ghost use Rattle.device_texts.specs.AnswerText.{map_refusal_text};
+ghost use Rattle.device_texts.specs.FlashOf.{IsFlashOf};
+ghost use Rattle.reading_inputs.specs.DeviceInput.{ReadsDevice};
+ghost use Rattle.command_ends.specs.Input.{Gives, IsKnownAs, KeepsFiles, KeepsOthers};
+
+use command_ends::{Access, FlashFault, Host, MOST_JSON, Refusal, Source, SourceFault};
+use device_texts::{DeviceFault, DeviceFile, map_refusal_text, write_all};
+use sector_map::{MapError, SectorMap};
+use std::alloc::Global;
+use std::io::Write;
+
+/// The device of a device file, which is read from `host` into memory of `alloc`, where what it is
+/// as a JSON value stands too. There is none where its sizes make no map: then `out` is told why.
+pub fn read_device<H: Host, O: Write>(
+    alloc: Global,
+    device: Source<'_>,
+    host: &mut H,
+    out: &mut O,
+) -> Result<Option<DeviceFile>, Refusal>
+    ensures read { IfOk result (λ read. ReadsDevice read device.entry
+        (H.input host.old) (H.file host.old) (O.contents out.old) (O.contents out.new)) }
+    ensures others { KeepsOthers device.entry (H.input host.old) (H.file host.old)
+        (H.input host.new) (H.file host.new) }
+{
+    let bytes = device.read_start(alloc, host, MOST_JSON)?;
+    if bytes.len() > MOST_JSON as usize {
+        return Err(Refusal::DeviceFile);
+    }
+    match DeviceFile::read(alloc, &bytes) {
+        Ok(device) => Ok(Some(device)),
+        Err(DeviceFault::Malformed) => Err(Refusal::DeviceFile),
+        Err(DeviceFault::NoMemory) => Err(Refusal::NoMemory),
+        Err(DeviceFault::Map(fault)) => {
+            tell_map(alloc, fault, out)?;
+            Ok(None)
+        }
+    }
+}
+
+/// Writes to `out` why the sizes of a device file make no map.
+fn tell_map<O: Write>(alloc: Global, fault: MapError, out: &mut O) -> Result<(), Refusal>
+    ensures { IfOk result (λ _. Appends (O.contents out.old) (O.contents out.new)
+        (map_refusal_text fault)) }
+{
+    let Ok(text) = map_refusal_text(alloc, fault) else {
+        return Err(Refusal::NoMemory);
+    };
+    match write_all(out, text.as_bytes()) {
+        Ok(()) => Ok(()),
+        Err(_) => Err(Refusal::CannotWrite),
+    }
+}
+
+/// The bytes of a device's flash, which are as many as its map says, from `host`, in memory of
+/// `alloc`. A file of a flash is opened for `access`, and held from then on.
+pub fn read_flash<H: Host>(
+    alloc: Global,
+    flash: Source<'_>,
+    map: &SectorMap,
+    access: Access,
+    host: &mut H,
+) -> Result<Vec<u8>, Refusal>
+    ensures bytes { IfOk result (λ bytes.
+        Gives flash.entry (H.input host.old) (H.file host.old) bytes.items) }
+    ensures whole { IfOk result (λ bytes. IsFlashOf map.now bytes.items) }
+    ensures others { KeepsOthers flash.entry (H.input host.old) (H.file host.old)
+        (H.input host.new) (H.file host.new) }
+{
+    let bytes = match flash {
+        Source::StandardInput => flash.read_start(alloc, host, map.bytes_in_all())?,
+        Source::File(name) => open_flash(alloc, name, map, access, host)?,
+    };
+    if bytes.len() != map.bytes_in_all() as usize {
+        return Err(Refusal::FlashSize);
+    }
+    Ok(bytes)
+}
+
+/// The bytes of the file of a device's flash, which is opened and held.
+fn open_flash<H: Host>(
+    alloc: Global,
+    name: &str,
+    map: &SectorMap,
+    access: Access,
+    host: &mut H,
+) -> Result<Vec<u8>, Refusal>
+    ensures bytes { IfOk result (λ bytes. IsKnownAs (H.file host.old name.entry.now) bytes.items) }
+    ensures files { KeepsFiles (H.file host.old) (H.file host.new) }
+    ensures input { Keeps (H.input host.old) (H.input host.new) }
+{
+    host.open_flash(alloc, name, u64::from(map.bytes_in_all()), access)
+        .map_err(|fault| match fault {
+            FlashFault::InUse => Refusal::FlashInUse,
+            FlashFault::WrongLength => Refusal::FlashSize,
+            FlashFault::NoMemory => Refusal::NoMemory,
+            FlashFault::Failed(_) => Source::File(name).refused(alloc, SourceFault::CannotRead),
+        })
+}
