@@ -4,6 +4,7 @@ pub mod CheckingRequests
 pub mod Comparisons
 pub mod Counts
 pub mod DependantLaws
+pub mod EachPlace
 pub mod Greatest
 pub mod ImageLookups
 pub mod LineLaws
@@ -16,7 +17,6 @@ pub mod ReportLaws
 pub mod ReportTextLaws
 pub mod Requests
 pub mod RightFits
-pub mod RunningSet
 pub mod TableLaws
 pub mod TableLimits
 pub mod TableRuns

@@ -11,6 +11,7 @@ mod requests;
 
 use crate::report::Report;
 use crate::table::Table;
+pub(crate) use combination::takes_a_valid_combination;
 
 /// Whether a report is right for a table.
 ///

@@ -1,6 +1,6 @@
 //! Which requests depend on an image, or have it as an alternative.
 
-ghost use Rattle.std.specs.Prelude.{◌≡◌, ℕ};
+ghost use Rattle.std.specs.Prelude.{◌≡◌, ◌==◌, ℕ};
 ghost use Rattle.std.specs.Int.{bit_at};
 ghost use Rattle.std.specs.List.{list_any};
 ghost use Rattle.certificate.specs.Dependants.{asks_for, has_alternative, is_dependant, names};
@@ -8,7 +8,7 @@ ghost use Rattle.certificate.specs.Reasons.{depends_on};
 ghost use Rattle.certificate.specs.Rightness.{once_if};
 
 use crate::table::{Entry, Image, Request, Table};
-use version_order::Group;
+use version_order::{Dependency, Group};
 
 /// The requests that depend on the image of a number, as a mask: bit i is set exactly where image i
 /// has an intact request with a dependency on it, or with a group of which it is an alternative, in
@@ -52,17 +52,19 @@ fn is_alternative(groups: &[Group], number: u8) -> bool
 fn has_alternative(group: &Group, number: u8) -> bool
     ensures { result ≡ has_alternative number group.now }
 {
-    group
-        .alternatives
-        .iter()
-        .any(|alternative| alternative.image == number)
+    has_image(&group.alternatives, number)
 }
 
-fn depends_on(entry: &Entry, number: u8) -> bool
+/// Whether an entry depends on the image of a number, in any version.
+pub(crate) fn depends_on(entry: &Entry, number: u8) -> bool
     ensures { result ≡ depends_on entry.now number }
 {
-    entry
-        .dependencies
-        .iter()
-        .any(|dependency| dependency.image == number)
+    has_image(&entry.dependencies, number)
+}
+
+/// Whether one of these dependencies or alternatives is on the image of a number.
+fn has_image(asked: &[Dependency], number: u8) -> bool
+    ensures { result ≡ list_any (λ dependency. dependency.image == number) asked.now }
+{
+    asked.iter().any(|dependency| dependency.image == number)
 }

@@ -1,7 +1,7 @@
 //! How tables and reports are printed: a line for each thing they say, each ended by a line feed.
 
 ghost use Rattle.std.specs.Fmt.{WritesOnOk};
-ghost use Rattle.std.specs.Prelude.{◌≡◌, ◌≤◌, length, Some};
+ghost use Rattle.std.specs.Prelude.{◌≡◌, ◌≤◌, ◌++◌, ◌∷◌, [], length, Some};
 ghost use Rattle.common.specs.Lines.{printed_lines};
 ghost use Rattle.certificate.specs.ReportText.{reason_text, refuse_lines, report_line_text, report_text, reported_line, reported_lines};
 ghost use Rattle.certificate.specs.TableText.{group_lines, image_lines, needs_lines, request_lines, table_line_text, table_lines, table_text};
@@ -107,7 +107,7 @@ fn write_image<W: fmt::Write>(f: &mut fmt::Formatter<W>, number: u8, image: &Ima
         counter: image.running.counter,
         floor: image.floor,
     };
-    writeln!(f, "{line}")?;
+    write_line(f, &line)?;
     write_needs(f, &image.running)?;
     write_request(f, &image.request)
 }
@@ -119,16 +119,13 @@ fn write_request<W: fmt::Write>(f: &mut fmt::Formatter<W>, request: &Request) ->
 {
     match request {
         Request::None => Ok(()),
-        Request::Damaged => {
-            let line = TableLine::Damaged;
-            writeln!(f, "{line}")
-        }
+        Request::Damaged => write_line(f, &TableLine::Damaged),
         Request::Entry(entry) => {
             let line = TableLine::Request {
                 version: entry.version,
                 counter: entry.counter,
             };
-            writeln!(f, "{line}")?;
+            write_line(f, &line)?;
             write_needs(f, entry)
         }
     }
@@ -140,10 +137,16 @@ fn write_needs<W: fmt::Write>(f: &mut fmt::Formatter<W>, entry: &Entry) -> fmt::
         (printed_lines table_line_text (needs_lines entry.now)) f.new }
 {
     for dependency in entry.dependencies.as_slice() {
-        let line = TableLine::Needs(*dependency);
-        writeln!(f, "{line}")?;
+        write_line(f, &TableLine::Needs(*dependency))?;
     }
     write_groups(f, entry.groups.as_slice())
+}
+
+// One line.
+fn write_line<W: fmt::Write>(f: &mut fmt::Formatter<W>, line: &TableLine) -> fmt::Result
+    ensures { WritesOnOk W.write_str_gives f.old result (table_line_text line.now ++ 10 ∷ []) f.new }
+{
+    writeln!(f, "{line}")
 }
 
 // Groups, a line each.

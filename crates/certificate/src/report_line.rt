@@ -48,8 +48,9 @@ impl ReportLine {
     pub(crate) fn read(line: &[u8]) -> Option<ReportLine>
         ensures { result ≡ report_line_of line.now }
     {
-        let (word, fields) = cut(line, b' ');
-        let fields = fields?;
+        let (word, Some(fields)) = cut(line, b' ') else {
+            return None;
+        };
         if word == RUN {
             run_line(fields)
         } else if word == TAKE {
@@ -85,9 +86,11 @@ fn take_line(fields: &[u8]) -> Option<ReportLine>
 fn refuse_line(fields: &[u8]) -> Option<ReportLine>
     ensures { result ≡ refuse_line_of fields.now }
 {
-    let (image, rest) = cut(fields, b' ');
+    let (image, Some(rest)) = cut(fields, b' ') else {
+        return None;
+    };
     let image = number_u8(image)?;
-    let reason = reason(rest?)?;
+    let reason = reason(rest)?;
     Some(ReportLine::Refuse(Refusal { image, reason }))
 }
 
@@ -103,8 +106,10 @@ fn reason(text: &[u8]) -> Option<Reason>
     } else if text == COUNTER {
         Some(Reason::Counter)
     } else {
-        let (word, fields) = cut(text, b' ');
-        reason_with_fields(word, fields?)
+        let (word, Some(fields)) = cut(text, b' ') else {
+            return None;
+        };
+        reason_with_fields(word, fields)
     }
 }
 
@@ -113,12 +118,12 @@ fn reason_with_fields(word: &[u8], fields: &[u8]) -> Option<Reason>
     ensures { result ≡ reason_at word.now fields.now }
 {
     if word == NO_SUCH_IMAGE {
-        Some(Reason::NoSuchImage(number_u8(fields)?))
+        number_u8(fields).map(Reason::NoSuchImage)
     } else if word == NEEDS {
         let (image, minimum) = image_and_version(fields)?;
         Some(Reason::Needs(image, minimum))
     } else if word == NEEDS_ONE {
-        Some(Reason::NeedsOne(group(fields)?))
+        group(fields).map(Reason::NeedsOne)
     } else {
         None
     }

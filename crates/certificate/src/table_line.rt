@@ -60,14 +60,15 @@ impl TableLine {
         if line == DAMAGED {
             return Some(TableLine::Damaged);
         }
-        let (word, fields) = cut(line, b' ');
-        let fields = fields?;
+        let (word, Some(fields)) = cut(line, b' ') else {
+            return None;
+        };
         if word == IMAGE {
             image_line(fields)
         } else if word == NEEDS {
             needs_line(fields)
         } else if word == NEEDS_ONE {
-            Some(TableLine::NeedsOne(group(fields)?))
+            group(fields).map(TableLine::NeedsOne)
         } else if word == REQUEST {
             request_line(fields)
         } else {
@@ -81,18 +82,20 @@ impl TableLine {
 fn image_line(fields: &[u8]) -> Option<TableLine>
     ensures { result ≡ image_line_of fields.now }
 {
-    let (image, rest) = cut(fields, b' ');
-    let image = number_u8(image)?;
-    let (version, rest) = cut(rest?, b' ');
-    let version = Version::from_ascii(version).ok()?;
-    let (counter, rest) = cut(rest?, b' ');
-    let counter = number(counter)?;
-    let floor = number(rest?)?;
+    let (image, Some(rest)) = cut(fields, b' ') else {
+        return None;
+    };
+    let (version, Some(rest)) = cut(rest, b' ') else {
+        return None;
+    };
+    let (counter, Some(floor)) = cut(rest, b' ') else {
+        return None;
+    };
     Some(TableLine::Image {
-        number: image,
-        version,
-        counter,
-        floor,
+        number: number_u8(image)?,
+        version: Version::from_ascii(version).ok()?,
+        counter: number(counter)?,
+        floor: number(floor)?,
     })
 }
 
@@ -110,9 +113,11 @@ fn needs_line(fields: &[u8]) -> Option<TableLine>
 fn request_line(fields: &[u8]) -> Option<TableLine>
     ensures { result ≡ request_line_of fields.now }
 {
-    let (version, rest) = cut(fields, b' ');
+    let (version, Some(counter)) = cut(fields, b' ') else {
+        return None;
+    };
     let version = Version::from_ascii(version).ok()?;
-    let counter = number(rest?)?;
+    let counter = number(counter)?;
     Some(TableLine::Request { version, counter })
 }
 
@@ -121,9 +126,11 @@ fn request_line(fields: &[u8]) -> Option<TableLine>
 pub(crate) fn image_and_version(fields: &[u8]) -> Option<(u8, Version)>
     ensures { result ≡ image_and_version_of fields.now }
 {
-    let (image, rest) = cut(fields, b' ');
+    let (image, Some(version)) = cut(fields, b' ') else {
+        return None;
+    };
     let image = number_u8(image)?;
-    let version = Version::from_ascii(rest?).ok()?;
+    let version = Version::from_ascii(version).ok()?;
     Some((image, version))
 }
 

@@ -77,15 +77,13 @@ fn has_unmet_dependency(
 ) -> bool
     ensures { result ≡ list_any (is_out_of_reach table.now before.now own) dependencies.now }
 {
-    dependencies.iter().any(|dependency| is_out_of_reach(table, before, own, dependency))
+    first_out_of_reach(table, before, own, dependencies).is_some()
 }
 
 fn has_unmet_group(table: &Table, before: &[Refusal], own: u8, groups: &[Group]) -> bool
     ensures { result ≡ list_any (is_group_out_of_reach table.now before.now own) groups.now }
 {
-    groups
-        .iter()
-        .any(|group| is_group_out_of_reach(table, before, own, group))
+    first_group_out_of_reach(table, before, own, groups).is_some()
 }
 
 /// The first dependency of the intact request of an image that is out of reach after these

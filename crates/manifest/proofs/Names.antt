@@ -1,5 +1,6 @@
 -- Names that are compared one after another.
-use Rattle.std.proofs.Common.{◌≡◌, ◌↔◌, ℕ, ◌+◌, ◌<◌, List, ◌∷◌, String, Global, Bor, map, length, get_or, drop, string_bytes, sym, ap, ◌∙◌, add-one, drop-cons}
+use Rattle.std.proofs.Common.{◌≡◌, ◌↔◌, ℕ, ◌+◌, ◌<◌, List, [], ◌∷◌, String, Global, Bor, map, length, get_or, drop, string_bytes, sym, ap, ◌∙◌, add-one, arith, drop-cons, length-drop}
+use Rattle.std.proofs.lemmas.List.{length-map}
 use Rattle.common.proofs.Items.{same_cons}
 
 -- a fact holds exactly where the names that are left are those that are left to compare with
@@ -22,3 +23,11 @@ left_more P own later next names place d left is within same =
 pub left_other : (P : Type 0) (own later : List (String Global)) (next : String Global) (names : List (Bor (List ℕ))) (place : ℕ) (d : Bor (List ℕ)) → IsLeft P own names place → own ≡ next ∷ later → place < length names → (string_bytes next ≡ (get_or names place d).now → ⊥) → P → ⊥
 left_other P own later next names place d left is within other p =
     other (same_cons _ _ _ _ (sym (ap (map string_bytes) is) ∙ left.0 p ∙ first_left names place d within)).0
+
+-- no name is left then
+pub left_none : (P : Type 0) (own : List (String Global)) (names : List (Bor (List ℕ))) (place : ℕ)
+    → IsLeft P own names place → own ≡ [] → place < length names → P → ⊥
+left_none P own names place left none within p =
+    let others = map (λ (name : Bor (List ℕ)). name.now) (drop place names) in
+    let same : length others ≡ 0 = ap length (sym (left.0 p) ∙ ap (map string_bytes) none) in
+    omega (arith, same, length-map (drop place names) (λ (name : Bor (List ℕ)). name.now), length-drop place names)

@@ -37,7 +37,7 @@ fn has_component_keys(value: &Value) -> bool
 pub(crate) fn have_component_keys(values: &[Value]) -> bool
     ensures { IsTrue result ↔ AllByRecursion HasComponentKeys (map view values.now) }
 {
-    values.iter().all(|value| has_component_keys(value))
+    values.iter().all(has_component_keys)
 }
 
 /// The number of the image, 0 to 255.

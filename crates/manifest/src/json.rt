@@ -77,7 +77,7 @@ pub fn number(value: &Value, key: &str) -> Option<u32>
     ensures other { IfNone result ((number : ℕ) → number < 2 ^ 32
         → number_at key.now (view value.now) ≢ Some number) }
 {
-    u32::try_from(value.get(key)?.as_u64()?).ok()
+    number_of(value.get(key)?)
 }
 
 /// The text at a key. None where no text stands there, or where the value is no object with this

@@ -47,8 +47,9 @@ fn spelled(value: &Value) -> Option<Manifest>
         return None;
     }
     let sequence = number(value, "sequence-number")?;
-    uuid(value, "vendor-id")?;
-    uuid(value, "class-id")?;
+    if uuid(value, "vendor-id").is_none() || uuid(value, "class-id").is_none() {
+        return None;
+    }
     let components = components(array(value, "components")?.as_slice())?;
     if components.is_empty() {
         return None;

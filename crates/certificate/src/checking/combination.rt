@@ -11,7 +11,7 @@ use crate::table::{Image, Request, Table};
 use version_order::{Dependency, Group};
 
 /// Whether what a report takes is a valid combination.
-pub(super) fn takes_a_valid_combination(table: &Table, report: &Report) -> bool
+pub(crate) fn takes_a_valid_combination(table: &Table, report: &Report) -> bool
     ensures { IsTrue result ↔ IsValid table.now (taken_in report.now) }
 {
     has_acceptable_members(table, report) && meets_all_dependencies(table, report)
@@ -22,9 +22,12 @@ fn has_acceptable_members(table: &Table, report: &Report) -> bool
     ensures { IsTrue result
         ↔ ((j : ℕ) → IsTrue (taken_in report.now j) → IsAcceptable table.now j) }
 {
-    report.images.iter().enumerate().all(|(number, image)| {
-        !image.is_taken || is_acceptable(table, number)
-    })
+    for number in 0..report.images.len() {
+        if is_taken(report, number) && !is_acceptable(table, number) {
+            return false;
+        }
+    }
+    true
 }
 
 /// Whether a table has an image `number` with an intact request that isn't older than the running
@@ -49,11 +52,12 @@ fn meets_all_dependencies(table: &Table, report: &Report) -> bool
     ensures { IsTrue result
         ↔ ((j : ℕ) → HasMetDependencies table.now (taken_in report.now) j) }
 {
-    table
-        .images
-        .iter()
-        .enumerate()
-        .all(|(number, image)| can_run_on(table, report, number, image))
+    for (number, image) in table.images.iter().enumerate() {
+        if !can_run_on(table, report, number, image) {
+            return false;
+        }
+    }
+    true
 }
 
 /// Whether all dependencies and groups of image `number`, taken or running on, are met by what a

@@ -20,11 +20,12 @@ pub(super) fn has_the_versions(table: &Table, report: &Report) -> bool
     ensures { IsTrue result
         ↔ ((j : ℕ) → HasVersionAt table.now report.now j) }
 {
-    table
-        .images
-        .iter()
-        .enumerate()
-        .all(|(number, image)| has_its_version(report, number, image))
+    for (number, image) in table.images.iter().enumerate() {
+        if !has_its_version(report, number, image) {
+            return false;
+        }
+    }
+    true
 }
 
 /// Whether a report that has an image `number` has it with the version that it names for being

@@ -5,7 +5,7 @@ use Rattle.certificate.proofs.printing.write_image.Goals as goal
 
 pub returns : goal.returns
 returns g c = λ plain ok.
-    let first = c.in_ok-writeln.ensures.writes plain (search rules) in
+    let first = c.in_ok-write_line.ensures plain (search rules) in
     let needs = c.in_ok-write_needs.ensures first.plain (search rules) in
     has_written_of_eq _ _ _ _ _ (printed_image c.args.number c.args.image.now)
     (has_written_append _ _ _ _ _ _ first

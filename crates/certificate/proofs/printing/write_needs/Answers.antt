@@ -11,4 +11,4 @@ loop-dependency-preserved g c = λ plain.
     has_written_of_eq _ _ _ _ _
     (printed_at table_line_text (λ dependency. line.Needs dependency) c.as_slice-dependency-items.result.now
     c.loop-dependency.dependency-index _ c.loop-dependency-test.true)
-    (has_written_append _ _ _ _ _ _ before (c.in_ok-writeln.ensures.writes before.plain (search rules)))
+    (has_written_append _ _ _ _ _ _ before (c.in_ok-write_line.ensures before.plain (search rules)))

@@ -1,4 +1,5 @@
 use Rattle.std.proofs.Common.{rules, arith, ◌≡◌, ℕ, ◌+◌, ◌≤◌, false, List, ◌∷◌, [], ◌++◌, length, set, refl, sym, ap, subst, ◌∙◌}
+use Rattle.std.proofs.lemmas.Grind.{common_steps}
 use Rattle.std.proofs.lemmas.List.{length_push}
 use Rattle.certificate.specs.declared.report.Refusal.{Refusal}
 use Rattle.certificate.specs.StandardOrder.{IsNextNeed}
@@ -113,3 +114,6 @@ returns-clause-looks c =
         most_looks-le (length c.loop-refusal.refusals.items) few,
       ),
     )
+
+pub overflow_add-steps-in-Some : goal.overflow_add-steps-in-Some
+overflow_add-steps-in-Some c = grind (arith, common_steps)

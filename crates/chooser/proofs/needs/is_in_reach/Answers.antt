@@ -4,3 +4,6 @@ use Rattle.chooser.proofs.needs.is_in_reach.Goals as goal
 
 pub returns-in-Some : goal.returns-in-Some
 returns-in-Some c = grind (arith, elements)
+
+pub returns-in-None : goal.returns-in-None
+returns-in-None c = grind (arith, elements)

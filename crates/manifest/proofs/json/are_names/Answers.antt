@@ -1,7 +1,7 @@
 use Rattle.std.proofs.Common.{◌≡◌, map, get_or, string_bytes, sym, ap, ◌∙◌}
 use Rattle.std.proofs.lemmas.Bool.{false≢true}
 use Rattle.std.proofs.lemmas.Slice.Eq.{bytes_eq-Decides}
-use Rattle.manifest.proofs.Names.{left_more, left_other}
+use Rattle.manifest.proofs.Names.{left_more, left_none, left_other}
 use Rattle.manifest.proofs.Values.{names_of-members_view}
 use Rattle.manifest.proofs.json.are_names.Goals as goal
 
@@ -19,3 +19,9 @@ pub loop-name-preserved : goal.loop-name-preserved
 loop-name-preserved c =
     let same = sym c.as_str.ensures.value ∙ (bytes_eq-Decides _ _).0 (sym c.eq.ensures ∙ c.if-eq.true) in
     (tt, tt, left_more _ _ _ _ _ _ _ c.loop-name.invariant.2 c.in-Some.ensures.steps c.loop-name-test.true same)
+
+pub returns-in_default-2 : goal.returns-in_default-2
+returns-in_default-2 c =
+    let none = (rw c.in_default.is at c.next.ensures.steps).0 in
+    let other = left_none _ _ _ _ c.loop-name.invariant.2 none c.loop-name-test.true in
+    (λ no. absurd (false≢true no), λ names. absurd (other names))

@@ -29,3 +29,13 @@ returns-then-not-name_each_once-clause-fault c =
       ((((keys, spells), vendor), class), images),
       λ once. false≢true (c.if-not-name_each_once.ensures.1 (rw c.as_slice-2.ensures.value once)),
     )
+
+pub returns-clause-means : goal.returns-clause-means
+returns-clause-means c = record {
+  keys = c.if-not-has_keys.ensures.0 refl;
+  spelled = rw c.in_ok-manifest.ensures.ok_part at c.spelled.ensures.found;
+  vendor = sym c.uuid.ensures ∙ same_found _ (λ x y same. search (rules, same)) _ _ c.if-ne.ensures;
+  class = sym c.uuid-2.ensures ∙ same_found _ (λ x y same. search (rules, same)) _ _ c.if-ne-2.ensures;
+  images = rw c.as_slice.ensures.value at (c.if-not-name_images_below.ensures.0 refl);
+  once = rw c.as_slice-2.ensures.value at (c.if-not-name_each_once.ensures.0 refl);
+}

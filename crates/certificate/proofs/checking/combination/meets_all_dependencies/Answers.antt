@@ -1,0 +1,34 @@
+use Rattle.std.proofs.Common.{ℕ, Bool, refl, sym, ◌∙◌}
+use Rattle.std.specs.Prelude.{IsTrue}
+use Rattle.std.proofs.lemmas.Bool.{false≢true}
+use Rattle.certificate.specs.declared.table.Image.{Image}
+use Rattle.certificate.specs.declared.table.Table.{Table}
+use Rattle.certificate.specs.Combination.{entry_in, meets_all}
+use Rattle.certificate.specs.Rightness.{taken_in}
+use Rattle.certificate.proofs.EachPlace.{holds_everywhere, holds_here, holds_one_more}
+use Rattle.certificate.proofs.checking.combination.meets_all_dependencies.Goals as goal
+
+-- What an image contributes is met.
+abbrev IsMetAt : Table → (ℕ → Bool) → ℕ → Image → Type 0
+IsMetAt table taken j image = IsTrue (meets_all table taken (entry_in image (taken j)))
+
+pub loop-number-preserved : goal.loop-number-preserved
+loop-number-preserved c =
+    holds_one_more c.args.table.now.images.items (IsMetAt c.args.table.now (taken_in c.args.report.now)) _ _ _
+    c.deref-image-items.ensures.0 c.loop-number-test.true c.image-item.is c.loop-number.invariant
+    (sym c.can_run_on.ensures ∙ c.if-not-can_run_on.false)
+
+pub returns : goal.returns
+returns c = (
+  λ yes. holds_everywhere c.args.table.now.images.items (IsMetAt c.args.table.now (taken_in c.args.report.now)) _ _
+      c.deref-image-items.ensures.0 c.loop-number-test.false c.loop-number.invariant,
+  λ met. refl,
+)
+
+pub returns-then-not-can_run_on : goal.returns-then-not-can_run_on
+returns-then-not-can_run_on c = (
+  λ yes. absurd (false≢true yes),
+  λ met. sym c.if-not-can_run_on.true ∙ c.can_run_on.ensures
+      ∙ holds_here c.args.table.now.images.items (IsMetAt c.args.table.now (taken_in c.args.report.now)) _ _ _
+      c.deref-image-items.ensures.0 c.loop-number-test.true c.image-item.is met,
+)

@@ -1,0 +1,8 @@
+use Rattle.std.proofs.Common.{ℕ, ◌<◌}
+use Rattle.certificate.specs.Combination.{HasMetDependencies}
+use Rattle.certificate.specs.Rightness.{taken_in}
+use Rattle.certificate.proofs.checking.combination.meets_all_dependencies.Given as goal
+
+-- each image so far has met dependencies and groups
+abbrev pub invariant-loop-number : goal.invariant-loop-number
+invariant-loop-number l = (j : ℕ) → j < l.number → HasMetDependencies l.table (taken_in l.report) j
