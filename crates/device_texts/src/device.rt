@@ -133,7 +133,6 @@ fn fields_of(alloc: Global, value: &Value) -> Result<DeviceFields, DeviceFault>
     let Some(values) = array(value, "sectors") else {
         return Err(DeviceFault::Malformed);
     };
-    let sectors = numbers_of(alloc, values.as_slice())?;
     let Some(vendor) = uuid(value, "vendor-id") else {
         return Err(DeviceFault::Malformed);
     };
@@ -143,6 +142,7 @@ fn fields_of(alloc: Global, value: &Value) -> Result<DeviceFields, DeviceFault>
     let Some(trial_boots) = trial_boots(value) else {
         return Err(DeviceFault::Malformed);
     };
+    let sectors = numbers_of(alloc, values.as_slice())?;
     Ok(DeviceFields {
         sector_size,
         sectors,
@@ -187,9 +187,9 @@ fn trial_boots(value: &Value) -> Option<u8>
     if value.get("trial-boots").is_none() {
         return Some(USUAL_TRIAL_BOOTS);
     }
-    let boots = u8::try_from(number(value, "trial-boots")?).ok()?;
-    if 1 <= boots && boots <= MOST_TRIAL_BOOTS {
-        Some(boots)
+    let boots = number(value, "trial-boots")?;
+    if 1 <= boots && boots <= u32::from(MOST_TRIAL_BOOTS) {
+        Some(boots as u8)
     } else {
         None
     }

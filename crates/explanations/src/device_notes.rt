@@ -1,6 +1,6 @@
 //! What is wrong with a device file.
 
-use crate::json_notes::{Key, Wanted, add_value, explain_keys, explain_text, explain_values};
+use crate::json_notes::{Key, Wanted, add_value, explain_keys, explain_text};
 use common::limits::{MOST_IMAGES, MOST_TRIAL_BOOTS};
 use manifest::json::{array, json_of, number, number_of};
 use sector_map::MapError;
@@ -28,8 +28,7 @@ pub fn explain_device(notes: &mut String, alloc: Global, bytes: &[u8]) -> Result
 
 /// Adds why a JSON value is no device file.
 fn explain_value(notes: &mut String, alloc: Global, value: &Value) -> Result<(), AllocError> {
-    explain_keys(notes, "the device file", value, KEYS.as_slice())?;
-    explain_values(notes, alloc, "the device file", value, KEYS.as_slice())?;
+    explain_keys(notes, alloc, "the device file", value, KEYS.as_slice())?;
     explain_sectors(notes, alloc, value)?;
     explain_trial_boots(notes, value)
 }

@@ -82,10 +82,11 @@ pub fn explain_text(notes: &mut String, alloc: Global, bytes: &[u8]) -> Result<(
     }
 }
 
-/// Adds the keys that are missing in an object, and those that aren't known. `owner` is what the
-/// object is called.
+/// Adds the keys that are missing in an object, those that aren't known, and those at which
+/// something else stands than has to. `owner` is what the object is called.
 pub fn explain_keys(
     notes: &mut String,
+    alloc: Global,
     owner: &str,
     value: &Value,
     keys: &[Key],
@@ -100,7 +101,7 @@ pub fn explain_keys(
             writeln!(notes, "note: {owner} has `{shown}`, which isn't known")?;
         }
     }
-    Ok(())
+    explain_values(notes, alloc, owner, value, keys)
 }
 
 /// Adds the keys that are missing in an object.
@@ -130,7 +131,7 @@ fn is_known(name: &str, keys: &[Key]) -> bool {
 }
 
 /// Adds the keys of an object at which something else stands than has to.
-pub fn explain_values(
+fn explain_values(
     notes: &mut String,
     alloc: Global,
     owner: &str,

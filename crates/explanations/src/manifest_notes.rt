@@ -1,6 +1,6 @@
 //! What is wrong with a manifest.
 
-use crate::json_notes::{Key, Wanted, explain_keys, explain_text, explain_values};
+use crate::json_notes::{Key, Wanted, explain_keys, explain_text};
 use manifest::json::{array, json_of, number, uuid};
 use manifest::{Identity, MOST_COMPONENTS};
 use serde_json::Value;
@@ -47,8 +47,7 @@ fn explain_value(
     value: &Value,
     identity: &Identity,
 ) -> Result<(), AllocError> {
-    explain_keys(notes, "the manifest", value, KEYS.as_slice())?;
-    explain_values(notes, alloc, "the manifest", value, KEYS.as_slice())?;
+    explain_keys(notes, alloc, "the manifest", value, KEYS.as_slice())?;
     explain_version(notes, value)?;
     explain_identifier(notes, value, "vendor-id", identity.vendor)?;
     explain_identifier(notes, value, "class-id", identity.class)?;
@@ -116,8 +115,7 @@ fn explain_component(
 ) -> Result<(), AllocError> {
     let place = before.len();
     let owner = format!(in alloc; "entry {place} of `components`")?;
-    explain_keys(notes, &owner, component, COMPONENT_KEYS.as_slice())?;
-    explain_values(notes, alloc, &owner, component, COMPONENT_KEYS.as_slice())?;
+    explain_keys(notes, alloc, &owner, component, COMPONENT_KEYS.as_slice())?;
     explain_image_of(notes, &owner, before, component, images)
 }
 

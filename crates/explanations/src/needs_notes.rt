@@ -36,9 +36,7 @@ fn explain_dependencies(
     for need in entry.dependencies.iter() {
         if !versions.meet(need) {
             add_owner(notes, number, entry.version)?;
-            notes.push_str("needs")?;
-            versions.add_need(notes, need, false)?;
-            notes.push_str("\n")?;
+            versions.explain_need(notes, need, false)?;
         }
     }
     Ok(())
@@ -54,9 +52,7 @@ fn explain_groups(
     for group in entry.groups.iter() {
         if !versions.meet_one(group) {
             add_owner(notes, number, entry.version)?;
-            notes.push_str("needs")?;
-            versions.add_group(notes, group, false)?;
-            notes.push_str("\n")?;
+            versions.explain_group(notes, group, false)?;
         }
     }
     Ok(())

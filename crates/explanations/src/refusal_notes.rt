@@ -64,28 +64,23 @@ fn add_reason(
 ) -> Result<(), AllocError> {
     let (running, counter, floor) = (image.running.version, entry.counter, image.floor);
     match reason {
-        Reason::Damaged => {}
-        Reason::Older => write!(notes, "is requested, and {running} runs, which is newer")?,
-        Reason::Counter => write!(
+        Reason::Damaged => Ok(()),
+        Reason::Older => writeln!(notes, "is requested, and {running} runs, which is newer"),
+        Reason::Counter => writeln!(
             notes,
             "is requested with the security counter {counter}, below the floor {floor}"
-        )?,
-        Reason::NoSuchImage(number) => write!(
+        ),
+        Reason::NoSuchImage(number) => writeln!(
             notes,
             "needs image {number}; there are {count} images, from 0 on"
-        )?,
+        ),
         Reason::Needs(number, minimum) => {
             let need = Dependency {
                 image: *number,
                 minimum: *minimum,
             };
-            notes.push_str("needs")?;
-            best.add_need(notes, &need, true)?;
+            best.explain_need(notes, &need, true)
         }
-        Reason::NeedsOne(group) => {
-            notes.push_str("needs")?;
-            best.add_group(notes, group, true)?;
-        }
+        Reason::NeedsOne(group) => best.explain_group(notes, group, true),
     }
-    notes.push_str("\n")
 }

@@ -7,9 +7,6 @@ use common::lines::first_line;
 use script::{Event, FileText, Line, PartText, line_of};
 use std::alloc::AllocError;
 
-/// The words that lines begin with.
-const WORDS: &str = "cut, accept, piece, finish, withdraw, confirm, boot and reset";
-
 /// What stands behind a word that a line begins with.
 #[derive(Clone, Copy)]
 enum Fields {
@@ -120,7 +117,8 @@ fn explain_spelling(notes: &mut String, line: &[u8]) -> Result<(), AllocError> {
         Some(Fields::Nothing) => writeln!(notes, "note: nothing stands behind `{shown}`"),
         None => writeln!(
             notes,
-            "note: `{shown}` is no word that a line begins with; those are {WORDS}"
+            "note: `{shown}` is no word that a line begins with; those are cut, accept, piece, \
+             finish, withdraw, confirm, boot and reset"
         ),
     }
 }

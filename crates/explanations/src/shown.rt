@@ -35,7 +35,7 @@ fn write_text<W: fmt::Write>(f: &mut fmt::Formatter<W>, text: &str) -> fmt::Resu
 }
 
 fn write_bytes<W: fmt::Write>(f: &mut fmt::Formatter<W>, bytes: &[u8]) -> fmt::Result {
-    for byte in bytes.iter().take(MOST) {
+    for byte in &bytes[..bytes.len().min(MOST)] {
         if matches!(byte, b' '..=b'~') {
             f.write_char(char::from(*byte))?;
         } else {

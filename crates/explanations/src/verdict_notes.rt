@@ -4,7 +4,7 @@ use crate::needs_notes::explain_set;
 use crate::versions::{Versions, is_taken, version_in};
 use certificate::{Entry, Image, Reason, Refusal, Report, Request, Table};
 use std::alloc::AllocError;
-use version_order::Dependency;
+use version_order::{Dependency, Version};
 
 /// Adds the first thing that makes a report wrong for a table: the number of its images, a version,
 /// a request that isn't decided once, a set that isn't valid, or a reason that doesn't hold. A line
@@ -56,17 +56,30 @@ fn explain_count(notes: &mut String, table: &Table, report: &Report) -> Result<(
 /// Adds the versions that aren't those of the table.
 fn explain_versions(notes: &mut String, table: &Table, report: &Report) -> Result<(), AllocError> {
     let taken = taken_in(report);
-    for (number, (image, reported)) in table.images.iter().zip(report.images.iter()).enumerate() {
-        let (told, version) = (reported.version, version_in(image, is_taken(taken, number)));
-        if told != version {
-            let line = number.saturating_add(1);
-            writeln!(
-                notes,
-                "note: report line {line}: image {number} would run {version}, and {told} is told"
-            )?;
+    for (number, reported) in report.images.iter().enumerate() {
+        if let Some(image) = table.images.get(number) {
+            let version = version_in(image, is_taken(taken, number));
+            explain_version(notes, number, version, reported.version)?;
         }
     }
     Ok(())
+}
+
+/// Adds that a report tells of another version of an image than would run, where it does.
+fn explain_version(
+    notes: &mut String,
+    number: usize,
+    version: Version,
+    told: Version,
+) -> Result<(), AllocError> {
+    if told == version {
+        return Ok(());
+    }
+    let line = number.saturating_add(1);
+    writeln!(
+        notes,
+        "note: report line {line}: image {number} would run {version}, and {told} is told"
+    )
 }
 
 /// Adds the requests that aren't taken or refused once.

@@ -68,8 +68,37 @@ impl Versions {
         false
     }
 
+    /// Ends a sentence on the version of an image by a dependency of it, and the version there.
+    pub fn explain_need(
+        &self,
+        notes: &mut String,
+        need: &Dependency,
+        is_hope: bool,
+    ) -> Result<(), AllocError> {
+        notes.push_str("needs")?;
+        self.add_need(notes, need, is_hope)?;
+        notes.push_str("\n")
+    }
+
+    /// Ends a sentence on the version of an image by a group of it, and the versions there.
+    pub fn explain_group(
+        &self,
+        notes: &mut String,
+        group: &Group,
+        is_hope: bool,
+    ) -> Result<(), AllocError> {
+        notes.push_str("needs one of these:")?;
+        for (place, need) in group.alternatives.iter().enumerate() {
+            if place > 0 {
+                notes.push_str(";")?;
+            }
+            self.add_need(notes, need, is_hope)?;
+        }
+        notes.push_str("\n")
+    }
+
     /// Adds what a dependency asks for, and the version there.
-    pub fn add_need(
+    fn add_need(
         &self,
         notes: &mut String,
         need: &Dependency,
@@ -82,23 +111,6 @@ impl Versions {
             Some(version) => write!(notes, "is {version}"),
             None => notes.push_str("isn't there"),
         }
-    }
-
-    /// Adds what a group asks for, and the versions there.
-    pub fn add_group(
-        &self,
-        notes: &mut String,
-        group: &Group,
-        is_hope: bool,
-    ) -> Result<(), AllocError> {
-        notes.push_str(" one of these:")?;
-        for (place, need) in group.alternatives.iter().enumerate() {
-            if place > 0 {
-                notes.push_str(";")?;
-            }
-            self.add_need(notes, need, is_hope)?;
-        }
-        Ok(())
     }
 }
 

@@ -5,7 +5,7 @@ ghost use Rattle.flash_model.specs.Memory.{chip_of};
 ghost use Rattle.device_texts.specs.DeviceFile.{IsOfFile};
 ghost use Rattle.device_texts.specs.FlashOf.{IsFlashOf};
 ghost use Rattle.sweep.specs.Cuts.{ArmsAll};
-ghost use Rattle.sweep.specs.Living.{IsLived, Lives, LivesOne, Reboots, held_in};
+ghost use Rattle.sweep.specs.Living.{IsLived, Lives, LivesOne, Reboots, all_of, held_in};
 
 use crate::cuts::Cut;
 use crate::device::device_over;
@@ -66,10 +66,7 @@ fn live_on<L: Ledger>(
     let mut flash = flash_of::<L>(alloc, blank, &life.device.map, bytes);
     arm_all(alloc, &mut flash, cuts)?;
     let mut device = device_over(flash, life.device);
-    let mut notes = Notes::default();
-    go_through(alloc, &mut device, life.events, cuts.len(), &mut notes)?;
-    go_through(alloc, &mut device, life.between, cuts.len(), &mut notes)?;
-    go_through(alloc, &mut device, life.more, cuts.len(), &mut notes)?;
+    let notes = go_through_all(alloc, &mut device, life, cuts.len())?;
     let mut flash = device.into_flash();
     let versions = running_versions(&mut flash, &life.device.map);
     Ok(LifeEnd {
@@ -92,6 +89,25 @@ fn arm_all<L: Ledger>(
         flash.arm(u64::from(cut.write), torn)?;
     }
     Ok(())
+}
+
+/// Has all that comes in a life come to a device whose flash has power, in order. Behind each event
+/// in which a write is cut the device boots until a boot isn't cut, at most so many times.
+fn go_through_all<L: Ledger>(
+    alloc: Global,
+    device: &mut Device<MemFlash<L>>,
+    life: &Life<'_>,
+    most: usize,
+) -> Result<Notes, AllocError>
+    requires { device.old.here.flash.is_on ≡ true }
+    ensures { IfOk result (λ _. Lives device.old.setup device.old.here device.new.here
+        (all_of life.now)) }
+{
+    let mut notes = Notes::default();
+    go_through(alloc, device, life.events, most, &mut notes)?;
+    go_through(alloc, device, life.between, most, &mut notes)?;
+    go_through(alloc, device, life.more, most, &mut notes)?;
+    Ok(notes)
 }
 
 /// Has these events come to a device whose flash has power, in order. Behind each in which a write

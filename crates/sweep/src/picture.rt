@@ -35,18 +35,15 @@ pub fn picture_of(alloc: Global, life: &Life<'_>, found: &Found) -> Result<Strin
     let width = width_of(&found.writes);
     let rows = life.events.len() as u64;
     let height = height_of(rows.saturating_add(MARKS.len() as u64 + 1));
-    write!(
-        text,
-        "<svg xmlns=\"http://www.w3.org/2000/svg\" width=\"{width}\" height=\"{height}\" "
-    )?;
-    writeln!(text, "font-family=\"sans-serif\" font-size=\"12\">")?;
     writeln!(
         text,
-        "<rect width=\"100%\" height=\"100%\" fill=\"white\"/>"
+        "<svg xmlns=\"http://www.w3.org/2000/svg\" width=\"{width}\" height=\"{height}\" \
+         font-family=\"sans-serif\" font-size=\"12\">\n\
+         <rect width=\"100%\" height=\"100%\" fill=\"white\"/>"
     )?;
     draw_events(&mut text, life.events, found)?;
     draw_legend(&mut text, rows.saturating_add(1))?;
-    writeln!(text, "</svg>")?;
+    text.push_str("</svg>\n")?;
     Ok(text)
 }
 
@@ -81,7 +78,7 @@ fn draw_events(
         let base = top.saturating_add(13);
         write!(text, "<text x=\"8\" y=\"{base}\">{number} ")?;
         write_event(text, event)?;
-        writeln!(text, "</text>")?;
+        text.push_str("</text>\n")?;
         let end = found.writes.get(place).copied().unwrap_or(before);
         draw_writes(text, &found.marks, before, end, top)?;
         before = end;
@@ -118,11 +115,8 @@ fn draw_square(text: &mut String, mark: Mark, left: u64, top: u64) -> Result<(),
     let color = color_of(mark);
     write!(
         text,
-        "<rect x=\"{left}\" y=\"{top}\" width=\"7\" height=\"16\" "
-    )?;
-    write!(
-        text,
-        "fill=\"{color}\" stroke=\"#999\" stroke-width=\"0.5\">"
+        "<rect x=\"{left}\" y=\"{top}\" width=\"7\" height=\"16\" \
+         fill=\"{color}\" stroke=\"#999\" stroke-width=\"0.5\">"
     )
 }
 
@@ -133,9 +127,8 @@ fn draw_legend(text: &mut String, row: u64) -> Result<(), AllocError> {
         let top = height_of(row);
         let base = top.saturating_add(13);
         draw_square(text, *mark, 8, top)?;
-        writeln!(text, "</rect>")?;
         let name = name_of(*mark);
-        writeln!(text, "<text x=\"24\" y=\"{base}\">{name}</text>")?;
+        writeln!(text, "</rect>\n<text x=\"24\" y=\"{base}\">{name}</text>")?;
         row = row.saturating_add(1);
     }
     Ok(())

@@ -1,6 +1,6 @@
 //! All runs of a sweep.
 
-ghost use Rattle.std.specs.Prelude.{◌≡◌};
+ghost use Rattle.std.specs.Prelude.{◌≡◌, true};
 ghost use Rattle.device_texts.specs.DeviceFile.{IsOfFile};
 ghost use Rattle.device_texts.specs.FlashOf.{IsFlashOf};
 
@@ -11,10 +11,11 @@ use crate::living::{Life, live};
 use crate::notes::{CutNote, LifeEnd, had_memory};
 use crate::plan::{Plan, Watch};
 use arrayvec::ArrayVec;
-use boot_core::step;
+use boot_core::{Device, step};
 use common::limits::MOST_IMAGES;
-use device_texts::{DeviceFile, flash_of};
+use device_texts::flash_of;
 use events::Event;
+use flash_model::MemFlash;
 use random_numbers::Random;
 use std::alloc::{AllocError, Global};
 use std::marker::Brand;
@@ -87,15 +88,25 @@ fn count_writes<L: Ledger>(
     let bytes = Vec::from_slice(alloc, life.bytes)?;
     let flash = flash_of::<L>(alloc, blank, &life.device.map, bytes);
     let mut device = device_over(flash, life.device);
-    let mut writes = Vec::with_capacity(alloc, life.events.len())?;
-    for event in life.events {
+    count_through(alloc, &mut device, life.events)
+}
+
+/// For each of these events, as they come to a device whose flash has power, the number of writes
+/// that were made when it was over.
+fn count_through<L: Ledger>(
+    alloc: Global,
+    device: &mut Device<MemFlash<L>>,
+    events: &[Event<Vec<u8>>],
+) -> Result<Vec<u32>, AllocError>
+    requires { device.old.here.flash.is_on ≡ true }
+{
+    let mut writes = Vec::with_capacity(alloc, events.len())?;
+    for event in events {
         let event = event.as_deref();
-        let reply = step(alloc, &mut device, &event);
+        let reply = step(alloc, device, &event);
         had_memory(&reply)?;
         let count = device.flash().writes().min(u64::from(u32::MAX)) as u32;
-        if writes.push(count).is_err() {
-            return Err(AllocError);
-        }
+        writes.push(count)?;
     }
     Ok(writes)
 }
@@ -243,10 +254,11 @@ fn try_cuts(
     requires device { IsOfFile life.now.device.now }
     requires whole { IsFlashOf life.now.device.now.map life.now.bytes.now }
 {
-    let (end, first) = match cuts {
-        Cuts::One(first) => (live(alloc, life, &[first])?, first),
-        Cuts::Two(first, second) => (live(alloc, life, &[first, second])?, first),
+    let (lived, first) = match cuts {
+        Cuts::One(first) => (live(alloc, life, &[first]), first),
+        Cuts::Two(first, second) => (live(alloc, life, &[first, second]), first),
     };
+    let end = lived?;
     let mut behind = 0;
     if let Some(cut) = end.cut {
         found.mark(first.write, cut.said);
@@ -303,50 +315,34 @@ fn live_beside(alloc: Global, life: &Life<'_>, event: usize) -> Result<EndsBesid
     requires device { IsOfFile life.now.device.now }
     requires whole { IsFlashOf life.now.device.now.map life.now.bytes.now }
 {
-    let Life {
-        device,
-        bytes,
-        events,
-        between: _,
-        more: _,
-    } = life;
-    let place = event.min(events.len());
-    let (nothing, _) = events.split_at(0);
-    let (before, _) = events.split_at(place);
-    let (through, more) = events.split_at(place.saturating_add(1).min(events.len()));
-    let power_fails = power_fails(alloc)?;
+    let events = life.events;
+    let (before, _) = events.split_at(event.min(events.len()));
+    let (through, more) = events.split_at(event.saturating_add(1).min(events.len()));
+    // Where power fails between two events, the device is reset, and boots.
+    let power_fails = [Event::Reset, Event::Boot];
     Ok(EndsBeside {
         event,
-        left_out: end_of(alloc, device, bytes, before, nothing, more)?,
-        before: end_of(alloc, device, bytes, before, &power_fails, more)?,
-        behind: end_of(alloc, device, bytes, through, &power_fails, more)?,
+        left_out: end_of(alloc, life, before, &[], more)?,
+        before: end_of(alloc, life, before, &power_fails, more)?,
+        behind: end_of(alloc, life, through, &power_fails, more)?,
     })
 }
 
-/// What comes where power fails between two events: the device is reset, and boots.
-fn power_fails(alloc: Global) -> Result<Vec<Event<Vec<u8>>>, AllocError> {
-    let mut events = Vec::new(alloc);
-    events.push(Event::Reset)?;
-    events.push(Event::Boot)?;
-    Ok(events)
-}
-
-/// What runs at the end where these events come to this device with these bytes on its flash,
+/// What runs at the end where these events come to the device of a life in the place of its own,
 /// without a cut.
 fn end_of(
     alloc: Global,
-    device: &DeviceFile,
-    bytes: &[u8],
+    life: &Life<'_>,
     events: &[Event<Vec<u8>>],
     between: &[Event<Vec<u8>>],
     more: &[Event<Vec<u8>>],
 ) -> Result<Option<ArrayVec<Version, MOST_IMAGES>>, AllocError>
-    requires device { IsOfFile device.now }
-    requires whole { IsFlashOf device.now.map bytes.now }
+    requires device { IsOfFile life.now.device.now }
+    requires whole { IsFlashOf life.now.device.now.map life.now.bytes.now }
 {
     let life = Life {
-        device,
-        bytes,
+        device: life.device,
+        bytes: life.bytes,
         events,
         between,
         more,

@@ -35,7 +35,7 @@ fn write_events(
         write_event(text, event)?;
         let end = found.writes.get(place).copied().unwrap_or(before);
         write_marks(text, &found.marks, before, end)?;
-        writeln!(text)?;
+        text.push_str("\n")?;
         before = end;
     }
     Ok(())
@@ -43,15 +43,16 @@ fn write_events(
 
 /// Adds the words of an event, as the line of a script has them, but for its files.
 pub(crate) fn write_event(text: &mut String, event: &Event<Vec<u8>>) -> Result<(), AllocError> {
-    match event {
-        Event::Accept(_) => write!(text, "accept"),
-        Event::Piece(image, _) => write!(text, "piece {image}"),
-        Event::Finish(image) => write!(text, "finish {image}"),
-        Event::Withdraw(image) => write!(text, "withdraw {image}"),
-        Event::Confirm(image) => write!(text, "confirm {image}"),
-        Event::Boot => write!(text, "boot"),
-        Event::Reset => write!(text, "reset"),
-    }
+    let (word, image) = match event {
+        Event::Accept(_) => return text.push_str("accept"),
+        Event::Piece(image, _) => ("piece", *image),
+        Event::Finish(image) => ("finish", *image),
+        Event::Withdraw(image) => ("withdraw", *image),
+        Event::Confirm(image) => ("confirm", *image),
+        Event::Boot => return text.push_str("boot"),
+        Event::Reset => return text.push_str("reset"),
+    };
+    write!(text, "{word} {image}")
 }
 
 /// Adds the number of the first write of an event, and a character for each of them, where there
@@ -66,8 +67,7 @@ fn write_marks(text: &mut String, marks: &[Mark], before: u32, end: u32) -> Resu
     let first = before.saturating_add(1);
     write!(text, " from {first} ")?;
     for mark in marks {
-        let character = character_of(*mark);
-        write!(text, "{character}")?;
+        text.push_str(character_of(*mark))?;
     }
     Ok(())
 }
@@ -99,7 +99,7 @@ fn write_sets(text: &mut String, sets: &[SetTally]) -> Result<(), AllocError> {
 /// Adds the images of a set.
 fn write_versions(text: &mut String, set: &SetTally) -> Result<(), AllocError> {
     let Some(versions) = &set.versions else {
-        return writeln!(text, "damaged");
+        return text.push_str("damaged\n");
     };
     for (image, version) in versions.iter().enumerate() {
         writeln!(text, "run {image} {version}")?;

@@ -1,4 +1,5 @@
 use Rattle.std.proofs.Common.{◌<◌, ◌^◌, arith}
+use Rattle.std.proofs.lemmas.List.{take_all}
 use Rattle.serde_json.specs.View.{view}
 use Rattle.device_texts.specs.DeviceFile.{IsNumber}
 use Rattle.common.proofs.Mapped.{AllZip-at, AllZip-more}
@@ -19,3 +20,8 @@ loop-value-preserved c =
     c.loop-value.value-index c.value-item.result c.in-Some.number c.loop-value-test.true
     c.value-item.is c.loop-value.invariant (c.in-Some.ensures.found, fits) in
     rw c.in-Ok.ensures.items more
+
+-- They were all values.
+pub returns-clause-numbers : goal.returns-clause-numbers
+returns-clause-numbers c =
+    rw (take_all c.loop-value.value-index c.args.values.now c.loop-value-test.false) at c.loop-value.invariant

@@ -1,5 +1,5 @@
 use Rattle.std.proofs.Common.{◌≡◌, true}
-use Rattle.sweep.proofs.sweeping.count_writes.Given as goal
+use Rattle.sweep.proofs.sweeping.count_through.Given as goal
 
 -- the flash has power
 abbrev pub invariant-loop-event : goal.invariant-loop-event
