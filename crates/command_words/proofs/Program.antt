@@ -1,6 +1,6 @@
 -- The program as `clap` is told of it, and what a parse by it finds and refuses.
 use Rattle.std.proofs.Common.{◌≡◌, List, refl, rules, subst, true}
-use Rattle.std.specs.Prelude.{Err, IfErr, Ok, Result}
+use Rattle.std.specs.Prelude.{Err, IfErr, IfOk, Ok, Result}
 use Rattle.clap.specs.Faults.{is_simple_and_free}
 use Rattle.clap.specs.Simple.{is_simple}
 use Rattle.clap.specs.Words.{App, FailsBy, HasKind, HasMatchesOf, Text, fault_of, subcommand_of, subcommand_rows_of}
@@ -15,11 +15,13 @@ is_free_program : is_simple_and_free bootswap ≡ true
 is_free_program = refl
 
 -- The subcommand that a parse by the program finds is the one that `clap` defines.
-pub subcommand_found : (app : App) (words : List Text) (found : ArgMatches) → app ≡ bootswap
-    → HasMatchesOf app words found → subcommand_rows_of found ≡ subcommand_of bootswap words
-subcommand_found app words found same matches =
+pub subcommand_found : (app : App) (words : List Text) (parsed : Result ArgMatches Error) → app ≡ bootswap
+    → IfOk parsed (HasMatchesOf app words)
+    → IfOk parsed (λ found. subcommand_rows_of found ≡ subcommand_of bootswap words)
+subcommand_found app words (Ok found) same matches =
     let of_program = subst (λ (a : App). HasMatchesOf a words found) same matches in
     (of_program is_simple_program).1
+subcommand_found app words (Err error) same matches = matches
 
 error_of : {T : Type 0} (words : List Text) (parsed : Result T Error) → FailsBy (fault_of bootswap words) parsed
     → IfErr parsed (HasKind (fault_of bootswap words))

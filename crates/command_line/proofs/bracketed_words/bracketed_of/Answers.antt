@@ -1,5 +1,6 @@
-use Rattle.std.proofs.Common.{ℕ, List, [], Bor, get_or, sym}
-use Rattle.std.proofs.lemmas.List.{get_or_default}
+use Rattle.std.proofs.Common.{◌∙◌, ℕ, List, [], Bor, get_or, sym}
+use Rattle.std.proofs.lemmas.List.{get_or_default, take_all}
+use Rattle.std.proofs.lemmas.Option.{none-some}
 use Rattle.common.proofs.Mapped.{AllZip-at, AllZip-more}
 use Rattle.command_line.specs.Needs.{IsBracketed}
 use Rattle.command_line.proofs.bracketed_words.bracketed_of.Goals as goal
@@ -16,7 +17,7 @@ returns-in_default c = λ dependencies each.
     let at = AllZip-at IsBracketed (λ w. w.now) c.args.words.now dependencies c.loop-word.word-index word
     c.loop-word-test.true is each in
     let none = rw c.in_default.is at c.bracketed_need.ensures in
-    absurd (cc (none, at.1))
+    none-some at.0 (none ∙ at.1)
 
 -- The dependency of one word more.
 pub loop-word-preserved : goal.loop-word-preserved
@@ -27,3 +28,7 @@ loop-word-preserved c =
     c.loop-word.word-index word c.in-Some.dependency c.loop-word-test.true is c.loop-word.invariant
     (sym (rw c.in-Some.is at c.bracketed_need.ensures)) in
     rw c.in_ok-push.ensures.items more
+
+-- At the end they are all there.
+pub returns : goal.returns
+returns c = rw (take_all c.loop-word.word-index c.args.words.now c.loop-word-test.false) at c.loop-word.invariant

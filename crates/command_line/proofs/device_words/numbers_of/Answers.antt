@@ -1,5 +1,5 @@
 use Rattle.std.proofs.Common.{◌≡◌, ℕ, List, [], Bor, Some, ap, get_or, sym, ◌∙◌}
-use Rattle.std.proofs.lemmas.List.{get_or_default}
+use Rattle.std.proofs.lemmas.List.{get_or_default, take_all}
 use Rattle.common.proofs.Mapped.{AllZip-at, AllZip-more}
 use Rattle.common.specs.Ascii.{number_of}
 use Rattle.command_line.specs.Orders.{IsNumber}
@@ -28,3 +28,7 @@ loop-word-preserved c =
     let more = AllZip-more IsNumber (λ w. w.now) c.args.words.now c.loop-word.numbers.items
     c.loop-word.word-index word c.in-Some.number c.loop-word-test.true is c.loop-word.invariant spelled in
     rw c.in_ok-push.ensures.items more
+
+-- At the end they are all there.
+pub returns : goal.returns
+returns c = rw (take_all c.loop-word.word-index c.args.words.now c.loop-word-test.false) at c.loop-word.invariant

@@ -1,5 +1,6 @@
-use Rattle.std.proofs.Common.{ℕ, List, [], Bor, get_or, map, sym}
-use Rattle.std.proofs.lemmas.List.{get_or_default, map-append}
+use Rattle.std.proofs.Common.{◌∙◌, ℕ, List, [], Bor, get_or, map, sym}
+use Rattle.std.proofs.lemmas.List.{get_or_default, map-append, take_all}
+use Rattle.std.proofs.lemmas.Option.{none-some}
 use Rattle.common.proofs.Mapped.{AllZip-at, AllZip-more}
 use Rattle.command_line.specs.Needs.{AreNeeds}
 use Rattle.command_line.proofs.image_words.groups_of.Goals as goal
@@ -16,7 +17,7 @@ returns-in_default c = λ groups each.
     let at = AllZip-at AreNeeds (λ w. w.now) c.args.words.now (map (λ group. group.items) groups.items) c.loop-word.word-index word
     c.loop-word-test.true is each in
     let none = rw c.in_default.is at c.in_ok-group.ensures in
-    absurd (cc (none, at.1))
+    none-some at.0 (none ∙ at.1)
 
 -- The group of one word more.
 pub loop-word-preserved : goal.loop-word-preserved
@@ -27,3 +28,7 @@ loop-word-preserved c =
     c.loop-word.word-index word c.in-Some.group.items c.loop-word-test.true is c.loop-word.invariant
     (sym (rw c.in-Some.is at c.in_ok-group.ensures)) in
     rw (c.in_ok-push.ensures.items, map-append) more
+
+-- At the end they are all there.
+pub returns : goal.returns
+returns c = rw (take_all c.loop-word.word-index c.args.words.now c.loop-word-test.false) at c.loop-word.invariant

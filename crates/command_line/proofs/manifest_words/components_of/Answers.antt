@@ -1,5 +1,5 @@
 use Rattle.std.proofs.Common.{ℕ, List, [], Bor, get_or}
-use Rattle.std.proofs.lemmas.List.{get_or_default}
+use Rattle.std.proofs.lemmas.List.{get_or_default, take_all}
 use Rattle.common.proofs.Mapped.{AllZip-at, AllZip-more}
 use Rattle.command_line.specs.Orders.{IsComponent}
 use Rattle.command_line.proofs.manifest_words.components_of.Goals as goal
@@ -26,3 +26,7 @@ loop-word-preserved c =
     c.loop-word.word-index word c.in-Some.component c.loop-word-test.true is c.loop-word.invariant
     (rw c.in-Some.is at c.component_of.ensures) in
     rw c.in_ok-push.ensures.items more
+
+-- At the end they are all there.
+pub returns : goal.returns
+returns c = rw (take_all c.loop-word.word-index c.args.words.now c.loop-word-test.false) at c.loop-word.invariant

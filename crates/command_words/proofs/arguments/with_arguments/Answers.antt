@@ -1,7 +1,15 @@
+use Rattle.std.proofs.Common.{◌∙◌, ap}
+use Rattle.std.proofs.lemmas.List.{take_all}
 use Rattle.clap.specs.Words.{app_of}
-use Rattle.command_words.specs.Commands.{with_argument}
+use Rattle.command_words.specs.Commands.{with_argument, with_arguments}
 use Rattle.command_words.proofs.Folds.{fold-more}
 use Rattle.command_words.proofs.arguments.with_arguments.Goals as goal
+
+-- They are all there.
+pub returns : goal.returns
+returns c = c.loop-argument.invariant
+    ∙ ap (with_arguments (app_of c.args.command))
+    (take_all c.loop-argument.argument-index c.args.arguments.now c.loop-argument-test.false)
 
 -- One argument more.
 pub loop-argument-preserved : goal.loop-argument-preserved

@@ -1,8 +1,17 @@
+use Rattle.std.proofs.Common.{◌∙◌, ap}
+use Rattle.std.proofs.lemmas.List.{take_all}
+use Rattle.std.specs.Prelude.{fold}
 use Rattle.clap.specs.Words.{app_of}
 use Rattle.command_words.specs.Commands.{program, with_command}
 use Rattle.command_words.specs.declared.commands.TheConstants.{SUBCOMMANDS}
 use Rattle.command_words.proofs.Folds.{fold-more}
 use Rattle.command_words.proofs.commands.bootswap.Goals as goal
+
+-- All subcommands are those of the program.
+pub returns : goal.returns
+returns c = c.loop-subcommand.invariant
+    ∙ ap (fold with_command program)
+    (take_all c.loop-subcommand.subcommand-index SUBCOMMANDS c.loop-subcommand-test.false)
 
 -- One subcommand more.
 pub loop-subcommand-preserved : goal.loop-subcommand-preserved
