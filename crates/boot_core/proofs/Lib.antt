@@ -5,12 +5,14 @@ mod Described
 mod Readable
 mod Stops
 mod Masks
+mod Raised
 mod SwapSizes
 pub mod Again
 pub mod Stopping
 pub mod Texts
 pub mod Given
 mod NotReady
+mod Wholes
 pub mod Steps
 mod Afresh
 mod OnMap

@@ -7,6 +7,14 @@ use Rattle.sector_map.specs.Part.{is_member}
 use Rattle.certificate.specs.declared.report.Report.{Report}
 use Rattle.certificate.specs.declared.report.ReportedImage.{ReportedImage}
 use Rattle.certificate.specs.Rightness.{taken_in}
+use Rattle.flash_model.specs.Chip.{Chip}
+use Rattle.sector_map.specs.declared.layout.SectorMap.{SectorMap}
+use Rattle.trailer.specs.Standing.{standing_of}
+use Rattle.trailer.specs.declared.kinds.Kind.TheVariants.{Permanent}
+use Rattle.upload.specs.Device.{DeviceState, Wanted}
+use Rattle.upload.specs.View.{view}
+use Rattle.machine.specs.Boots.{AsksForGood}
+use Rattle.machine.specs.Reading.{IsAsking}
 use Rattle.machine.specs.Wear.{IsSetIn}
 
 -- a mask that is that of a report is its set
@@ -42,3 +50,13 @@ members_more P mask n before here i lt member = ⊎_elim
     (λ (is : i ≡ n). subst P (sym is) (here (subst (λ j. is_member mask j ≡ true) is member)))
     (λ (other : i ≢ n). before i (omega arith) member)
     (cases_eq i n)
+
+-- where each image of a set asks to be permanent, so does the request that stands for one of them
+pub asked_for_good : (map : SectorMap) (chip : Chip) (s : DeviceState) (mask i : ℕ) → i < map.images
+    → is_member mask i ≡ true → IsAsking (view map chip) s mask → AsksForGood s mask
+    → standing_of map chip i ≡ Some Permanent
+asked_for_good map chip s mask i there member asking good =
+    let lt : i < s.images = subst (λ n. i < n) asking.images there in
+    let wanted = asking.wanted i member in
+    (asking.at i member lt).request.kind ∙ ap (option_map (λ (w : Wanted). w.kind)) wanted.1
+    ∙ ap (λ kind. Some kind) (good.each i wanted.0 lt member wanted.1)

@@ -101,3 +101,8 @@ returns g c =
       told = opened.told;
       ends = opened.ends;
     }
+
+pub open_uploads-requires-clause-opens : goal.open_uploads-requires-clause-opens
+open_uploads-requires-clause-opens g c =
+    subst (λ chip. AllOpenAt (view c.args.map.now chip) c.args.uploads.now.sessions) (sym c.check_ready.ensures.same)
+    c.requires.opens

@@ -87,3 +87,8 @@ returns-in-Err-finish g c =
       ends = failed_ends old mid new told tmid tnew up upn error same c.in-Err-finish.ensures.ends stopped
           c.stop-in-Err-finish.result c.stop-in-Err-finish.ensures.is;
     }
+
+pub finish-requires-clause-open : goal.finish-requires-clause-open
+finish-requires-clause-open g c =
+    subst (λ chip. AllOpenAt (view c.args.map.now chip) c.args.uploads.now.sessions) (sym c.check_ready.ensures.same)
+    c.requires.opens c.args.image

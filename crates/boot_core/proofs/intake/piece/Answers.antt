@@ -87,3 +87,8 @@ returns-in-Err-piece g c =
       ends = failed_ends old mid new told tmid tnew up upn error same c.in-Err-piece.ensures.ends stopped
           c.stop-in-Err-piece.result c.stop-in-Err-piece.ensures.is;
     }
+
+pub piece-requires-clause-open : goal.piece-requires-clause-open
+piece-requires-clause-open g c =
+    subst (λ chip. AllOpenAt (view c.args.map.now chip) c.args.uploads.now.sessions) (sym c.check_ready.ensures.same)
+    c.requires.opens c.args.image

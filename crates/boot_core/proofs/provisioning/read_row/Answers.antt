@@ -13,3 +13,11 @@ returns-in-Err-Image g c = record {
   ends = search rules;
   off = search rules;
 }
+
+pub returns-in-Ok : goal.returns-in-Ok
+returns-in-Ok g c = record {
+  same = c.describe_slot.ensures.same;
+  ok = c.running_image.ensures _ c.in-Ok.ensures.described;
+  ends = search rules;
+  off = tt;
+}

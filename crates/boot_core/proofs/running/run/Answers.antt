@@ -1,5 +1,6 @@
-use Rattle.std.proofs.Common.{rules, arith, ◌≡◌, ◌∙◌, ◌+◌, [], ◌∷◌}
-use Rattle.std.proofs.lemmas.List.{take_more}
+use Rattle.std.proofs.Common.{rules, arith, ◌≡◌, ◌≤◌, ◌∙◌, ◌+◌, [], ◌∷◌, length, subst}
+use Rattle.std.proofs.lemmas.List.{take_all, take_more}
+use Rattle.machine.specs.Passing.{RunsTo}
 use Rattle.machine.specs.Steps.{cuts_in}
 use Rattle.machine.proofs.Runs.{cuts_on, runs_on}
 use Rattle.boot_core.proofs.running.run.Goals as goal
@@ -20,4 +21,18 @@ loop-event-preserved g c =
           (take_more c.args.events.now c.loop-event.event-index _ (omega arith)) c.in-Ok.ensures.items so_far.runs
           c.step-reply.ensures.steps;
       cuts = cuts_on _ _ _ _ _ _ c.in-Ok.ensures.items so_far.cuts counted;
+    }
+
+pub returns : goal.returns
+returns g c =
+    let done = c.loop-event.invariant in
+    let all : length c.args.events.now ≤ c.loop-event.event-index = omega arith in
+    record {
+      run = subst (λ events. RunsTo c.args.device.now.setup c.args.device.now.here c.loop-event.device.here events
+          c.loop-event.replies.items) (take_all c.loop-event.event-index c.args.events.now all) done.runs;
+      each = omega (arith, done.count, all);
+      cuts = done.cuts;
+      on = done.on;
+      setup = done.setup;
+      nothing = tt;
     }

@@ -5,6 +5,7 @@ use Rattle.set_log.specs.Log.{state_of}
 use Rattle.sector_map.specs.Map.{IsLaidOut, Keeps}
 use Rattle.sector_map.specs.Part.{any_part}
 use Rattle.sector_map.specs.declared.layout.Side.TheVariants.{Primary}
+use Rattle.set_log.specs.declared.state.State.{State}
 use Rattle.boot_core.proofs.Measured.{fresh_of, fresh_wear}
 use Rattle.boot_core.proofs.Passed.{err_ends, then_ends, then_err, then_ok}
 use Rattle.boot_core.proofs.steady.upgrade.Goals as goal
@@ -16,6 +17,13 @@ begin_swap-requires g c = record {
   read = ap (λ chip. state_of c.args.map.now chip) c.asks_for_good.ensures.same ∙ c.requires.chosen.read;
   some = c.requires.chosen.some;
   within = c.requires.chosen.within;
+}
+
+pub finish_swap-requires-clause-recorded : goal.finish_swap-requires-clause-recorded
+finish_swap-requires-clause-recorded g c = record {
+  laid_out = c.begin_swap.ensures.laid;
+  read = c.in_ok-swap.ensures.recorded;
+  kind = ap (λ (state : State). state.kind) c.in_ok-swap.ensures.is;
 }
 
 pub returns-in_err-permanent : goal.returns-in_err-permanent

@@ -1,8 +1,8 @@
-use Rattle.std.proofs.Common.{rules, arith, ◌≡◌, ◌<◌, Err}
+use Rattle.std.proofs.Common.{rules, arith, ◌≡◌, ◌<◌, Err, refl}
 use Rattle.sector_map.proofs.Parts.{laid_out_kept}
 use Rattle.machine.proofs.Trying.{again_cut, again_ends}
 use Rattle.boot_core.proofs.Again.{fits_again}
-use Rattle.boot_core.proofs.Records.{has_state}
+use Rattle.boot_core.proofs.Records.{has_state, one_erase}
 use Rattle.boot_core.proofs.OnMap.{on_more}
 use Rattle.boot_core.proofs.Passed.{err_ends, ok_ends}
 use Rattle.boot_core.proofs.trial.boot_again.Goals as goal
@@ -44,7 +44,7 @@ returns g c = record {
       let more : 0 < c.args.state.now.left = c.requires.more in
       again_ends c.args.map.now _ _ c.args.state.now _ c.requires.recorded.read c.append.ensures.outside (omega arith)
       c.in_ok-append.ensures.ok boots s was.0 was.1 was.2;
-  erases = search rules;
+  erases = (0, refl, λ sizes each. omega (arith, one_erase _ _ _ c.in_ok-append.ensures.erases));
   told = tt;
   ends = ok_ends c.in_ok-append.ensures.ends;
 }

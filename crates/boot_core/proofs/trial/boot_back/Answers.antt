@@ -21,6 +21,13 @@ returns-in_err-back g c =
       ends = err_ends c.in_err-back.ensures.ends;
     })
 
+pub boot_from_back-requires : goal.boot_from_back-requires
+boot_from_back-requires g c = record {
+  laid_out = c.begin_back.ensures.laid;
+  read = c.in_ok-back.ensures.recorded;
+  kind = ap (λ (state : State). state.kind) c.in_ok-back.ensures.is;
+}
+
 pub returns : goal.returns
 returns g c = record {
   laid = c.boot_from_back.ensures.laid;

@@ -3,6 +3,7 @@ use Rattle.machine.specs.States.{IsRaised}
 use Rattle.machine.specs.Reading.{IsFloorOf}
 use Rattle.machine.proofs.Trying.{raised_more}
 use Rattle.boot_core.proofs.Fronts.{running_front}
+use Rattle.boot_core.proofs.Passed.{here_ends}
 use Rattle.boot_core.proofs.trial.raise_running.Goals as goal
 
 pub loop-image-preserved : goal.loop-image-preserved
@@ -30,4 +31,16 @@ loop-image-preserved g c =
       rest = λ i le.
           let away : i ≢ place = omega (arith, le, lt, at) in
           get_or-set_other before place i floor 0 away ∙ kept.rest i le;
+    }
+
+pub returns : goal.returns
+returns g c =
+    let done = c.loop-image.invariant in
+    let all : c.loop-image.image ≡ c.args.map.now.images = omega arith in
+    record {
+      same = done.same;
+      ok = λ s runs same.
+          subst (λ n. IsRaised n s.running s.floors c.loop-image.raised) (all ∙ runs.images) (done.raises s runs same);
+      rest = done.rest;
+      ends = rw done.same here_ends;
     }

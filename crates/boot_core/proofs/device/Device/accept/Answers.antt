@@ -1,20 +1,22 @@
-use Rattle.std.proofs.Common.{rules, ◌≡◌, ◌+◌, true, subst}
+use Rattle.std.proofs.Common.{◌+◌, refl, subst}
 use Rattle.events.specs.declared.event.Event.TheVariants as event
-use Rattle.machine.specs.Passing.{StepsTo}
-use Rattle.boot_core.specs.Answers.{reply_of_result}
-use Rattle.boot_core.specs.Device.{Whole, seen}
+use Rattle.sector_map.specs.Part.{any_part}
+use Rattle.boot_core.specs.Calls.{Takes}
+use Rattle.boot_core.specs.Device.{Whole, made, seen}
+use Rattle.boot_core.proofs.Wholes.{whole_of}
 use Rattle.boot_core.proofs.device.Device.accept.Goals as goal
 
 pub returns : goal.returns
-returns g c = record {
-  setup = search rules;
-  steps = subst
-      (λ (whole : Whole). whole.here.flash.is_on ≡ true → StepsTo whole.setup whole.here
-      (seen (g.F.Flash.chip c.accept.new.flash) c.accept.new.uploads.sessions c.accept.new.is_up)
-      (event.Accept c.args.text) (reply_of_result c.accept.result)) c.self.view_is
-      (λ on. c.accept.ensures.steps (c.self.inside.left + 1) on);
-  outside = search rules;
-  down = search rules;
-  refused = search rules;
-  ends = search rules;
-}
+returns g c =
+    let boots = c.self.inside.left + 1 in
+    let new = whole_of (made c.self.inside.map c.self.inside.identity boots)
+    (seen (g.F.Flash.chip c.accept.new.flash) c.accept.new.uploads.sessions c.accept.new.is_up) in
+    subst (λ (whole : Whole). Takes (event.Accept c.args.text) any_part whole new c.accept.result) c.self.view_is
+    (record {
+      setup = refl;
+      steps = c.accept.ensures.steps boots;
+      outside = c.accept.ensures.outside;
+      down = c.accept.ensures.down;
+      refused = c.accept.ensures.refused;
+      ends = c.accept.ensures.ends;
+    })

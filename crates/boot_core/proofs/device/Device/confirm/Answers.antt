@@ -1,20 +1,11 @@
-use Rattle.std.proofs.Common.{rules, ◌≡◌, ◌+◌, true, subst}
+use Rattle.std.proofs.Common.{◌+◌}
 use Rattle.events.specs.declared.event.Event.TheVariants as event
-use Rattle.machine.specs.Passing.{StepsTo}
-use Rattle.boot_core.specs.Answers.{reply_of_result}
-use Rattle.boot_core.specs.Device.{Whole, seen}
+use Rattle.sector_map.specs.Part.{TrailerOf, only}
+use Rattle.sector_map.specs.declared.layout.Side.TheVariants.{Primary}
+use Rattle.boot_core.proofs.Wholes.{device_takes}
 use Rattle.boot_core.proofs.device.Device.confirm.Goals as goal
 
 pub returns : goal.returns
-returns g c = record {
-  setup = search rules;
-  steps = subst
-      (λ (whole : Whole). whole.here.flash.is_on ≡ true → StepsTo whole.setup whole.here
-      (seen (g.F.Flash.chip c.confirm_on.new.flash) c.confirm_on.new.uploads.sessions c.confirm_on.new.is_up)
-      (event.Confirm c.args.image) (reply_of_result c.confirm_on.result)) c.self.view_is
-      (λ on. c.confirm_on.ensures.steps c.self.inside.identity (c.self.inside.left + 1) on);
-  outside = search rules;
-  down = search rules;
-  refused = search rules;
-  ends = search rules;
-}
+returns g c =
+    device_takes (event.Confirm c.args.image) (only (TrailerOf c.args.image Primary)) c.self.inside.map
+    c.self.inside.identity (c.self.inside.left + 1) _ _ _ c.confirm_on.result c.self.view_is c.confirm_on.ensures

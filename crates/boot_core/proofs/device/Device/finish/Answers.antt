@@ -1,19 +1,18 @@
-use Rattle.std.proofs.Common.{rules, ◌≡◌, ◌+◌, true, subst}
-use Rattle.events.specs.declared.event.Event.TheVariants as event
-use Rattle.machine.specs.Passing.{StepsTo}
-use Rattle.boot_core.specs.Answers.{reply_of_result}
-use Rattle.boot_core.specs.Device.{Whole, seen}
+use Rattle.std.proofs.Common.{◌+◌, refl, subst}
+use Rattle.boot_core.specs.Calls.{FinishesUpload}
+use Rattle.boot_core.specs.Device.{Whole, made, seen}
+use Rattle.boot_core.proofs.Wholes.{whole_of}
 use Rattle.boot_core.proofs.device.Device.finish.Goals as goal
 
 pub returns : goal.returns
-returns g c = record {
-  setup = search rules;
-  steps = subst
-      (λ (whole : Whole). whole.here.flash.is_on ≡ true → StepsTo whole.setup whole.here
-      (seen (g.F.Flash.chip c.finish.new.flash) c.finish.new.uploads.sessions c.finish.new.is_up)
-      (event.Finish c.args.image) (reply_of_result c.finish.result)) c.self.view_is
-      (λ on. c.finish.ensures.steps c.self.inside.identity (c.self.inside.left + 1) on);
-  outside = search rules;
-  down = search rules;
-  ends = search rules;
-}
+returns g c =
+    let boots = c.self.inside.left + 1 in
+    let new = whole_of (made c.self.inside.map c.self.inside.identity boots)
+    (seen (g.F.Flash.chip c.finish.new.flash) c.finish.new.uploads.sessions c.finish.new.is_up) in
+    subst (λ (whole : Whole). FinishesUpload c.args.image whole new c.finish.result) c.self.view_is (record {
+      setup = refl;
+      steps = c.finish.ensures.steps c.self.inside.identity boots;
+      outside = c.finish.ensures.outside;
+      down = c.finish.ensures.down;
+      ends = c.finish.ensures.ends;
+    })

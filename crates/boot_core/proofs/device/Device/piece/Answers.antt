@@ -1,20 +1,11 @@
-use Rattle.std.proofs.Common.{rules, ◌≡◌, ◌+◌, true, subst}
+use Rattle.std.proofs.Common.{◌+◌}
 use Rattle.events.specs.declared.event.Event.TheVariants as event
-use Rattle.machine.specs.Passing.{StepsTo}
-use Rattle.boot_core.specs.Answers.{reply_of_result}
-use Rattle.boot_core.specs.Device.{Whole, seen}
+use Rattle.sector_map.specs.Part.{Slot, only}
+use Rattle.sector_map.specs.declared.layout.Side.TheVariants.{Secondary}
+use Rattle.boot_core.proofs.Wholes.{device_takes}
 use Rattle.boot_core.proofs.device.Device.piece.Goals as goal
 
 pub returns : goal.returns
-returns g c = record {
-  setup = search rules;
-  steps = subst
-      (λ (whole : Whole). whole.here.flash.is_on ≡ true → StepsTo whole.setup whole.here
-      (seen (g.F.Flash.chip c.piece.new.flash) c.piece.new.uploads.sessions c.piece.new.is_up)
-      (event.Piece c.args.image c.args.more) (reply_of_result c.piece.result)) c.self.view_is
-      (λ on. c.piece.ensures.steps c.self.inside.identity (c.self.inside.left + 1) on);
-  outside = search rules;
-  down = search rules;
-  refused = search rules;
-  ends = search rules;
-}
+returns g c =
+    device_takes (event.Piece c.args.image c.args.more) (only (Slot c.args.image Secondary)) c.self.inside.map
+    c.self.inside.identity (c.self.inside.left + 1) _ _ _ c.piece.result c.self.view_is c.piece.ensures

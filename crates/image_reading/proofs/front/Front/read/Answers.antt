@@ -65,3 +65,10 @@ returns-clause-found g c =
     let fits = IsBytes-bytes_of chip c.args.bytes (g.met.M.Medium.bytes c.args.medium.now) in
     is_front chip bytes _ fits begins.0 begins.1 protected area entries
     (c.first.ensures.bytes chip ∙ ap (λ (n : ℕ). take n bytes) at) (omega (arith, at, can.whole))
+
+pub returns-clause-gathered : goal.returns-clause-gathered
+returns-clause-gathered g c = record {
+  hashed = c.first.ensures.readable (g.M.Medium.chip c.args.medium.now) c.requires;
+  protected = rw c.header.ensures.same at c.in_ok-protected.ensures.gathered;
+  unprotected = rw (c.protected_area.ensures.same, c.header.ensures.same) at c.in_ok-unprotected.ensures.gathered;
+}

@@ -1,0 +1,29 @@
+-- A call that takes an event of a device is one of its parts.
+use Rattle.std.proofs.Common.{◌≡◌, ℕ, Bool, Result, refl, subst}
+use Rattle.sector_map.specs.declared.layout.SectorMap.{SectorMap}
+use Rattle.sector_map.specs.Part.{Part}
+use Rattle.manifest.specs.declared.identity.Identity.{Identity}
+use Rattle.machine.specs.Holding.{DeviceView}
+use Rattle.machine.specs.Intake.{Setup}
+use Rattle.machine.specs.Steps.{DeviceEvent}
+use Rattle.machine.specs.declared.error.Fault.{Fault}
+use Rattle.boot_core.specs.Calls.{Takes}
+use Rattle.boot_core.specs.Device.{Whole, made}
+use Rattle.boot_core.specs.Taking.{TakesHere}
+
+abbrev pub whole_of : Setup → DeviceView → Whole
+whole_of setup here = record { setup = setup; here = here }
+
+pub device_takes : (event : DeviceEvent) (touched : Part → Bool) (map : SectorMap) (identity : Identity) (boots : ℕ)
+    (old new : DeviceView) (whole : Whole) (result : Result Unit Fault)
+    → whole_of (made map identity boots) old ≡ whole → TakesHere map event touched old new result
+    → Takes event touched whole (whole_of (made map identity boots) new) result
+device_takes event touched map identity boots old new whole result is took =
+    subst (λ was. Takes event touched was (whole_of (made map identity boots) new) result) is (record {
+      setup = refl;
+      steps = took.steps identity boots;
+      outside = took.outside;
+      down = took.down;
+      refused = took.refused;
+      ends = took.ends;
+    })
