@@ -52,8 +52,7 @@ pub fn append<F: Flash>(flash: &mut F, map: &SectorMap, state: &State) -> Result
     ensures { Appends map.now state.now (F.chip flash.old) (F.chip flash.new) result }
 {
     let body = state.to_bytes();
-    append_record(flash, map, &body)?;
-    Ok(())
+    append_record(flash, map, &body)
 }
 
 /// Begins a log with a state, whatever stood there: erases the three sectors, writes the record at
@@ -71,6 +70,5 @@ pub fn start<F: Flash>(flash: &mut F, map: &SectorMap, state: &State) -> Result<
     ensures { Starts map.now state.now (F.chip flash.old) (F.chip flash.new) result }
 {
     let body = state.to_bytes();
-    start_record(flash, map, &body)?;
-    Ok(())
+    start_record(flash, map, &body)
 }

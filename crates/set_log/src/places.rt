@@ -32,8 +32,7 @@ pub(crate) fn is_place_erased<F: Flash>(
     requires { HasPlace map.now sector place (F.chip flash.old) }
     ensures { TellsErased map.now sector place (F.chip flash.old) (F.chip flash.new) result }
 {
-    let erased = is_erased(flash, map.record_start(sector, place), PLACE)?;
-    Ok(erased)
+    is_erased(flash, map.record_start(sector, place), PLACE)
 }
 
 /// Whether the gate of a place is set.

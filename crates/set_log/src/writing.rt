@@ -26,8 +26,7 @@ fn write_record<F: Flash>(
         (F.chip flash.old) (F.chip flash.new) result }
 {
     write_body(flash, map, sector, place, body)?;
-    set_gate(flash, map, sector, place)?;
-    Ok(())
+    set_gate(flash, map, sector, place)
 }
 
 /// Erases the sector after the active one, writes the record there, and then closes the active one:
@@ -46,8 +45,7 @@ fn move_on<F: Flash>(
     let next = next_of(active);
     erase_sector(flash, map, next)?;
     write_record(flash, map, next, 0, body)?;
-    close(flash, map, active)?;
-    Ok(())
+    close(flash, map, active)
 }
 
 /// Writes a record behind the one that stands.
@@ -93,6 +91,5 @@ pub(crate) fn start_record<F: Flash>(
 {
     erase_log(flash, map)?;
     write_record(flash, map, 0, 0, body)?;
-    close(flash, map, 2)?;
-    Ok(())
+    close(flash, map, 2)
 }

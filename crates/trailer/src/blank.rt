@@ -39,8 +39,7 @@ fn are_statuses_erased<F: Flash>(
         (F.chip flash.old) (F.chip flash.new) result }
 {
     let length = UNIT * status_units(map, image);
-    let erased = is_erased(flash, map.trailer_start(image, side), length)?;
-    Ok(erased)
+    is_erased(flash, map.trailer_start(image, side), length)
 }
 
 /// Whether the trailer behind a slot reads as an erased one: no field of it is set, and no status

@@ -20,8 +20,7 @@ fn is_trailer_erased<F: Flash>(
     ensures { Tells (are_erased (trailer_bytes map.now (F.chip flash.old) image side))
         (F.chip flash.old) (F.chip flash.new) result }
 {
-    let erased = is_erased(flash, map.trailer_start(image, side), map.sector_size)?;
-    Ok(erased)
+    is_erased(flash, map.trailer_start(image, side), map.sector_size)
 }
 
 /// Erases a trailer.

@@ -68,6 +68,5 @@ pub(crate) fn mark_trailer<F: Flash>(
 {
     mark(flash, map, image, side, COPY_DONE, &FLAG)?;
     mark_ok(flash, map, image, side, confirmed)?;
-    mark(flash, map, image, side, MAGIC_PLACE, &MAGIC)?;
-    Ok(())
+    mark(flash, map, image, side, MAGIC_PLACE, &MAGIC)
 }

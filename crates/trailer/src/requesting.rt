@@ -48,8 +48,7 @@ pub fn request<F: Flash>(
     ensures { Requests map.now image kind (F.chip flash.old) (F.chip flash.new) result }
 {
     mark_kind(flash, map, image, kind)?;
-    write_magic(flash, map, image, Side::Secondary)?;
-    Ok(())
+    write_magic(flash, map, image, Side::Secondary)
 }
 
 /// Confirms the image in a primary slot: sets `image_ok` of its trailer, unless it is set.

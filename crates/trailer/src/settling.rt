@@ -155,6 +155,5 @@ pub fn settle<F: Flash>(
 {
     erase_trailer(flash, map, image, Side::Secondary)?;
     make_whole(flash, map, image, Side::Primary, settling)?;
-    mark_trailer(flash, map, image, Side::Primary, is_confirmed(settling))?;
-    Ok(())
+    mark_trailer(flash, map, image, Side::Primary, is_confirmed(settling))
 }

@@ -35,8 +35,7 @@ fn is_status_erased<F: Flash>(
         (status_unit (trailer_bytes map.now (F.chip flash.old) image side) status))
         (F.chip flash.old) (F.chip flash.new) result }
 {
-    let erased = is_unit_erased(flash, map.trailer_start(image, side) + UNIT * status)?;
-    Ok(erased)
+    is_unit_erased(flash, map.trailer_start(image, side) + UNIT * status)
 }
 
 /// Counts the status units of a trailer that are set, from its first one up to the first that is
@@ -86,6 +85,5 @@ pub fn push_status<F: Flash>(
     ensures { PushesStatus map.now image side (F.chip flash.old) (F.chip flash.new) result }
 {
     let count = status_count(flash, map, image, side)?;
-    set_unit(flash, map.trailer_start(image, side) + UNIT * count)?;
-    Ok(())
+    set_unit(flash, map.trailer_start(image, side) + UNIT * count)
 }

@@ -99,8 +99,7 @@ pub(crate) fn are_units_erased<F: Flash>(
     ensures { Tells (are_erased (bytes_at map.now (F.chip flash.old) image side from_end length))
         (F.chip flash.old) (F.chip flash.new) result }
 {
-    let erased = is_erased(flash, place_of(map, image, side, from_end), length)?;
-    Ok(erased)
+    is_erased(flash, place_of(map, image, side, from_end), length)
 }
 
 /// Writes whole units, so many bytes before the end of a trailer, where the trailer is erased.

@@ -16,10 +16,7 @@ fn take_back<F: Flash>(flash: &mut F, map: &SectorMap, image: u8) -> Result<(), 
 {
     match standing(flash, map, image)? {
         None => Ok(()),
-        Some(_) => {
-            set_withdrawn(flash, map, image, Side::Secondary)?;
-            Ok(())
-        }
+        Some(_) => set_withdrawn(flash, map, image, Side::Secondary),
     }
 }
 
@@ -37,8 +34,7 @@ fn erase_front<F: Flash>(
     if !is_front_set(flash, map, image, side)? {
         return Ok(());
     }
-    flash.erase(map.slot(image, side))?;
-    Ok(())
+    flash.erase(map.slot(image, side))
 }
 
 /// Takes back the request of an image, if one stands: sets the withdrawn unit, then erases the
@@ -57,6 +53,5 @@ pub fn withdraw<F: Flash>(flash: &mut F, map: &SectorMap, image: u8) -> Result<(
 {
     take_back(flash, map, image)?;
     erase_front(flash, map, image, Side::Secondary)?;
-    clear(flash, map, image, Side::Secondary)?;
-    Ok(())
+    clear(flash, map, image, Side::Secondary)
 }

@@ -52,8 +52,7 @@ fn is_erased_behind<F: Flash>(
         (F.chip flash.old) (F.chip flash.new) result }
 {
     let start = map.slot_start(image, Side::Secondary);
-    let erased = is_erased(flash, start + at, map.slot_length(image) - at)?;
-    Ok(erased)
+    is_erased(flash, start + at, map.slot_length(image) - at)
 }
 
 /// Whether an upload of an image stands on the flash.
@@ -76,7 +75,6 @@ fn stands<F: Flash>(
 }
 
 /// Whether the upload of an image stands on the flash, if one is open.
-#[tactic(auto, using(crate::proofs::StandingLaws::tells_one))]
 fn stands_if_open<F: Flash>(
     flash: &mut F,
     map: &SectorMap,
@@ -89,10 +87,7 @@ fn stands_if_open<F: Flash>(
         (F.chip flash.old) (F.chip flash.new) result }
 {
     match upload {
-        Some(upload) => {
-            let is_standing = stands(flash, map, image, upload)?;
-            Ok(is_standing)
-        }
+        Some(upload) => stands(flash, map, image, upload),
         None => Ok(true),
     }
 }

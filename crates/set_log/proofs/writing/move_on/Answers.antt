@@ -1,7 +1,8 @@
-use Rattle.std.proofs.Common.{◌∙◌, inl, inr}
+use Rattle.std.proofs.Common.{◌∙◌, inl}
+use Rattle.std.proofs.lemmas.Result.{on_ok_weaker}
 use Rattle.set_log.proofs.Moves.{has_places, moved, erased_keeps, moved_keeps, moved_active, moved_within, closing_torn, closing_done}
 use Rattle.set_log.proofs.Placing.{beside_next, beside_closed, moved_on}
-use Rattle.flash_model.proofs.Ending.{at_error, ends_passed, ends_then, ends_done}
+use Rattle.flash_model.proofs.Ending.{at_error, ends_passed, ends_then}
 use Rattle.sector_map.proofs.Parts.{keeps_trans, laid_out_kept}
 use Rattle.set_log.proofs.writing.move_on.Goals as goal
 
@@ -50,8 +51,8 @@ close-requires g c =
       stays_open = (moved_active _ _ _ _ _ _ here).stays_open;
     }
 
-pub returns-in_err-close : goal.returns-in_err-close
-returns-in_err-close g c =
+pub returns : goal.returns
+returns g c =
     let sized = has_places c.args.map.now c.requires.laid_out.is_map in
     let here = moved c.args.map.now c.args.active _ _ _ _ c.requires.laid_out.is_map c.requires.active
     c.next_of-next.ensures c.erase_sector.ensures.within c.in_ok-erase_sector.ensures.ok
@@ -60,38 +61,20 @@ returns-in_err-close g c =
       outside = keeps_trans _ _ _ _ _ (keeps_trans _ _ _ _ _ c.erase_sector.ensures.outside c.write_record.ensures.outside)
           c.close.ensures.outside;
       either = closing_torn _ _ _ _ _ _ _ _ here c.in_ok-write_record.ensures.ok c.close.ensures.within;
-      ok = at_error _ _ c.from_residual-in_err-close.ensures.0;
+      ok = on_ok_weaker c.close.result (λ closed.
+          closing_done _ _ _ _ _ _ _ _ here c.in_ok-write_record.ensures.ok c.close.ensures.within closed)
+          c.close.ensures.ok;
       beside = beside_closed _ c.args.active _ _ _ sized c.requires.active.within
           (beside_next _ c.args.active _ _ _ sized
           c.requires.active.within c.next_of-next.ensures (moved_within _ _ _ _ _ _ here)) c.close.ensures.within;
-      moved = at_error _ _ c.from_residual-in_err-close.ensures.0;
-      erases = at_error _ _ c.from_residual-in_err-close.ensures.0;
-      ends = ends_then _ _ _ _ _ c.in_ok-erase_sector.ensures.ends
-          (ends_then _ _ _ _ _ c.in_ok-write_record.ensures.ends
-          (ends_passed _ _ _ _ c.from_residual-in_err-close.ensures.1 c.in_err-close.ensures.ends));
-    }
-
-pub returns : goal.returns
-returns g c =
-    let sized = has_places c.args.map.now c.requires.laid_out.is_map in
-    let here = moved c.args.map.now c.args.active _ _ _ _ c.requires.laid_out.is_map c.requires.active
-    c.next_of-next.ensures c.erase_sector.ensures.within c.in_ok-erase_sector.ensures.ok
-    c.write_record.ensures.within in
-    let stands = closing_done _ _ _ _ _ _ _ _ here c.in_ok-write_record.ensures.ok c.close.ensures.within
-    c.in_ok-close.ensures.ok in
-    record {
-      outside = keeps_trans _ _ _ _ _ (keeps_trans _ _ _ _ _ c.erase_sector.ensures.outside c.write_record.ensures.outside)
-          c.close.ensures.outside;
-      either = inr stands;
-      ok = stands;
-      beside = beside_closed _ c.args.active _ _ _ sized c.requires.active.within
-          (beside_next _ c.args.active _ _ _ sized
-          c.requires.active.within c.next_of-next.ensures (moved_within _ _ _ _ _ _ here)) c.close.ensures.within;
-      moved = moved_on _ c.args.active c.next_of-next.result c.args.body.now _ _ sized
+      moved = on_ok_weaker c.close.result (λ flag.
+          moved_on _ c.args.active c.next_of-next.result c.args.body.now _ _ sized
           c.requires.active.within c.next_of-next.ensures
-          c.in_ok-write_record.ensures.written c.told-body c.close.ensures.within c.in_ok-close.ensures.flag;
-      erases = c.close.ensures.erases ∙ c.write_record.ensures.erases ∙ c.in_ok-erase_sector.ensures.erases;
+          c.in_ok-write_record.ensures.written c.told-body c.close.ensures.within flag)
+          c.close.ensures.flag;
+      erases = on_ok_weaker c.close.result (λ closed.
+          c.close.ensures.erases ∙ c.write_record.ensures.erases ∙ c.in_ok-erase_sector.ensures.erases)
+          c.close.ensures.ok;
       ends = ends_then _ _ _ _ _ c.in_ok-erase_sector.ensures.ends
-          (ends_then _ _ _ _ _ c.in_ok-write_record.ensures.ends
-          (ends_done _ _ _ _ c.in_ok-close.ensures.ends));
+          (ends_then _ _ _ _ _ c.in_ok-write_record.ensures.ends c.close.ensures.ends);
     }

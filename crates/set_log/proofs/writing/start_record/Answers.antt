@@ -1,7 +1,8 @@
 use Rattle.std.proofs.Common.{arith, sym, ◌∙◌, inl}
+use Rattle.std.proofs.lemmas.Result.{on_ok_weaker}
 use Rattle.set_log.proofs.Moves.{has_places, third_open, started}
 use Rattle.set_log.proofs.Placing.{false_true, stays_written, third_still_open}
-use Rattle.flash_model.proofs.Ending.{at_error, ends_passed, ends_then, ends_done}
+use Rattle.flash_model.proofs.Ending.{at_error, ends_passed, ends_then}
 use Rattle.sector_map.proofs.Parts.{keeps_trans, laid_out_kept}
 use Rattle.set_log.proofs.writing.start_record.Goals as goal
 
@@ -32,46 +33,35 @@ close-requires g c = record {
   });
 }
 
-pub returns-in_err-close : goal.returns-in_err-close
-returns-in_err-close g c = record {
-  outside = keeps_trans _ _ _ _ _ (keeps_trans _ _ _ _ _ c.erase_log.ensures.outside c.write_record.ensures.outside)
-      c.close.ensures.outside;
-  ok = at_error _ _ c.from_residual-in_err-close.ensures.0;
-  written = at_error _ _ c.from_residual-in_err-close.ensures.0;
-  last = λ three closed.
-      started _ _ _ _ _ (record {
-        sized = has_places c.args.map.now c.requires.is_map;
-        blank = c.in_ok-erase_log.ensures.ok;
-        first = c.write_record.ensures.within;
-        stands = c.in_ok-write_record.ensures.ok;
-      }) c.close.ensures.within closed;
-  erases = at_error _ _ c.from_residual-in_err-close.ensures.0;
-  ends = ends_then _ _ _ _ _ c.in_ok-erase_log.ensures.ends
-      (ends_then _ _ _ _ _ c.in_ok-write_record.ensures.ends
-      (ends_passed _ _ _ _ c.from_residual-in_err-close.ensures.1 c.in_err-close.ensures.ends));
-}
-
 pub returns : goal.returns
 returns g c =
     let sized = has_places c.args.map.now c.requires.is_map in
-    let stands = started _ _ _ _ _ (record {
-      sized = sized;
-      blank = c.in_ok-erase_log.ensures.ok;
-      first = c.write_record.ensures.within;
-      stands = c.in_ok-write_record.ensures.ok;
-    }) c.close.ensures.within c.in_ok-close.ensures.ok in
     record {
       outside = keeps_trans _ _ _ _ _ (keeps_trans _ _ _ _ _ c.erase_log.ensures.outside c.write_record.ensures.outside)
           c.close.ensures.outside;
-      ok = stands;
-      written = (
+      ok = on_ok_weaker c.close.result (λ closed.
+          started _ _ _ _ _ (record {
+            sized = sized;
+            blank = c.in_ok-erase_log.ensures.ok;
+            first = c.write_record.ensures.within;
+            stands = c.in_ok-write_record.ensures.ok;
+          }) c.close.ensures.within closed)
+          c.close.ensures.ok;
+      written = on_ok_weaker c.close.result (λ flag. (
         stays_written _ 0 0 _ 8 c.args.body.now _ _ c.in_ok-write_record.ensures.written c.told-body
             c.close.ensures.within (inl (omega (arith, sized.room))),
-        c.in_ok-close.ensures.flag,
-      );
-      last = λ three closed. stands;
-      erases = c.close.ensures.erases ∙ c.write_record.ensures.erases ∙ c.in_ok-erase_log.ensures.erases;
+        flag,
+      )) c.close.ensures.flag;
+      last = λ three closed.
+          started _ _ _ _ _ (record {
+            sized = sized;
+            blank = c.in_ok-erase_log.ensures.ok;
+            first = c.write_record.ensures.within;
+            stands = c.in_ok-write_record.ensures.ok;
+          }) c.close.ensures.within closed;
+      erases = on_ok_weaker c.close.result (λ closed.
+          c.close.ensures.erases ∙ c.write_record.ensures.erases ∙ c.in_ok-erase_log.ensures.erases)
+          c.close.ensures.ok;
       ends = ends_then _ _ _ _ _ c.in_ok-erase_log.ensures.ends
-          (ends_then _ _ _ _ _ c.in_ok-write_record.ensures.ends
-          (ends_done _ _ _ _ c.in_ok-close.ensures.ends));
+          (ends_then _ _ _ _ _ c.in_ok-write_record.ensures.ends c.close.ensures.ends);
     }

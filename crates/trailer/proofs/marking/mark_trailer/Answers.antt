@@ -1,7 +1,8 @@
 use Rattle.std.proofs.Common.{◌∙◌, arith, refl}
+use Rattle.std.proofs.lemmas.Result.{on_ok_weaker}
 use Rattle.trailer.proofs.Places.{units_alone}
 use Rattle.trailer.proofs.Marks.{ok_still_free, magic_still_free, marked, two_alone, three_alone, two_of_units, three_of_units}
-use Rattle.flash_model.proofs.Ending.{at_error, ends_passed, ends_then, ends_done}
+use Rattle.flash_model.proofs.Ending.{at_error, ends_passed, ends_then}
 use Rattle.flash_model.proofs.Frame.{same_outside_wider}
 use Rattle.trailer.proofs.marking.mark_trailer.Goals as goal
 
@@ -42,39 +43,26 @@ mark-requires-2-clause-free g c =
     c.requires.image.there _ _ _ c.args.confirmed c.requires.whole c.mark.ensures.outside
     c.mark_ok.ensures.outside
 
-pub returns-in_err-mark-2 : goal.returns-in_err-mark-2
-returns-in_err-mark-2 g c =
-    let outside = three_alone c.args.map.now _ _ _ _ c.args.image c.args.side
-    c.mark.ensures.outside c.mark_ok.ensures.outside c.mark-2.ensures.outside c.requires.image.laid_out
-    c.requires.image.there in
-    record {
-      outside = outside;
-      units = three_of_units c.args.map.now _ _ _ _ c.args.image c.args.side c.mark.ensures.outside
-          c.mark_ok.ensures.outside c.mark-2.ensures.outside c.requires.image.laid_out.is_map;
-      ok = at_error _ _ c.from_residual-in_err-mark-2.ensures.0;
-      erases = at_error _ _ c.from_residual-in_err-mark-2.ensures.0;
-      ends = ends_then _ _ _ _ _ c.in_ok-mark.ensures.ends
-          (ends_then _ _ _ _ _ c.in_ok-mark_ok.ensures.ends
-          (ends_passed _ _ _ _ c.from_residual-in_err-mark-2.ensures.1 c.in_err-mark-2.ensures.ends));
-    }
-
 pub returns : goal.returns
 returns g c =
     let outside = three_alone c.args.map.now _ _ _ _ c.args.image c.args.side
     c.mark.ensures.outside c.mark_ok.ensures.outside c.mark-2.ensures.outside c.requires.image.laid_out
     c.requires.image.there in
-    let ok = marked c.args.map.now c.args.image c.args.side c.requires.image.laid_out.is_map
+    let ok = on_ok_weaker c.mark-2.result (λ magic.
+    marked c.args.map.now c.args.image c.args.side c.requires.image.laid_out.is_map
     c.requires.image.there _ _ _ _ c.args.confirmed c.requires.whole
     c.mark.ensures.outside c.in_ok-mark.ensures.ok
     c.mark_ok.ensures.outside c.in_ok-mark_ok.ensures.ok c.mark_ok.ensures.tried
-    c.mark-2.ensures.outside c.in_ok-mark-2.ensures.ok in
+    c.mark-2.ensures.outside magic)
+    c.mark-2.ensures.ok in
     record {
       outside = outside;
       units = three_of_units c.args.map.now _ _ _ _ c.args.image c.args.side c.mark.ensures.outside
           c.mark_ok.ensures.outside c.mark-2.ensures.outside c.requires.image.laid_out.is_map;
       ok = ok;
-      erases = c.in_ok-mark-2.ensures.erases ∙ c.in_ok-mark_ok.ensures.erases ∙ c.in_ok-mark.ensures.erases;
+      erases = on_ok_weaker c.mark-2.result
+          (λ none. none ∙ c.in_ok-mark_ok.ensures.erases ∙ c.in_ok-mark.ensures.erases)
+          c.mark-2.ensures.erases;
       ends = ends_then _ _ _ _ _ c.in_ok-mark.ensures.ends
-          (ends_then _ _ _ _ _ c.in_ok-mark_ok.ensures.ends
-          (ends_done _ _ _ _ c.in_ok-mark-2.ensures.ends));
+          (ends_then _ _ _ _ _ c.in_ok-mark_ok.ensures.ends c.mark-2.ensures.ends);
     }

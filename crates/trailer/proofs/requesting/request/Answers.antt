@@ -1,5 +1,6 @@
 use Rattle.std.proofs.Common.{◌≡◌, ◌⊎◌, ◌∙◌, ⊎_elim, ap, arith, false, inl, inr}
-use Rattle.flash_model.proofs.Ending.{at_error, ends_passed, ends_then, ends_done}
+use Rattle.std.proofs.lemmas.Result.{on_ok_weaker}
+use Rattle.flash_model.proofs.Ending.{at_error, ends_passed, ends_then}
 use Rattle.flash_model.proofs.Frame.{same_outside_trans, same_outside_wider}
 use Rattle.sector_map.specs.declared.layout.Side.TheVariants.{Secondary}
 use Rattle.sector_map.proofs.Parts.{keeps_trans}
@@ -40,23 +41,6 @@ returns-in_err-mark_kind g c =
       ends = ends_passed _ _ _ _ c.from_residual.ensures.1 c.in_err-mark_kind.ensures.ends;
     }
 
-pub returns-in_err-write_magic : goal.returns-in_err-write_magic
-returns-in_err-write_magic g c =
-    let either = whole_or_not_good c.args.kind _ _ c.in_ok-mark_kind.ensures.ok c.write_magic.ensures.own in
-    record {
-      outside = keeps_trans _ _ _ _ _ c.mark_kind.ensures.outside c.write_magic.ensures.outside;
-      units = same_outside_trans _ 24 _ _ _
-          (same_outside_wider _ 8 _ 24 _ _ c.mark_kind.ensures.unit (omega arith) (omega arith))
-          (same_outside_wider _ 16 _ 24 _ _ c.write_magic.ensures.unit (omega arith) (omega arith));
-      either = either;
-      stands = stands_or_none c.args.map.now _ c.args.image c.args.kind either;
-      ok = at_error _ _ c.from_residual-in_err-write_magic.ensures.0;
-      flag = at_error _ _ c.from_residual-in_err-write_magic.ensures.0;
-      erases = at_error _ _ c.from_residual-in_err-write_magic.ensures.0;
-      ends = ends_then _ _ _ _ _ c.in_ok-mark_kind.ensures.ends
-          (ends_passed _ _ _ _ c.from_residual-in_err-write_magic.ensures.1 c.in_err-write_magic.ensures.ends);
-    }
-
 pub returns : goal.returns
 returns g c =
     let either = whole_or_not_good c.args.kind _ _ c.in_ok-mark_kind.ensures.ok c.write_magic.ensures.own in
@@ -67,12 +51,14 @@ returns g c =
           (same_outside_wider _ 16 _ 24 _ _ c.write_magic.ensures.unit (omega arith) (omega arith));
       either = either;
       stands = stands_or_none c.args.map.now _ c.args.image c.args.kind either;
-      ok = whole_once_good c.args.kind _ _ c.in_ok-mark_kind.ensures.ok c.write_magic.ensures.own
-          c.in_ok-write_magic.ensures.ok;
-      flag = λ permanent.
+      ok = on_ok_weaker c.write_magic.result (λ good.
+          whole_once_good c.args.kind _ _ c.in_ok-mark_kind.ensures.ok c.write_magic.ensures.own good)
+          c.write_magic.ensures.ok;
+      flag = on_ok_weaker c.write_magic.result (λ good. λ permanent.
           ok_beside_magic c.args.map.now c.args.image Secondary c.requires.image.laid_out.is_map
-          c.requires.image.there _ _ c.write_magic.ensures.unit ∙ c.in_ok-mark_kind.ensures.flag permanent;
-      erases = c.in_ok-write_magic.ensures.erases ∙ c.in_ok-mark_kind.ensures.erases;
-      ends = ends_then _ _ _ _ _ c.in_ok-mark_kind.ensures.ends
-          (ends_done _ _ _ _ c.in_ok-write_magic.ensures.ends);
+          c.requires.image.there _ _ c.write_magic.ensures.unit ∙ c.in_ok-mark_kind.ensures.flag permanent)
+          c.write_magic.ensures.ok;
+      erases = on_ok_weaker c.write_magic.result (λ none. none ∙ c.in_ok-mark_kind.ensures.erases)
+          c.write_magic.ensures.erases;
+      ends = ends_then _ _ _ _ _ c.in_ok-mark_kind.ensures.ends c.write_magic.ensures.ends;
     }

@@ -1,8 +1,10 @@
 use Rattle.std.proofs.Common.{◌+◌, ◌*◌, ◌∙◌, ap, arith}
+use Rattle.std.proofs.lemmas.Result.{on_ok_weaker}
+use Rattle.trailer.proofs.Told.{at_any}
 use Rattle.trailer.proofs.Places.{trailer_fits, trailer_addressed}
 use Rattle.trailer.proofs.StatusUnits.{status_aligned, status_alone, status_fit, status_is_erased, own_status, pushed}
 use Rattle.flash_model.specs.Chip.{Chip}
-use Rattle.flash_model.proofs.Ending.{at_error, ends_passed, ends_then, ends_done}
+use Rattle.flash_model.proofs.Ending.{ends_then}
 use Rattle.trailer.proofs.statuses.push_status.Goals as goal
 
 pub set_unit-requires-clause-inside : goal.set_unit-requires-clause-inside
@@ -25,29 +27,6 @@ pub set_unit-requires-clause-place : goal.set_unit-requires-clause-place
 set_unit-requires-clause-place g c = rw c.trailer_start.ensures
     (status_aligned c.args.map.now c.args.image c.in_ok-count.count c.args.side c.requires.image.laid_out.is_map)
 
-pub returns-in_err-set_unit : goal.returns-in_err-set_unit
-returns-in_err-set_unit g c =
-    let outside = status_alone c.args.map.now _ _ c.args.image _ c.in_ok-count.count c.args.side
-    (rw c.status_count.ensures.same at c.set_unit.ensures.outside) c.requires.image.laid_out
-    c.requires.image.there (ap (λ a. a + 8 * c.in_ok-count.count) c.trailer_start.ensures)
-    (rw c.in_ok-count.ensures.ok c.requires.room) in
-    let own = own_status c.args.map.now _ _ c.args.image _ c.in_ok-count.count c.args.side
-    (rw c.status_count.ensures.same at c.set_unit.ensures.outside) c.requires.image.laid_out.is_map
-    c.requires.image.there (ap (λ a. a + 8 * c.in_ok-count.count) c.trailer_start.ensures)
-    (rw c.in_ok-count.ensures.ok c.requires.room) in
-    let unit = rw (c.trailer_start.ensures, c.in_ok-count.ensures.ok, c.status_count.ensures.same) at
-    c.set_unit.ensures.outside in
-    record {
-      outside = outside;
-      unit = unit;
-      own = own;
-      ok = at_error _ _ c.from_residual-in_err-set_unit.ensures.0;
-      flag = at_error _ _ c.from_residual-in_err-set_unit.ensures.0;
-      erases = at_error _ _ c.from_residual-in_err-set_unit.ensures.0;
-      ends = ends_then _ _ _ _ _ c.in_ok-count.ensures.ends
-          (ends_passed _ _ _ _ c.from_residual-in_err-set_unit.ensures.1 c.in_err-set_unit.ensures.ends);
-    }
-
 pub returns : goal.returns
 returns g c =
     let outside = status_alone c.args.map.now _ _ c.args.image _ c.in_ok-count.count c.args.side
@@ -64,15 +43,17 @@ returns g c =
       outside = outside;
       unit = unit;
       own = own;
-      ok = pushed c.args.map.now _ _ c.args.image _ c.in_ok-count.count c.args.side
-          (rw c.status_count.ensures.same at c.set_unit.ensures.outside) c.in_ok-set_unit.ensures.ok
+      ok = on_ok_weaker c.set_unit.result (λ set.
+          pushed c.args.map.now _ _ c.args.image _ c.in_ok-count.count c.args.side
+          (rw c.status_count.ensures.same at c.set_unit.ensures.outside) set
           c.requires.image.laid_out c.requires.image.there c.in_ok-count.ensures.ok
           (rw c.in_ok-count.ensures.ok c.requires.room)
-          (ap (λ a. a + 8 * c.in_ok-count.count) c.trailer_start.ensures);
-      flag = rw (c.trailer_start.ensures, c.in_ok-count.ensures.ok) at c.in_ok-set_unit.ensures.flag;
-      erases = c.set_unit.ensures.erases ∙ ap (λ (chip : Chip). chip.erases) c.status_count.ensures.same;
-      ends = ends_then _ _ _ _ _ c.in_ok-count.ensures.ends
-          (ends_done _ _ _ _ c.in_ok-set_unit.ensures.ends);
+          (ap (λ a. a + 8 * c.in_ok-count.count) c.trailer_start.ensures))
+          c.set_unit.ensures.ok;
+      flag = rw (c.trailer_start.ensures, c.in_ok-count.ensures.ok) at c.set_unit.ensures.flag;
+      erases = at_any _ _
+          (c.set_unit.ensures.erases ∙ ap (λ (chip : Chip). chip.erases) c.status_count.ensures.same);
+      ends = ends_then _ _ _ _ _ c.in_ok-count.ensures.ends c.set_unit.ensures.ends;
     }
 
 pub overflow_add-trailer_start : goal.overflow_add-trailer_start

@@ -1,31 +1,12 @@
 use Rattle.std.proofs.Common.{◌+◌, ◌∙◌, sym, ap, if◌then◌else◌, arith}
 use Rattle.std.proofs.lemmas.Bool.{false≢true}
+use Rattle.std.proofs.lemmas.Result.{on_ok_weaker}
 use Rattle.flash_model.specs.Chip.{Chip}
-use Rattle.flash_model.proofs.Ending.{at_error, ends_passed, ends_then, ends_done}
+use Rattle.flash_model.proofs.Ending.{ends_then}
 use Rattle.sector_map.proofs.Parts.{laid_out_kept}
 use Rattle.trailer.proofs.Places.{slot_alone, slot_within}
 use Rattle.trailer.proofs.Withdrawal.{front_erased, rest_of_erase, sector_erased}
 use Rattle.trailer.proofs.withdrawing.erase_front.Goals as goal
-
-pub returns-in_err-erase : goal.returns-in_err-erase
-returns-in_err-erase g c =
-    let outside = slot_alone c.args.map.now _ _ c.args.image c.slot.result c.args.side
-    (rw c.is_front_set.ensures.same at c.erase.ensures.outside) c.requires.laid_out c.requires.there
-    c.slot.ensures in
-    let rest = rest_of_erase c.args.map.now _ _ c.args.image c.slot.result c.args.side
-    (rw c.is_front_set.ensures.same at c.erase.ensures.outside) c.requires.laid_out c.requires.there
-    c.slot.ensures in
-    let set = sym c.in_ok-is_front_set.ensures.ok ∙ c.if-not-branch.false in
-    record {
-      outside = outside;
-      idle = λ unset. absurd (false≢true (sym unset ∙ set));
-      rest = rest;
-      ok = at_error _ _ c.from_residual-in_err-erase.ensures.0;
-      first = at_error _ _ c.from_residual-in_err-erase.ensures.0;
-      erases = at_error _ _ c.from_residual-in_err-erase.ensures.0;
-      ends = ends_then _ _ _ _ _ c.in_ok-is_front_set.ensures.ends
-          (ends_passed _ _ _ _ c.from_residual-in_err-erase.ensures.1 c.in_err-erase.ensures.ends);
-    }
 
 pub returns : goal.returns
 returns g c =
@@ -42,14 +23,17 @@ returns g c =
       outside = outside;
       idle = λ unset. absurd (false≢true (sym unset ∙ set));
       rest = rest;
-      ok = front_erased c.args.map.now _ c.args.image _ _ c.args.side c.in_ok-erase.ensures.ok laid
-          c.requires.there c.slot.ensures size;
-      first = λ was. sector_erased c.args.map.now _ c.args.image _ _ c.args.side c.in_ok-erase.ensures.ok laid
-          c.requires.there c.slot.ensures size;
-      erases = c.in_ok-erase.ensures.erases ∙ ap (λ (chip : Chip). chip.erases + 1) c.is_front_set.ensures.same
-          ∙ ap (λ front. (g.F.Flash.chip c.args.flash.now).erases + (if front then 1 else 0)) (sym set);
-      ends = ends_then _ _ _ _ _ c.in_ok-is_front_set.ensures.ends
-          (ends_done _ _ _ _ c.in_ok-erase.ensures.ends);
+      ok = on_ok_weaker c.erase.result (λ erased.
+          front_erased c.args.map.now _ c.args.image _ _ c.args.side erased laid c.requires.there c.slot.ensures size)
+          c.erase.ensures.ok;
+      first = on_ok_weaker c.erase.result (λ erased. λ was.
+          sector_erased c.args.map.now _ c.args.image _ _ c.args.side erased laid c.requires.there c.slot.ensures size)
+          c.erase.ensures.ok;
+      erases = on_ok_weaker c.erase.result (λ one.
+          one ∙ ap (λ (chip : Chip). chip.erases + 1) c.is_front_set.ensures.same
+          ∙ ap (λ front. (g.F.Flash.chip c.args.flash.now).erases + (if front then 1 else 0)) (sym set))
+          c.erase.ensures.erases;
+      ends = ends_then _ _ _ _ _ c.in_ok-is_front_set.ensures.ends c.erase.ensures.ends;
     }
 
 pub erase-requires : goal.erase-requires

@@ -1,11 +1,13 @@
 use Rattle.std.proofs.Common.{◌∙◌, ap, inr, refl}
+use Rattle.std.proofs.lemmas.Result.{on_ok_weaker}
 use Rattle.trailer.proofs.Withdrawal.{none_after_front, none_after_trailer, front_after_trailer, erases_of, first_gone, unset_kept}
 use Rattle.trailer.proofs.Withdrawal.{nothing_left, rest_of_trailer, rest_trans}
 use Rattle.sector_map.specs.declared.layout.Side.TheVariants.{Secondary}
 use Rattle.sector_map.specs.Part.{Slot}
-use Rattle.flash_model.proofs.Ending.{at_error, ends_passed, ends_then, ends_done}
+use Rattle.flash_model.proofs.Ending.{at_error, ends_passed, ends_then}
 use Rattle.trailer.specs.Standing.{first_is_set, incoming_slot}
 use Rattle.trailer.proofs.Gone.{gone_without_front}
+use Rattle.trailer.proofs.Told.{at_any}
 use Rattle.trailer.proofs.Withdrawal.{incoming_then_trailer, slot_or_none, trailer_of_withdrawal, trailer_then_slot}
 use Rattle.trailer.proofs.withdrawing.withdraw.Goals as goal
 
@@ -55,33 +57,6 @@ returns-in_err-erase_front g c =
           (ends_passed _ _ _ _ c.from_residual-in_err-erase_front.ensures.1 c.in_err-erase_front.ensures.ends);
     }
 
-pub returns-in_err-clear : goal.returns-in_err-clear
-returns-in_err-clear g c =
-    let front = rest_trans c.args.map.now c.args.image Secondary _ _ _
-    (rest_of_trailer c.args.map.now _ _ c.args.image c.take_back.ensures.outside) c.erase_front.ensures.rest in
-    record {
-      outside = incoming_then_trailer c.args.map.now _ _ _ c.args.image
-          (trailer_then_slot c.args.map.now _ _ _ c.args.image c.take_back.ensures.outside
-          c.erase_front.ensures.outside) c.clear.ensures.outside;
-      rest = rest_trans c.args.map.now c.args.image Secondary _ _ _ front
-          (rest_of_trailer c.args.map.now _ _ c.args.image c.clear.ensures.outside);
-      idle = nothing_left c.args.map.now (g.F.Flash.chip c.args.flash.now) (g.F.Flash.chip c.take_back.new.flash)
-          (g.F.Flash.chip c.erase_front.new.flash) (g.F.Flash.chip c.clear.new.flash) c.args.image
-          c.take_back.ensures.idle c.erase_front.ensures.idle c.clear.ensures.idle;
-      either = inr (none_after_trailer c.args.map.now _ _ c.args.image c.in_ok-erase_front.ensures.ok
-          c.clear.ensures.outside);
-      ok = at_error _ _ c.from_residual-in_err-clear.ensures.0;
-      bytes = at_error _ _ c.from_residual-in_err-clear.ensures.0;
-      front = at_error _ _ c.from_residual-in_err-clear.ensures.0;
-      first = at_error _ _ c.from_residual-in_err-clear.ensures.0;
-      unset = λ unset. c.clear.ensures.outside.parts (Slot c.args.image Secondary) refl
-          ∙ unset_kept c.args.map.now _ _ _ c.args.image c.take_back.ensures.outside c.erase_front.ensures.idle unset;
-      erases = at_error _ _ c.from_residual-in_err-clear.ensures.0;
-      ends = ends_then _ _ _ _ _ c.in_ok-take_back.ensures.ends
-          (ends_then _ _ _ _ _ c.in_ok-erase_front.ensures.ends
-          (ends_passed _ _ _ _ c.from_residual-in_err-clear.ensures.1 c.in_err-clear.ensures.ends));
-    }
-
 pub returns : goal.returns
 returns g c =
     let front = rest_trans c.args.map.now c.args.image Secondary _ _ _
@@ -97,19 +72,20 @@ returns g c =
           c.take_back.ensures.idle c.erase_front.ensures.idle c.clear.ensures.idle;
       either = inr (none_after_trailer c.args.map.now _ _ c.args.image c.in_ok-erase_front.ensures.ok
           c.clear.ensures.outside);
-      ok = c.in_ok-clear.ensures.ok;
-      bytes = c.in_ok-clear.ensures.bytes;
-      front = front_after_trailer c.args.map.now _ _ c.args.image c.in_ok-erase_front.ensures.ok
-          c.clear.ensures.outside;
-      first = first_gone c.args.map.now _ _ _ _ c.args.image c.take_back.ensures.outside c.clear.ensures.outside
-          c.in_ok-erase_front.ensures.first;
+      ok = c.clear.ensures.ok;
+      bytes = c.clear.ensures.bytes;
+      front = at_any _ _ (front_after_trailer c.args.map.now _ _ c.args.image c.in_ok-erase_front.ensures.ok
+          c.clear.ensures.outside);
+      first = at_any _ _ (first_gone c.args.map.now _ _ _ _ c.args.image c.take_back.ensures.outside
+          c.clear.ensures.outside c.in_ok-erase_front.ensures.first);
       unset = λ unset. c.clear.ensures.outside.parts (Slot c.args.image Secondary) refl
           ∙ unset_kept c.args.map.now _ _ _ c.args.image c.take_back.ensures.outside c.erase_front.ensures.idle unset;
-      erases = erases_of c.args.map.now (g.F.Flash.chip c.args.flash.now) (g.F.Flash.chip c.take_back.new.flash)
+      erases = on_ok_weaker c.clear.result (λ erases.
+          erases_of c.args.map.now (g.F.Flash.chip c.args.flash.now) (g.F.Flash.chip c.take_back.new.flash)
           (g.F.Flash.chip c.erase_front.new.flash) (g.F.Flash.chip c.clear.new.flash) c.args.image
           c.take_back.ensures.outside c.erase_front.ensures.outside c.in_ok-take_back.ensures.erased
-          c.in_ok-take_back.ensures.erases c.in_ok-erase_front.ensures.erases c.in_ok-clear.ensures.erases;
+          c.in_ok-take_back.ensures.erases c.in_ok-erase_front.ensures.erases erases)
+          c.clear.ensures.erases;
       ends = ends_then _ _ _ _ _ c.in_ok-take_back.ensures.ends
-          (ends_then _ _ _ _ _ c.in_ok-erase_front.ensures.ends
-          (ends_done _ _ _ _ c.in_ok-clear.ensures.ends));
+          (ends_then _ _ _ _ _ c.in_ok-erase_front.ensures.ends c.clear.ensures.ends);
     }

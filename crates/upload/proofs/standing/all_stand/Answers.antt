@@ -1,5 +1,6 @@
-use Rattle.std.proofs.Common.{◌≡◌, ◌<◌, ◌≤◌, ◌↔◌, true, false, IsTrue, Some, None, length, refl, sym, ◌∙◌, subst, arith, ⊎_elim}
-use Rattle.std.proofs.lemmas.Bool.{cases_lt, false≢true}
+use Rattle.std.proofs.Common.{◌≡◌, ◌≢◌, ◌<◌, ◌≤◌, ◌↔◌, true, false, IsTrue, Some, None, length}
+use Rattle.std.proofs.Common.{refl, sym, ◌∙◌, ap, subst, arith, ⊎_elim}
+use Rattle.std.proofs.lemmas.Bool.{cases_eq, cases_lt, false≢true}
 use Rattle.std.proofs.lemmas.List.{get_or_default, get_or_past}
 use Rattle.upload.specs.Sessions.{AllOpenAt, IsOpenAt, upload_at}
 use Rattle.upload.specs.View.{view}
@@ -26,6 +27,26 @@ returns-then-not-is_standing g c =
           absurd (false≢true (sym c.if-not-is_standing.true ∙ wrong)),
     ) in
     decides _ _ _ _ (c.stands_if_open.ensures.same ∙ c.loop-image.invariant.same) ok
+
+pub loop-image-preserved : goal.loop-image-preserved
+loop-image-preserved g c =
+    let map = c.args.map.now in
+    let sessions = c.args.sessions.now in
+    let image = c.loop-image.image in
+    let kept = c.loop-image.invariant in
+    let there : upload_at sessions image ≡ c.index-sessions-image.result =
+    get_or_default sessions image None _ (omega (arith, c.loop-image-test.true)) ∙ sym c.index-sessions-image.is in
+    let stands = c.in_ok-is_standing.ensures.ok.0 c.if-not-is_standing.false in
+    record {
+      same = c.stands_if_open.ensures.same ∙ kept.same;
+      each = λ i u below is. ⊎_elim
+          (λ (here : i ≡ image).
+          subst (λ k. IsOpenAt (view map (g.F.Flash.chip c.args.flash.now)) k u) (sym here)
+          (subst (λ k. IsOpenAt (view map k) image u) kept.same
+          (stands u (sym there ∙ ap (λ k. upload_at sessions k) (sym here) ∙ is))))
+          (λ (away : i ≢ image). kept.each i u (omega (arith, below, away)) is)
+          (cases_eq i image);
+    }
 
 pub returns : goal.returns
 returns g c =

@@ -1,13 +1,12 @@
-use Rattle.std.proofs.Common.{◌-◌, ◌↔◌, IsTrue, arith, take}
+use Rattle.std.proofs.Common.{◌-◌, arith}
+use Rattle.std.proofs.lemmas.Result.{IfOk-weaker}
 use Rattle.sector_map.specs.Part.{Slot}
 use Rattle.sector_map.specs.Map.{length_of}
 use Rattle.sector_map.proofs.PartBytes.{part_inside}
 use Rattle.trailer.proofs.Places.{some_slot}
+use Rattle.trailer.proofs.Told.{at_any}
 use Rattle.sector_map.specs.declared.layout.Side.TheVariants.{Secondary}
-use Rattle.trailer.specs.Standing.{incoming_slot}
-use Rattle.upload.specs.Sessions.{IsWritten}
 use Rattle.upload.proofs.StandingLaws.{tells_written}
-use Rattle.upload.proofs.Ends.{decides}
 use Rattle.upload.proofs.standing.is_erased_behind.Goals as goal
 
 pub overflow_add-start : goal.overflow_add-start
@@ -32,9 +31,13 @@ pub returns : goal.returns
 returns g c =
     let map = c.args.map.now in
     let chip = g.F.Flash.chip c.args.flash.now in
-    let slot = incoming_slot map chip c.args.image in
-    let ok : IsTrue c.in_ok-erased.erased ↔ IsWritten slot (take c.args.at slot) =
-    tells_written map chip c.args.image c.args.at (length_of map (Slot c.args.image Secondary) - c.args.at)
-    c.in_ok-erased.erased c.requires.image.laid_out (omega (arith, c.requires.within))
-    (rw (c.slot_start-start.ensures, c.slot_length.ensures) at c.in_ok-erased.ensures.ok) in
-    decides _ _ _ _ c.is_erased.ensures.same ok
+    let left = length_of map (Slot c.args.image Secondary) - c.args.at in
+    record {
+      same = c.is_erased.ensures.same;
+      ok = IfOk-weaker c.is_erased.result _ _ (λ erased told.
+          tells_written map chip c.args.image c.args.at left erased c.requires.image.laid_out
+          (omega (arith, c.requires.within)) told)
+          (rw (c.slot_start-start.ensures, c.slot_length.ensures) at c.is_erased.ensures.ok);
+      erases = at_any _ _ c.is_erased.ensures.erases;
+      ends = c.is_erased.ensures.ends;
+    }
