@@ -110,16 +110,12 @@ fn write_decision(
     ensures { IfOk result (λ _. string_bytes text.new
         ≡ string_bytes text.old ++ decision_text decision.now) }
 {
-    match decision {
-        None => Ok(()),
-        Some(Finding::Decided { table: _, report }) => write!(text, "{report}"),
-        Some(Finding::Damaged(image)) => {
-            let line = refused_fault_text(alloc, Fault::RunningDamaged(*image))?;
-            write!(text, "{line}")
-        }
-        Some(Finding::Invalid) => {
-            let line = refused_fault_text(alloc, Fault::InvalidSet)?;
-            write!(text, "{line}")
-        }
-    }
+    let fault = match decision {
+        None => return Ok(()),
+        Some(Finding::Decided { table: _, report }) => return write!(text, "{report}"),
+        Some(Finding::Damaged(image)) => Fault::RunningDamaged(*image),
+        Some(Finding::Invalid) => Fault::InvalidSet,
+    };
+    let line = refused_fault_text(alloc, fault)?;
+    write!(text, "{line}")
 }

@@ -1,6 +1,22 @@
 use Rattle.std.proofs.Common.{rules}
+use Rattle.std.proofs.KnownBytes.{Keeps-refl}
+use Rattle.std.proofs.lemmas.Bool.{false≢true}
 use Rattle.answers.specs.ChooseEnd.{IsChoice}
 use Rattle.answers.proofs.choose.write_choice.Goals as goal
+
+-- The bytes are no table ..
+pub returns-in-Err-clause-written : goal.returns-in-Err-clause-written
+returns-in-Err-clause-written g c = (c.in-Err.ensures.line, Keeps-refl (g.W.Write.contents c.args.out.now))
+
+-- .. or its running images don't fit each other.
+pub returns-then-not-is_valid-clause-written : goal.returns-then-not-is_valid-clause-written
+returns-then-not-is_valid-clause-written g c = (
+  (c.in-Ok.table, c.in-Ok.ensures.spelled, λ valid. false≢true (c.if-not-is_valid.ensures.1 valid)),
+  Keeps-refl (g.W.Write.contents c.args.out.now),
+)
+
+pub choose-report-requires : goal.choose-report-requires
+choose-report-requires g c = c.is_valid.ensures.0 c.if-not-is_valid.false
 
 -- The report was taken whole.
 pub returns-in-Ok-write_all : goal.returns-in-Ok-write_all

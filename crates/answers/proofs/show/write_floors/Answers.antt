@@ -1,9 +1,10 @@
-use Rattle.std.proofs.Common.{append_assoc}
-use Rattle.device_texts.proofs.TextLaws.{flat_map-range_more}
+use Rattle.std.proofs.Common.{codes, decimal, slice_index, string_bytes}
+use Rattle.answers.proofs.TextLaws.{image_lines-more}
 use Rattle.answers.proofs.show.write_floors.Goals as goal
 
 -- The line of one image more.
 pub loop-image-preserved : goal.loop-image-preserved
 loop-image-preserved c =
-    let written = c.in_ok-writeln.ensures.bytes in
-    rw (flat_map-range_more, written, c.loop-image.invariant, c.from.ensures) (simp append_assoc)
+    rw (c.in_ok-writeln.ensures.bytes, c.loop-image.invariant, c.from.ensures)
+    (image_lines-more (codes "floor") (λ image. decimal (slice_index c.args.state.now.floors image))
+    (string_bytes c.args.text.now) c.loop-image.image-counter)

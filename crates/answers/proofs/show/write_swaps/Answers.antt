@@ -1,14 +1,21 @@
-use Rattle.std.proofs.Common.{◌∙◌, append_assoc}
-use Rattle.device_texts.proofs.TextLaws.{flat_map-range_more}
+use Rattle.std.proofs.Common.{◌∙◌, ap, codes, string_bytes}
+use Rattle.answers.specs.ShowEnd.{swap_type_in}
+use Rattle.answers.specs.StateText.{swap_type_text}
+use Rattle.answers.proofs.TextLaws.{image_lines-more}
 use Rattle.answers.proofs.show.write_swaps.Goals as goal
 
 -- The line of one image more, by the trailers of the flash as it was.
 pub loop-image-preserved : goal.loop-image-preserved
 loop-image-preserved g c =
-    let written = c.in_ok-writeln.ensures.bytes in
-    let asked = c.swap_type_text-asked.ensures in
-    let swap_type = rw c.loop-image.invariant.same at c.swap_type_on.ensures.swap_type in
+    let map = c.args.map.now in
+    let chip = g.F.Flash.chip c.args.flash.now in
+    let n = c.loop-image.image-counter in
+    let asked = c.swap_type_text-asked.ensures
+    ∙ ap swap_type_text
+    (c.swap_type_on.ensures.swap_type ∙ ap (λ one. swap_type_in map one n) c.loop-image.invariant.same) in
     record {
-      said = rw (flat_map-range_more, written, c.loop-image.invariant.said, asked, swap_type) (simp append_assoc);
+      said = rw (c.in_ok-writeln.ensures.bytes, c.loop-image.invariant.said, asked)
+          (image_lines-more (codes "swap") (λ image. swap_type_text (swap_type_in map chip image))
+          (string_bytes c.args.text.now) n);
       same = c.swap_type_on.ensures.same ∙ c.loop-image.invariant.same;
     }

@@ -1,6 +1,11 @@
-use Rattle.std.proofs.Common.{◌≡◌, ◌∙◌, ◌+◌, ℕ, List, ap, arith, length, subst}
+use Rattle.std.proofs.Common.{◌≡◌, ◌∙◌, ◌+◌, ◌<◌, ◌≤◌, ℕ, List, ap, arith, length, subst}
 use Rattle.std.specs.Prelude.{slice_range}
+use Rattle.flash_model.specs.Chip.{Chip}
 use Rattle.flash_model.specs.Memory.{chip_of}
+use Rattle.sector_map.specs.declared.layout.SectorMap.{SectorMap}
+use Rattle.sector_map.specs.declared.layout.Side.{Side}
+use Rattle.sector_map.specs.Map.{IsLaidOut, start_of}
+use Rattle.sector_map.specs.Part.{Slot}
 use Rattle.image_reading.specs.Fault.{IsFrontFault}
 use Rattle.image_reading.specs.Slot.{slot_bytes}
 use Rattle.command_ends.specs.Input.{IsKnownAs}
@@ -15,17 +20,28 @@ returns-in-Err-clause-copied g c =
     c.flash_of-flash.ensures.chip c.in-Err.ensures.fault
 
 -- The image lies in the flash.
+inside : (map : SectorMap) (old new : Chip) (image : ℕ) (side : Side) (at long : ℕ) (all : List ℕ)
+    → IsLaidOut map old → image < map.images → long ≤ length (slot_bytes map old image side) → new ≡ old
+    → at ≡ start_of map (Slot image side) → all ≡ new.bytes → at + long ≤ length all
+inside map old new image side at long all laid there fits same start lent = omega (
+  arith,
+  copy_inside map old image side long laid there fits,
+  start,
+  ap (λ bytes. length bytes) lent,
+  ap (λ chip. length chip.bytes) same,
+)
+
+pub overflow_add-at : goal.overflow_add-at
+overflow_add-at g c =
+    let end = inside c.args.map.now _ _ c.args.copying.image c.args.copying.side _ c.in-Ok.length _
+    c.flash_of-flash.ensures.laid_out c.requires.there c.in-Ok.ensures.fits c.in-Ok.ensures.same
+    c.slot_start-at.ensures c.bytes.ensures in
+    omega (arith, end, c.bytes.type_inv.0)
+
 pub slice_bounds-replace-end : goal.slice_bounds-replace-end
-slice_bounds-replace-end g c =
-    let inside = copy_inside c.args.map.now (chip_of c.flash_of-flash.result) c.args.copying.image c.args.copying.side
-    c.in-Ok.length c.flash_of-flash.ensures.laid_out c.requires.there c.in-Ok.ensures.fits in
-    omega (
-      arith,
-      inside,
-      c.slot_start-at.ensures,
-      ap (λ all. length all) c.bytes.ensures,
-      ap (λ chip. length chip.bytes) c.in-Ok.ensures.same,
-    )
+slice_bounds-replace-end g c = inside c.args.map.now _ _ c.args.copying.image c.args.copying.side _ c.in-Ok.length _
+    c.flash_of-flash.ensures.laid_out c.requires.there c.in-Ok.ensures.fits c.in-Ok.ensures.same
+    c.slot_start-at.ensures c.bytes.ensures
 
 -- The file holds the image that the slot begins with.
 pub returns-clause-copied : goal.returns-clause-copied

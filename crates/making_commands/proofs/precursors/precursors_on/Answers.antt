@@ -1,7 +1,8 @@
 use Rattle.std.proofs.Common.{Some, subst, ◌∙◌}
-use Rattle.std.proofs.lemmas.List.{get_or_default}
+use Rattle.std.proofs.lemmas.List.{get_or_default, take_all}
 use Rattle.command_line.specs.declared.orders.NewComponent.{NewComponent}
 use Rattle.making_commands.specs.NewManifestEnd.{IsPrecursor}
+use Rattle.making_commands.specs.NewManifestSteps.{ArePrecursors}
 use Rattle.making_commands.proofs.NewManifestLaws.{any_at, nothing, zip_more}
 use Rattle.making_commands.proofs.precursors.precursors_on.Goals as goal
 
@@ -26,3 +27,11 @@ loop-component-preserved g c =
           (subst (λ (x : NewComponent). IsPrecursor c.args.map.now (Some chip) x.image (Some c.in-Some.digest))
           (get_or_default asked place _ nothing within) runs)),
     )
+
+-- All run.
+pub returns : goal.returns
+returns g c =
+    let flash = Some (g.F.Flash.chip c.args.flash.now) in
+    subst (λ asked. ArePrecursors c.args.map.now flash asked c.loop-component.digests.items)
+    (take_all c.loop-component.component-index c.args.asked.now c.loop-component-test.false)
+    c.loop-component.invariant.1
