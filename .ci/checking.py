@@ -74,8 +74,8 @@ class Checks:
         self.tell(name, [f"{what}: {short(one)}, and not {short(other)}" for what, one, other in told if one != other])
 
 
-def side_by_side(tasks):
-    """Makes checks, as many tasks at once as there are processors, and returns how many passed and failed.
+def side_by_side(tasks, most):
+    """Makes checks, so many tasks at once at most, but one at least, and returns how many passed and failed.
 
     A task is a call without arguments that prints its checks' lines and returns how many passed and failed. What each
     prints comes in one piece, in the order of the tasks.
@@ -83,7 +83,7 @@ def side_by_side(tasks):
     passed = failed = 0
     # The processes have the tasks from their start: a call without a name can't be sent to them.
     fork = multiprocessing.get_context("fork")
-    with ProcessPoolExecutor(len(os.sched_getaffinity(0)), fork, take, (tasks,)) as pool:
+    with ProcessPoolExecutor(max(most, 1), fork, take, (tasks,)) as pool:
         for said, (more_passed, more_failed) in pool.map(make, range(len(tasks))):
             print(said, end="", flush=True)
             passed, failed = passed + more_passed, failed + more_failed

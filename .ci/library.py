@@ -18,11 +18,12 @@ ENDS = b"permanent\ntake 0 1.1.0+0\n"
 LIMIT = 120
 
 
-def build_over_rt(archive, target):
-    """Builds the library over what `rt ci` left of the crates below it, and returns what is wrong, if something is."""
+def build_over_rt(library_of, archive, target):
+    """Builds the library over those that `rt ci` left of the crates below it, as this names them by their crates. Returns
+    what is wrong, if something is."""
     crates = crates_of("device_calls")
     for crate in crates[:-1]:
-        crate.made = f"{crate.folder}/out/rlib/{crate.name}.rlib"
+        crate.made = library_of(crate.name)
     crates[-1].target, crates[-1].made = target, archive
     # Other checks go on beside it, and one process takes the least of the processors in all.
     words = crates[-1].words(os.path.dirname(asked_of_rt("doc")))

@@ -13,7 +13,6 @@ import functools
 import hashlib
 import os
 import re
-import shutil
 import signal
 import subprocess
 import sys
@@ -24,10 +23,6 @@ ROOT = os.path.dirname(os.path.dirname(os.path.realpath(__file__)))
 OUT = f"{ROOT}/out"
 BUILD = f"{OUT}/build"
 LOG = f"{OUT}/bootswap.log"
-
-# Where out/build stands while `rt ci` runs, which stops at a source file that none of its checks reads, as those that a
-# built library has.
-ASIDE = f"{ROOT}/.git/bootswap-build"
 
 # What is told before a build: as measured on 4 processors, all of them taken.
 COSTS = {
@@ -155,6 +150,17 @@ class Crate:
             words += ["--crate-type", "staticlib", "--target", self.target]
             return [*words, "--toolchain", f"{kit}/toolchain", "--backend", "llvm"]
         return [*words, "--statements"]
+
+    def check_words(self, kit, functions):
+        """Returns the order to check it, or these functions of it and what they call, each given as its path in the crate."""
+        words = self.words(kit)
+        # A check takes no place to write to, and makes no statements or code.
+        for word, values in (("-o", 1), ("--statements", 0), ("--toolchain", 1), ("--backend", 1)):
+            if word in words:
+                at = words.index(word)
+                del words[at : at + 1 + values]
+        words[1] = "check"
+        return [*words, *(f"--only={it}" for it in functions)]
 
     def aim(self, target):
         """Has a static library built for another target, beside the one for this processor."""
@@ -347,7 +353,6 @@ def asked_of_rt(word):
 
 def build(crates, toolchain):
     """Proves and builds these crates: a program as out/NAME, a library as out/build/NAME.a."""
-    put_build_back()
     try:
         os.makedirs(BUILD, exist_ok=True)
         held = open(f"{BUILD}/lock", "w", encoding="utf-8")
@@ -358,23 +363,6 @@ def build(crates, toolchain):
         open(LOG, "w", encoding="utf-8").close()
         signal.signal(signal.SIGTERM, lambda *_: sys.exit(128 + signal.SIGTERM))
         Build(crates, toolchain, os.path.dirname(asked_of_rt("doc")), held).run()
-
-
-def set_build_aside():
-    """Sets out/build aside, once no build goes on there."""
-    put_build_back()
-    if os.path.isdir(BUILD) and os.path.isdir(os.path.dirname(ASIDE)):
-        with open(f"{BUILD}/lock", "w", encoding="utf-8") as held:
-            lock(held)
-            os.rename(BUILD, ASIDE)
-
-
-def put_build_back():
-    """Puts back what was set aside, also by a run that was killed, unless something was built since."""
-    if os.path.isdir(ASIDE) and not os.path.isdir(BUILD):
-        os.makedirs(OUT, exist_ok=True)
-        os.rename(ASIDE, BUILD)
-    shutil.rmtree(ASIDE, ignore_errors=True)
 
 
 def lock(held):

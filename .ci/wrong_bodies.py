@@ -1,0 +1,192 @@
+"""Tries the wrong bodies of the crates, for `./gate`: edits of the code that break a promise, which the prover has to
+refuse.
+
+A wrong body is a file must-fail/NAME.edit of a crate, as `rt must-fail` reads it: behind `file:` stands a file, and behind
+each `old:` a text that stands there once, and which gives way to that behind `new:`. Behind `function:`, which `rt` passes
+over, stands the function that must not be proved any more, the edited one or its caller, as a check names it below the crate.
+
+`rt must-fail` checks a whole crate with each edit. Here a check is of the functions that edits name, and of what they call.
+A function is proved from its own body and from the contracts of what it calls, so that edits of several bodies are tried in
+one check: each has to be refused at its function, and all others have to be proved. Where a function calls another one that
+is refused, its edit is tried in the check behind that. An edit that changes more than the body of its function is tried alone.
+"""
+
+import os
+import re
+import shutil
+import subprocess
+import tempfile
+
+from checking import Checks
+from program import ROOT, asked_of_rt, crates_of, text_of
+
+# The last line of a check of some functions: how many there were, those that they call among them, and were proved.
+ENDED = re.compile(r"only=(\d+) proved=(\d+)")
+
+# A function's line, and what it says of one that isn't proved: for a goal of its own, or since it calls one that isn't.
+FUNCTION = re.compile(r"fn (\S+): (.*)")
+OWN_GOAL = re.compile(r"not proved$|no proof: expected answers in ")
+CALLS = re.compile(r"\bit calls `")
+
+# What it says of a function that isn't named by a wrong body: it is proved, or its turn comes when those that it calls are.
+FINE = re.compile(rf"proved|.*{CALLS.pattern}")
+
+# What a check says where it can't read a text, as where a proof names what an edit took away.
+UNREAD = re.compile(r"is not in scope|has no field|has no `|is no name|was not admitted|operand is missing|expected the end|cannot continue")
+
+# A goal that isn't proved: its file and line.
+GOAL = re.compile(r"note: (\S+):(\d+):\d+: it is not proved that ")
+
+# The line that begins a function.
+BEGIN = re.compile(r"(?P<indent> *)(?:pub(?:\([a-z]+\))? )?(?:const |unsafe |extern \"C\" )*fn (\w+)")
+
+# How many lines of a check are shown where it didn't end as it has to.
+MOST_SHOWN = 12
+
+
+class BadEdit(Exception):
+    """Why a wrong body can't be tried."""
+
+
+class WrongBody:
+    """An edit of a crate's code, and the function that is not to be proved with it."""
+
+    def __init__(self, path):
+        self.name = os.path.basename(path).removesuffix(".edit")
+        self.function, self.changes, file, old = "", [], "", ""
+        for line in (text_of(path) or "").splitlines():
+            word, _, rest = line.partition(":")
+            rest = rest.removeprefix(" ")
+            if word == "file":
+                file = rest.strip()
+            elif word == "function":
+                self.function = rest.strip()
+            elif word == "old":
+                old = rest
+            elif word == "new":
+                self.changes.append((file, old, rest))
+
+    def edit(self, folder, texts):
+        """Makes its changes in texts of files, by their paths in the crate's folder. A file without a text there is read."""
+        if not self.function or not self.changes:
+            raise BadEdit("it names no function, or changes nothing")
+        for file, old, new in self.changes:
+            text = texts.get(file) or text_of(f"{folder}/{file}") or ""
+            if not file.startswith("src/") or not old or text.count(old) != 1:
+                raise BadEdit(f"{file}, which has to be in src/, doesn't have the text once: {old}")
+            texts[file] = text.replace(old, new)
+
+    def place(self, folder):
+        """Returns the file and the lines, from 1, of its function, where its changes all stand in the body of that."""
+        places = {place_of(self.function.rpartition("::")[2], folder, file, old) for file, old, _ in self.changes}
+        return places.pop() if len(places) == 1 else None
+
+
+def place_of(function, folder, file, text):
+    """Returns the file and the lines of a function in whose body a text stands, or None where it stands elsewhere."""
+    lines = (text_of(f"{folder}/{file}") or "").split("\n")
+    at = next((number for number, line in enumerate(lines) if text in line), 0)
+    begins = [number for number in range(at) if BEGIN.match(lines[number])]
+    begin = BEGIN.match(lines[begins[-1]]) if begins else None
+    if not begin or begin[2] != function:
+        return None
+    # Files are laid out: a function ends at a brace as far to the right as it begins.
+    closed = lines[begins[-1] :].index(f"{begin['indent']}}}") if f"{begin['indent']}}}" in lines[begins[-1] :] else 0
+    return (file, begins[-1] + 1, begins[-1] + 1 + closed) if begins[-1] + closed > at else None
+
+
+def bodies_of(name):
+    """Returns the wrong bodies of a crate that the gate tries."""
+    folder = f"{ROOT}/crates/{name}/must-fail"
+    files = sorted(os.listdir(folder)) if os.path.isdir(folder) else []
+    return [WrongBody(f"{folder}/{it}") for it in files if it.endswith(".edit")]
+
+
+def crates_with_bodies():
+    """Returns the names of the crates that have wrong bodies, those first whose trials take longest."""
+    counts = {name: len(bodies_of(name)) for name in sorted(os.listdir(f"{ROOT}/crates"))}
+    seconds = {name: crates_of(name)[-1].seconds / 3 + 6 * count for name, count in counts.items() if count}
+    return sorted(seconds, key=lambda name: -seconds[name])
+
+
+class Trial:
+    """The wrong bodies of a crate, tried over the libraries of the crates below it."""
+
+    def __init__(self, name, library_of, kept):
+        *below, self.crate = crates_of(name)
+        for crate in below:
+            crate.made = library_of(crate.name)
+        self.kit, self.kept = os.path.dirname(asked_of_rt("doc")), kept
+
+    def together(self, bodies):
+        """Returns those of some wrong bodies that are tried in one check: each is one of another function."""
+        of_one = {it.function: it for it in reversed(bodies) if it.place(self.crate.folder)}
+        return bodies[:1] if bodies[0] not in of_one.values() else [*of_one.values()]
+
+    def check(self, bodies):
+        """Checks the functions that wrong bodies name, and what they call, with these edits. Returns the status and what was
+        said, by lines. What was proved is kept for the next check."""
+        with tempfile.TemporaryDirectory(prefix="bootswap-wrong-body-") as room:
+            for part in ("src", "specs", "proofs"):
+                if os.path.isdir(f"{self.crate.folder}/{part}"):
+                    shutil.copytree(f"{self.crate.folder}/{part}", f"{room}/{part}")
+            texts = {}
+            for body in bodies:
+                body.edit(self.crate.folder, texts)
+            for file, text in texts.items():
+                with open(f"{room}/{file}", "w", encoding="utf-8") as it:
+                    it.write(text)
+            functions = sorted({it.function for it in bodies})
+            words = [*self.crate.check_words(self.kit, functions), "--incremental", self.kept]
+            streams = {"stdin": subprocess.DEVNULL, "stdout": subprocess.PIPE, "stderr": subprocess.STDOUT}
+            ran = subprocess.run(words, cwd=room, text=True, errors="replace", **streams)
+        return ran.returncode, ran.stdout.rstrip("\n").split("\n")
+
+    def tried(self, bodies):
+        """Tries wrong bodies in one check. Returns what is wrong with each, nothing where it is refused at its function for
+        what it does, and None where the function calls another one that is refused."""
+        try:
+            status, lines = self.check(bodies)
+        except BadEdit as why:
+            return dict.fromkeys(bodies, [str(why)])
+        said = dict(it.groups() for it in map(FUNCTION.fullmatch, lines) if it)
+        named = {f"{self.crate.name}::{it.function}" for it in bodies}
+        others = [it for it, verdict in said.items() if not FINE.match(verdict) and it not in named]
+        if status != 1 or not ENDED.fullmatch(lines[-1]) or others:
+            return dict.fromkeys(bodies, ["the check didn't end as it has to", *others, *lines[-MOST_SHOWN:]])
+        verdicts = {it: said.get(f"{self.crate.name}::{it.function}", "") for it in bodies}
+        return {it: self.faults_of(it, verdict, lines, len(bodies) == 1) for it, verdict in verdicts.items()}
+
+    def faults_of(self, body, verdict, lines, is_alone):
+        """Returns what is wrong with a wrong body by the verdict on its function."""
+        if CALLS.search(verdict):
+            return None
+        if not OWN_GOAL.match(verdict):
+            return [f"its function: {verdict}", *lines[-MOST_SHOWN:]]
+        # What is found wrong in the proof of the function, which has a folder of its path, or at a goal of it.
+        folder, place = f"./proofs/{body.function.replace('::', '/')}/", body.place(self.crate.folder)
+        told = [it for it in lines if it.startswith(folder) and ": error: " in it]
+        goals = [it for it in map(GOAL.match, lines) if it]
+        of_it = [it for it in goals if is_alone or it[1] == place[0] and place[1] <= int(it[2]) <= place[2]]
+        if told and not of_it and all(map(UNREAD.search, told)):
+            return ["it is refused only since its proof names what it takes away", *told[:MOST_SHOWN]]
+        return []
+
+
+def try_bodies(name, library_of):
+    """Tries the wrong bodies of a crate, over the libraries that this names by their crates, and returns how many were
+    refused, and weren't."""
+    left = bodies_of(name)
+    with tempfile.TemporaryDirectory(prefix="bootswap-kept-") as kept:
+        checks, trial = Checks(None, "", kept), Trial(name, library_of, f"{kept}/proved")
+        while left:
+            chosen = trial.together(left)
+            tried = trial.tried(chosen)
+            if all(faults is None for faults in tried.values()):
+                # They call each other: the first one is tried alone.
+                tried = trial.tried(chosen[:1]) if chosen[1:] else {chosen[0]: ["it calls what isn't proved"]}
+            for body, faults in tried.items():
+                if faults is not None:
+                    left.remove(body)
+                    checks.tell(f"wrong body {name}/{body.name}: refused at {body.function}", faults)
+        return checks.passed, checks.failed
