@@ -14,7 +14,7 @@ use std::{fmt, io};
 pub const STANDARD_INPUT: &str = "-";
 
 /// What a command reads.
-#[derive(Clone, Copy, Debug)]
+#[derive(Clone, Copy)]
 pub enum Source<'a> {
     /// Standard input.
     StandardInput,

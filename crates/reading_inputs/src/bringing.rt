@@ -15,7 +15,7 @@ use script::{FileText, PartText};
 use std::alloc::Global;
 
 /// Where the bytes come from that the lines of a script name, once they were judged.
-#[derive(Clone, Copy)]
+#[derive(Drop)]
 pub struct Sources<'a, 'r, 'k, H> {
     /// Which memory they stand in.
     pub alloc: Global,

@@ -4,7 +4,7 @@ use crate::part::PartText;
 use events::Event;
 
 /// What a line of a script says. It borrows the line.
-#[derive(Clone, Debug, Drop, PartialEq, Eq)]
+#[derive(Drop)]
 pub enum Line<'a> {
     /// `cut K TORN`: power fails in a write of the flash.
     Cut {
@@ -20,7 +20,7 @@ pub enum Line<'a> {
 }
 
 /// What a write that is cut leaves in its range, as the line has it.
-#[derive(Clone, Copy, Debug, PartialEq, Eq)]
+#[derive(Clone, Copy)]
 pub enum TornText<'a> {
     /// `keep`: what was there before.
     Keep,
@@ -32,7 +32,7 @@ pub enum TornText<'a> {
 }
 
 /// What a line names of a file: the bytes of a manifest, or the next ones for an image.
-#[derive(Clone, Copy, Debug, PartialEq, Eq)]
+#[derive(Clone, Copy)]
 pub struct FileText<'a> {
     /// The name of the file that has the bytes.
     pub name: &'a str,

@@ -8,7 +8,7 @@ use crate::line::Line;
 
 /// What of a script was read: it says which lines can follow. First come cuts, whose numbers rise,
 /// and then events.
-#[derive(Clone, Copy, Debug, Default, PartialEq, Eq)]
+#[derive(Drop)]
 pub struct Reading {
     // The number of the last cut, 0 before the first.
     last_cut: u32,

@@ -12,7 +12,7 @@ use common::ascii::cut;
 /// The words FROM and COUNT of a line, which name a part of a file: so many bytes from the byte of
 /// that number on, the first having number 0. Whether they are numbers, and whether the file has
 /// that part, is judged when the file is there.
-#[derive(Clone, Copy, Debug, PartialEq, Eq)]
+#[derive(Clone, Copy)]
 pub struct PartText<'a> {
     /// The first word.
     pub from: &'a [u8],
