@@ -144,11 +144,12 @@ class Trial:
 
     def tried(self, bodies):
         """Tries wrong bodies in one check. Returns what is wrong with each, nothing where it is refused at its function for
-        what it does, and None where the function calls another one that is refused."""
+        what it does, and None where it has to be tried again: its function calls another one that is refused, or the edits
+        can't all be made."""
         try:
             status, lines = self.check(bodies)
         except BadEdit as why:
-            return dict.fromkeys(bodies, [str(why)])
+            return dict.fromkeys(bodies, [str(why)] if len(bodies) == 1 else None)
         said = dict(it.groups() for it in map(FUNCTION.fullmatch, lines) if it)
         named = {f"{self.crate.name}::{it.function}" for it in bodies}
         others = [it for it, verdict in said.items() if not FINE.match(verdict) and it not in named]
@@ -183,8 +184,8 @@ def try_bodies(name, library_of):
             chosen = trial.together(left)
             tried = trial.tried(chosen)
             if all(faults is None for faults in tried.values()):
-                # They call each other: the first one is tried alone.
-                tried = trial.tried(chosen[:1]) if chosen[1:] else {chosen[0]: ["it calls what isn't proved"]}
+                alone = trial.tried(chosen[:1])[chosen[0]]
+                tried = {chosen[0]: ["its function calls one that isn't proved"] if alone is None else alone}
             for body, faults in tried.items():
                 if faults is not None:
                     left.remove(body)
