@@ -40,8 +40,9 @@ GOAL = re.compile(r"note: (\S+):(\d+):\d+: it is not proved that ")
 # The line that begins a function.
 BEGIN = re.compile(r"(?P<indent> *)(?:pub(?:\([a-z]+\))? )?(?:const |unsafe |extern \"C\" )*fn (\w+)")
 
-# How many lines of a check are shown where it didn't end as it has to.
+# How many lines of a check are shown where it didn't end as it has to, and those that only count what was read.
 MOST_SHOWN = 12
+COUNTED = re.compile(r"(statements|crate) \w+: modules |logic ")
 
 
 class BadEdit(Exception):
@@ -144,26 +145,28 @@ class Trial:
 
     def tried(self, bodies):
         """Tries wrong bodies in one check. Returns what is wrong with each, nothing where it is refused at its function for
-        what it does, and None where it has to be tried again: its function calls another one that is refused, or the edits
-        can't all be made."""
+        what it does, and None where it has to be tried again: its function calls another one that is refused, or there is no
+        verdict on some wrong bodies together."""
+        is_alone = len(bodies) == 1
         try:
             status, lines = self.check(bodies)
         except BadEdit as why:
-            return dict.fromkeys(bodies, [str(why)] if len(bodies) == 1 else None)
+            return dict.fromkeys(bodies, [str(why)] if is_alone else None)
         said = dict(it.groups() for it in map(FUNCTION.fullmatch, lines) if it)
         named = {f"{self.crate.name}::{it.function}" for it in bodies}
         others = [it for it, verdict in said.items() if not FINE.match(verdict) and it not in named]
-        if status != 1 or not ENDED.fullmatch(lines[-1]) or others:
-            return dict.fromkeys(bodies, ["the check didn't end as it has to", *others, *lines[-MOST_SHOWN:]])
+        if status not in (0, 1) or not ENDED.fullmatch(lines[-1]) or others:
+            why = ["the check didn't end as it has to", *others, *last_of(lines)]
+            return dict.fromkeys(bodies, why if is_alone else None)
         verdicts = {it: said.get(f"{self.crate.name}::{it.function}", "") for it in bodies}
-        return {it: self.faults_of(it, verdict, lines, len(bodies) == 1) for it, verdict in verdicts.items()}
+        return {it: self.faults_of(it, verdict, lines, is_alone) for it, verdict in verdicts.items()}
 
     def faults_of(self, body, verdict, lines, is_alone):
         """Returns what is wrong with a wrong body by the verdict on its function."""
         if CALLS.search(verdict):
             return None
         if not OWN_GOAL.match(verdict):
-            return [f"its function: {verdict}", *lines[-MOST_SHOWN:]]
+            return [f"of its function the check says: {verdict}", *last_of(lines)]
         # What is found wrong in the proof of the function, which has a folder of its path, or at a goal of it.
         folder, place = f"./proofs/{body.function.replace('::', '/')}/", body.place(self.crate.folder)
         told = [it for it in lines if it.startswith(folder) and ": error: " in it]
@@ -172,6 +175,11 @@ class Trial:
         if told and not of_it and all(map(UNREAD.search, told)):
             return ["it is refused only since its proof names what it takes away", *told[:MOST_SHOWN]]
         return []
+
+
+def last_of(lines):
+    """Returns the last lines of a check, but for those that count what it read."""
+    return [it for it in lines if not COUNTED.match(it)][-MOST_SHOWN:]
 
 
 def try_bodies(name, library_of):
@@ -189,5 +197,5 @@ def try_bodies(name, library_of):
             for body, faults in tried.items():
                 if faults is not None:
                     left.remove(body)
-                    checks.tell(f"wrong body {name}/{body.name}: refused at {body.function}", faults)
+                    checks.tell(f"wrong body {name}/{body.name} is refused at {body.function}", faults)
         return checks.passed, checks.failed
