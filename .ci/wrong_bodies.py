@@ -32,7 +32,8 @@ CALLS = re.compile(r"\bit calls `")
 FINE = re.compile(rf"proved|.*{CALLS.pattern}")
 
 # What a check says where it can't read a text, as where a proof names what an edit took away.
-UNREAD = re.compile(r"is not in scope|has no field|has no `|is no name|was not admitted|operand is missing|expected the end|cannot continue")
+UNREAD = "is not in scope|has no field|has no `|is no name|was not admitted|operand is missing|expected the end|cannot continue"
+UNREAD = re.compile(UNREAD)
 
 # A goal that isn't proved: its file and line.
 GOAL = re.compile(r"note: (\S+):(\d+):\d+: it is not proved that ")
@@ -92,8 +93,10 @@ def place_of(function, folder, file, text):
     if not begin or begin[2] != function:
         return None
     # Files are laid out: a function ends at a brace as far to the right as it begins.
-    closed = lines[begins[-1] :].index(f"{begin['indent']}}}") if f"{begin['indent']}}}" in lines[begins[-1] :] else 0
-    return (file, begins[-1] + 1, begins[-1] + 1 + closed) if begins[-1] + closed > at else None
+    end = f"{begin['indent']}}}"
+    if end in lines[begins[-1] : at] or end not in lines[at:]:
+        return None
+    return file, begins[-1] + 1, lines.index(end, at) + 1
 
 
 def bodies_of(name):
