@@ -34,13 +34,6 @@ COSTS = {
 # The most memory that the check of a crate has taken, in bytes.
 MEMORY = 2_300_000_000
 
-# How much less of a processor a check gets that little waits for, as a niceness.
-LEAST_URGENT = 19
-
-# A check is urgent for which this part of the longest way waits, and so many processes of those may
-# run beside the others, which then stand back.
-URGENT, MORE = 0.75, 2
-
 # What the proof of a crate took, in seconds of a processor, in a first build on 4 of them. It says
 # which crates others wait for longest, and nothing else. Lines are a poor guess of it: much of
 # `command_words` and `manifest` is what `clap` and JSON bring.
@@ -234,12 +227,12 @@ class Build:
         """Proves and builds all that is left."""
         if self.fit <= 0:
             raise NotBuilt(f"a check takes up to {MEMORY / 1e9:.1f} GB of memory, and less is free")
-        at_once = min(self.most + MORE, self.fit, len(self.left))
+        at_once = min(self.most, self.fit, len(self.left))
         tell(
             f"proving and building {self.what}, and up to {at_once * MEMORY / 1e9:.1f} GB of memory; {len(self.left)} "
             f"crates are left, at most {at_once} side by side"
         )
-        with ThreadPoolExecutor(self.most + MORE) as pool:
+        with ThreadPoolExecutor(self.most) as pool:
             try:
                 while self.left or self.running:
                     self.start_what_fits(pool)
@@ -254,27 +247,16 @@ class Build:
         waits = [*self.left, *self.running.values()]
         ready = [it for it in self.left if not any(crate in waits for crate in it.below())]
         ready.sort(key=lambda it: -self.behind[it])
-        for crate in ready:
-            if self.has_room(crate):
-                niceness = self.niceness_of(crate)
-                self.left.remove(crate)
-                self.running[pool.submit(self.build, crate, niceness)] = crate
+        for crate in ready[: min(self.most, self.fit) - len(self.running)]:
+            self.left.remove(crate)
+            self.running[pool.submit(self.build, crate)] = crate
 
-    def has_room(self, crate):
-        """Returns whether a crate may start beside those that are under way."""
-        most = self.most + (MORE if self.behind[crate] >= URGENT * self.longest() else 0)
-        return len(self.running) < min(most, self.fit)
-
-    def longest(self):
-        """Returns how long the proofs take that wait for each other, of those that aren't done."""
-        return max(self.behind[it] for it in [*self.left, *self.running.values()])
-
-    def build(self, crate, niceness):
+    def build(self, crate):
         """Proves and builds a crate, and returns whether that was done, and what was said."""
         if os.path.isfile(crate.stamp):
             os.remove(crate.stamp)
         digest = crate.digest(self.toolchain)
-        status, said = self.call(crate.words(self.kit), crate.folder, niceness)
+        status, said = self.call(crate.words(self.kit), crate.folder)
         if status == -signal.SIGKILL and not self.is_stopped:
             # Most likely for memory, of which there may be more now.
             status, said = self.call(crate.words(self.kit), crate.folder)
@@ -286,12 +268,7 @@ class Build:
                 it.write(digest)
         return not status, said
 
-    def niceness_of(self, crate):
-        """Returns how little the check of a crate matters: there are more processes than processors, and the crates that
-        the others wait for in the end go first."""
-        return round(LEAST_URGENT * (1 - self.behind[crate] / self.longest()))
-
-    def call(self, words, folder, niceness=0):
+    def call(self, words, folder):
         """Runs a command of the toolchain, and returns its status and what it said.
 
         It holds the lock of the build too, so that no other build starts while it runs, should this one be killed.
@@ -300,8 +277,6 @@ class Build:
         start = time.monotonic()
         ran = subprocess.Popen(words, cwd=folder, pass_fds=[self.held.fileno()], **streams)
         self.processes.add(ran)
-        # Its own processes, which it starts later, have the same.
-        os.setpriority(os.PRIO_PROCESS, ran.pid, os.getpriority(os.PRIO_PROCESS, 0) + niceness)
         if self.is_stopped:
             kill(ran)
         with ran.stdout:
