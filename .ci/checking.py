@@ -10,6 +10,7 @@ import subprocess
 import threading
 import time
 from concurrent.futures import ProcessPoolExecutor
+from typing import NamedTuple
 
 ROOT = os.path.dirname(os.path.dirname(os.path.realpath(__file__)))
 EXAMPLES = f"{ROOT}/examples"
@@ -23,16 +24,36 @@ ONE = f"{EXAMPLES}/images/one.img"
 LIMIT = 20
 
 
+class Counts(NamedTuple):
+    """How many checks passed and failed, and how many parts of the gate were skipped."""
+
+    passed: int = 0
+    failed: int = 0
+    skipped: int = 0
+
+    def and_then(self, more):
+        return Counts(*map(sum, zip(self, more)))
+
+    def __str__(self):
+        return f"{self.passed} passed, {self.failed} failed, {self.skipped} skipped"
+
+
+def skip(what, why):
+    """Names a part that can't be checked here, and counts it."""
+    print(f"skipped {what}: {why}", flush=True)
+    return Counts(skipped=1)
+
+
 class Checks:
     """Runs a program in a folder of its own, and counts the checks that it passes."""
 
     def __init__(self, program, suffix, folder):
         self.program, self.suffix, self.folder = program, suffix, folder
-        self.passed = self.failed = 0
+        self.counts = Counts()
 
     def tell(self, name, faults):
         """Prints the line of a check, and under it what is wrong."""
-        self.passed, self.failed = self.passed + (not faults), self.failed + bool(faults)
+        self.counts = self.counts.and_then(Counts(not faults, bool(faults)))
         print(f"{'FAILED' if faults else 'ok'} {name}{self.suffix}", *faults, sep="\n     ", flush=True)
 
     def file(self, name, contents):
@@ -75,19 +96,19 @@ class Checks:
 
 
 def side_by_side(tasks, most):
-    """Makes checks, so many tasks at once at most, but one at least, and returns how many passed and failed.
+    """Makes checks, so many tasks at once at most, but one at least, and returns their counts.
 
-    A task is a call without arguments that prints its checks' lines and returns how many passed and failed. What each
-    prints comes in one piece, in the order of the tasks.
+    A task is a call without arguments that prints its checks' lines and returns their counts. What each prints comes in
+    one piece, in the order of the tasks.
     """
-    passed = failed = 0
+    counts = Counts()
     # The processes have the tasks from their start: a call without a name can't be sent to them.
     fork = multiprocessing.get_context("fork")
     with ProcessPoolExecutor(max(most, 1), fork, take, (tasks,)) as pool:
-        for said, (more_passed, more_failed) in pool.map(make, range(len(tasks))):
+        for said, more in pool.map(make, range(len(tasks))):
             print(said, end="", flush=True)
-            passed, failed = passed + more_passed, failed + more_failed
-    return passed, failed
+            counts = counts.and_then(more)
+    return counts
 
 
 TAKEN = []

@@ -9,6 +9,7 @@ import re
 import shutil
 import subprocess
 
+from checking import Counts
 from program import ROOT, free_memory
 
 LEFT_OUT = shutil.ignore_patterns(".git", "out", "must-fail", "mutants")
@@ -40,7 +41,7 @@ class ProvedCopy:
         shutil.copytree(ROOT, self.folder, ignore=LEFT_OUT)
 
     def check_by_rt(self):
-        """Runs `rt ci`, passes on what it says, and returns how many passed and failed.
+        """Runs `rt ci`, passes on what it says, and returns the counts.
 
         Its own last line is passed on behind `rt ci: `, so that no line but the gate's last one is a sum.
         """
@@ -49,7 +50,7 @@ class ProvedCopy:
             ran = subprocess.Popen(["rt", "ci"], cwd=self.folder, env=environment_of_rt(), **streams)
         except OSError:
             print("FAILED rt ci\n     the Rattle toolchain's command rt is not on the PATH", flush=True)
-            return 0, 1
+            return Counts(failed=1)
         with ran:
             try:
                 passed, failed = passed_on(ran.stdout)
@@ -59,7 +60,7 @@ class ProvedCopy:
         if ran.returncode and not failed:
             print(f"FAILED rt ci: its status is {ran.returncode}", flush=True)
             failed = 1
-        return passed, failed
+        return Counts(passed, failed)
 
     def program(self, name="bootswap"):
         return f"{self.folder}/crates/{name}/out/{name}"

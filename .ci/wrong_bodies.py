@@ -186,8 +186,8 @@ def last_of(lines):
 
 
 def try_bodies(name, library_of):
-    """Tries the wrong bodies of a crate, over the libraries that this names by their crates, and returns how many were
-    refused, and weren't."""
+    """Tries the wrong bodies of a crate, over the libraries that this names by their crates, and returns the counts of
+    those that were refused, and weren't."""
     left = bodies_of(name)
     with tempfile.TemporaryDirectory(prefix="bootswap-kept-") as kept:
         checks, trial = Checks(None, "", kept), Trial(name, library_of, f"{kept}/proved")
@@ -201,4 +201,4 @@ def try_bodies(name, library_of):
                 if faults is not None:
                     left.remove(body)
                     checks.tell(f"wrong body {name}/{body.name} is refused at {body.function}", faults)
-        return checks.passed, checks.failed
+        return checks.counts
