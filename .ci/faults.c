@@ -3,8 +3,8 @@
    for want of memory), of those that write (FAULT=nothing, where the call takes no byte), of those that read or write
    (FAULT=short, after which the call moves one byte at most), or of the allocations (FAULT=memory). Or of those that
    read or write each other one is interrupted (FAULT=interrupt), or each moves one byte (FAULT=trickle). When the
-   program ends, the number of those calls is written to the file FAULT_COUNT, and how many bytes were read to the file
-   FAULT_READ. `./gate` compiles and uses it. */
+   program ends, the number of those calls is written to the file FAULT_COUNT, how many bytes were read to the file
+   FAULT_READ, and what the call that failed was to do to the file FAULT_WRONG. `./gate` compiles and uses it. */
 #define _GNU_SOURCE
 #include <errno.h>
 #include <fcntl.h>
@@ -36,9 +36,13 @@ static int is_now(void) {
     return at && atol(at) == calls;
 }
 
-/* Whether this call is the one that fails. */
-static int has_failed(void) {
+/* What the call that went wrong was to do: nothing where none did. */
+static const char *wrong = "";
+
+/* Whether this call, which was to do this, is the one that fails. */
+static int has_failed(const char *what) {
     if (is_asked("fail") && is_now()) {
+        wrong = what;
         errno = EIO;
         return 1;
     }
@@ -50,30 +54,30 @@ int open(const char *name, int flags, ...) {
     va_start(rest, flags);
     int mode = flags & O_CREAT ? va_arg(rest, int) : 0;
     va_end(rest);
-    return has_failed() ? -1 : (int)syscall(SYS_openat, AT_FDCWD, name, flags, mode);
+    return has_failed("open") ? -1 : (int)syscall(SYS_openat, AT_FDCWD, name, flags, mode);
 }
 
-int flock(int file, int how) { return has_failed() ? -1 : (int)syscall(SYS_flock, file, how); }
+int flock(int file, int how) { return has_failed("lock") ? -1 : (int)syscall(SYS_flock, file, how); }
 
-off_t lseek(int file, off_t at, int from) { return has_failed() ? -1 : (off_t)syscall(SYS_lseek, file, at, from); }
+off_t lseek(int file, off_t at, int from) { return has_failed("look") ? -1 : (off_t)syscall(SYS_lseek, file, at, from); }
 
-off_t lseek64(int file, off_t at, int from) { return has_failed() ? -1 : (off_t)syscall(SYS_lseek, file, at, from); }
+off_t lseek64(int file, off_t at, int from) { return has_failed("look") ? -1 : (off_t)syscall(SYS_lseek, file, at, from); }
 
-int fdatasync(int file) { return has_failed() ? -1 : (int)syscall(SYS_fdatasync, file); }
+int fdatasync(int file) { return has_failed("sync") ? -1 : (int)syscall(SYS_fdatasync, file); }
 
-int fsync(int file) { return has_failed() ? -1 : (int)syscall(SYS_fsync, file); }
+int fsync(int file) { return has_failed("sync") ? -1 : (int)syscall(SYS_fsync, file); }
 
-int fchmod(int file, mode_t mode) { return has_failed() ? -1 : (int)syscall(SYS_fchmod, file, mode); }
+int fchmod(int file, mode_t mode) { return has_failed("change") ? -1 : (int)syscall(SYS_fchmod, file, mode); }
 
 int statx(int folder, const char *name, int flags, unsigned mask, struct statx *found) {
-    return has_failed() ? -1 : (int)syscall(SYS_statx, folder, name, flags, mask, found);
+    return has_failed("look") ? -1 : (int)syscall(SYS_statx, folder, name, flags, mask, found);
 }
 
-int rename(const char *old, const char *new) { return has_failed() ? -1 : (int)syscall(SYS_rename, old, new); }
+int rename(const char *old, const char *new) { return has_failed("rename") ? -1 : (int)syscall(SYS_rename, old, new); }
 
 /* A close that fails has let go of the file, as on Linux. */
 int close(int file) {
-    int is_bad = has_failed();
+    int is_bad = has_failed("close");
     int closed = (int)syscall(SYS_close, file);
     return is_bad ? -1 : closed;
 }
@@ -87,9 +91,9 @@ static int is_interrupted(void) {
     return 0;
 }
 
-/* Makes a call that moves bytes; `at` is a place of the file, for the calls that take one. */
-static ssize_t moved(long call, int file, const void *bytes, size_t length, off_t at) {
-    if (has_failed() || is_interrupted()) {
+/* Makes a call that moves bytes, and says what it was to do; `at` is a place of the file, for the calls that take one. */
+static ssize_t moved(const char *what, long call, int file, const void *bytes, size_t length, off_t at) {
+    if (has_failed(what) || is_interrupted()) {
         return -1;
     }
     if (is_asked("trickle") || (is_asked("short") && is_now())) {
@@ -104,16 +108,21 @@ static ssize_t received(long call, int file, void *bytes, size_t length, off_t a
         errno = is_asked("starve") ? ENOMEM : EIO;
         return -1;
     }
-    ssize_t given = moved(call, file, bytes, length, at);
+    ssize_t given = moved("read", call, file, bytes, length, at);
     taken += given > 0 ? given : 0;
     return given;
 }
 
 ssize_t read(int file, void *bytes, size_t length) { return received(SYS_read, file, bytes, length, 0); }
 
-/* Makes a call that writes. */
+/* Makes a call that writes, to an output or to another file. */
 static ssize_t sent(long call, int file, const void *bytes, size_t length, off_t at) {
-    return is_asked("nothing") && is_now() ? 0 : moved(call, file, bytes, length, at);
+    const char *what = file <= STDERR_FILENO ? "print" : "write";
+    if (is_asked("nothing") && is_now()) {
+        wrong = what;
+        return 0;
+    }
+    return moved(what, call, file, bytes, length, at);
 }
 
 ssize_t write(int file, const void *bytes, size_t length) { return sent(SYS_write, file, bytes, length, 0); }
@@ -148,19 +157,27 @@ void *malloc(size_t size) { return has_no_memory() ? NULL : __libc_malloc(size);
 
 void *realloc(void *old, size_t size) { return has_no_memory() ? NULL : __libc_realloc(old, size); }
 
-/* Writes a number to the file of the name that the environment has, if any. */
-static void tell_number(const char *where, long number) {
+/* Writes a text to the file of the name that the environment has, if any. */
+static void report(const char *where, const char *text) {
     const char *name = getenv(where);
     FILE *file;
     if (name && (file = fopen(name, "w"))) {
-        fprintf(file, "%ld\n", number);
+        fprintf(file, "%s\n", text);
         fclose(file);
     }
 }
 
+static void report_number(const char *where, long number) {
+    char text[24];
+    snprintf(text, sizeof text, "%ld", number);
+    report(where, text);
+}
+
 __attribute__((destructor)) static void tell(void) {
     long calls_made = calls, bytes_read = taken;
+    const char *failed = wrong;
     unsetenv("FAULT");
-    tell_number("FAULT_COUNT", calls_made);
-    tell_number("FAULT_READ", bytes_read);
+    report_number("FAULT_COUNT", calls_made);
+    report_number("FAULT_READ", bytes_read);
+    report("FAULT_WRONG", failed);
 }

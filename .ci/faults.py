@@ -10,19 +10,32 @@ from worked import cut_at, event_of, numbered
 SCRIPT = f"{EXAMPLES}/scripts/{WORKED}.txt"
 
 
+# The files in which a run with a fault tells of it.
+TOLD = ("count", "taken", "wrong")
+
+# The calls after whose failure a command has not done what it is to do: nothing was written, or not all is on its medium.
+NEEDED = ("sync", "write", "rename", "change", "print")
+
+
 def with_fault(checks, fault, at=0):
     """The environment of a run in which the call of this number goes wrong so. It tells in the file `count` how many
-    such calls there are, and in the file `taken` how many bytes were read."""
-    library, count, taken = (f"{checks.folder}/{name}" for name in ("faults.so", "count", "taken"))
+    such calls there are, in the file `taken` how many bytes were read, and in the file `wrong` what the call that went
+    wrong was to do."""
+    library, count, taken, wrong = (f"{checks.folder}/{name}" for name in ("faults.so", *TOLD))
     if not os.path.exists(library):
         subprocess.run(["cc", "-O1", "-fPIC", "-shared", "-o", library, f"{ROOT}/.ci/faults.c"], check=True)
-    ours = {"LD_PRELOAD": library, "FAULT": fault, "FAULT_AT": str(at), "FAULT_COUNT": count, "FAULT_READ": taken}
-    return {**os.environ, **ours}
+    ours = {"LD_PRELOAD": library, "FAULT": fault, "FAULT_AT": str(at)}
+    return {**os.environ, **ours, "FAULT_COUNT": count, "FAULT_READ": taken, "FAULT_WRONG": wrong}
 
 
 def told_in(checks, name):
     """The number that a run with a fault told in this file."""
     return int(read(f"{checks.folder}/{name}"))
+
+
+def wrong_call(checks):
+    """What the call was to do that went wrong in the last run: nothing where none did, or a memory request."""
+    return read(f"{checks.folder}/wrong").decode().strip()
 
 
 def each_fault(checks, fault, run):
@@ -168,12 +181,12 @@ def check_pieces_are_read(checks):
     checks.tell("how much is read: parts of a file", [] if taken == most else [f"{taken} bytes, and not {most}"])
 
 
-def is_made_after(fault, got, left, kept, made, refusal):
+def is_made_after(fault, wrong, got, left, kept, made, refusal):
     """Whether a command that makes a file may end so and leave these files, where it found the first others, and makes
-    the second. `refusal` is how it ends where its file can't be made."""
+    the second. `wrong` is what the call that failed was to do, and `refusal` how it ends where its file can't be made."""
     status, out, err = got
     if got == (0, b"done\n", b""):
-        return left == made
+        return left == made and wrong not in NEEDED
     # The answer is the last that is written, and may fail to be.
     if fault in FAILING and status == 1 and not err and b"done\n".startswith(out) and left == made:
         return True
@@ -204,7 +217,7 @@ def check_making_faults(checks):
         flash_of(checks)
         checks.run(words)
         whole = read(path)
-        others = {*os.listdir(checks.folder), "count", "taken", "faults.so"} - {file}
+        others = {*os.listdir(checks.folder), *TOLD, "faults.so"} - {file}
         for old in (None, b"old"):
             kept, made = {} if old is None else {file: old}, {file: whole}
 
@@ -219,8 +232,9 @@ def check_making_faults(checks):
             for fault in ("fail", "nothing", "short", "memory"):
                 faults = []
                 for at, (got, left) in each_fault(checks, fault, run):
-                    if not is_made_after(fault, got, left, kept, made, refusal):
-                        faults.append(f"at call {at}: {short(got)}, {sorted(left)}")
+                    wrong = wrong_call(checks)
+                    if not is_made_after(fault, wrong, got, left, kept, made, refusal):
+                        faults.append(f"at call {at}, to {wrong}: {short(got)}, {sorted(left)}")
                 name = "that is there" if old else "that isn't there"
                 checks.tell(f"{fault}: {words[0]} of a file {name}, {at} calls", faults[:5])
             for fault in HARMLESS:
@@ -256,14 +270,17 @@ def of_no_file():
             yield numbered(replies)
 
 
-def is_run_after(fault, got, kept, flashes):
+def is_run_after(fault, wrong, got, kept, flashes):
     """Whether the worked run may end so, with these bytes in the flash file.
 
-    `flashes` is what the file holds before it, and then after each event of it.
+    `wrong` is what the call that failed was to do, and `flashes` is what the file holds before the run, and then after
+    each event of it.
     """
     status, out, err = got
     if (got, kept) == ((0, numbered(USUAL), b""), flashes[-1]):
-        return True
+        return wrong not in NEEDED
+    if fault == "fail" and wrong in ("sync", "write") and (status, err) != (4, b"error: flash file\n"):
+        return False
     told = max(at for at in range(len(USUAL)) if out.startswith(numbered(USUAL[:at])))
     # Each event whose reply was told is done, and so is the one whose reply could not be told, or
     # not to its end. Memory may be refused for what the next event brings, too.
@@ -307,8 +324,9 @@ def check_run_faults(checks):
         for fault in ("fail", "short", "memory"):
             faults = []
             for at, (got, kept) in each_fault(checks, fault, lambda env: run(words, env)):
-                if not is_run_after(fault, got, kept, flashes) or not boots_behind(checks):
-                    faults.append(f"at call {at}: {short(got)}")
+                wrong = wrong_call(checks)
+                if not is_run_after(fault, wrong, got, kept, flashes) or not boots_behind(checks):
+                    faults.append(f"at call {at}, to {wrong}: {short(got)}")
             checks.tell(f"{fault}: {' '.join(words)} of a device, {at} calls", faults[:5])
             calls[words[-1], fault] = at
         for fault in HARMLESS:
@@ -361,7 +379,8 @@ def check_other_ends(checks):
         for fault in ("fail", "short", "memory"):
             faults = []
             for at, got in each_fault(checks, fault, run):
-                if got != usual and not is_other_end_after(fault, got, usual) or not boots_behind(checks):
+                is_right = is_other_end_after(fault, got, usual) or got == usual and wrong_call(checks) not in NEEDED
+                if not is_right or not boots_behind(checks):
                     faults.append(f"at call {at}: {short(got)}")
             checks.tell(f"{fault}: a run that ends with {name}, {at} calls", faults[:5])
 
