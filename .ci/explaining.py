@@ -465,6 +465,48 @@ def check_replies(checks):
     checks.tell("explained: nothing is made", [] if absent else ["a file is there"])
 
 
+def check_extracted_slots(checks):
+    """Of a slot that begins with no image the note is of that slot, and of no other one."""
+    whole = bytearray(flash_of(checks))
+    places = {(0, "primary"): 0, (1, "primary"): 1536, (0, "secondary"): 3072, (1, "secondary"): 4608}
+    for number, at in enumerate(places.values(), 1):
+        whole[at : at + 4] = little(number, 4)
+    checks.file("flash", whole)
+    for number, (image_number, side) in enumerate(places, 1):
+        words = ["extract", PAIR, "flash", str(image_number), side, "copy", "--explain"]
+        why = noted(b"at byte 0 stands 0x%08x, and an image begins with 0x96f3b83d" % number)
+        checks.expect(f"explained: extract {image_number} {side}", words, 1, b"refused 2 BadMagic\n", why)
+
+
+def check_requests_in_slots(checks):
+    """Of each request of a device that its next boot would refuse a sentence, and none of others."""
+    flash_of(checks)
+    needing, older = image(protected=(DEPENDENCY,), own=version(2)), image(protected=(), own=version(0, 9))
+    parts = []
+    for number, one in enumerate((needing, older)):
+        checks.file(f"new-{number}", one)
+        digest = hashlib.sha256(one).hexdigest()
+        parts.append(component(component_id=number, payload_digest=digest, size=len(one)))
+    checks.file("both", manifest(components=parts))
+    script = b"boot\naccept both\npiece 0 new-0\npiece 1 new-1\nfinish 0\nfinish 1\n"
+    checks.run(["run", PAIR, "flash", "-"], given=script)
+    refused = b"refuse 1 older\nrefuse 0 needs 1 2.3.4+5\n"
+    why = noted(
+        b"image 1: 0.9.0+0 is requested, and 1.0.0+0 runs, which is newer",
+        b"image 0: 2.0.0+0 needs image 1 from 2.3.4+5 on, which can have 1.0.0+0 at best",
+    )
+    status, out, err = checks.run(["slots", PAIR, "flash", "--explain"])
+    is_good = (status, err) == (0, why) and out.endswith(refused)
+    checks.tell("explained: slots: requests that are refused", [] if is_good else [repr((status, out, err))])
+    whole = bytearray(read(f"{checks.folder}/flash"))
+    whole[3072 + 33] ^= 1
+    checks.file("flash", whole)
+    status, out, err = checks.run(["slots", PAIR, "flash", "--explain"])
+    why = b"note: image 0: the bytes that are requested are no intact image\n"
+    is_good = status == 0 and why in err and b"refuse 0 damaged\n" in out and err.count(b"note: image ") == 2
+    checks.tell("explained: slots: a request that is damaged", [] if is_good else [repr((status, out, err))])
+
+
 def check_nothing_else(checks):
     """With `--explain` a command says and does what it does without; where it is done, it notes nothing."""
     whole = flash_of(checks)
@@ -497,5 +539,7 @@ CHECKS = (
     check_manifests,
     check_scripts,
     check_replies,
+    check_extracted_slots,
+    check_requests_in_slots,
     check_nothing_else,
 )
