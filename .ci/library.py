@@ -67,6 +67,18 @@ def check_cpp(checks):
     checks.tell("the header compiles as C++", faults)
 
 
+# What the library calls that it doesn't have itself: no memory is requested, in a boot as in any other call.
+CALLED = {"memcpy", "memmove", "memset"}
+
+
+def check_requests_no_memory(checks, archive):
+    """Every request for memory may be refused in each call: the library has no call of an allocator."""
+    faults, said = ran(["nm", "--undefined-only", "--format=posix", archive])
+    called = {line.split()[0] for line in said.decode().splitlines() if line.split()[1:] == ["U"]}
+    more = sorted(called ^ CALLED)
+    checks.tell("the library requests no memory", faults or [f"what it calls: {it}" for it in more])
+
+
 def check_python(checks, archive):
     """The tests of the Python names, over the library as it was built."""
     shared = f"{checks.folder}/libbootswap.so"
@@ -85,4 +97,5 @@ def check_library(checks, build):
     if not faults:
         check_life(checks, archive)
         check_cpp(checks)
+        check_requests_no_memory(checks, archive)
         check_python(checks, archive)
