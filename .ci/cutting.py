@@ -41,6 +41,7 @@ SWEEPS = [
         STAYED,
         (25, 999),
     ),
+    ("a set is tried, or its trial has begun", PAIR, UPGRADE, UPLOAD_REPLIES, TRIED, BACK, (25, 999)),
     (
         "a trial of three boots begins or has begun",
         PATIENT,
