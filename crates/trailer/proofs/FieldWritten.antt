@@ -24,5 +24,6 @@ field_written map image side from_end units is_said joined old new result writte
   ok = on_ok_weaker result says written.ok;
   bytes = written.ok;
   erases = written.erases;
+  off = written.off;
   ends = written.ends;
 }

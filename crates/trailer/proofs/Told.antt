@@ -1,10 +1,37 @@
--- What a call promises that could not read.
-use Rattle.std.proofs.Common.{◌≡◌, ◌↔◌, Bool, Result, Ok, Err, IsErr, IsTrue, IfOk, OnOk}
+-- What a call promises that could not read, and what one on a flash without power answers.
+use Rattle.std.proofs.Common.{◌≡◌, ◌↔◌, ◌+◌, ℕ, ◌∙◌, Bool, true, false, Result, Ok, Err, IsErr, IsErrOf, IsTrue, IfOk, OnOk}
+use Rattle.std.proofs.Common.{ap, arith, refl, sym}
 use Rattle.std.proofs.lemmas.Bool.{false≢true}
 use Rattle.flash_model.specs.declared.error.FlashError.{FlashError}
+use Rattle.flash_model.specs.declared.error.FlashError.TheVariants.{Cut, Off}
 use Rattle.flash_model.specs.Chip.{Chip, Ends}
 use Rattle.flash_model.proofs.Ending.{at_error}
 use Rattle.trailer.specs.Reads.{Decides, Tells}
+
+one_more : (n : ℕ) → n ≡ n + 1 → ⊥
+one_more n e = omega (arith, e)
+
+-- A call that ends only on a flash that is on answers Off where it is off: a cut is counted, and a
+-- flash that is off stays as it is.
+pub refuses : {T : Type 0} (result : Result T FlashError) (old new : Chip) → OnOk result (old.is_on ≡ true)
+    → Ends result old new → old.is_on ≡ false → IsErrOf result Off
+refuses (Ok value) old new on ends off = absurd (false≢true (sym off ∙ on))
+refuses (Err Off) old new on ends off = refl
+refuses (Err Cut) old new on ends off = absurd (one_more old.cuts
+    (sym (ap (λ (chip : Chip). chip.cuts) (ends.asleep off)) ∙ (ends.cut refl).cuts))
+
+-- A call that failed.
+pub refuses_failed : {T : Type 0} (result : Result T FlashError) (old new : Chip) → IsErr result
+    → Ends result old new → old.is_on ≡ false → IsErrOf result Off
+refuses_failed result old new is ends = refuses result old new (at_error (old.is_on ≡ true) result is) ends
+
+no_error : {T : Type 0} (value : T) (error : FlashError) → IsErrOf (Ok value) error → ⊥
+no_error value error e = cc
+
+-- A call whose first call on the flash ended: a flash without power would have refused that one.
+pub refuses_first : {T U : Type 0} (value : T) (result : Result U FlashError) (P : Type 0)
+    → (P → IsErrOf (Ok value) Off) → P → IsErrOf result Off
+refuses_first value result P off p = absurd (no_error value Off (off p))
 
 no_answer : {V E : Type 0} (P : V → Type 0) (result : Result V E) → IsErr result → IfOk result P
 no_answer P (Ok answer) is = absurd (false≢true is)
@@ -16,6 +43,7 @@ tells_nothing value old new result same is ends = record {
   same = same;
   ok = no_answer (λ answer. answer ≡ value) result is;
   erases = at_error _ result is;
+  off = refuses_failed result old new is ends;
   ends = ends;
 }
 

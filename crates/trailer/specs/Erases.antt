@@ -1,6 +1,7 @@
 -- What a call does that erases a trailer.
-use Rattle.std.specs.Prelude.{◌≡◌, ℕ, ◌+◌, true, if◌then◌else◌, Result, OnOk}
+use Rattle.std.specs.Prelude.{◌≡◌, ℕ, ◌+◌, true, false, if◌then◌else◌, Result, IsErrOf, OnOk}
 use Rattle.flash_model.specs.declared.error.FlashError.{FlashError}
+use Rattle.flash_model.specs.declared.error.FlashError.TheVariants.{Off}
 use Rattle.flash_model.specs.Chip.{Chip, Ends}
 use Rattle.sector_map.specs.declared.layout.SectorMap.{SectorMap}
 use Rattle.sector_map.specs.declared.layout.Side.{Side}
@@ -18,6 +19,8 @@ pub record ErasesTrailer (map : SectorMap) (image : ℕ) (side : Side) (old new 
   pub bytes : OnOk result (are_erased (trailer_bytes map new image side) ≡ true)
   pub ok : OnOk result (fields_at map new image side ≡ erased_fields)
   pub erases : OnOk result (new.erases ≡ old.erases + 1)
+  -- A flash without power is answered so.
+  pub off : old.is_on ≡ false → IsErrOf result Off
   pub ends : Ends result old new
 
 -- A call erases a trailer, unless it is all erased.
@@ -32,4 +35,6 @@ pub record Clears (map : SectorMap) (image : ℕ) (side : Side) (old new : Chip)
   pub ok : OnOk result (fields_at map new image side ≡ erased_fields)
   pub erases : OnOk result (new.erases ≡ old.erases
       + (if are_erased (trailer_bytes map old image side) then 0 else 1))
+  -- A flash without power is answered so.
+  pub off : old.is_on ≡ false → IsErrOf result Off
   pub ends : Ends result old new

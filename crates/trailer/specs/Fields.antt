@@ -10,7 +10,7 @@ use Rattle.sector_map.specs.declared.layout.SectorMap.{SectorMap}
 use Rattle.sector_map.specs.declared.layout.Side.{Side}
 use Rattle.sector_map.specs.Part.{TrailerOf}
 use Rattle.sector_map.specs.Map.{part_of, slot_sectors, start_of}
-use Rattle.trailer.specs.declared.format.TheConstants.{COPY_DONE, IMAGE_OK, MAGIC_PLACE, SWAP_SIZE, WITHDRAWN}
+use Rattle.trailer.specs.Places.{COPY_DONE, IMAGE_OK, MAGIC_PLACE, SWAP_SIZE, WITHDRAWN}
 use Rattle.trailer.specs.declared.kinds.Magic.{Magic}
 use Rattle.trailer.specs.declared.kinds.Magic.TheVariants.{Good, Unset, Bad}
 use Rattle.trailer.specs.declared.kinds.Trailer.{Trailer}

@@ -1,10 +1,14 @@
 -- What a call does that reads a trailer: each record is what many calls promise alike.
-use Rattle.std.specs.Prelude.{◌≡◌, ◌↔◌, ℕ, ◌*◌, ◌<◌, ◌≤◌, Bool, IsTrue, Result, OnOk, IfOk}
+use Rattle.std.specs.Prelude.{◌≡◌, ◌↔◌, ℕ, ◌*◌, ◌<◌, ◌≤◌, Bool, false, IsTrue}
+use Rattle.std.specs.Prelude.{Result, IsErrOf, OnOk, IfOk}
 use Rattle.flash_model.specs.declared.error.FlashError.{FlashError}
+use Rattle.flash_model.specs.declared.error.FlashError.TheVariants.{Off}
 use Rattle.flash_model.specs.Chip.{Chip, Ends}
 use Rattle.sector_map.specs.declared.layout.SectorMap.{SectorMap}
 use Rattle.sector_map.specs.Map.{IsLaidOut, slot_sectors}
-use Rattle.trailer.specs.declared.format.TheConstants.{WITHDRAWN}
+use Rattle.sector_map.specs.declared.layout.Side.{Side}
+use Rattle.trailer.specs.Fields.{erased_fields, fields_at}
+use Rattle.trailer.specs.Places.{WITHDRAWN}
 
 -- The map is laid out on the flash, has the image, and its trailers have n bytes that begin so many
 -- bytes before their end, at the withdrawn unit or behind it.
@@ -29,6 +33,8 @@ pub record Tells {V : Type 0} (value : V) (old new : Chip) (result : Result V Fl
   -- and the answer is the value.
   pub ok : IfOk result (λ answer. answer ≡ value)
   pub erases : OnOk result (new.erases ≡ old.erases)
+  -- A flash without power is answered so.
+  pub off : old.is_on ≡ false → IsErrOf result Off
   pub ends : Ends result old new
 
 -- A call tells whether something holds.
@@ -39,4 +45,16 @@ pub record Decides (fact : Type 0) (old new : Chip) (result : Result Bool FlashE
   -- and the answer is yes where it holds, and nowhere else.
   pub ok : IfOk result (λ answer. IsTrue answer ↔ fact)
   pub erases : OnOk result (new.erases ≡ old.erases)
+  pub ends : Ends result old new
+
+-- A call tells whether the trailer of an image's side reads as an erased one.
+pub record TellsBlank (map : SectorMap) (image : ℕ) (side : Side) (old new : Chip)
+    (result : Result Bool FlashError) : Type 0 where
+  -- Nothing changes,
+  pub same : new ≡ old
+  -- and the answer is yes where its fields are those of an erased one, and nowhere else.
+  pub ok : IfOk result (λ answer. IsTrue answer ↔ (fields_at map old image side ≡ erased_fields))
+  pub erases : OnOk result (new.erases ≡ old.erases)
+  -- A flash without power is answered so.
+  pub off : old.is_on ≡ false → IsErrOf result Off
   pub ends : Ends result old new

@@ -1,12 +1,13 @@
 -- What a call does that requests an image or confirms one.
-use Rattle.std.specs.Prelude.{◌≡◌, ◌⊎◌, ℕ, true, false, None, Some, Result, OnOk}
+use Rattle.std.specs.Prelude.{◌≡◌, ◌⊎◌, ℕ, true, false, None, Some, Result, IsErrOf, OnOk}
 use Rattle.flash_model.specs.declared.error.FlashError.{FlashError}
+use Rattle.flash_model.specs.declared.error.FlashError.TheVariants.{Off}
 use Rattle.flash_model.specs.Chip.{Chip, Ends, SameOutside}
 use Rattle.sector_map.specs.declared.layout.SectorMap.{SectorMap}
 use Rattle.sector_map.specs.declared.layout.Side.TheVariants.{Primary, Secondary}
 use Rattle.sector_map.specs.Map.{Keeps}
 use Rattle.sector_map.specs.Part.{TrailerOf, only}
-use Rattle.trailer.specs.declared.format.TheConstants.{IMAGE_OK}
+use Rattle.trailer.specs.Places.{IMAGE_OK}
 use Rattle.trailer.specs.declared.kinds.Kind.{Kind}
 use Rattle.trailer.specs.declared.kinds.Kind.TheVariants.{Permanent}
 use Rattle.trailer.specs.Fields.{bytes_at, erased_fields, fields_at, flag, place_of}
@@ -46,6 +47,8 @@ pub record Requests (map : SectorMap) (image : ℕ) (kind : Kind) (old new : Chi
   -- and image_ok holds the flag where the image is to stay.
   pub flag : OnOk result (kind ≡ Permanent → bytes_at map new image Secondary IMAGE_OK 8 ≡ flag)
   pub erases : OnOk result (new.erases ≡ old.erases)
+  -- A flash without power is answered so.
+  pub off : old.is_on ≡ false → IsErrOf result Off
   pub ends : Ends result old new
 
 -- A call confirms an image.
@@ -68,4 +71,6 @@ pub record Confirms (map : SectorMap) (image : ℕ) (old new : Chip)
   pub flag : OnOk result ((fields_at map old image Primary).image_ok ≡ false
       → bytes_at map new image Primary IMAGE_OK 8 ≡ flag)
   pub erases : OnOk result (new.erases ≡ old.erases)
+  -- A flash without power is answered so.
+  pub off : old.is_on ≡ false → IsErrOf result Off
   pub ends : Ends result old new

@@ -3,7 +3,7 @@ use Rattle.std.specs.Prelude.{◌≡◌, ◌⊎◌, ℕ, ◌-◌, Bool, true, fa
 use Rattle.flash_model.specs.Chip.{Chip}
 use Rattle.sector_map.specs.declared.layout.SectorMap.{SectorMap}
 use Rattle.sector_map.specs.declared.layout.Side.{Side}
-use Rattle.trailer.specs.declared.format.TheConstants.{COPY_DONE, IMAGE_OK, MAGIC_PLACE}
+use Rattle.trailer.specs.Places.{COPY_DONE, IMAGE_OK, MAGIC_PLACE}
 use Rattle.trailer.specs.declared.kinds.Magic.{Magic}
 use Rattle.trailer.specs.declared.kinds.Magic.TheVariants.{Good, Unset, Bad}
 use Rattle.trailer.specs.declared.kinds.Settling.{Settling}

@@ -1,13 +1,14 @@
 -- What a call does that settles the trailers of an image after a swap.
-use Rattle.std.specs.Prelude.{◌≡◌, ℕ, ◌+◌, ◌≤◌, Bool, true, false, Result, OnOk}
+use Rattle.std.specs.Prelude.{◌≡◌, ℕ, ◌+◌, ◌≤◌, Bool, true, false, Result, IsErrOf, OnOk}
 use Rattle.flash_model.specs.declared.error.FlashError.{FlashError}
+use Rattle.flash_model.specs.declared.error.FlashError.TheVariants.{Off}
 use Rattle.flash_model.specs.Chip.{Chip, Ends, SameOutside}
 use Rattle.sector_map.specs.declared.layout.SectorMap.{SectorMap}
 use Rattle.sector_map.specs.declared.layout.Side.{Side}
 use Rattle.sector_map.specs.declared.layout.Side.TheVariants.{Primary, Secondary}
 use Rattle.sector_map.specs.Map.{Keeps}
 use Rattle.sector_map.specs.Part.{TrailerOf, only, trailers_of}
-use Rattle.trailer.specs.declared.format.TheConstants.{COPY_DONE, IMAGE_OK}
+use Rattle.trailer.specs.Places.{COPY_DONE, IMAGE_OK}
 use Rattle.trailer.specs.declared.kinds.Settling.{Settling}
 use Rattle.trailer.specs.declared.kinds.Settling.TheVariants.{Back}
 use Rattle.flash_model.specs.Units.{are_erased}
@@ -75,4 +76,6 @@ pub record Settles (map : SectorMap) (image : ℕ) (settling : Settling) (old ne
       → new.erases ≡ old.erases + 1)
   pub must : OnOk result ((IsSpared map old image Primary settling → ⊥)
       → new.erases ≡ old.erases + 2)
+  -- A flash without power is answered so.
+  pub off : old.is_on ≡ false → IsErrOf result Off
   pub ends : Ends result old new

@@ -1,6 +1,8 @@
 -- What a call does that takes a request back.
-use Rattle.std.specs.Prelude.{◌≡◌, ◌⊎◌, ℕ, ◌+◌, true, false, None, if◌then◌else◌, Result, OnOk}
+use Rattle.std.specs.Prelude.{◌≡◌, ◌⊎◌, ℕ, ◌+◌, true, false, None, if◌then◌else◌}
+use Rattle.std.specs.Prelude.{Result, IsErrOf, OnOk}
 use Rattle.flash_model.specs.declared.error.FlashError.{FlashError}
+use Rattle.flash_model.specs.declared.error.FlashError.TheVariants.{Off}
 use Rattle.flash_model.specs.Chip.{Chip, Ends}
 use Rattle.sector_map.specs.declared.layout.SectorMap.{SectorMap}
 use Rattle.sector_map.specs.declared.layout.Side.{Side}
@@ -28,6 +30,8 @@ pub record TakesBack (map : SectorMap) (image : ℕ) (old new : Chip)
   pub erased : OnOk result (are_erased (trailer_bytes map new image Secondary)
       ≡ are_erased (trailer_bytes map old image Secondary))
   pub erases : OnOk result (new.erases ≡ old.erases)
+  -- A flash without power is answered so.
+  pub off : old.is_on ≡ false → IsErrOf result Off
   pub ends : Ends result old new
 
 -- A call erases the first sector of a slot, unless its first unit is erased.
@@ -46,6 +50,8 @@ pub record ErasesFront (map : SectorMap) (image : ℕ) (side : Side) (old new : 
       → are_erased (first_sector map.sector_size (part_of map new (Slot image side))) ≡ true)
   pub erases : OnOk result (new.erases ≡ old.erases
       + (if first_is_set (part_of map old (Slot image side)) then 1 else 0))
+  -- A flash without power is answered so.
+  pub off : old.is_on ≡ false → IsErrOf result Off
   pub ends : Ends result old new
 
 -- A call takes back the request of an image, if one stands.
@@ -77,4 +83,6 @@ pub record Withdraws (map : SectorMap) (image : ℕ) (old new : Chip)
   pub erases : OnOk result (new.erases ≡ old.erases
       + (if first_is_set (incoming_slot map old image) then 1 else 0)
       + (if are_erased (trailer_bytes map old image Secondary) then 0 else 1))
+  -- A flash without power is answered so.
+  pub off : old.is_on ≡ false → IsErrOf result Off
   pub ends : Ends result old new

@@ -1,12 +1,14 @@
 -- What a call does that writes units of a trailer.
-use Rattle.std.specs.Prelude.{◌≡◌, ℕ, ◌+◌, ◌*◌, ◌%◌, ◌<◌, ◌≤◌, List, length, Some, true, Result, OnOk}
+use Rattle.std.specs.Prelude.{◌≡◌, ℕ, ◌+◌, ◌*◌, ◌%◌, ◌<◌, ◌≤◌, List, length, Some, true, false}
+use Rattle.std.specs.Prelude.{Result, IsErrOf, OnOk}
 use Rattle.flash_model.specs.declared.error.FlashError.{FlashError}
+use Rattle.flash_model.specs.declared.error.FlashError.TheVariants.{Off}
 use Rattle.flash_model.specs.Chip.{Chip, Ends, Reads, SameOutside}
 use Rattle.sector_map.specs.declared.layout.SectorMap.{SectorMap}
 use Rattle.sector_map.specs.declared.layout.Side.{Side}
 use Rattle.sector_map.specs.Map.{IsLaidOut, Keeps, slot_sectors, start_of}
 use Rattle.sector_map.specs.Part.{TrailerOf, only}
-use Rattle.trailer.specs.declared.format.TheConstants.{IMAGE_OK, MAGIC_PLACE, SWAP_SIZE, WITHDRAWN}
+use Rattle.trailer.specs.Places.{IMAGE_OK, MAGIC_PLACE, SWAP_SIZE, WITHDRAWN}
 use Rattle.trailer.specs.declared.kinds.Magic.TheVariants.{Good}
 use Rattle.trailer.specs.Fields.{Fields, bytes_at, fields_at, flag, good_magic, place_of, size_bytes}
 use Rattle.trailer.specs.Status.{status_count_of}
@@ -31,6 +33,8 @@ pub record WritesUnits (map : SectorMap) (image : ℕ) (side : Side) (from_end :
   -- and they are there where the call ends.
   pub ok : OnOk result (bytes_at map new image side from_end (length units) ≡ units)
   pub erases : OnOk result (new.erases ≡ old.erases)
+  -- A flash without power is answered so.
+  pub off : old.is_on ≡ false → IsErrOf result Off
   pub ends : Ends result old new
 
 -- A call writes one field of a trailer, in units that begin so many bytes before its end. What the
@@ -50,6 +54,8 @@ pub record WritesField (map : SectorMap) (image : ℕ) (side : Side) (from_end :
   pub ok : OnOk result (is_said (fields_at map new image side))
   pub bytes : OnOk result (bytes_at map new image side from_end (length units) ≡ units)
   pub erases : OnOk result (new.erases ≡ old.erases)
+  -- A flash without power is answered so.
+  pub off : old.is_on ≡ false → IsErrOf result Off
   pub ends : Ends result old new
 
 -- A call sets image_ok,
@@ -89,6 +95,8 @@ pub record WritesSize (map : SectorMap) (image : ℕ) (side : Side) (swap_size :
   pub ok : OnOk result (0 < swap_size → swap_size ≤ slot_sectors map image * map.sector_size
       → (fields_at map new image side).size ≡ Some swap_size)
   pub erases : OnOk result (new.erases ≡ old.erases)
+  -- A flash without power is answered so.
+  pub off : old.is_on ≡ false → IsErrOf result Off
   pub ends : Ends result old new
 
 -- A call sets the first status unit that is erased.
@@ -108,4 +116,6 @@ pub record PushesStatus (map : SectorMap) (image : ℕ) (side : Side) (old new :
   pub flag : OnOk result (Reads new (start_of map (TrailerOf image side)
       + 8 * status_count_of map old image side) flag)
   pub erases : OnOk result (new.erases ≡ old.erases)
+  -- A flash without power is answered so.
+  pub off : old.is_on ≡ false → IsErrOf result Off
   pub ends : Ends result old new

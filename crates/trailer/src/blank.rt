@@ -3,7 +3,7 @@
 ghost use Rattle.std.specs.Prelude.{◌≡◌, ◌↔◌, IsTrue};
 ghost use Rattle.sector_map.specs.Map.{HasImage};
 ghost use Rattle.trailer.specs.Fields.{erased_fields, fields_at, trailer_of};
-ghost use Rattle.trailer.specs.Reads.{Decides, Tells};
+ghost use Rattle.trailer.specs.Reads.{Tells, TellsBlank};
 
 use crate::kinds::{Magic, Trailer};
 use crate::sizes::read_size;
@@ -57,8 +57,7 @@ pub fn is_blank<F: Flash>(
     side: Side,
 ) -> Result<bool, FlashError>
     requires { HasImage map.now image (F.chip flash.old) }
-    ensures { Decides (fields_at map.now (F.chip flash.old) image side ≡ erased_fields)
-        (F.chip flash.old) (F.chip flash.new) result }
+    ensures { TellsBlank map.now image side (F.chip flash.old) (F.chip flash.new) result }
 {
     let trailer = read_trailer(flash, map, image, side)?;
     let size = read_size(flash, map, image, side)?;

@@ -1,6 +1,7 @@
 //! Where the fields of a trailer stand in its sector, and what is written there. A field's place is
 //! told by how many bytes before the end of the sector it begins. From the sector's first byte on
-//! stand the status units.
+//! stand the status units. Contracts cite these places and the magic as numbers of their own, in
+//! `specs/Places.antt` and `specs/Fields.antt`, so that a change here alone isn't proved.
 
 /// The magic (`BOOT_MAGIC` of MCUboot's image trailer: MCUboot design document, "Image Trailer"),
 /// which is written as one unit of 16 bytes.

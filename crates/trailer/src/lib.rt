@@ -2,9 +2,10 @@
 //!
 //! Promises: each field is read as its bytes say; after a call each trailer is as asked, and after
 //! a cut a request, a withdrawal and a confirmation stand as before or as asked, and any other
-//! write leaves its own unit (an erase its sector) with any bytes and all else as it was. Does not
-//! allocate. `swap_scratch`, `upload`, `boot_core` and `answers` may call it; a program changes
-//! trailers through `boot_core` alone.
+//! write leaves its own unit (an erase its sector) with any bytes and all else as it was. Each call
+//! on a flash without power answers `Off`. Does not allocate. `swap_scratch`, `upload`, `decision`,
+//! `boot_core`, `sweep`, `answers` and `device_calls` may call it, and `machine` cites its
+//! definitions; a program changes trailers through `boot_core` alone.
 #![tactic(auto)]
 
 mod blank;

@@ -3,6 +3,7 @@
 ghost use Rattle.std.specs.Prelude.{length};
 ghost use Rattle.sector_map.specs.Map.{HasImage};
 ghost use Rattle.trailer.specs.Fields.{bytes_at};
+ghost use Rattle.trailer.specs.Places.{IMAGE_OK};
 ghost use Rattle.trailer.specs.Settled.{IsFree, IsOkFree, IsWhole};
 ghost use Rattle.trailer.specs.Writes.{HasUnits, WritesUnits};
 ghost use Rattle.trailer.specs.Settles.{MarksOk, MarksTrailer};

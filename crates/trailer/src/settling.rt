@@ -5,6 +5,7 @@ ghost use Rattle.std.specs.Str.{bytes_eq};
 ghost use Rattle.sector_map.specs.Map.{HasImage};
 ghost use Rattle.flash_model.specs.Units.{are_erased};
 ghost use Rattle.trailer.specs.Fields.{bytes_at, flag};
+ghost use Rattle.trailer.specs.Places.{IMAGE_OK};
 ghost use Rattle.trailer.specs.Settled.{IsFree, IsMagicFree, IsOkFree, IsWhole, is_confirmed};
 ghost use Rattle.trailer.specs.Settled.{is_whole_magic};
 ghost use Rattle.trailer.specs.Reads.{Decides, HasPlace};

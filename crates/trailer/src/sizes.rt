@@ -4,6 +4,7 @@ ghost use Rattle.std.specs.Prelude.{◌≡◌, true};
 ghost use Rattle.sector_map.specs.Map.{HasImage};
 ghost use Rattle.flash_model.specs.Units.{are_erased};
 ghost use Rattle.trailer.specs.Fields.{bytes_at, fields_at, size_bytes, size_in};
+ghost use Rattle.trailer.specs.Places.{SWAP_SIZE};
 ghost use Rattle.trailer.specs.Reads.{Tells};
 ghost use Rattle.trailer.specs.Writes.{WritesSize};
 

@@ -2,7 +2,7 @@
 
 ghost use Rattle.std.specs.Prelude.{◌≡◌, ◌+◌, ◌*◌, ◌<◌, ◌≤◌};
 ghost use Rattle.sector_map.specs.Map.{HasImage, slot_sectors};
-ghost use Rattle.trailer.specs.declared.format.TheConstants.{WITHDRAWN};
+ghost use Rattle.trailer.specs.Places.{WITHDRAWN};
 ghost use Rattle.flash_model.specs.Units.{are_erased};
 ghost use Rattle.trailer.specs.Fields.{trailer_bytes};
 ghost use Rattle.trailer.specs.Status.{status_count_of, status_unit};

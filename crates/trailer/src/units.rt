@@ -4,6 +4,7 @@ ghost use Rattle.std.specs.Prelude.{◌≡◌, ◌<◌, ◌≤◌, true, length}
 ghost use Rattle.sector_map.specs.Map.{HasImage};
 ghost use Rattle.flash_model.specs.Units.{are_erased};
 ghost use Rattle.trailer.specs.Fields.{bytes_at, is_set, magic_in, place_of};
+ghost use Rattle.trailer.specs.Places.{MAGIC_PLACE};
 ghost use Rattle.trailer.specs.Reads.{HasPlace, Tells};
 ghost use Rattle.trailer.specs.Writes.{HasUnits, WritesUnits};
 
@@ -95,7 +96,7 @@ pub(crate) fn are_units_erased<F: Flash>(
     from_end: u32,
     length: u32,
 ) -> Result<bool, FlashError>
-    requires { HasPlace map.now image from_end length (F.chip flash.old) }
+    requires { HasUnits map.now image from_end length (F.chip flash.old) }
     ensures { Tells (are_erased (bytes_at map.now (F.chip flash.old) image side from_end length))
         (F.chip flash.old) (F.chip flash.new) result }
 {

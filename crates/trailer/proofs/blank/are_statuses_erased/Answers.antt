@@ -1,4 +1,4 @@
-use Rattle.trailer.proofs.Places.{trailer_fits}
+use Rattle.trailer.proofs.Places.{some_slot, trailer_fits}
 use Rattle.std.proofs.Common.{◌*◌, ◌↔◌, IsTrue, arith, subst}
 use Rattle.std.proofs.lemmas.Result.{IfOk-weaker}
 use Rattle.flash_model.specs.Chip.{IsErased}
@@ -20,6 +20,11 @@ returns g c =
       same = c.is_erased.ensures.same;
       ok = ok;
       erases = at_any _ _ c.is_erased.ensures.erases;
+      off = λ off. c.is_erased.ensures.refuses off (omega (
+        arith,
+        c.status_units-length.ensures.count,
+        some_slot c.args.map.now c.args.image c.args.side c.requires.laid_out.is_map c.requires.there,
+      ));
       ends = c.is_erased.ensures.ends;
     }
 

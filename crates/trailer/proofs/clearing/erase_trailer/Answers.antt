@@ -4,6 +4,7 @@ use Rattle.flash_model.specs.Chip.{IsErased}
 use Rattle.sector_map.proofs.Parts.{laid_out_kept}
 use Rattle.trailer.proofs.Erased.{erased_fields_at, trailer_erased}
 use Rattle.trailer.proofs.Places.{trailer_alone, trailer_within}
+use Rattle.trailer.proofs.Told.{refuses}
 use Rattle.trailer.proofs.clearing.erase_trailer.Goals as goal
 
 pub erase-requires : goal.erase-requires
@@ -29,5 +30,6 @@ returns g c =
           erased_fields_at map new c.args.image c.args.side (erased all) laid c.requires.there)
           c.erase.ensures.ok;
       erases = c.erase.ensures.erases;
+      off = refuses _ _ _ c.erase.ensures.on c.erase.ensures.ends;
       ends = c.erase.ensures.ends;
     }

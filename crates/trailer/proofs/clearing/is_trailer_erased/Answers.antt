@@ -14,6 +14,7 @@ returns g c =
       same = c.is_erased.ensures.same;
       ok = ok;
       erases = at_any _ _ c.is_erased.ensures.erases;
+      off = λ off. c.is_erased.ensures.refuses off (omega (arith, c.requires.laid_out.is_map.trailers 0));
       ends = c.is_erased.ensures.ends;
     }
 

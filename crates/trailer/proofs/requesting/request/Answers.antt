@@ -11,6 +11,7 @@ use Rattle.trailer.specs.Standing.{is_good, is_permanent, requested_fields}
 use Rattle.trailer.proofs.FieldUnits.{either_magic}
 use Rattle.trailer.proofs.Gone.{stands_or_none}
 use Rattle.trailer.proofs.Marks.{ok_beside_magic}
+use Rattle.trailer.proofs.Told.{refuses_failed}
 use Rattle.trailer.proofs.requesting.request.Goals as goal
 
 -- a request is whole once its magic is good, and before that the magic isn't
@@ -38,6 +39,8 @@ returns-in_err-mark_kind g c =
       ok = at_error _ _ c.from_residual.ensures.0;
       flag = at_error _ _ c.from_residual.ensures.0;
       erases = at_error _ _ c.from_residual.ensures.0;
+      off = refuses_failed _ _ _ c.from_residual.ensures.0
+          (ends_passed _ _ _ _ c.from_residual.ensures.1 c.in_err-mark_kind.ensures.ends);
       ends = ends_passed _ _ _ _ c.from_residual.ensures.1 c.in_err-mark_kind.ensures.ends;
     }
 
@@ -60,5 +63,6 @@ returns g c =
           c.write_magic.ensures.ok;
       erases = on_ok_weaker c.write_magic.result (λ none. none ∙ c.in_ok-mark_kind.ensures.erases)
           c.write_magic.ensures.erases;
+      off = λ off. c.write_magic.ensures.off (c.in_ok-mark_kind.ensures.ends.uncut.on ∙ off);
       ends = ends_then _ _ _ _ _ c.in_ok-mark_kind.ensures.ends c.write_magic.ensures.ends;
     }

@@ -8,7 +8,7 @@ use Rattle.flash_model.specs.Units.{are_erased}
 use Rattle.trailer.proofs.Marks.{settled, secondary_kept, one_of_trailers, both_trailers}
 use Rattle.trailer.proofs.Marks.{beside, across, still_erased, spared_alike}
 use Rattle.flash_model.proofs.Ending.{at_error, ends_passed, ends_then}
-use Rattle.trailer.proofs.Told.{at_any}
+use Rattle.trailer.proofs.Told.{at_any, refuses_failed, refuses_first}
 use Rattle.trailer.proofs.settling.settle.Goals as goal
 
 pub returns-in_err-erase_trailer : goal.returns-in_err-erase_trailer
@@ -23,6 +23,8 @@ returns-in_err-erase_trailer g c =
       erases = at_error _ _ c.from_residual.ensures.0;
       spares = at_error _ _ c.from_residual.ensures.0;
       must = at_error _ _ c.from_residual.ensures.0;
+      off = refuses_failed _ _ _ c.from_residual.ensures.0
+          (ends_passed _ _ _ _ c.from_residual.ensures.1 c.in_err-erase_trailer.ensures.ends);
       ends = ends_passed _ _ _ _ c.from_residual.ensures.1 c.in_err-erase_trailer.ensures.ends;
     }
 
@@ -45,6 +47,7 @@ returns-in_err-make_whole g c =
       erases = at_error _ _ c.from_residual-in_err-make_whole.ensures.0;
       spares = at_error _ _ c.from_residual-in_err-make_whole.ensures.0;
       must = at_error _ _ c.from_residual-in_err-make_whole.ensures.0;
+      off = refuses_first _ _ _ c.in_ok-erase_trailer.ensures.off;
       ends = ends_then _ _ _ _ _ c.in_ok-erase_trailer.ensures.ends
           (ends_passed _ _ _ _ c.from_residual-in_err-make_whole.ensures.1 c.in_err-make_whole.ensures.ends);
     }
@@ -98,6 +101,7 @@ returns g c =
           (c.erase_trailer.ensures.outside.parts (TrailerOf c.args.image Primary) (across c.args.image)) spared))
           ∙ ap (λ n. n + 1) c.in_ok-erase_trailer.ensures.erases ∙ omega arith)
           c.mark_trailer.ensures.erases;
+      off = refuses_first _ _ _ c.in_ok-erase_trailer.ensures.off;
       ends = ends_then _ _ _ _ _ c.in_ok-erase_trailer.ensures.ends
           (ends_then _ _ _ _ _ c.in_ok-make_whole.ensures.ends c.mark_trailer.ensures.ends);
     }

@@ -23,6 +23,7 @@ returns g c =
       same = c.is_unit_erased.ensures.same;
       ok = ok;
       erases = at_any _ _ c.is_unit_erased.ensures.erases;
+      off = c.is_unit_erased.ensures.refuses;
       ends = c.is_unit_erased.ensures.ends;
     }
 

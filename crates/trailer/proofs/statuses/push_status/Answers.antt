@@ -1,6 +1,6 @@
 use Rattle.std.proofs.Common.{◌+◌, ◌*◌, ◌∙◌, ap, arith}
 use Rattle.std.proofs.lemmas.Result.{on_ok_weaker}
-use Rattle.trailer.proofs.Told.{at_any}
+use Rattle.trailer.proofs.Told.{at_any, refuses_first}
 use Rattle.trailer.proofs.Places.{trailer_fits, trailer_addressed}
 use Rattle.trailer.proofs.StatusUnits.{status_aligned, status_alone, status_fit, status_is_erased, own_status, pushed}
 use Rattle.flash_model.specs.Chip.{Chip}
@@ -53,6 +53,7 @@ returns g c =
       flag = rw (c.trailer_start.ensures, c.in_ok-count.ensures.ok) at c.set_unit.ensures.flag;
       erases = at_any _ _
           (c.set_unit.ensures.erases ∙ ap (λ (chip : Chip). chip.erases) c.status_count.ensures.same);
+      off = refuses_first _ _ _ c.in_ok-count.ensures.off;
       ends = ends_then _ _ _ _ _ c.in_ok-count.ensures.ends c.set_unit.ensures.ends;
     }
 

@@ -3,6 +3,7 @@ use Rattle.flash_model.specs.Units.{are_erased}
 use Rattle.trailer.specs.Fields.{trailer_bytes}
 use Rattle.trailer.specs.Status.{status_unit}
 use Rattle.trailer.proofs.StatusUnits.{units_are}
+use Rattle.trailer.proofs.Told.{refuses_first}
 use Rattle.trailer.proofs.statuses.status_count.Goals as goal
 
 pub returns-then-branch : goal.returns-then-branch
@@ -14,6 +15,7 @@ returns-then-branch g c =
       ok = sym (units_are (trailer_bytes c.args.map.now (g.F.Flash.chip c.args.flash.now) c.args.image c.args.side)
           _ _ (omega arith) c.loop-status.invariant.set (λ lt. free));
       erases = search rules;
+      off = refuses_first _ _ _ (rw c.loop-status.invariant.same at c.in_ok-is_status_erased.ensures.off);
       ends = search rules;
     }
 

@@ -1,4 +1,4 @@
-use Rattle.std.proofs.Common.{◌≡◌, ℕ, ◌<◌, false}
+use Rattle.std.proofs.Common.{◌≡◌, ℕ, ◌<◌, true, false}
 use Rattle.flash_model.specs.Units.{are_erased}
 use Rattle.trailer.specs.Fields.{trailer_bytes}
 use Rattle.trailer.specs.Status.{status_unit}
@@ -9,4 +9,5 @@ invariant-loop-status g l = record {
   same : g.F.Flash.chip l.flash ≡ g.F.Flash.chip l.fn.flash;
   set : (j : ℕ) → j < l.status → are_erased (status_unit (trailer_bytes l.map (g.F.Flash.chip l.fn.flash) l.image
       l.side) j) ≡ false;
+  on : 0 < l.status → (g.F.Flash.chip l.fn.flash).is_on ≡ true;
 }

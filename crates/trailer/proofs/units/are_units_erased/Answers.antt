@@ -15,6 +15,7 @@ returns g c =
       same = c.is_erased.ensures.same;
       ok = ok;
       erases = at_any _ _ c.is_erased.ensures.erases;
+      off = λ off. c.is_erased.ensures.refuses off (omega (arith, c.requires.some));
       ends = c.is_erased.ensures.ends;
     }
 

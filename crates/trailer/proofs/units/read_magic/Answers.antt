@@ -1,7 +1,7 @@
 use Rattle.std.proofs.Common.{◌≡◌, arith, length, sym, ap, ◌∙◌}
 use Rattle.flash_model.proofs.Ending.{ends_passed, ends_done}
 use Rattle.trailer.proofs.Places.{read_of_trailer, place_fits}
-use Rattle.trailer.proofs.Told.{tells_nothing}
+use Rattle.trailer.proofs.Told.{refuses, tells_nothing}
 use Rattle.trailer.specs.Fields.{magic_in}
 use Rattle.trailer.proofs.units.read_magic.Goals as goal
 
@@ -19,6 +19,7 @@ returns g c =
       same = c.read.ensures.same;
       ok = c.magic_in.ensures ∙ ap magic_in (sym read);
       erases = c.in_ok-read.ensures.erases;
+      off = refuses _ _ _ c.in_ok-read.ensures.on (ends_done _ _ _ _ c.in_ok-read.ensures.ends);
       ends = ends_done _ _ _ _ c.in_ok-read.ensures.ends;
     }
 

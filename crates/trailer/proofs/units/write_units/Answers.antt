@@ -1,7 +1,7 @@
 use Rattle.std.proofs.Common.{arith, refl}
 use Rattle.std.proofs.lemmas.Result.{on_ok_weaker}
 use Rattle.flash_model.specs.Chip.{Reads}
-use Rattle.trailer.proofs.Told.{at_any}
+use Rattle.trailer.proofs.Told.{at_any, refuses}
 use Rattle.sector_map.proofs.Parts.{laid_out_kept}
 use Rattle.trailer.proofs.Erased.{units_erased}
 use Rattle.trailer.proofs.Places.{place_aligned, place_fits, read_of_trailer, units_alone}
@@ -43,5 +43,6 @@ returns g c =
           has.room (omega (arith, has.within, has.laid_out.is_map.trailers 0)) laid has.there)
           c.program.ensures.ok;
       erases = at_any _ c.program.result c.program.ensures.erases;
+      off = refuses _ _ _ c.program.ensures.on c.program.ensures.ends;
       ends = c.program.ensures.ends;
     }

@@ -5,6 +5,7 @@ use Rattle.flash_model.specs.Chip.{Chip}
 use Rattle.flash_model.proofs.Ending.{ends_then}
 use Rattle.sector_map.proofs.Parts.{laid_out_kept}
 use Rattle.trailer.proofs.Places.{slot_alone, slot_within}
+use Rattle.trailer.proofs.Told.{refuses_first}
 use Rattle.trailer.proofs.Withdrawal.{front_erased, rest_of_erase, sector_erased}
 use Rattle.trailer.proofs.withdrawing.erase_front.Goals as goal
 
@@ -33,6 +34,7 @@ returns g c =
           one ∙ ap (λ (chip : Chip). chip.erases + 1) c.is_front_set.ensures.same
           ∙ ap (λ front. (g.F.Flash.chip c.args.flash.now).erases + (if front then 1 else 0)) (sym set))
           c.erase.ensures.erases;
+      off = refuses_first _ _ _ c.in_ok-is_front_set.ensures.off;
       ends = ends_then _ _ _ _ _ c.in_ok-is_front_set.ensures.ends c.erase.ensures.ends;
     }
 

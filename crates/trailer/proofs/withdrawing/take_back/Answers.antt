@@ -2,7 +2,7 @@ use Rattle.std.proofs.Common.{◌≡◌, Some, None, sym, ◌∙◌}
 use Rattle.std.proofs.lemmas.Result.{on_ok_weaker}
 use Rattle.flash_model.proofs.Ending.{ends_then}
 use Rattle.trailer.proofs.Gone.{gone_withdrawn}
-use Rattle.trailer.proofs.Told.{at_any}
+use Rattle.trailer.proofs.Told.{at_any, refuses_first}
 use Rattle.trailer.proofs.Withdrawal.{still_written, taken_back}
 use Rattle.trailer.proofs.withdrawing.take_back.Goals as goal
 
@@ -26,5 +26,6 @@ returns-in-Some g c =
       erased = at_any _ _ (still_written map old new c.args.image _ stood own c.requires.laid_out outside
           c.requires.there);
       erases = rw c.standing.ensures.same at c.set_withdrawn.ensures.erases;
+      off = refuses_first _ _ _ c.in_ok-standing.ensures.off;
       ends = ends_then _ _ _ _ _ c.in_ok-standing.ensures.ends c.set_withdrawn.ensures.ends;
     }

@@ -7,7 +7,7 @@ use Rattle.sector_map.specs.Part.{Slot}
 use Rattle.flash_model.proofs.Ending.{at_error, ends_passed, ends_then}
 use Rattle.trailer.specs.Standing.{first_is_set, incoming_slot}
 use Rattle.trailer.proofs.Gone.{gone_without_front}
-use Rattle.trailer.proofs.Told.{at_any}
+use Rattle.trailer.proofs.Told.{at_any, refuses_failed, refuses_first}
 use Rattle.trailer.proofs.Withdrawal.{incoming_then_trailer, slot_or_none, trailer_of_withdrawal, trailer_then_slot}
 use Rattle.trailer.proofs.withdrawing.withdraw.Goals as goal
 
@@ -27,6 +27,7 @@ returns-in_err-take_back g c =
       first = at_error _ _ e;
       unset = λ unset. slot;
       erases = at_error _ _ e;
+      off = refuses_failed _ _ _ e (ends_passed _ _ _ _ c.from_residual.ensures.1 c.in_err-take_back.ensures.ends);
       ends = ends_passed _ _ _ _ c.from_residual.ensures.1 c.in_err-take_back.ensures.ends;
     }
 
@@ -53,6 +54,7 @@ returns-in_err-erase_front g c =
       first = at_error _ _ e;
       unset = unset;
       erases = at_error _ _ e;
+      off = refuses_first _ _ _ c.in_ok-take_back.ensures.off;
       ends = ends_then _ _ _ _ _ c.in_ok-take_back.ensures.ends
           (ends_passed _ _ _ _ c.from_residual-in_err-erase_front.ensures.1 c.in_err-erase_front.ensures.ends);
     }
@@ -86,6 +88,7 @@ returns g c =
           c.take_back.ensures.outside c.erase_front.ensures.outside c.in_ok-take_back.ensures.erased
           c.in_ok-take_back.ensures.erases c.in_ok-erase_front.ensures.erases erases)
           c.clear.ensures.erases;
+      off = refuses_first _ _ _ c.in_ok-take_back.ensures.off;
       ends = ends_then _ _ _ _ _ c.in_ok-take_back.ensures.ends
           (ends_then _ _ _ _ _ c.in_ok-erase_front.ensures.ends c.clear.ensures.ends);
     }
