@@ -2,7 +2,7 @@
 use Rattle.std.proofs.Common.{◌≡◌, ◌⊎◌, ℕ, ◌+◌, ◌-◌, ◌*◌, ◌<◌, ◌≤◌, true, false, List, Option, Some, None, MatchOption, length, arith, sym, ◌∙◌, ap, subst, inl, inr, ⊎_elim}
 use Rattle.std.proofs.lemmas.Bool.{cases_lt}
 use Rattle.flash_model.specs.Chip.{Chip, IsErased, Reads, SameOutside}
-use Rattle.flash_model.specs.declared.unit.TheConstants.{FLAG}
+use Rattle.set_log.specs.Layout.{flag}
 use Rattle.flash_model.proofs.Frame.{products_apart, reads_kept}
 use Rattle.sector_map.specs.declared.layout.SectorMap.{SectorMap}
 use Rattle.set_log.specs.Ring.{has_room, is_closed, next_of, places_in, previous_of, reads_erased, IsActive}
@@ -21,7 +21,7 @@ stays_written e sector place at n bytes old new was long same apart = record {
   body = reads_kept _ at n bytes old new was.body same (⊎_elim
       (λ (low : sector * e + 64 * place + 64 ≤ at). inl (omega (arith, long)))
       (λ (high : at + n ≤ sector * e + 64 * place). inr high) apart);
-  gate = reads_kept _ at n FLAG old new was.gate same (⊎_elim
+  gate = reads_kept _ at n flag old new was.gate same (⊎_elim
       (λ (low : sector * e + 64 * place + 64 ≤ at). inl (omega arith))
       (λ (high : at + n ≤ sector * e + 64 * place). inr (omega arith)) apart);
 }
@@ -30,7 +30,7 @@ stays_written e sector place at n bytes old new was long same apart = record {
 pub written_there : (e sector place : ℕ) (bytes : List ℕ) (mid new : Chip)
     → Reads mid (sector * e + 64 * place) bytes → length bytes ≡ 56
     → SameOutside (sector * e + 64 * place + 56) 8 mid new
-    → Reads new (sector * e + 64 * place + 56) FLAG → IsWritten e new sector place bytes
+    → Reads new (sector * e + 64 * place + 56) flag → IsWritten e new sector place bytes
 written_there e sector place bytes mid new body long same gate = record {
   body = reads_kept _ _ 8 bytes mid new body same (inl (omega (arith, long)));
   gate = gate;

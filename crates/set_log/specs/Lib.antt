@@ -1,4 +1,5 @@
 pub mod Codes
+pub mod Layout
 pub mod Record
 pub mod Ring
 pub mod Log

@@ -2,12 +2,11 @@
 use Rattle.std.specs.Prelude.{◌≡◌, ℕ, ◌+◌, ◌-◌, ◌*◌, ◌<◌, Bool, true, false, not, List, slice_range}
 use Rattle.std.specs.Prelude.{Result, OnOk, OnErr, IfOk}
 use Rattle.flash_model.specs.declared.error.FlashError.{FlashError}
-use Rattle.flash_model.specs.declared.unit.TheConstants.{FLAG}
 use Rattle.flash_model.specs.Chip.{Chip, Ends, IsErased, Reads, SameOutside}
 use Rattle.sector_map.specs.declared.layout.SectorMap.{SectorMap}
 use Rattle.sector_map.specs.Map.{IsLaidOut, Keeps}
 use Rattle.sector_map.specs.Part.{Log, only}
-use Rattle.set_log.specs.declared.format.TheConstants.{GATE, PLACE, RECORD}
+use Rattle.set_log.specs.Layout.{GATE, PLACE, RECORD, flag}
 use Rattle.set_log.specs.Log.{log_bytes, log_of}
 use Rattle.set_log.specs.Ring.{is_closed, places_in, reads_erased}
 use Rattle.set_log.specs.Written.{HasClosingFlag}
@@ -103,7 +102,7 @@ pub record SetsGate (map : SectorMap) (sector place : ℕ) (old new : Chip) {T :
       (reads_erased (log_bytes map new) (sector * map.sector_size + PLACE * place + GATE) 8 ≡ false)
   -- and holds a flag.
   pub flag : OnOk result
-      (Reads (log_of map new) (sector * map.sector_size + PLACE * place + GATE) FLAG)
+      (Reads (log_of map new) (sector * map.sector_size + PLACE * place + GATE) flag)
   -- No sector is erased.
   pub erases : new.erases ≡ old.erases
   pub ends : Ends result old new
@@ -144,4 +143,6 @@ pub record ErasesSector (map : SectorMap) (sector : ℕ) (old new : Chip) {T : T
   -- The erase counts where the call ends, and doesn't where it fails.
   pub erases : OnOk result (new.erases ≡ old.erases + 1)
   pub uncounted : OnErr result (new.erases ≡ old.erases)
+  -- A call that ends was made on a flash that is on.
+  pub on : OnOk result (old.is_on ≡ true)
   pub ends : Ends result old new

@@ -5,7 +5,7 @@ use Rattle.std.specs.Prelude.{◌≡◌, ℕ, zero, suc, ◌+◌, ◌-◌, ◌*�
 use Rattle.std.specs.Prelude.{List, [], ◌∷◌, slice_range, Option, Some, None, if◌then◌else◌, find}
 use Rattle.flash_model.specs.Chip.{Chip, IsErased}
 use Rattle.flash_model.specs.Units.{are_erased}
-use Rattle.set_log.specs.declared.format.TheConstants.{GATE, PLACE, RECORD}
+use Rattle.set_log.specs.Layout.{GATE, PLACE, RECORD}
 
 -- So many bytes of the log from an offset on are erased.
 unfoldable pub reads_erased : List ℕ → ℕ → ℕ → Bool

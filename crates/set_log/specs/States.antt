@@ -1,14 +1,16 @@
 -- What a call does that reads the state of the log, appends one, or begins a log with one: each
 -- record is one call.
 use Rattle.std.specs.Prelude.{◌≡◌, ◌⊎◌, ℕ, ◌+◌, ◌*◌, true, false, Some}
-use Rattle.std.specs.Prelude.{Result, OnOk, if◌then◌else◌}
+use Rattle.std.specs.Prelude.{Result, IsErrOf, OnOk, if◌then◌else◌}
 use Rattle.flash_model.specs.declared.error.FlashError.{FlashError}
+use Rattle.flash_model.specs.declared.error.FlashError.TheVariants.{Off}
 use Rattle.flash_model.specs.Chip.{Chip, Ends, SameOutside}
 use Rattle.sector_map.specs.declared.layout.SectorMap.{SectorMap}
 use Rattle.sector_map.specs.Map.{IsWithin, Keeps}
 use Rattle.sector_map.specs.Part.{Log, only}
-use Rattle.set_log.specs.declared.format.TheConstants.{PLACE}
+use Rattle.set_log.specs.Layout.{PLACE}
 use Rattle.set_log.specs.declared.error.LogError.{LogError}
+use Rattle.set_log.specs.declared.error.LogError.TheVariants.{Flash}
 use Rattle.set_log.specs.declared.state.State.{State}
 use Rattle.set_log.specs.Log.{Answers, is_place_free, log_bytes, log_of, state_of}
 use Rattle.set_log.specs.Record.{fits, record_bytes}
@@ -26,6 +28,8 @@ pub record ReadsState (map : SectorMap) (old new : Chip) (result : Result State 
   pub table : (state : State) → state_of map old ≡ Some state → fits map.images state ≡ true
   -- So its set is of images of the map.
   pub within : (state : State) → state_of map old ≡ Some state → IsWithin map state.mask
+  -- A flash without power is answered so.
+  pub off : old.is_on ≡ false → IsErrOf result (Flash Off)
   -- No sector is erased.
   pub erases : new.erases ≡ old.erases
 
@@ -60,6 +64,8 @@ pub record Appends (map : SectorMap) (state : State) (old new : Chip) {T : Type 
       → IsMovedOn map.sector_size sector (record_bytes state) (log_of map new))
   -- A call that ends has erased no sector where a place was free, and else one.
   pub erases : OnOk result (new.erases ≡ old.erases + (if is_place_free map old then 0 else 1))
+  -- A flash without power is answered so.
+  pub off : old.is_on ≡ false → IsErrOf result Off
   -- A call that ends was not cut, a cut turns the flash off, and one that was off stays as it is.
   pub ends : Ends result old new
 
@@ -80,5 +86,7 @@ pub record Starts (map : SectorMap) (state : State) (old new : Chip) {T : Type 0
       → state_of map new ≡ Some state
   -- A call that ends has erased three sectors.
   pub erases : OnOk result (new.erases ≡ old.erases + 3)
+  -- A flash without power is answered so.
+  pub off : old.is_on ≡ false → IsErrOf result Off
   -- A call that ends was not cut, a cut turns the flash off, and one that was off stays as it is.
   pub ends : Ends result old new

@@ -1,12 +1,13 @@
 -- What a call does that writes a record: each record is one call.
 use Rattle.std.specs.Prelude.{◌≡◌, ◌⊎◌, ℕ, ◌+◌, ◌*◌, ◌<◌, true, false, List, Some}
-use Rattle.std.specs.Prelude.{Result, OnOk, OnErr, if◌then◌else◌}
+use Rattle.std.specs.Prelude.{Result, IsErrOf, OnOk, OnErr, if◌then◌else◌}
 use Rattle.flash_model.specs.declared.error.FlashError.{FlashError}
+use Rattle.flash_model.specs.declared.error.FlashError.TheVariants.{Off}
 use Rattle.flash_model.specs.Chip.{Chip, Ends, IsErased, SameOutside}
 use Rattle.sector_map.specs.declared.layout.SectorMap.{SectorMap}
 use Rattle.sector_map.specs.Map.{IsLaidOut, Keeps}
 use Rattle.sector_map.specs.Part.{Log, only}
-use Rattle.set_log.specs.declared.format.TheConstants.{PLACE}
+use Rattle.set_log.specs.Layout.{PLACE}
 use Rattle.set_log.specs.Log.{is_place_free, log_bytes, log_of, record_of}
 use Rattle.set_log.specs.Ring.{IsActive, IsFree, is_closed, last_of}
 use Rattle.set_log.specs.Written.{HasClosingFlag, IsBesideNext, IsFirstFree, IsMovedOn, IsWritten}
@@ -87,6 +88,8 @@ pub record AppendsRecord (map : SectorMap) (body : List ℕ) (old new : Chip) {T
       → IsMovedOn map.sector_size sector body (log_of map new))
   -- No sector is erased where a place is free, and else one.
   pub erases : OnOk result (new.erases ≡ old.erases + (if is_place_free map old then 0 else 1))
+  -- A flash without power is answered so.
+  pub off : old.is_on ≡ false → IsErrOf result Off
   pub ends : Ends result old new
 
 -- A call erases the three sectors.
@@ -99,6 +102,8 @@ pub record ErasesLog (map : SectorMap) (old new : Chip) {T : Type 0} (result : R
   -- Three erases count where the call ends, and fewer where it fails.
   pub erases : OnOk result (new.erases ≡ old.erases + 3)
   pub few : OnErr result (new.erases < old.erases + 3)
+  -- A call that ends was made on a flash that is on.
+  pub on : OnOk result (old.is_on ≡ true)
   pub ends : Ends result old new
 
 -- A call begins a log with a record.
@@ -118,4 +123,6 @@ pub record StartsRecord (map : SectorMap) (body : List ℕ) (old new : Chip) {T 
       → record_of map new ≡ Some body
   -- Three sectors are erased.
   pub erases : OnOk result (new.erases ≡ old.erases + 3)
+  -- A flash without power is answered so.
+  pub off : old.is_on ≡ false → IsErrOf result Off
   pub ends : Ends result old new

@@ -1,18 +1,17 @@
 -- What writing a record leaves in the log, byte for byte.
 use Rattle.std.specs.Prelude.{◌≡◌, ℕ, ◌+◌, ◌-◌, ◌*◌, ◌<◌, ◌≤◌, List, slice_index}
 use Rattle.flash_model.specs.Chip.{Chip, Reads}
-use Rattle.flash_model.specs.declared.unit.TheConstants.{FLAG}
-use Rattle.set_log.specs.declared.format.TheConstants.{GATE, PLACE}
+use Rattle.set_log.specs.Layout.{GATE, PLACE, flag}
 use Rattle.set_log.specs.Ring.{IsFree, next_of, previous_of}
 
 -- A record stands at a place of a sector: its bytes, and a flag as its gate.
 pub record IsWritten (e : ℕ) (log : Chip) (sector place : ℕ) (bytes : List ℕ) : Type 0 where
   pub body : Reads log (sector * e + PLACE * place) bytes
-  pub gate : Reads log (sector * e + PLACE * place + GATE) FLAG
+  pub gate : Reads log (sector * e + PLACE * place + GATE) flag
 
 -- The closing unit of a sector holds a flag.
 abbrev pub HasClosingFlag : ℕ → Chip → ℕ → Type 0
-HasClosingFlag e log sector = Reads log (sector * e + (e - 8)) FLAG
+HasClosingFlag e log sector = Reads log (sector * e + (e - 8)) flag
 
 -- The first free place of a sector: it and all behind it are erased, and no earlier place is so
 -- too.

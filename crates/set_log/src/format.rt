@@ -1,4 +1,5 @@
-//! The bytes of a place of the log: those of a record, and behind it its gate.
+//! The bytes of a place of the log: those of a record, and behind it its gate. Contracts cite these
+//! numbers as their own, in `specs/Layout.antt`, so that a change here alone isn't proved.
 
 /// How many bytes a place has: those of a record and its gate.
 pub(crate) const PLACE: u32 = 64;

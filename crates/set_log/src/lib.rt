@@ -2,9 +2,10 @@
 //!
 //! Promises: the state is a function of the bytes of the log's three sectors, and `read_state` is
 //! that function; an append that power cuts leaves the old state or the new one, over any bytes
-//! that it tears; nothing but the log is touched; and how many sectors are erased is known exactly.
-//! Does not allocate. `upload`, `boot_core` and `answers` may call it; a program changes the log
-//! through `boot_core` alone.
+//! that it tears; nothing but the log is touched; how many sectors are erased is known exactly; and
+//! each call on a flash without power answers `Off`. Does not allocate. `upload`, `reading_inputs`,
+//! `boot_core`, `answers` and `device_calls` may call it, and `machine` cites its definitions; a
+//! program changes the log through `boot_core` alone.
 #![tactic(auto)]
 
 mod active_sector;

@@ -21,5 +21,6 @@ returns g c =
       beside = c.append_record.ensures.beside;
       moved = rw c.to_bytes-body.ensures.is at c.append_record.ensures.moved;
       erases = c.append_record.ensures.erases;
+      off = c.append_record.ensures.off;
       ends = c.append_record.ensures.ends;
     }

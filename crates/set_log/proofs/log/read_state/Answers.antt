@@ -1,4 +1,5 @@
 use Rattle.std.proofs.Common.{rules, Some, None, sym, ◌∙◌}
+use Rattle.std.proofs.lemmas.Bool.{false≢true}
 use Rattle.set_log.proofs.Said.{said, state_fits, state_within}
 use Rattle.set_log.proofs.log.read_state.Goals as goal
 
@@ -8,6 +9,7 @@ returns-in_err-body g c = record {
   answers = search rules;
   table = state_fits c.args.map.now _;
   within = state_within c.args.map.now _;
+  off = search rules;
   erases = search rules;
 }
 
@@ -20,6 +22,7 @@ returns-in_default g c = record {
   );
   table = state_fits c.args.map.now _;
   within = state_within c.args.map.now _;
+  off = λ off. absurd (false≢true (sym off ∙ c.in_ok-body.ensures.on));
   erases = search rules;
 }
 
@@ -33,6 +36,7 @@ returns-in-Some-from_bytes g c = record {
   );
   table = state_fits c.args.map.now _;
   within = state_within c.args.map.now _;
+  off = λ off. absurd (false≢true (sym off ∙ c.in_ok-body.ensures.on));
   erases = search rules;
 }
 
@@ -46,5 +50,6 @@ returns-in-None g c = record {
   );
   table = state_fits c.args.map.now _;
   within = state_within c.args.map.now _;
+  off = λ off. absurd (false≢true (sym off ∙ c.in_ok-body.ensures.on));
   erases = search rules;
 }

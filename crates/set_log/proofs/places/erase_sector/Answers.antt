@@ -24,5 +24,6 @@ returns g c =
           c.erase.ensures.ok;
       erases = search rules;
       uncounted = search rules;
+      on = c.erase.ensures.on;
       ends = search rules;
     }

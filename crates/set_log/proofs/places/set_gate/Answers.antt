@@ -1,6 +1,6 @@
 use Rattle.std.proofs.Common.{rules, ◌+◌, arith, ap, refl}
 use Rattle.flash_model.specs.Chip.{Reads}
-use Rattle.flash_model.specs.declared.unit.TheConstants.{FLAG}
+use Rattle.set_log.specs.Layout.{flag}
 use Rattle.flash_model.specs.Units.{IsSet}
 use Rattle.std.proofs.lemmas.Result.{on_ok_weaker}
 use Rattle.sector_map.proofs.Parts.{laid_out_kept}
@@ -43,8 +43,8 @@ returns g c =
           log_set map _ _ _ (laid_out_kept map _ _ _ c.requires.laid_out alone) set here)
           c.set_unit.ensures.ok;
       flag = on_ok_weaker c.set_unit.result
-          (λ (reads : Reads (g.F.Flash.chip c.set_unit.new.flash) (c.record_start.result + 56) FLAG).
-          log_reads map _ _ _ 8 FLAG reads here refl)
+          (λ (reads : Reads (g.F.Flash.chip c.set_unit.new.flash) (c.record_start.result + 56) flag).
+          log_reads map _ _ _ 8 flag reads here refl)
           c.set_unit.ensures.flag;
       erases = search rules;
       ends = search rules;

@@ -1,4 +1,5 @@
-use Rattle.std.proofs.Common.{◌≡◌, ◌∙◌, inr, false}
+use Rattle.std.proofs.Common.{◌≡◌, ◌∙◌, inr, false, sym}
+use Rattle.std.proofs.lemmas.Bool.{false≢true}
 use Rattle.set_log.proofs.Turns.{register_none}
 use Rattle.set_log.proofs.Moves.{place_torn, place_put, erases_free, erases_full}
 use Rattle.set_log.specs.Log.{log_bytes, log_of}
@@ -31,6 +32,7 @@ returns-in_err-write_record-in-Some-2 g c =
           absurd (not_full map _ _ (g.F.Flash.chip c.free_place.new.flash) same c.in-Some.active c.in-Some-2.place active first full);
       moved = at_error _ _ c.from_residual-in_err-write_record-in-Some-2.ensures.0;
       erases = at_error _ _ c.from_residual-in_err-write_record-in-Some-2.ensures.0;
+      off = λ off. absurd (false≢true (sym off ∙ c.in_ok-active.ensures.on));
       ends = ends_then _ _ _ _ _ c.in_ok-active.ensures.ends
           (ends_then _ _ _ _ _ c.in_ok-place.ensures.ends
           (ends_passed _ _ _ _ c.from_residual-in_err-write_record-in-Some-2.ensures.1 c.in_err-write_record-in-Some-2.ensures.ends));
@@ -59,6 +61,7 @@ returns-in_ok-write_record-in-Some-2 g c =
           absurd (not_full map _ _ (g.F.Flash.chip c.free_place.new.flash) same c.in-Some.active c.in-Some-2.place active first full);
       erases = erases_free map c.in-Some.active c.in-Some-2.place _ _ _ same active first.free
           c.in_ok-write_record-in-Some-2.ensures.erases;
+      off = λ off. absurd (false≢true (sym off ∙ c.in_ok-active.ensures.on));
       ends = ends_then _ _ _ _ _ c.in_ok-active.ensures.ends
           (ends_then _ _ _ _ _ c.in_ok-place.ensures.ends
           (ends_done _ _ _ _ c.in_ok-write_record-in-Some-2.ensures.ends));
@@ -81,6 +84,7 @@ returns-in_err-move_on-in-None g c =
       beside = λ sector is _. next_beside map _ _ _ same c.in-Some.active active c.move_on.ensures.beside sector is;
       moved = at_error _ _ c.from_residual-in_err-move_on-in-None.ensures.0;
       erases = at_error _ _ c.from_residual-in_err-move_on-in-None.ensures.0;
+      off = λ off. absurd (false≢true (sym off ∙ c.in_ok-active.ensures.on));
       ends = ends_then _ _ _ _ _ c.in_ok-active.ensures.ends
           (ends_then _ _ _ _ _ c.in_ok-place.ensures.ends
           (ends_passed _ _ _ _ c.from_residual-in_err-move_on-in-None.ensures.1 c.in_err-move_on-in-None.ensures.ends));
@@ -107,6 +111,7 @@ returns-in_ok-move_on-in-None g c =
       erases = erases_full map c.in-Some.active _ _ _ _ c.find_active.ensures.same
           c.free_place.ensures.same active
           (rw c.in-None.is at c.in_ok-place.ensures.ok) c.in_ok-move_on-in-None.ensures.erases;
+      off = λ off. absurd (false≢true (sym off ∙ c.in_ok-active.ensures.on));
       ends = ends_then _ _ _ _ _ c.in_ok-active.ensures.ends
           (ends_then _ _ _ _ _ c.in_ok-place.ensures.ends
           (ends_done _ _ _ _ c.in_ok-move_on-in-None.ensures.ends));

@@ -1,4 +1,5 @@
 use Rattle.std.proofs.Common.{arith, sym, ◌∙◌, inl}
+use Rattle.std.proofs.lemmas.Bool.{false≢true}
 use Rattle.std.proofs.lemmas.Result.{on_ok_weaker}
 use Rattle.set_log.proofs.Moves.{has_places, third_open, started}
 use Rattle.set_log.proofs.Placing.{false_true, stays_written, third_still_open}
@@ -16,6 +17,7 @@ returns-in_err-write_record g c = record {
       c.write_record.ensures.within in
       absurd (false_true (sym stays ∙ closed));
   erases = at_error _ _ c.from_residual-in_err-write_record.ensures.0;
+  off = λ off. absurd (false≢true (sym off ∙ c.in_ok-erase_log.ensures.on));
   ends = ends_then _ _ _ _ _ c.in_ok-erase_log.ensures.ends
       (ends_passed _ _ _ _ c.from_residual-in_err-write_record.ensures.1 c.in_err-write_record.ensures.ends);
 }
@@ -62,6 +64,7 @@ returns g c =
       erases = on_ok_weaker c.close.result (λ closed.
           c.close.ensures.erases ∙ c.write_record.ensures.erases ∙ c.in_ok-erase_log.ensures.erases)
           c.close.ensures.ok;
+      off = λ off. absurd (false≢true (sym off ∙ c.in_ok-erase_log.ensures.on));
       ends = ends_then _ _ _ _ _ c.in_ok-erase_log.ensures.ends
           (ends_then _ _ _ _ _ c.in_ok-write_record.ensures.ends c.close.ensures.ends);
     }
