@@ -17,6 +17,7 @@ pub mod ReportLaws
 pub mod ReportTextLaws
 pub mod Requests
 pub mod RightFits
+pub mod RunningSet
 pub mod TableLaws
 pub mod TableLimits
 pub mod TableRuns

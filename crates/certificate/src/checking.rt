@@ -11,7 +11,6 @@ mod requests;
 
 use crate::report::Report;
 use crate::table::Table;
-pub(crate) use combination::takes_a_valid_combination;
 
 /// Whether a report is right for a table.
 ///

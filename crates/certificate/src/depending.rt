@@ -56,7 +56,7 @@ fn has_alternative(group: &Group, number: u8) -> bool
 }
 
 /// Whether an entry depends on the image of a number, in any version.
-pub(crate) fn depends_on(entry: &Entry, number: u8) -> bool
+fn depends_on(entry: &Entry, number: u8) -> bool
     ensures { result ≡ depends_on entry.now number }
 {
     has_image(&entry.dependencies, number)

@@ -1,17 +1,61 @@
 //! Whether the running images fit each other.
 
-ghost use Rattle.std.specs.Prelude.{◌↔◌, IsTrue};
-ghost use Rattle.certificate.specs.Combination.{IsValid, running_set};
+ghost use Rattle.std.specs.List.{list_all};
+ghost use Rattle.std.specs.Prelude.{◌≡◌, ◌↔◌, IsTrue};
+ghost use Rattle.certificate.specs.Combination.{IsValid, is_group_met, is_met, meets_all, running_set};
 
-use crate::checking::takes_a_valid_combination;
-use crate::report::Report;
-use crate::table::Table;
+use crate::table::{Image, Table};
+use version_order::{Dependency, Group};
 
 /// Whether the dependencies and groups of the running images are met by the running versions, so
 /// that the combination that takes no request is valid (MCUboot, dependency check). A table of no
 /// images is valid.
+#[tactic(auto, using(crate::proofs::RunningSet::running_set_is_valid))]
 pub fn is_valid(table: &Table) -> bool
     ensures { IsTrue result ↔ IsValid table.now running_set }
 {
-    takes_a_valid_combination(table, &Report::default())
+    table.images.iter().all(|image| can_run_on(table, image))
+}
+
+/// Whether the dependencies and groups of a running image are met by the running versions.
+fn can_run_on(table: &Table, image: &Image) -> bool
+    ensures { result ≡ meets_all table.now running_set image.now.running }
+{
+    meets_dependencies(table, &image.running.dependencies)
+        && meets_groups(table, &image.running.groups)
+}
+
+fn meets_dependencies(table: &Table, dependencies: &[Dependency]) -> bool
+    ensures { result ≡ list_all (is_met table.now running_set) dependencies.now }
+{
+    dependencies
+        .iter()
+        .all(|dependency| is_met_by_running(table, dependency))
+}
+
+fn meets_groups(table: &Table, groups: &[Group]) -> bool
+    ensures { result ≡ list_all (is_group_met table.now running_set) groups.now }
+{
+    groups
+        .iter()
+        .all(|group| is_group_met_by_running(table, group))
+}
+
+/// Whether one alternative of a group at least is met by the running versions.
+fn is_group_met_by_running(table: &Table, group: &Group) -> bool
+    ensures { result ≡ is_group_met table.now running_set group.now }
+{
+    group
+        .alternatives
+        .iter()
+        .any(|alternative| is_met_by_running(table, alternative))
+}
+
+fn is_met_by_running(table: &Table, dependency: &Dependency) -> bool
+    ensures { result ≡ is_met table.now running_set dependency.now }
+{
+    match table.images.get(dependency.image as usize) {
+        Some(image) => image.running.version >= dependency.minimum,
+        None => false,
+    }
 }

@@ -11,7 +11,7 @@ use crate::table::{Image, Request, Table};
 use version_order::{Dependency, Group};
 
 /// Whether what a report takes is a valid combination.
-pub(crate) fn takes_a_valid_combination(table: &Table, report: &Report) -> bool
+pub(super) fn takes_a_valid_combination(table: &Table, report: &Report) -> bool
     ensures { IsTrue result ↔ IsValid table.now (taken_in report.now) }
 {
     has_acceptable_members(table, report) && meets_all_dependencies(table, report)

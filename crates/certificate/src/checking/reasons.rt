@@ -3,9 +3,8 @@
 ghost use Rattle.std.specs.List.{list_any};
 ghost use Rattle.std.specs.Prelude.{◌≡◌, ◌↔◌, None, Contains, IsTrue};
 ghost use Rattle.certificate.specs.Combination.{image_at};
-ghost use Rattle.certificate.specs.Reasons.{best_version, is_group_out_of_reach, is_in_reach, is_out_of_reach, is_refused, newest_version, requested_version, IsFounded, ReasonHolds};
+ghost use Rattle.certificate.specs.Reasons.{best_version, depends_on, is_group_out_of_reach, is_in_reach, is_out_of_reach, is_refused, newest_version, requested_version, IsFounded, ReasonHolds};
 
-use crate::depending::depends_on;
 use crate::report::{Reason, Refusal};
 use crate::table::{Entry, Image, Request, Table};
 use version_order::{Dependency, Group, Version};
@@ -50,6 +49,16 @@ fn reason_holds(table: &Table, before: &[Refusal], own: u8, reason: &Reason) -> 
             }
         },
     }
+}
+
+/// Whether an entry depends on image `number`, in any version.
+fn depends_on(entry: &Entry, number: u8) -> bool
+    ensures { result ≡ depends_on entry.now number }
+{
+    entry
+        .dependencies
+        .iter()
+        .any(|dependency| dependency.image == number)
 }
 
 fn has_dependency(entry: &Entry, dependency: &Dependency) -> bool
