@@ -1,6 +1,6 @@
 -- What contracts see of a device, and what is true of each.
 use Rattle.std.specs.Prelude.{◌≡◌, ℕ, ◌≤◌, Bool, List, Option}
-use Rattle.common.specs.declared.limits.TheConstants.{MOST_BOOTS_LEFT}
+use Rattle.common.specs.Limits.{MOST_BOOTS_LEFT}
 use Rattle.flash_model.specs.Chip.{Chip}
 use Rattle.sector_map.specs.Map.{IsLaidOut}
 use Rattle.sector_map.specs.declared.layout.SectorMap.{SectorMap}

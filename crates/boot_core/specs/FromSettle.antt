@@ -1,7 +1,7 @@
 -- What a boot does from a record Settle: each record is one call.
 use Rattle.std.specs.Prelude.{◌≡◌, ◌≢◌, ◌⊎◌, ◌+◌, ◌*◌, ◌≤◌, ℕ, Bool, true, false, List, Some}
 use Rattle.std.specs.Prelude.{Result, OnOk, IfOk}
-use Rattle.common.specs.declared.limits.TheConstants.{MOST_BOOTS_LEFT}
+use Rattle.common.specs.Limits.{MOST_BOOTS_LEFT}
 use Rattle.flash_model.specs.Chip.{Chip, Ends}
 use Rattle.flash_model.specs.declared.error.FlashError.{FlashError}
 use Rattle.sector_map.specs.Map.{IsLaidOut, Keeps}

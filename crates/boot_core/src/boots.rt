@@ -1,7 +1,7 @@
 //! A boot, from whatever record stands.
 
 ghost use Rattle.std.specs.Prelude.{◌≤◌, ◌≡◌, true, IfOk};
-ghost use Rattle.common.specs.declared.limits.TheConstants.{MOST_BOOTS_LEFT};
+ghost use Rattle.common.specs.Limits.{MOST_BOOTS_LEFT};
 ghost use Rattle.boot_core.specs.Answers.{IsBootReply, reply_of_boot};
 ghost use Rattle.boot_core.specs.Booting.{BootsFrom, BootsFromAny, EndsUploadsAndBoots};
 ghost use Rattle.boot_core.specs.Device.{seen};

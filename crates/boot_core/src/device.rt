@@ -1,7 +1,7 @@
 //! The device that programs and bootloaders hold.
 
 ghost use Rattle.std.specs.Prelude.{◌≡◌, ◌≤◌};
-ghost use Rattle.common.specs.declared.limits.TheConstants.{MOST_TRIAL_BOOTS};
+ghost use Rattle.common.specs.Limits.{MOST_TRIAL_BOOTS};
 ghost use Rattle.events.specs.declared.event.Event.TheVariants as event;
 ghost use Rattle.sector_map.specs.Map.{IsLaidOut};
 ghost use Rattle.sector_map.specs.Part.{Slot, TrailerOf, any_part, incoming_of, only};

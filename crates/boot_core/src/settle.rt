@@ -4,7 +4,7 @@
 //! It comes from `swap` or from a cut.
 
 ghost use Rattle.std.specs.Prelude.{◌≤◌, ◌≡◌, ℕ, slice_index};
-ghost use Rattle.common.specs.declared.limits.TheConstants.{MOST_BOOTS_LEFT};
+ghost use Rattle.common.specs.Limits.{MOST_BOOTS_LEFT};
 ghost use Rattle.boot_core.specs.FromSettle.{BootsFromSettle, CanSettle, FinishesSettle, RecordsTaken, RecordsTrial, SettlesAndRecords, SettlesFound, SettlesMember, SettlesSet};
 ghost use Rattle.boot_core.specs.Recorded.{HasRecord, HasRecordOf};
 ghost use Rattle.sector_map.specs.Map.{HasImage, IsLaidOut};

@@ -3,7 +3,7 @@
 //! It goes on in `swap`.
 
 ghost use Rattle.std.specs.Prelude.{◌≤◌};
-ghost use Rattle.common.specs.declared.limits.TheConstants.{MOST_BOOTS_LEFT};
+ghost use Rattle.common.specs.Limits.{MOST_BOOTS_LEFT};
 ghost use Rattle.boot_core.specs.FromSteady.{BeginsSwap, BootsFromSteady, Upgrades};
 ghost use Rattle.boot_core.specs.Recorded.{CanTake, HasRecord};
 

@@ -3,7 +3,7 @@
 //! It comes from `steady` or from a cut, and goes on in `settle`.
 
 ghost use Rattle.std.specs.Prelude.{◌≤◌};
-ghost use Rattle.common.specs.declared.limits.TheConstants.{MOST_BOOTS_LEFT};
+ghost use Rattle.common.specs.Limits.{MOST_BOOTS_LEFT};
 ghost use Rattle.boot_core.specs.FromSwap.{BootsFromSwap, CarriesSwap, FinishesSwap, RecordsSettle};
 ghost use Rattle.boot_core.specs.Recorded.{HasRecordOf};
 ghost use Rattle.sector_map.specs.Map.{HasImages};

@@ -4,7 +4,7 @@
 //! It goes on in `steady` or in `back`.
 
 ghost use Rattle.std.specs.Prelude.{◌<◌, ◌≤◌, ◌≡◌, ℕ, slice_index, Some};
-ghost use Rattle.common.specs.declared.limits.TheConstants.{MOST_BOOTS_LEFT};
+ghost use Rattle.common.specs.Limits.{MOST_BOOTS_LEFT};
 ghost use Rattle.boot_core.specs.FromTrial.{AreConfirmedIn, BeginsBack, BootsAgain, BootsBack, BootsConfirmed, BootsFromTrial, DecidesTrial, IsAnyDamagedIn, IsConfirmedIn, IsDamagedIn, IsFloorIn, RaisesFloors, RecordsOver};
 ghost use Rattle.boot_core.specs.Recorded.{HasRecord, HasRecordOf};
 ghost use Rattle.decision.specs.Telling.{Tells};

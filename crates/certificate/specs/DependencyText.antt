@@ -1,7 +1,7 @@
 -- The text of a dependency, and of a group.
 use Rattle.std.specs.Prelude.{◌≡◌, ℕ, ◌^◌, ◌<◌, ◌≤◌, List, [], ◌∷◌, ◌++◌, length, codes, decimal}
 use Rattle.std.specs.List.{AllByRecursion}
-use Rattle.common.specs.declared.limits.TheConstants.{MOST_ALTERNATIVES}
+use Rattle.common.specs.Limits.{MOST_ALTERNATIVES}
 use Rattle.common.specs.Lines.{◌␣◌}
 use Rattle.version_order.specs.declared.version.Version.{Version}
 use Rattle.version_order.specs.declared.dependency.Dependency.{Dependency}

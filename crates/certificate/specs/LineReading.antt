@@ -2,7 +2,7 @@
 -- tells which line it is, and the last field takes the whole rest of the line.
 use Rattle.std.specs.Prelude.{ℕ, zero, suc, ◌-◌, ◌^◌, List, [], ◌∷◌, ◌++◌, length, Option, Some, None, codes, option_and_then, option_map, if◌then◌else◌}
 use Rattle.std.specs.Str.{bytes_eq}
-use Rattle.common.specs.declared.limits.TheConstants.{MOST_ALTERNATIVES}
+use Rattle.common.specs.Limits.{MOST_ALTERNATIVES}
 use Rattle.version_order.specs.declared.version.Version.{Version}
 use Rattle.version_order.specs.declared.dependency.Dependency.{Dependency}
 use Rattle.version_order.specs.declared.group.Group.{Group}

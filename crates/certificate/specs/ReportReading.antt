@@ -1,9 +1,9 @@
 -- Reading a report line by line: what one more line makes of the lines so far. The reader follows
 -- these steps; what they mean is in `ReportText`.
 use Rattle.std.specs.Prelude.{ℕ, ◌==◌, ◌&&◌, true, false, [], ◌∷◌, ◌++◌, List, length, Option, Some, None, nat_lt, if◌then◌else◌}
-use Rattle.common.specs.declared.limits.TheConstants.{MOST_IMAGES}
+use Rattle.common.specs.Limits.{MOST_IMAGES}
 use Rattle.common.specs.Reading.{with_text}
-use Rattle.certificate.specs.declared.report.TheConstants.{MOST_REFUSALS}
+use Rattle.common.specs.Limits.{MOST_REFUSALS}
 use Rattle.certificate.specs.declared.report.Refusal.{Refusal}
 use Rattle.certificate.specs.declared.report.ReportedImage.{ReportedImage}
 use Rattle.certificate.specs.declared.report.Report.{Report}

@@ -1,10 +1,10 @@
 -- The text of a report.
 use Rattle.std.specs.Prelude.{◌≡◌, ℕ, ◌+◌, ◌^◌, ◌<◌, ◌≤◌, List, [], ◌∷◌, ◌++◌, length, map, codes, decimal, if◌then◌else◌}
 use Rattle.std.specs.List.{AllByRecursion, AllZip}
-use Rattle.common.specs.declared.limits.TheConstants.{MOST_IMAGES}
+use Rattle.common.specs.Limits.{MOST_IMAGES}
 use Rattle.common.specs.Lines.{◌␣◌, lines_of, printed_lines}
 use Rattle.version_order.specs.VersionText.{FitsFields, version_text}
-use Rattle.certificate.specs.declared.report.TheConstants.{MOST_REFUSALS}
+use Rattle.common.specs.Limits.{MOST_REFUSALS}
 use Rattle.certificate.specs.declared.report.Refusal.{Refusal}
 use Rattle.certificate.specs.declared.report.Reason.{Reason}
 use Rattle.certificate.specs.declared.report.Reason.TheVariants.{Damaged, Older, Counter, NoSuchImage, Needs, NeedsOne}

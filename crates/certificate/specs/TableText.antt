@@ -1,7 +1,7 @@
 -- The text of a table.
 use Rattle.std.specs.Prelude.{◌≡◌, ℕ, ◌+◌, ◌^◌, ◌<◌, ◌≤◌, List, [], ◌∷◌, ◌++◌, length, map, codes, decimal}
 use Rattle.std.specs.List.{AllByRecursion, AllZip}
-use Rattle.common.specs.declared.limits.TheConstants.{MOST_DEPENDENCIES, MOST_GROUPS, MOST_IMAGES}
+use Rattle.common.specs.Limits.{MOST_DEPENDENCIES, MOST_GROUPS, MOST_IMAGES}
 use Rattle.common.specs.Lines.{◌␣◌, lines_of, printed_lines}
 use Rattle.version_order.specs.VersionText.{FitsFields, version_text, IsVersionText}
 use Rattle.version_order.specs.declared.group.Group.{Group}

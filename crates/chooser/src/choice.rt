@@ -5,13 +5,14 @@ ghost use Rattle.certificate.specs.Combination.{IsGreatest, IsValid, running_set
 ghost use Rattle.certificate.specs.Reasons.{is_refused, times_refused};
 ghost use Rattle.certificate.specs.Rightness.{IsRight, has_request, once_if, taken_in};
 ghost use Rattle.certificate.specs.StandardOrder.{IsInStandardOrder, needs_reason};
+ghost use Rattle.common.specs.Limits.{MOST_DROPS, MOST_LOOKS, MOST_PASSES};
 ghost use Rattle.chooser.specs.Counted.{HasRoom, RisesAtMost, drops_in};
 
 use crate::marks::{mark_dependants, marks_after};
 use crate::needs::next_need;
 use crate::own_reasons::own_refusals;
 use crate::reporting::report_of;
-use crate::steps::{MOST_LOOKS, Steps};
+use crate::steps::Steps;
 use arrayvec::ArrayVec;
 use certificate::{MOST_REFUSALS, Refusal, Report, Table, right_reports_are_greatest};
 
@@ -43,9 +44,9 @@ pub fn choose_counted(table: &Table, steps: &mut Steps) -> Report
     ensures greatest { IsGreatest table.now (taken_in result) }
     ensures standard { IsInStandardOrder table.now result.refusals.items }
 
-    ensures passes { RisesAtMost 1 steps.old.passes steps.new.passes }
+    ensures passes { RisesAtMost MOST_PASSES steps.old.passes steps.new.passes }
     ensures drops { steps.new.drops ≡ steps.old.drops + drops_in result.refusals.items }
-    ensures most_drops { steps.new.drops ≤ steps.old.drops + MOST_REFUSALS }
+    ensures most_drops { steps.new.drops ≤ steps.old.drops + MOST_DROPS }
     ensures looks { RisesAtMost MOST_LOOKS steps.old.looks steps.new.looks }
 {
     right_reports_are_greatest();

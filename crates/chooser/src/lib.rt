@@ -16,4 +16,4 @@ mod reporting;
 mod steps;
 
 pub use choice::{choose, choose_counted};
-pub use steps::{MOST_LOOKS, Steps};
+pub use steps::{MOST_LOOKS, Steps, most_looks_are_as_specified};

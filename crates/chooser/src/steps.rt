@@ -1,5 +1,8 @@
 //! What a choice counts of its work.
 
+ghost use Rattle.std.specs.Prelude.{◌≡◌};
+ghost use Rattle.common.specs.Limits as limit;
+
 /// How often at most a choice looks at one request again: after each drop at the requests that
 /// remain, at most 7, then 6, and so on.
 pub const MOST_LOOKS: u32 = 28;
@@ -14,3 +17,10 @@ pub struct Steps {
     /// How often a single request was looked at again, after a drop.
     pub looks: u32,
 }
+
+/// The most looks are those that contracts name.
+///
+/// It does nothing: its contract is the law.
+pub fn most_looks_are_as_specified()
+    ensures { MOST_LOOKS ≡ limit.MOST_LOOKS }
+{}

@@ -8,7 +8,7 @@ use Rattle.clap.specs.Words.{Row, Text, all_of, first_of, subcommand_of}
 use Rattle.clap.specs.declared.error.kind.ErrorKind.{ErrorKind}
 use Rattle.clap.specs.declared.error.kind.ErrorKind.TheVariants.{ArgumentConflict, InvalidValue}
 use Rattle.common.specs.Ascii.{number_below, number_of}
-use Rattle.common.specs.declared.limits.TheConstants.{MOST_IMAGES, MOST_TRIAL_BOOTS}
+use Rattle.common.specs.Limits.{MOST_IMAGES, MOST_TRIAL_BOOTS}
 use Rattle.sector_map.specs.declared.layout.Side.{Side}
 use Rattle.sector_map.specs.declared.layout.Side.TheVariants.{Primary, Secondary}
 use Rattle.version_order.specs.declared.dependency.Dependency.{Dependency}

@@ -1,5 +1,6 @@
 pub mod Ascii
 pub mod Bytes
 pub mod Checks
+pub mod Limits
 pub mod Lines
 pub mod Reading

@@ -1,5 +1,8 @@
 //! Limits of a device and of its images.
 
+ghost use Rattle.std.specs.Prelude.{◌≡◌};
+ghost use Rattle.common.specs.Limits as limit;
+
 /// How many images a device has at most (what `MCUBOOT_IMAGE_NUMBER` sets in MCUboot). Their
 /// numbers are 0 to 7.
 pub const MOST_IMAGES: usize = 8;
@@ -20,3 +23,15 @@ pub const MOST_TRIAL_BOOTS: u8 = 7;
 
 /// How many boots more a trial lasts at most, after the one that begins it.
 pub const MOST_BOOTS_LEFT: u8 = 6;
+
+/// These limits are those that contracts name.
+///
+/// It does nothing: its contract is the law.
+pub fn limits_are_as_specified()
+    ensures images { MOST_IMAGES ≡ limit.MOST_IMAGES }
+    ensures dependencies { MOST_DEPENDENCIES ≡ limit.MOST_DEPENDENCIES }
+    ensures groups { MOST_GROUPS ≡ limit.MOST_GROUPS }
+    ensures alternatives { MOST_ALTERNATIVES ≡ limit.MOST_ALTERNATIVES }
+    ensures trial_boots { MOST_TRIAL_BOOTS ≡ limit.MOST_TRIAL_BOOTS }
+    ensures boots_left { MOST_BOOTS_LEFT ≡ limit.MOST_BOOTS_LEFT }
+{}

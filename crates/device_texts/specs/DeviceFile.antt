@@ -5,7 +5,7 @@ use Rattle.serde_json.specs.Data.{Data}
 use Rattle.serde_json.specs.Find.{get}
 use Rattle.manifest.specs.Json.{HasNames, IsJson, array_at, number_at, uuid_at, whole_number}
 use Rattle.sector_map.specs.Making.{HasSizes, IsMapFault}
-use Rattle.common.specs.declared.limits.TheConstants.{MOST_TRIAL_BOOTS}
+use Rattle.common.specs.Limits.{MOST_TRIAL_BOOTS}
 use Rattle.machine.specs.Intake.{Setup}
 use Rattle.device_texts.specs.declared.device.DeviceFields.{DeviceFields}
 use Rattle.device_texts.specs.declared.device.DeviceFile.{DeviceFile}

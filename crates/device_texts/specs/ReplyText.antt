@@ -1,7 +1,7 @@
 -- What is printed of the replies of a device.
 use Rattle.std.specs.Prelude.{ℕ, ◌+◌, Bool, List, [], ◌∷◌, ◌++◌, codes, decimal, if◌then◌else◌}
 use Rattle.std.specs.List.{flat_map, list_any, range_with_len}
-use Rattle.common.specs.declared.limits.TheConstants.{MOST_IMAGES}
+use Rattle.common.specs.Limits.{MOST_IMAGES}
 use Rattle.common.specs.Lines.{◌␣◌}
 use Rattle.sector_map.specs.Part.{is_member}
 use Rattle.image_reading.specs.Codes as image

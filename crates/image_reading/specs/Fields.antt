@@ -3,7 +3,7 @@ use Rattle.std.specs.Prelude.{◌≡◌, ◌≢◌, ℕ, ◌*◌, ◌^◌, ◌<�
 use Rattle.std.specs.List.{AllByRecursion, Any, flat_map}
 use Rattle.byteorder.specs.Endian.{little_bytes}
 use Rattle.sha2.specs.Sha256.{sha256}
-use Rattle.common.specs.declared.limits.TheConstants.{MOST_ALTERNATIVES, MOST_DEPENDENCIES, MOST_GROUPS}
+use Rattle.common.specs.Limits.{MOST_ALTERNATIVES, MOST_DEPENDENCIES, MOST_GROUPS}
 use Rattle.version_order.specs.declared.dependency.Dependency.{Dependency}
 use Rattle.version_order.specs.declared.group.Group.{Group}
 use Rattle.version_order.specs.VersionText.{FitsFields}

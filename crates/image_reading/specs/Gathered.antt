@@ -2,7 +2,7 @@
 -- ones that are left were met.
 use Rattle.std.specs.Prelude.{◌≡◌, ℕ, ◌≤◌, Bool, true, false, ltb, List, [], ◌∷◌, ◌++◌, length, map, take, ⊤}
 use Rattle.std.specs.List.{AllByRecursion, Any}
-use Rattle.common.specs.declared.limits.TheConstants.{MOST_DEPENDENCIES, MOST_GROUPS}
+use Rattle.common.specs.Limits.{MOST_DEPENDENCIES, MOST_GROUPS}
 use Rattle.flash_model.specs.Chip.{Chip}
 use Rattle.version_order.specs.declared.dependency.Dependency.{Dependency}
 use Rattle.version_order.specs.declared.group.Group.{Group}

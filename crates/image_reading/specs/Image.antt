@@ -2,7 +2,7 @@
 -- document, "Image format").
 use Rattle.std.specs.Prelude.{◌≡◌, ℕ, ◌+◌, ◌≤◌, ◌==◌, List, [], ◌++◌, length, if◌then◌else◌}
 use Rattle.sha2.specs.Sha256.{sha256}
-use Rattle.common.specs.declared.limits.TheConstants.{MOST_DEPENDENCIES, MOST_GROUPS}
+use Rattle.common.specs.Limits.{MOST_DEPENDENCIES, MOST_GROUPS}
 use Rattle.image_header.specs.declared.header.Header.{Header}
 use Rattle.image_header.specs.Header.{FitsHeader, IsAccepted, header_bytes}
 use Rattle.image_reading.specs.declared.desc.Desc.{Desc}

@@ -3,7 +3,7 @@
 use Rattle.std.specs.Prelude.{◌≡◌, ◌≢◌, ℕ, ◌^◌, ◌<◌, ◌≤◌, All, AllPairs, IfSome, IsSome, IsSomeAnd, List, [], ◌∷◌, Some, codes, length}
 use Rattle.std.specs.List.{AllByRecursion, AllZip}
 use Rattle.serde_json.specs.Data.{Data}
-use Rattle.manifest.specs.declared.manifest.TheConstants.{MOST_COMPONENTS}
+use Rattle.common.specs.Limits.{MOST_COMPONENTS}
 use Rattle.manifest.specs.declared.identity.Identity.{Identity}
 use Rattle.manifest.specs.declared.manifest.Manifest.{Manifest}
 use Rattle.manifest.specs.Component.{HasComponentKeys, IsComponent}

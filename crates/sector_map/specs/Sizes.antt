@@ -1,7 +1,7 @@
 -- Which sizes a map may have: of a sector, and of each image's slots in sectors.
 use Rattle.std.specs.Prelude.{◌≡◌, ℕ, ◌+◌, ◌*◌, ◌%◌, ◌^◌, ◌<◌, ◌≤◌, List, slice_index, take}
 use Rattle.std.specs.List.{sum}
-use Rattle.common.specs.declared.limits.TheConstants.{MOST_IMAGES}
+use Rattle.common.specs.Limits.{MOST_IMAGES}
 
 -- A sector has 512 to 131072 bytes, a multiple of 64.
 pub record IsSectorSize (size : ℕ) : Type 0 where

@@ -5,7 +5,7 @@ use Rattle.std.specs.Prelude.{Option, Some, None, if◌then◌else◌}
 use Rattle.std.specs.List.{list_all}
 use Rattle.std.specs.Str.{bytes_eq}
 use Rattle.byteorder.specs.Endian.{little_bytes, little_number}
-use Rattle.common.specs.declared.limits.TheConstants.{MOST_BOOTS_LEFT, MOST_IMAGES}
+use Rattle.common.specs.Limits.{MOST_BOOTS_LEFT, MOST_IMAGES}
 use Rattle.set_log.specs.declared.state.State.{State}
 use Rattle.set_log.specs.declared.state.Kind.{Kind}
 use Rattle.set_log.specs.declared.state.Kind.TheVariants.{Steady, Swap, Settle, Trial, Back, BackSettle}
