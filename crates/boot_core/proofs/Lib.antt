@@ -15,6 +15,7 @@ mod NotReady
 mod Wholes
 pub mod Steps
 mod Afresh
+mod Resting
 mod OnMap
 mod Passed
 pub mod Measured

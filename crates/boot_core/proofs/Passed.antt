@@ -8,7 +8,7 @@ err_as : {T U : Type 0} (error other : FlashError) → IsErrOf {T = T} (Err erro
     → IsErrOf {T = U} (Err error) other
 err_as error other is = let same : error ≡ other = cc in ap (λ e. Err e) same
 
-ok_no_err : {T : Type 0} (value : T) (other : FlashError) → IsErrOf (Ok value) other → ⊥
+pub ok_no_err : {T : Type 0} (value : T) (other : FlashError) → IsErrOf (Ok value) other → ⊥
 ok_no_err value other is = cc
 
 -- an error that is passed on

@@ -1,6 +1,6 @@
 -- What a reply tells is told of the finding that it comes of.
-use Rattle.std.proofs.Common.{rules, ◌≡◌, ◌∙◌, ℕ, Bool, true, false, List, Some, None, Result, Ok, Err, IfOk, ap, refl, sym, subst}
-use Rattle.flash_model.specs.Chip.{Chip}
+use Rattle.std.proofs.Common.{rules, ◌≡◌, ◌∙◌, ℕ, Bool, true, false, List, Some, None, Result, Ok, Err, IfOk, IsErrOf, ap, refl, sym, subst}
+use Rattle.flash_model.specs.Chip.{Chip, Ends}
 use Rattle.flash_model.specs.declared.error.FlashError.{FlashError}
 use Rattle.flash_model.specs.declared.error.FlashError.TheVariants as flash
 use Rattle.sector_map.specs.declared.layout.SectorMap.{SectorMap}
@@ -18,9 +18,10 @@ use Rattle.machine.specs.declared.finding.Finding.TheVariants.{Decided, Damaged,
 use Rattle.machine.specs.declared.error.Fault.TheVariants as no
 use Rattle.machine.specs.declared.reply.Reply.TheVariants.{Refused}
 use Rattle.machine.specs.declared.reply.Reply.{Reply}
-use Rattle.boot_core.specs.Answers.{fault_reply, is_stopped}
+use Rattle.boot_core.specs.Answers.{IsOff, fault_reply, is_stopped}
 use Rattle.boot_core.specs.Found.{IsKeptFor, IsStopped, IsSwapAloneFor, IsToldAgain}
-use Rattle.boot_core.specs.Wear.{TakesNothing}
+use Rattle.boot_core.specs.Over.{IsOverAlone}
+use Rattle.boot_core.specs.Wear.{DoesNothing}
 
 -- a reply comes of one finding, but for what was decided
 pub one_finding : (P : Finding → Type 0) → ((table : Table) (report : Report) → P (Decided table report))
@@ -134,6 +135,18 @@ at_rest log.BackSettle = false
 pub not_at_rest : (kind : Kind) → at_rest kind ≡ false → kind ≡ log.Steady → ⊥
 not_at_rest kind other steady = true_false (sym (ap at_rest steady) ∙ other)
 
+-- whether a record is that of a trial
+abbrev pub on_trial : Kind → Bool
+on_trial log.Steady = false
+on_trial log.Swap = false
+on_trial log.Settle = false
+on_trial log.Trial = true
+on_trial log.Back = false
+on_trial log.BackSettle = false
+
+pub not_on_trial : (kind : Kind) → on_trial kind ≡ false → kind ≡ log.Trial → ⊥
+not_on_trial kind other trial = true_false (sym (ap on_trial trial) ∙ other)
+
 some_same : (x y : State) → Some x ≡ Some y → x ≡ y
 some_same x y e = cc
 
@@ -154,9 +167,9 @@ read_stopped map old mid new read state told same is stood stops =
     (subst (λ chip. IsStopped map read chip new told) same stops)
 
 pub read_idle : (map : SectorMap) (old mid new : Chip) (read : State) (result : Result Reply FlashError) → mid ≡ old
-    → state_of map old ≡ Some read → (read.kind ≡ log.Steady → IfOk result (λ reply. TakesNothing reply → new ≡ mid))
+    → state_of map old ≡ Some read → (read.kind ≡ log.Steady → IfOk result (λ reply. DoesNothing reply → new ≡ mid))
     → IfOk result (λ reply. (state : State) → state_of map old ≡ Some state → state.kind ≡ log.Steady
-    → TakesNothing reply → new ≡ old)
+    → DoesNothing reply → new ≡ old)
 read_idle map old mid new read (Ok reply) same is idle = λ state stood kind takes.
     idle (ap (λ (s : State). s.kind) (some_same read state (sym is ∙ stood)) ∙ kind) takes ∙ same
 read_idle map old mid new read (Err error) same is idle = tt
@@ -166,15 +179,39 @@ pub flash_unanswered : (error : FlashError) → is_answer (fault_reply (no.Flash
 flash_unanswered flash.Cut = refl
 flash_unanswered flash.Off = refl
 
+pub read_over : (map : SectorMap) (old mid new : Chip) (read : State) (result : Result Reply FlashError) → mid ≡ old
+    → state_of map old ≡ Some read
+    → (read.kind ≡ log.Trial → IfOk result (λ reply. DoesNothing reply → IsOverAlone map read mid new))
+    → IfOk result (λ reply. (state : State) → state_of map old ≡ Some state → state.kind ≡ log.Trial
+    → DoesNothing reply → IsOverAlone map state old new)
+read_over map old mid new read (Ok reply) same is over = λ state stood kind nothing.
+    let one : read ≡ state = some_same read state (sym is ∙ stood) in
+    subst (λ (s : State). IsOverAlone map s old new) one
+    (subst (λ chip. IsOverAlone map read chip new) same (over (ap (λ (s : State). s.kind) one ∙ kind) nothing))
+read_over map old mid new read (Err error) same is over = tt
+
 -- .. and it tells so
 pub flash_stopped_it : (error : FlashError) → is_stopped (fault_reply (no.Flash error)) ≡ true
 flash_stopped_it flash.Cut = refl
 flash_stopped_it flash.Off = refl
 
--- .. and takes nothing
-flash_takes : (error : FlashError) → TakesNothing (fault_reply (no.Flash error)) → ⊥
-flash_takes flash.Cut takes = takes
-flash_takes flash.Off takes = takes
+-- .. and nothing changes where the flash was off
+pub flash_idle : (error : FlashError) (old new : Chip) → Ends {T = Reply} (Err error) old new
+    → DoesNothing (fault_reply (no.Flash error)) → new ≡ old
+flash_idle flash.Cut old new ends nothing = absurd nothing
+flash_idle flash.Off old new ends nothing = ends.asleep (ends.off refl)
 
-pub flash_idle : (error : FlashError) (old new : Chip) → TakesNothing (fault_reply (no.Flash error)) → new ≡ old
-flash_idle error old new takes = absurd (flash_takes error takes)
+-- .. so that a trial is not over
+pub flash_over : (error : FlashError) (map : SectorMap) (state : State) (old new : Chip)
+    → Ends {T = Reply} (Err error) old new → old.is_on ≡ true
+    → DoesNothing (fault_reply (no.Flash error)) → IsOverAlone map state old new
+flash_over flash.Cut map state old new ends on nothing = absurd nothing
+flash_over flash.Off map state old new ends on nothing = absurd (true_false (sym on ∙ ends.off refl))
+
+-- a flash that is off is the answer
+pub flash_off : (error : FlashError) (old new : Chip) → Ends {T = Reply} (Err error) old new
+    → IsErrOf {T = Reply} (Err error) flash.Off → IsOff {T = Reply} (Err (no.Flash error)) old new
+flash_off error old new ends is = record {
+  is = let same : error ≡ flash.Off = cc in ap (λ (e : FlashError). Err (no.Flash e)) same;
+  same = ends.asleep (ends.off is);
+}

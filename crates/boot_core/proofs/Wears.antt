@@ -1,5 +1,5 @@
 -- How many erases a boot makes, from one function to the next.
-use Rattle.std.proofs.Common.{◌≡◌, ℕ, ◌+◌, ◌≤◌, Bool, List, Some, refl, sym, subst, ◌∙◌}
+use Rattle.std.proofs.Common.{◌≡◌, ℕ, ◌+◌, ◌≤◌, Bool, List, Some, Ok, refl, sym, subst, ◌∙◌}
 use Rattle.flash_model.specs.Chip.{Chip}
 use Rattle.sector_map.specs.declared.layout.SectorMap.{SectorMap}
 use Rattle.sector_map.specs.declared.layout.Side.TheVariants.{Secondary}
@@ -24,6 +24,8 @@ use Rattle.machine.specs.declared.finding.Passage.{Passage}
 use Rattle.machine.specs.declared.reply.Reply.{Reply}
 use Rattle.machine.proofs.Standing.{stands_trial}
 use Rattle.machine.proofs.Trying.{open_of, rest_over}
+use Rattle.set_log.specs.States.{Appends}
+use Rattle.boot_core.specs.Over.{AreFloorsRaised, IsRecordedOver, record_over}
 use Rattle.boot_core.specs.Wear.{AreMeasured, IsAfresh, IsSetMoved, IsWorn}
 use Rattle.boot_core.proofs.Measured.{fresh_after, fresh_more, fresh_same, fresh_wear}
 
@@ -47,6 +49,17 @@ over_worn map old read mid new floors reply same one keeps records worn s trial 
     let at : IsTrialAt (view map old) s trial = rest_over map old s trial confirmed was in
     fresh_after map old read mid new reply same one keeps (worn (settled s floors)
     (records s trial (subst (λ w. IsTrialAt (view map w) s trial) (sym same) at)))
+
+-- .. and where that writes nothing, nothing is written but the record
+pub over_alone : (map : SectorMap) (state : State) (old read mid new : Chip) (floors : List ℕ) → read ≡ old
+    → new ≡ mid → AreFloorsRaised map old state.floors floors
+    → Appends map (record_over state floors) read mid {T = Unit} (Ok tt) → IsRecordedOver map state old new
+over_alone map state old read mid new floors same stays raised appended = record {
+  floors = floors;
+  raised = raised;
+  appended = subst (λ chip. Appends map (record_over state floors) chip new {T = Unit} (Ok tt)) same
+      (subst (λ chip. Appends map (record_over state floors) read chip {T = Unit} (Ok tt)) (sym stays) appended);
+}
 
 -- a boot from a trial, by its passage
 pub trial_worn : (map : SectorMap) (old mid new : Chip) (state : State) (found passage : Passage) (reply : Reply)

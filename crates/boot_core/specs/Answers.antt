@@ -1,5 +1,6 @@
 -- What a device's calls answer, as replies of the machine, and what each answer tells.
 use Rattle.std.specs.Prelude.{◌≡◌, ◌+◌, Bool, true, false, Result, Ok, Err}
+use Rattle.flash_model.specs.Chip.{Chip}
 use Rattle.flash_model.specs.declared.error.FlashError.TheVariants as flash
 use Rattle.upload.specs.declared.error.UploadError.{UploadError}
 use Rattle.upload.specs.declared.error.UploadError.TheVariants as upload
@@ -83,6 +84,11 @@ IsBootReply (Refused no.NotProvisioned) = Unit
 IsBootReply (Refused (no.RunningDamaged image)) = Unit
 IsBootReply (Refused no.InvalidSet) = Unit
 IsBootReply other = ⊥
+
+-- A call of a flash that is off: it stops there, and the flash is as it was.
+pub record IsOff {T : Type 0} (result : Result T Fault) (old new : Chip) : Type 0 where
+  pub is : result ≡ Err (no.Flash flash.Off)
+  pub same : new ≡ old
 
 -- A call of a device that isn't up: it is refused, and changes nothing.
 pub record IsNotBooted (result : Result Unit Fault) (old new : DeviceView) : Type 0 where

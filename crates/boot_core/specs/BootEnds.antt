@@ -9,6 +9,7 @@ use Rattle.upload.specs.Device.{DeviceState}
 use Rattle.machine.specs.Passing.{CutsBoot, EndsBoot}
 use Rattle.machine.specs.declared.reply.Reply.{Reply}
 use Rattle.boot_core.specs.Answers.{IsBootReply}
+use Rattle.boot_core.specs.Wear.{DoesNothing}
 
 -- How a passage of a boot ends, from each state that the device was in. A trial that begins has so
 -- many boots, this one counted; what the passage has worn is told by its reply.
@@ -35,4 +36,6 @@ pub record BootEndsForAny (map : SectorMap) (was : DeviceState → Type 0) (worn
       → EndsBoot map boots new s reply)
   pub erases : IfOk result worn
   pub told : IfOk result IsBootReply
+  -- It ends with a set that is swapped back, or tried again.
+  pub acts : IfOk result (λ reply. DoesNothing reply → ⊥)
   pub ends : Ends result old new

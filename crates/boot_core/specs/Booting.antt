@@ -1,9 +1,11 @@
 -- What a boot does from whatever record stands, and what a device's boot does: each record is one
 -- call.
-use Rattle.std.specs.Prelude.{◌≡◌, ◌⊎◌, ◌+◌, ℕ, Bool, true, Some, Result, IfOk, None, Err}
+use Rattle.std.specs.Prelude.{◌≡◌, ◌⊎◌, ◌+◌, ℕ, Bool, true, false, Some, Result, IfOk, None, Err}
+use Rattle.std.specs.Prelude.{IsErrOf}
 use Rattle.events.specs.declared.event.Event.TheVariants as event
 use Rattle.flash_model.specs.Chip.{Chip, Ends}
 use Rattle.flash_model.specs.declared.error.FlashError.{FlashError}
+use Rattle.flash_model.specs.declared.error.FlashError.TheVariants.{Off}
 use Rattle.sector_map.specs.Map.{IsLaidOut, Keeps}
 use Rattle.sector_map.specs.Part.{any_part}
 use Rattle.sector_map.specs.declared.layout.SectorMap.{SectorMap}
@@ -23,11 +25,12 @@ use Rattle.machine.specs.declared.error.Fault.TheVariants.{NotProvisioned}
 use Rattle.machine.specs.declared.finding.Finding.{Finding}
 use Rattle.machine.specs.declared.reply.Reply.{Reply}
 use Rattle.machine.specs.declared.reply.Reply.TheVariants.{Refused}
-use Rattle.boot_core.specs.Answers.{EndsCall, IsBootReply, is_stopped, reply_of_boot}
+use Rattle.boot_core.specs.Answers.{EndsCall, IsBootReply, IsOff, is_stopped, reply_of_boot}
 use Rattle.boot_core.specs.BootEnds.{BootEnds}
 use Rattle.boot_core.specs.Device.{made}
 use Rattle.boot_core.specs.Found.{IsStopped}
-use Rattle.boot_core.specs.Wear.{IsWorn, TakesNothing}
+use Rattle.boot_core.specs.Over.{IsOverAlone}
+use Rattle.boot_core.specs.Wear.{DoesNothing, IsWorn}
 
 -- A boot from the record that stands, with the wear of its kind.
 pub record BootsFrom (map : SectorMap) (state : State) (left : ℕ) (old new : Chip)
@@ -38,7 +41,9 @@ pub record BootsFrom (map : SectorMap) (state : State) (left : ℕ) (old new : C
   pub stops : IfOk result (λ reply. (finding : Finding) (permanent : Bool)
       → reply ≡ reply_of finding permanent → IsStopped map state old new finding)
   pub idle : state.kind ≡ log.Steady
-      → IfOk result (λ reply. TakesNothing reply → new ≡ old)
+      → IfOk result (λ reply. DoesNothing reply → new ≡ old)
+  pub over : state.kind ≡ log.Trial
+      → IfOk result (λ reply. DoesNothing reply → IsOverAlone map state old new)
 
 -- A boot from whatever record stands, or from none.
 pub record BootsFromAny (map : SectorMap) (left : ℕ) (old new : Chip)
@@ -66,11 +71,17 @@ pub record BootsFromAny (map : SectorMap) (left : ℕ) (old new : Chip)
   pub stops : IfOk result (λ reply. (state : State) (finding : Finding) (permanent : Bool)
       → state_of map old ≡ Some state → reply ≡ reply_of finding permanent
       → IsStopped map state old new finding)
-  -- At rest nothing is written where no image is taken.
+  -- At rest nothing is written where no image is taken, or the boot is refused.
   pub idle : IfOk result (λ reply. (state : State)
       → state_of map old ≡ Some state → state.kind ≡ log.Steady
-      → TakesNothing reply → new ≡ old)
+      → DoesNothing reply → new ≡ old)
+  -- From a trial such a boot found it confirmed, and writes that it is over, and nothing else.
+  pub over : IfOk result (λ reply. (state : State)
+      → state_of map old ≡ Some state → state.kind ≡ log.Trial
+      → DoesNothing reply → IsOverAlone map state old new)
   pub told : IfOk result IsBootReply
+  -- A flash that is off is the answer.
+  pub off : old.is_on ≡ false → IsErrOf result Off
   pub ends : Ends result old new
 
 -- A device boots: its uploads end, and a trial that begins has so many boots after this one.
@@ -109,8 +120,14 @@ pub record EndsUploadsAndBoots (map : SectorMap) (left : ℕ) (old new : DeviceV
       → state_of map old.flash ≡ Some state
       → reply_of_boot result ≡ reply_of finding permanent
       → IsStopped map state old.flash new.flash finding
-  -- At rest nothing is written where no image is taken.
+  -- At rest nothing is written where no image is taken, or the boot is refused.
   pub idle : (state : State) → state_of map old.flash ≡ Some state
-      → state.kind ≡ log.Steady → TakesNothing (reply_of_boot result)
+      → state.kind ≡ log.Steady → DoesNothing (reply_of_boot result)
       → new.flash ≡ old.flash
+  -- From a trial such a boot found it confirmed, and writes that it is over, and nothing else.
+  pub over : old.flash.is_on ≡ true → (state : State)
+      → state_of map old.flash ≡ Some state → state.kind ≡ log.Trial
+      → DoesNothing (reply_of_boot result) → IsOverAlone map state old.flash new.flash
+  -- A flash that is off is the answer.
+  pub off : old.flash.is_on ≡ false → IsOff result old.flash new.flash
   pub ends : EndsCall (reply_of_boot result) old new

@@ -27,12 +27,13 @@ use Rattle.machine.specs.declared.error.Fault.TheVariants as no
 use Rattle.machine.specs.declared.error.Fault.TheVariants.{NotProvisioned}
 use Rattle.machine.specs.declared.finding.Finding.{Finding}
 use Rattle.machine.specs.declared.reply.Reply.{Reply}
-use Rattle.boot_core.specs.Answers.{EndsCall, IsBootReply, IsNotBooted, is_stop, is_stopped}
+use Rattle.boot_core.specs.Answers.{EndsCall, IsBootReply, IsNotBooted, IsOff, is_stop, is_stopped}
 use Rattle.boot_core.specs.Answers.{reply_of_boot, reply_of_result}
 use Rattle.boot_core.specs.Device.{StaysHeld, Whole, made}
 use Rattle.boot_core.specs.Found.{IsStopped}
 use Rattle.boot_core.specs.Ready.{LogsNoTrial, RefusesManifest}
-use Rattle.boot_core.specs.Wear.{IsWorn, TakesNothing}
+use Rattle.boot_core.specs.Over.{IsOverAlone}
+use Rattle.boot_core.specs.Wear.{DoesNothing, IsWorn}
 
 -- A device is new: made over a flash, with this map and identity, and with so many boots a trial.
 pub record IsNew (map : SectorMap) (identity : Identity) (boots : ℕ) (chip : Chip)
@@ -79,10 +80,18 @@ pub record BootsDevice (old new : Whole) (result : Result Reply Fault) : Type 0 
       (reply_of_boot result)
   -- On any flash parts of the map are touched, and nothing behind it.
   pub outside : Keeps old.setup.map any_part old.here.flash new.here.flash
-  -- On any flash a boot that was at rest and takes nothing writes nothing.
+  -- On any flash a boot that was at rest and takes nothing, or is refused, writes nothing.
   pub idle : (state : State) → state_of old.setup.map old.here.flash ≡ Some state
-      → state.kind ≡ Kind.Steady → TakesNothing (reply_of_boot result)
+      → state.kind ≡ Kind.Steady → DoesNothing (reply_of_boot result)
       → new.here.flash ≡ old.here.flash
+  -- On any flash such a boot from a trial found each image of its set confirmed, and writes the
+  -- record that the trial is over, and nothing else.
+  pub over : old.here.flash.is_on ≡ true → (state : State)
+      → state_of old.setup.map old.here.flash ≡ Some state → state.kind ≡ Kind.Trial
+      → DoesNothing (reply_of_boot result)
+      → IsOverAlone old.setup.map state old.here.flash new.here.flash
+  -- Where the flash is off, that is the answer, and the flash is as it was.
+  pub off : old.here.flash.is_on ≡ false → IsOff result old.here.flash new.here.flash
   -- On any flash a refusal tells what was found of an upgrade that was begun, and nothing more was
   -- written.
   pub stops : (state : State) (finding : Finding) (permanent : Bool)

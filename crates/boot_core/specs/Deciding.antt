@@ -17,7 +17,7 @@ use Rattle.machine.specs.declared.reply.Reply.{Reply}
 use Rattle.boot_core.specs.Answers.{IsBootReply}
 use Rattle.decision.specs.Found.{HasTable}
 use Rattle.boot_core.specs.Found.{IsToldAgain}
-use Rattle.boot_core.specs.Wear.{IsSetMoved, TakesNothing}
+use Rattle.boot_core.specs.Wear.{DoesNothing, IsSetMoved}
 
 -- A call finds the decision of a record again, where the slots of its set are swapped.
 pub record FindsAgain (map : SectorMap) (mask : ℕ) (floors : List ℕ) (old new : Chip)
@@ -53,6 +53,6 @@ pub record AnswersFinding (finding : Finding) (permanent : Bool) (result : Reply
   pub set : (mask : ℕ) → IsSetFound mask finding → IsSetOf mask result
   pub moved : (s : DeviceState) (mask : ℕ) → IsFoundAgain s mask finding
       → IsSetFound mask finding → IsSetMoved mask result
-  pub some : (mask : ℕ) → IsSetFound mask finding → (mask ≡ 0 → ⊥)
-      → TakesNothing result → ⊥
+  pub some : (s : DeviceState) (mask : ℕ) → IsFoundAgain s mask finding
+      → IsSetFound mask finding → (mask ≡ 0 → ⊥) → DoesNothing result → ⊥
   pub told : IsBootReply result

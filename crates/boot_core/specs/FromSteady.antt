@@ -18,7 +18,7 @@ use Rattle.machine.specs.Passing.{IsSwappingSome}
 use Rattle.machine.specs.Wear.{members}
 use Rattle.machine.specs.declared.reply.Reply.{Reply}
 use Rattle.boot_core.specs.BootEnds.{BootEnds}
-use Rattle.boot_core.specs.Wear.{AreMeasured, IsAfresh, TakesNothing}
+use Rattle.boot_core.specs.Wear.{AreMeasured, DoesNothing, IsAfresh}
 
 -- From Steady to Swap: a call begins the swap of a set.
 pub record BeginsSwap (map : SectorMap) (state : State) (mask : ℕ) (permanent : Bool)
@@ -59,12 +59,15 @@ pub record Upgrades (map : SectorMap) (mask left : ℕ) (old new : Chip)
   pub boot : BootEnds map (left + 1) (HasChosen map mask old)
       (λ reply. (s : DeviceState) → HasChosen map mask old s → IsAfresh map old new 3 reply)
       old new result
-  pub some : IfOk result (λ reply. TakesNothing reply → ⊥)
+  pub some : IfOk result (λ reply. (s : DeviceState) → HasChosen map mask old s
+      → DoesNothing reply → ⊥)
 
--- The decision is made, and a set that is chosen is taken. Where none is nothing is written.
+-- The decision is made, and a set that is chosen is taken. Where none is, or the boot is refused,
+-- nothing is written: so it is on any flash whose log says that the device rests.
 pub record BootsFromSteady (map : SectorMap) (left : ℕ) (old new : Chip)
     (result : Result Reply FlashError) : Type 0 where
   pub boot : BootEnds map (left + 1) (IsSteadyAt (view map old))
       (λ reply. (s : DeviceState) → IsSteadyAt (view map old) s → IsAfresh map old new 3 reply)
       old new result
-  pub idle : IfOk result (λ reply. TakesNothing reply → new ≡ old)
+  pub idle : IfOk result (λ reply. (state : State) → state_of map old ≡ Some state
+      → state.kind ≡ log.Steady → DoesNothing reply → new ≡ old)

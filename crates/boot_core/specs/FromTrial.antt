@@ -1,6 +1,6 @@
 -- What a boot does from a record Trial: each record is one call.
-use Rattle.std.specs.Prelude.{◌≡◌, ◌⊎◌, ◌+◌, ◌≤◌, ℕ, Bool, false, List, Some, Result, OnOk, IfOk}
-use Rattle.std.specs.Prelude.{Option, slice_index}
+use Rattle.std.specs.Prelude.{◌≡◌, ◌⊎◌, ◌+◌, ◌≤◌, ℕ, Bool, true, List, Some, Result, OnOk, IfOk}
+use Rattle.std.specs.Prelude.{Ok, Option, slice_index}
 use Rattle.flash_model.specs.Chip.{Chip, Ends}
 use Rattle.flash_model.specs.declared.error.FlashError.{FlashError}
 use Rattle.sector_map.specs.Map.{IsLaidOut, Keeps}
@@ -11,6 +11,7 @@ use Rattle.trailer.specs.Fields.{fields_at}
 use Rattle.set_log.specs.Log.{state_of}
 use Rattle.set_log.specs.declared.state.Kind.TheVariants as log
 use Rattle.set_log.specs.declared.state.State.{State}
+use Rattle.set_log.specs.States.{Appends}
 use Rattle.upload.specs.Device.{DeviceState, Trial}
 use Rattle.upload.specs.Steady.{IsSteadyAt, IsFront}
 use Rattle.upload.specs.View.{view}
@@ -22,9 +23,11 @@ use Rattle.machine.specs.Reading.{IsPassage, RunsAt}
 use Rattle.machine.specs.States.{IsConfirmed, IsRaised, settled}
 use Rattle.machine.specs.Wear.{members}
 use Rattle.machine.specs.declared.finding.Passage.{Passage}
+use Rattle.machine.specs.declared.finding.Passage.TheVariants.{Over}
 use Rattle.machine.specs.declared.reply.Reply.{Reply}
 use Rattle.boot_core.specs.BootEnds.{BootEnds, BootEndsForAny}
-use Rattle.boot_core.specs.Wear.{AreMeasured, IsAfresh}
+use Rattle.boot_core.specs.Over.{IsOverAlone, IsRecordedOver, record_over}
+use Rattle.boot_core.specs.Wear.{AreMeasured, DoesNothing, IsAfresh}
 
 -- Whether an image is confirmed,
 abbrev pub IsConfirmedIn : SectorMap → ℕ → Chip → Bool → Type 0
@@ -67,6 +70,9 @@ pub record DecidesTrial (map : SectorMap) (state : State) (old new : Chip)
     (result : Result Passage FlashError) : Type 0 where
   -- The flash is as it was,
   pub same : new ≡ old
+  -- a trial is over only where each image of its set is confirmed,
+  pub confirmed : IfOk result (λ passage. passage ≡ Over
+      → AreSetOk (view map old) state.mask true)
   -- a set that is tried again has a boot left,
   pub left : IfOk result (HasLeft state.left)
   -- and how it goes on is what the machine says of the trial.
@@ -87,14 +93,10 @@ pub record RecordsOver (map : SectorMap) (state : State) (floors : List ℕ) (ol
       → IsSteadyAt (view map new) (settled s floors))
   -- The log says so then, in the record that is returned: that of a device at rest.
   pub recorded : IfOk result (λ now. state_of map new ≡ Some now)
-  pub is : IfOk result (λ now. now ≡ record {
-    kind = log.Steady;
-    mask = 0;
-    permanent = false;
-    left = 0;
-    sequence = state.sequence;
-    floors = floors;
-  })
+  pub is : IfOk result (λ now. now ≡ record_over state floors)
+  -- Nothing was done then but an append of it.
+  pub appended : OnOk result (Appends map (record_over state floors) old new {T = Unit}
+      (Ok tt))
   -- One sector is erased at most.
   pub erases : OnOk result (new.erases ≤ old.erases + 1)
   pub ends : Ends result old new
@@ -125,13 +127,16 @@ pub record BeginsBack (map : SectorMap) (state : State) (old new : Chip)
 abbrev pub HasTrial : (DeviceState → Trial → Type 0) → SectorMap → Chip → DeviceState → Type 0
 HasTrial such map chip s = (trial : Trial) × such s trial × IsOpenOrAt (view map chip) s trial
 
--- A trial that is wholly confirmed is over, and the decision is made ..
-abbrev pub BootsConfirmed : SectorMap → ℕ → Chip → Chip → Result Reply FlashError → Type 0
-BootsConfirmed map left old new result = BootEnds map (left + 1) (HasTrial IsConfirmed map old)
-    (λ reply. (s : DeviceState) → HasTrial IsConfirmed map old s → IsAfresh map old new 4 reply)
-    old new result
+-- A trial that is wholly confirmed is over, and the decision is made. Where nothing is taken, or the
+-- boot is refused, nothing is written but the record that the trial is over: so it is on any flash.
+pub record BootsConfirmed (map : SectorMap) (state : State) (left : ℕ) (old new : Chip)
+    (result : Result Reply FlashError) : Type 0 where
+  pub boot : BootEnds map (left + 1) (HasTrial IsConfirmed map old)
+      (λ reply. (s : DeviceState) → HasTrial IsConfirmed map old s
+      → IsAfresh map old new 4 reply) old new result
+  pub idle : IfOk result (λ reply. DoesNothing reply → IsRecordedOver map state old new)
 
--- .. one that goes on has one boot less ..
+-- One that goes on has one boot less ..
 abbrev pub BootsAgain : SectorMap → Chip → Chip → Result Reply FlashError → Type 0
 BootsAgain map old new result = BootEndsForAny map (HasTrial GoesOn map old)
     (IsAfresh map old new 4) old new result
@@ -143,6 +148,8 @@ BootsBack map old new result = BootEndsForAny map (HasTrial GoesBack map old)
     old new result
 
 -- From a record Trial one of these is done.
-abbrev pub BootsFromTrial : SectorMap → ℕ → Chip → Chip → Result Reply FlashError → Type 0
-BootsFromTrial map left old new result = BootEnds map (left + 1) (Stands map old)
-    (λ reply. (s : DeviceState) → Stands map old s → IsAfresh map old new 4 reply) old new result
+pub record BootsFromTrial (map : SectorMap) (state : State) (left : ℕ) (old new : Chip)
+    (result : Result Reply FlashError) : Type 0 where
+  pub boot : BootEnds map (left + 1) (Stands map old)
+      (λ reply. (s : DeviceState) → Stands map old s → IsAfresh map old new 4 reply) old new result
+  pub idle : IfOk result (λ reply. DoesNothing reply → IsOverAlone map state old new)

@@ -16,6 +16,7 @@ pub mod BootEnds
 pub mod FromSteady
 pub mod FromSwap
 pub mod FromSettle
+pub mod Over
 pub mod FromTrial
 pub mod FromBack
 pub mod Booting

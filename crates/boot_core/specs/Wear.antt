@@ -48,10 +48,11 @@ abbrev pub IsAfresh : SectorMap → Chip → Chip → ℕ → Reply → Type 0
 IsAfresh map old new more reply =
     (mask : ℕ) × IsSetMoved mask reply × IsFreshWear map old new mask more
 
--- A boot reports that it takes no image.
-abbrev pub TakesNothing : Reply → Type 0
-TakesNothing (Booted table report permanent) = TakesNone report
-TakesNothing other = ⊥
+-- A boot reports that it takes no image, or is refused.
+abbrev pub DoesNothing : Reply → Type 0
+DoesNothing (Booted table report permanent) = TakesNone report
+DoesNothing (Refused fault) = Unit {0}
+DoesNothing other = ⊥
 
 -- The wear of a boot that isn't cut, by the record that stood.
 abbrev pub IsWorn : SectorMap → Kind → ℕ → Chip → Chip → Reply → Type 0

@@ -168,7 +168,7 @@ fn boot_over<F: Flash>(
 ) -> Result<Reply, FlashError>
     requires recorded { HasRecord map.now state.now (F.chip flash.old) }
     requires few { left ≤ MOST_BOOTS_LEFT }
-    ensures { BootsConfirmed map.now left (F.chip flash.old) (F.chip flash.new) result }
+    ensures { BootsConfirmed map.now state.now left (F.chip flash.old) (F.chip flash.new) result }
 {
     let floors = raise_running(flash, map, &state.floors)?;
     let steady = record_over(flash, map, state, floors)?;
@@ -223,7 +223,7 @@ pub(crate) fn boot_from_trial<F: Flash>(
 ) -> Result<Reply, FlashError>
     requires recorded { HasRecordOf map.now Kind.Trial state.now (F.chip flash.old) }
     requires few { left ≤ MOST_BOOTS_LEFT }
-    ensures { BootsFromTrial map.now left (F.chip flash.old) (F.chip flash.new) result }
+    ensures { BootsFromTrial map.now state.now left (F.chip flash.old) (F.chip flash.new) result }
 {
     match decide_trial(flash, map, state)? {
         Passage::Over => boot_over(flash, map, state, left),

@@ -13,6 +13,7 @@ returns-in_err-finish_back g c =
       ok = tt;
       erases = tt;
       told = tt;
+      acts = tt;
       ends = err_ends c.in_err-finish_back.ensures.ends;
     })
 
@@ -26,5 +27,6 @@ returns g c = record {
       let found = stands_back c.args.map.now _ s _ c.requires.read c.requires.kind stands in
       (c.in_ok-finish_back.ensures.erases s found.0 found.1 found.2, refl);
   told = tt;
+  acts = λ nothing. nothing;
   ends = ok_ends c.in_ok-finish_back.ensures.ends;
 }

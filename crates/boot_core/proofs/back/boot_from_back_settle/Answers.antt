@@ -13,6 +13,7 @@ returns-in_err-settle_and_return g c =
       ok = tt;
       erases = tt;
       told = tt;
+      acts = tt;
       ends = err_ends c.in_err-settle_and_return.ensures.ends;
     })
 
@@ -24,5 +25,6 @@ returns g c = record {
   ok = back_settle_ends c.args.map.now _ _ _ c.requires.read c.requires.kind c.in_ok-settle_and_return.ensures.ok;
   erases = (c.in_ok-settle_and_return.ensures.erases, refl);
   told = tt;
+  acts = λ nothing. nothing;
   ends = ok_ends c.in_ok-settle_and_return.ensures.ends;
 }

@@ -10,8 +10,9 @@ use Rattle.machine.proofs.Stepping.{steps_boot}
 use Rattle.boot_core.specs.Answers.{IsBootReply}
 use Rattle.boot_core.specs.Device.{made, seen}
 use Rattle.boot_core.proofs.Stopping.{boot_stopped, ended_ends, not_empty, not_uncut, stopped_ends, stopped_worn, unprovisioned}
-use Rattle.boot_core.specs.Wear.{IsWorn, TakesNothing}
-use Rattle.boot_core.proofs.Stops.{flash_idle, flash_stopped, flash_stopped_it, flash_unanswered}
+use Rattle.boot_core.specs.Wear.{DoesNothing, IsWorn}
+use Rattle.boot_core.proofs.Passed.{ok_no_err}
+use Rattle.boot_core.proofs.Stops.{flash_idle, flash_off, flash_over, flash_stopped, flash_stopped_it, flash_unanswered}
 use Rattle.boot_core.proofs.boots.boot_device.Goals as goal
 
 pub returns : goal.returns
@@ -44,7 +45,10 @@ returns g c = record {
   stops = λ state finding permanent stood is.
       c.in_ok-reply.ensures.stops state finding permanent stood (sym c.conclude.ensures.is ∙ is);
   idle = λ state stood kind takes. c.in_ok-reply.ensures.idle state stood kind
-      (subst (λ reply. TakesNothing reply) c.conclude.ensures.is takes);
+      (subst (λ reply. DoesNothing reply) c.conclude.ensures.is takes);
+  over = λ on state stood kind nothing. c.in_ok-reply.ensures.over state stood kind
+      (subst (λ reply. DoesNothing reply) c.conclude.ensures.is nothing);
+  off = λ off. absurd (ok_no_err _ _ (c.in_ok-reply.ensures.off off));
   ends = ended_ends _ _ _ _ _ _ _ _ c.conclude.ensures.is c.in_ok-reply.ensures.told c.in_ok-reply.ensures.ends;
 }
 
@@ -72,6 +76,8 @@ returns-in_err-reply g c =
       erases = λ on uncut state s stood stands. stopped_worn c.args.map.now state old new error ends on uncut;
       stops = λ state finding permanent stood is.
           flash_stopped c.args.map.now state old new error finding permanent is;
-      idle = λ state stood kind takes. flash_idle error old new takes;
+      idle = λ state stood kind nothing. flash_idle error old new ends nothing;
+      over = λ on state stood kind nothing. flash_over error c.args.map.now state old new ends on nothing;
+      off = λ off. flash_off error old new ends (c.in_err-reply.ensures.off off);
       ends = stopped_ends old new _ _ _ _ c.new.ensures refl error ends;
     })

@@ -3,7 +3,7 @@ use Rattle.std.proofs.lemmas.Result.{IfOk-weaker}
 use Rattle.machine.proofs.Standing.{stands_steady}
 use Rattle.set_log.specs.declared.state.Kind.TheVariants as log
 use Rattle.boot_core.proofs.Wears.{worn_as}
-use Rattle.boot_core.proofs.Stops.{at_rest, is_upgrade, not_at_rest, other_stopped, settle_stopped, swap_stopped}
+use Rattle.boot_core.proofs.Stops.{at_rest, is_upgrade, not_at_rest, not_on_trial, on_trial, other_stopped, settle_stopped, swap_stopped}
 use Rattle.boot_core.proofs.boots.boot_from.Goals as goal
 
 pub returns-in-Steady : goal.returns-in-Steady
@@ -26,7 +26,9 @@ returns-in-Steady g c = record {
   stops = IfOk-weaker c.boot_from_steady.result _ _ (λ reply told. λ finding permanent is.
       other_stopped c.args.map.now c.args.state.now _ _ finding (ap is_upgrade c.in-Steady.is))
       c.boot_from_steady.ensures.boot.told;
-  idle = λ steady. c.boot_from_steady.ensures.idle;
+  idle = λ steady. IfOk-weaker c.boot_from_steady.result _ _
+      (λ reply idle. idle _ c.requires.recorded.read steady) c.boot_from_steady.ensures.idle;
+  over = λ trial. absurd (not_on_trial _ (ap on_trial c.in-Steady.is) trial);
 }
 
 pub returns-in-Back : goal.returns-in-Back
@@ -48,6 +50,7 @@ returns-in-Back g c = record {
       other_stopped c.args.map.now c.args.state.now _ _ finding (ap is_upgrade c.in-Back.is))
       c.boot_from_back.ensures.told;
   idle = λ steady. absurd (not_at_rest _ (ap at_rest c.in-Back.is) steady);
+  over = λ trial. absurd (not_on_trial _ (ap on_trial c.in-Back.is) trial);
 }
 
 pub returns-in-BackSettle : goal.returns-in-BackSettle
@@ -70,6 +73,7 @@ returns-in-BackSettle g c = record {
       other_stopped c.args.map.now c.args.state.now _ _ finding (ap is_upgrade c.in-BackSettle.is))
       c.boot_from_back_settle.ensures.told;
   idle = λ steady. absurd (not_at_rest _ (ap at_rest c.in-BackSettle.is) steady);
+  over = λ trial. absurd (not_on_trial _ (ap on_trial c.in-BackSettle.is) trial);
 }
 
 pub returns-in-Swap : goal.returns-in-Swap
@@ -90,6 +94,7 @@ returns-in-Swap g c = record {
       swap_stopped c.args.map.now c.args.state.now _ _ finding c.in-Swap.is (stops finding permanent is))
       c.boot_from_swap.ensures.stops;
   idle = λ steady. absurd (not_at_rest _ (ap at_rest c.in-Swap.is) steady);
+  over = λ trial. absurd (not_on_trial _ (ap on_trial c.in-Swap.is) trial);
 }
 
 pub returns-in-Settle : goal.returns-in-Settle
@@ -110,24 +115,26 @@ returns-in-Settle g c = record {
       settle_stopped c.args.map.now c.args.state.now _ _ finding c.in-Settle.is (stops finding permanent is))
       c.boot_from_settle.ensures.stops;
   idle = λ steady. absurd (not_at_rest _ (ap at_rest c.in-Settle.is) steady);
+  over = λ trial. absurd (not_on_trial _ (ap on_trial c.in-Settle.is) trial);
 }
 
 pub returns-in-Trial : goal.returns-in-Trial
 returns-in-Trial g c = record {
   boot = record {
-    laid = c.boot_from_trial.ensures.laid;
-    on_map = c.boot_from_trial.ensures.on_map;
-    stands = c.boot_from_trial.ensures.stands;
-    ok = c.boot_from_trial.ensures.ok;
+    laid = c.boot_from_trial.ensures.boot.laid;
+    on_map = c.boot_from_trial.ensures.boot.on_map;
+    stands = c.boot_from_trial.ensures.boot.stands;
+    ok = c.boot_from_trial.ensures.boot.ok;
     erases = IfOk-weaker c.boot_from_trial.result _ _ (λ reply worn. λ s stands.
         worn_as c.args.map.now (g.F.Flash.chip c.args.flash.now) (g.F.Flash.chip c.boot_from_trial.new.flash)
         c.args.state.now log.Trial reply c.in-Trial.is (worn s stands))
-        c.boot_from_trial.ensures.erases;
-    told = c.boot_from_trial.ensures.told;
-    ends = c.boot_from_trial.ensures.ends;
+        c.boot_from_trial.ensures.boot.erases;
+    told = c.boot_from_trial.ensures.boot.told;
+    ends = c.boot_from_trial.ensures.boot.ends;
   };
   stops = IfOk-weaker c.boot_from_trial.result _ _ (λ reply told. λ finding permanent is.
       other_stopped c.args.map.now c.args.state.now _ _ finding (ap is_upgrade c.in-Trial.is))
-      c.boot_from_trial.ensures.told;
+      c.boot_from_trial.ensures.boot.told;
   idle = λ steady. absurd (not_at_rest _ (ap at_rest c.in-Trial.is) steady);
+  over = λ trial. c.boot_from_trial.ensures.idle;
 }

@@ -8,8 +8,26 @@ returns-in-Decided c = record {
   is = search rules;
   set = search rules;
   moved = search rules;
-  some = λ mask is some none.
+  some = λ s mask found is some none.
       let set : IsSetIn mask c.in-Decided.report = rw c.in-Decided.is at is in
       some (no_members mask (λ i. set.each i ∙ none i));
+  told = search rules;
+}
+
+pub returns-in-Damaged : goal.returns-in-Damaged
+returns-in-Damaged c = record {
+  is = search rules;
+  set = search rules;
+  moved = search rules;
+  some = λ s mask found is some none. rw c.in-Damaged.is at found;
+  told = search rules;
+}
+
+pub returns-in-Invalid : goal.returns-in-Invalid
+returns-in-Invalid c = record {
+  is = search rules;
+  set = search rules;
+  moved = search rules;
+  some = λ s mask found is some none. rw c.in-Invalid.is at found;
   told = search rules;
 }

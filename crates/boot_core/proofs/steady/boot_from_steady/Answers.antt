@@ -5,6 +5,7 @@ use Rattle.machine.proofs.Steadying.{chosen_here, ends_damaged, ends_invalid, en
 use Rattle.machine.proofs.Upgrading.{steady_cut}
 use Rattle.boot_core.proofs.Measured.{fresh_none, fresh_same}
 use Rattle.boot_core.proofs.Passed.{err_ends, ok_ends, then_ends}
+use Rattle.boot_core.proofs.Resting.{rests_somehow}
 use Rattle.machine.specs.Wear.{IsSetIn}
 use Rattle.machine.specs.declared.error.Fault.TheVariants.{InvalidSet, RunningDamaged}
 use Rattle.machine.specs.declared.reply.Reply.TheVariants.{Booted, Refused}
@@ -47,7 +48,7 @@ returns-then-mask-eq0 g c = record {
     told = tt;
     ends = ok_ends c.in_ok-image.ensures.ends;
   };
-  idle = λ none. c.find.ensures.same;
+  idle = λ state stood kind nothing. c.find.ensures.same;
 }
 
 pub returns-in-Damaged : goal.returns-in-Damaged
@@ -66,7 +67,7 @@ returns-in-Damaged g c = record {
     told = tt;
     ends = ok_ends c.in_ok-image.ensures.ends;
   };
-  idle = λ none. c.find.ensures.same;
+  idle = λ state stood kind nothing. c.find.ensures.same;
 }
 
 pub returns-in-Invalid : goal.returns-in-Invalid
@@ -85,7 +86,7 @@ returns-in-Invalid g c = record {
     told = tt;
     ends = ok_ends c.in_ok-image.ensures.ends;
   };
-  idle = λ none. c.find.ensures.same;
+  idle = λ state stood kind nothing. c.find.ensures.same;
 }
 
 pub returns-else-mask-eq0 : goal.returns-else-mask-eq0
@@ -113,5 +114,10 @@ returns-else-mask-eq0 g c = record {
     told = c.upgrade.ensures.boot.told;
     ends = then_ends c.in_ok-image.ensures.ends c.upgrade.ensures.boot.ends;
   };
-  idle = search rules;
+  idle = IfOk-weaker c.upgrade.result _ _ (λ reply takes. λ state stood kind nothing.
+      absurd (rests_somehow c.args.map.now (g.F.Flash.chip c.args.flash.now) state stood kind (λ s was.
+      let chosen = chosen_here c.args.map.now (c.args.left + 1) _ _ _ _ c.requires.recorded.read c.find.ensures.same
+      c.in_ok-image.ensures.ok _ _ _ c.in-Decided.is c.in_ok-image.ensures.whole
+      c.taken_mask-mask.ensures.each c.if-mask-eq0.false s was in
+      takes s (c.in-Decided.table, chosen.0, chosen.1) nothing))) c.upgrade.ensures.some;
 }

@@ -132,5 +132,11 @@ returns g c = record {
     ends = then_ok (then_ends c.in_ok-permanent.ensures.ends c.in_ok-swap.ensures.ends)
         c.in_ok-finding.ensures.ends;
   };
-  some = c.reply_to.ensures.some _ (rw c.in_ok-swap.ensures.is at c.in_ok-finding.ensures.set) c.requires.chosen.some;
+  some = λ s at.
+      let decision = chosen_decision c.args.map.now _ _ c.args.mask _ c.asks_for_good.ensures.same
+      c.in_ok-permanent.ensures.ok s at.0 at.1 at.2 in
+      c.reply_to.ensures.some s _
+      ((rw c.in_ok-swap.ensures.is at c.in_ok-finding.ensures.ok) s at.0 (c.in_ok-swap.ensures.ok s at.0
+      (steady_here c.args.map.now _ _ c.args.mask _ c.asks_for_good.ensures.same c.in_ok-permanent.ensures.ok s at.1)
+      decision)).0 (rw c.in_ok-swap.ensures.is at c.in_ok-finding.ensures.set) c.requires.chosen.some;
 }

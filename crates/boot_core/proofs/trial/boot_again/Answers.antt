@@ -28,6 +28,7 @@ returns-in_err-append g c =
       ok = tt;
       erases = tt;
       told = tt;
+      acts = tt;
       ends = err_ends c.in_err-append.ensures.ends;
     })
 
@@ -46,5 +47,6 @@ returns g c = record {
       c.in_ok-append.ensures.ok boots s was.0 was.1 was.2;
   erases = (0, refl, λ sizes each. omega (arith, one_erase _ _ _ c.in_ok-append.ensures.erases));
   told = tt;
+  acts = λ nothing. nothing;
   ends = ok_ends c.in_ok-append.ensures.ends;
 }

@@ -18,6 +18,7 @@ returns-in_err-back g c =
       ok = tt;
       erases = tt;
       told = tt;
+      acts = tt;
       ends = err_ends c.in_err-back.ensures.ends;
     })
 
@@ -47,5 +48,6 @@ returns g c = record {
       (c.in_ok-back.ensures.ok s was.0 was.1 (open_of c.args.map.now _ s was.0 was.2))))))
       c.boot_from_back.ensures.erases;
   told = c.boot_from_back.ensures.told;
+  acts = c.boot_from_back.ensures.acts;
   ends = then_ends c.in_ok-back.ensures.ends c.boot_from_back.ensures.ends;
 }

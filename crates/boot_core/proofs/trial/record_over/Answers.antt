@@ -18,6 +18,7 @@ returns-in_err-append g c =
       ok = tt;
       recorded = tt;
       is = tt;
+      appended = tt;
       erases = tt;
       ends = err_ends c.in_err-append.ensures.ends;
     })
@@ -30,6 +31,7 @@ returns g c = record {
   ok = over_ok c.args.map.now _ _ _ c.args.floors c.requires.read c.append.ensures.outside c.in_ok-append.ensures.ok;
   recorded = c.in_ok-append.ensures.ok;
   is = refl;
+  appended = c.in_ok-append.ensures;
   erases = one_erase _ _ _ c.in_ok-append.ensures.erases;
   ends = ok_ends c.in_ok-append.ensures.ends;
 }
