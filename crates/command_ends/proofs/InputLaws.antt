@@ -1,11 +1,12 @@
 -- What sources give that are read one after the other.
-use Rattle.std.proofs.Common.{◌≡◌, ◌≢◌, ℕ, zero, suc, ◌<◌, List, [], ◌∷◌, Option, None, Some, IfSome, arith, codes, length, refl, ◌∙◌}
+use Rattle.std.proofs.Common.{◌≡◌, ◌≢◌, ℕ, zero, suc, ◌<◌, List, [], ◌∷◌, Option, None, Some, IfSome, arith, Bool, codes, length, refl, ◌∙◌}
 use Rattle.std.specs.Borrow.{Bor}
 use Rattle.std.specs.List.{slice_get}
 use Rattle.std.specs.Io.KnownBytes.{Keeps}
 use Rattle.command_ends.specs.declared.source.Source.{Source}
 use Rattle.command_ends.specs.declared.source.Source.TheVariants.{StandardInput, File}
 use Rattle.command_ends.specs.Input.{FileBytes, GiveBoth, Gives, IsKnownAs, IsNamed, KeepsFiles, KeepsOthers}
+use Rattle.command_ends.specs.Doings.{IsApartFrom, KeepsApart, KeepsSource}
 use Rattle.command_ends.specs.Inputs.{GiveEach, LeavesFiles, NameFiles, names_of}
 
 -- known bytes that were kept are those that were known before
@@ -108,3 +109,21 @@ pub LeavesFiles-read : (source : Source) (names : List (List ℕ)) (input new_in
 LeavesFiles-read StandardInput names input new_input old mid new kept after = tt
 LeavesFiles-read (File name) names input new_input old mid new kept after =
     λ all. KeepsFiles-twice old mid new kept.1 (after all)
+
+-- where all files were kept, each was that is read, and that isn't the one of a name
+pub KeepsSource-kept : (source : Source) (old new : FileBytes) → KeepsFiles old new
+    → KeepsSource source old new
+KeepsSource-kept StandardInput old new kept = tt
+KeepsSource-kept (File name) old new kept = kept name.now
+
+pub KeepsApart-kept : (apart : List ℕ → Bool) (old new : FileBytes) → KeepsFiles old new
+    → KeepsApart apart old new
+KeepsApart-kept apart old new kept = λ other _. kept other
+
+-- what is read stays where a file was replaced that is another
+pub KeepsSource-apart : (source : Source) (name : List ℕ) (apart : List ℕ → List ℕ → Bool)
+    (old mid new : FileBytes) → KeepsFiles old mid → IsApartFrom apart name source
+    → KeepsApart (apart name) mid new → KeepsSource source old new
+KeepsSource-apart StandardInput name apart old mid new kept other after = tt
+KeepsSource-apart (File word) name apart old mid new kept other after =
+    kept_twice (old word.now) (mid word.now) (new word.now) (kept word.now) (after word.now other.1)

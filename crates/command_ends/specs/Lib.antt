@@ -1,3 +1,4 @@
+pub mod Doings
 pub mod Input
 pub mod Inputs
 pub mod Status

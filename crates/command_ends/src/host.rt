@@ -1,7 +1,8 @@
 //! What the program asks of the system: the bytes of files and of standard input, and the file of a
 //! flash.
-ghost use Rattle.std.specs.Prelude.{◌≤◌, IfErr, IfOk, IfSome, List, ℕ, None, OnOk, Option, length};
+ghost use Rattle.std.specs.Prelude.{◌≡◌, ◌≤◌, Bool, IfErr, IfOk, IfSome, IsTrue, List, ℕ, None, OnOk, Option, false, length, true};
 ghost use Rattle.std.specs.Io.KnownBytes.{Keeps};
+ghost use Rattle.command_ends.specs.Doings.{AreApart, IsOpenedFor, KeepsApart, Openings, no_openings};
 ghost use Rattle.command_ends.specs.Input.{IsKnownAs, IsKnownPart, KeepsFiles};
 
 use std::alloc::Global;
@@ -37,6 +38,10 @@ pub enum FlashFault {
 /// Where the program's input comes from, and the file of a flash that it writes. A test stands in
 /// for the system with bytes in memory.
 ///
+/// What a host is known to hold and to have done are ghosts, each with a default for one that tells
+/// no more. What `write_flash` does isn't among them: it goes through a shared reference, since what
+/// a script names is read while a flash is written.
+///
 /// Where a file or standard input is read, an error of kind `OutOfMemory` says that memory ran out,
 /// and any other that the read failed.
 pub trait Host {
@@ -48,20 +53,36 @@ pub trait Host {
     // written to.
     ghost file: { Self → List ℕ → Option (List ℕ) } = { λ _ _. None };
 
+    // How files of flashes were opened, as far as that is known.
+    ghost opened: { Self → Openings } = { λ _. no_openings };
+
+    // Whether all that was written to the file of a flash is on its medium, as a sync said that
+    // succeeded. A host that tells no more takes it to be.
+    ghost synced: { Self → Bool } = { λ _. true };
+
+    // Whether two names are of different files. A host that doesn't tell what files hold may take
+    // any two to be.
+    ghost apart: { Self → List ℕ → List ℕ → Bool } = { λ _ _ _. true };
+
+    // Whether the file of a name is a plain one. A host that tells no more takes each to be.
+    ghost plain: { Self → List ℕ → Bool } = { λ _ _. true };
+
     /// The bytes of the file of this name, in memory of `alloc`: all of them where it has at most
     /// `most`, and else one more than that, from its front. No others are read.
     fn read_file(&mut self, alloc: Global, name: &str, most: u32) -> io::Result<Vec<u8>>
         ensures bytes { IfOk result (λ bytes. length bytes.items ≤ most
             → IsKnownAs (file self.old name.now) bytes.items) }
         ensures files { KeepsFiles (file self.old) (file self.new) }
-        ensures input { Keeps (input self.old) (input self.new) };
+        ensures input { Keeps (input self.old) (input self.new) }
+        ensures opened { opened self.new ≡ opened self.old };
 
     /// What is left of standard input, in memory of `alloc`: all of it where that is at most `most`
     /// bytes, and else one more than that. No more is read.
     fn read_input(&mut self, alloc: Global, most: u32) -> io::Result<Vec<u8>>
         ensures bytes { IfOk result (λ bytes. length bytes.items ≤ most
             → IsKnownAs (input self.old) bytes.items) }
-        ensures files { KeepsFiles (file self.old) (file self.new) };
+        ensures files { KeepsFiles (file self.old) (file self.new) }
+        ensures opened { opened self.new ≡ opened self.old };
 
     /// The same as `read_file`, while the host is lent to others too.
     fn read_again(&self, alloc: Global, name: &str, most: u32) -> io::Result<Vec<u8>>
@@ -82,10 +103,12 @@ pub trait Host {
 
     /// Whether the file of this name is a plain one, which can be read as often as one likes. A
     /// pipe gives its bytes once.
-    fn is_plain(&self, name: &str) -> io::Result<bool>;
+    fn is_plain(&self, name: &str) -> io::Result<bool>
+        ensures { IfOk result (λ is. is ≡ true → IsTrue (plain self.now name.now)) };
 
     /// Whether two names are of one file that is there, also where it has several names.
-    fn is_same_file(&self, one: &str, other: &str) -> io::Result<bool>;
+    fn is_same_file(&self, one: &str, other: &str) -> io::Result<bool>
+        ensures { IfOk result (λ is. is ≡ false → AreApart (apart self.now) one.now other.now) };
 
     /// Opens the file of this name, which is that of a flash of so many bytes, and returns them, in
     /// memory of `alloc`. It is held until the host is dropped, or the next one is opened. Its
@@ -99,7 +122,9 @@ pub trait Host {
     ) -> Result<Vec<u8>, FlashFault>
         ensures bytes { IfOk result (λ bytes. IsKnownAs (file self.old name.now) bytes.items) }
         ensures files { KeepsFiles (file self.old) (file self.new) }
-        ensures input { Keeps (input self.old) (input self.new) };
+        ensures input { Keeps (input self.old) (input self.new) }
+        ensures opened { OnOk result (IsOpenedFor access (opened self.old) (opened self.new)) }
+        ensures unopened { IfErr result (λ _. opened self.new ≡ opened self.old) };
 
     /// Writes all of `bytes` to the file of a flash that was opened last, and for writing, from its
     /// byte `at` on. Does not allocate.
@@ -107,7 +132,11 @@ pub trait Host {
 
     /// Has the system put all that was written to that file on its medium. A write that the system
     /// kept back, and could not do then, fails here: nothing tells of it once the file is closed.
-    fn sync_flash(&self) -> io::Result<()>;
+    fn sync_flash(&mut self) -> io::Result<()>
+        ensures synced { OnOk result (IsTrue (synced self.new)) }
+        ensures files { KeepsFiles (file self.old) (file self.new) }
+        ensures input { Keeps (input self.old) (input self.new) }
+        ensures opened { opened self.new ≡ opened self.old };
 
     /// Puts a file that holds `bytes` in the place of the file of this name, or makes it where
     /// there is none. Until it is done that file is as it was, and so it is where this fails. No
@@ -117,8 +146,11 @@ pub trait Host {
     /// `bytes` is written from its first byte on; where a write fails it holds a part of them.
     fn replace_file(&mut self, alloc: Global, name: &str, bytes: &[u8]) -> Result<(), FlashFault>
         ensures done { OnOk result (IsKnownAs (file self.new name.now) bytes.now) }
+        ensures others { OnOk result
+            (KeepsApart (apart self.old name.now) (file self.old) (file self.new)) }
         ensures failed { IfErr result (λ _. KeepsFiles (file self.old) (file self.new)) }
-        ensures input { Keeps (input self.old) (input self.new) };
+        ensures input { Keeps (input self.old) (input self.new) }
+        ensures opened { opened self.new ≡ opened self.old };
 
     /// The seconds by a clock that never goes back, where somebody at a terminal reads standard
     /// error; none where nobody does.

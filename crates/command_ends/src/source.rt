@@ -1,5 +1,6 @@
 //! Where a command's input comes from, as its words name it.
-ghost use Rattle.std.specs.Prelude.{◌≡◌, ◌≤◌, IfOk, length};
+ghost use Rattle.std.specs.Prelude.{◌≡◌, ◌≤◌, IfOk, false, length};
+ghost use Rattle.command_ends.specs.Doings.{IsApartFrom};
 ghost use Rattle.command_ends.specs.Input.{Gives, IsNamed, KeepsFiles, KeepsOthers};
 ghost use Rattle.command_ends.specs.Status.{status_of_refusal};
 
@@ -46,6 +47,7 @@ impl<'a> Source<'a> {
         ensures others { KeepsOthers self.entry (H.input host.old) (H.file host.old)
             (H.input host.new) (H.file host.new) }
         ensures files { KeepsFiles (H.file host.old) (H.file host.new) }
+        ensures opened { H.opened host.new ≡ H.opened host.old }
     {
         let bytes = self.read_start(alloc, host, most)?;
         if bytes.len() > most as usize {
@@ -67,6 +69,7 @@ impl<'a> Source<'a> {
         ensures others { KeepsOthers self.entry (H.input host.old) (H.file host.old)
             (H.input host.new) (H.file host.new) }
         ensures files { KeepsFiles (H.file host.old) (H.file host.new) }
+        ensures opened { H.opened host.new ≡ H.opened host.old }
     {
         let read = match self {
             Source::StandardInput => host.read_input(alloc, most),
@@ -75,6 +78,18 @@ impl<'a> Source<'a> {
         match read {
             Ok(bytes) => Ok(bytes),
             Err(error) => Err(self.refusal(alloc, error)),
+        }
+    }
+
+    /// Whether the file of this name is what is read here, by whatever name.
+    pub fn is_file<H: Host>(self, host: &H, name: &str) -> io::Result<bool>
+        ensures { IfOk result (λ is. is ≡ false
+            → IsApartFrom (H.apart host.now) name.now self.entry) }
+    {
+        match self {
+            Source::StandardInput => Ok(false),
+            Source::File(other) if other == name => Ok(true),
+            Source::File(other) => host.is_same_file(other, name),
         }
     }
 
