@@ -43,6 +43,14 @@ impl<H: Host> Host for Remembering<H> {
 
     ghost file = { λ it. H.file it.host };
 
+    ghost opened = { λ it. H.opened it.host };
+
+    ghost synced = { λ it. H.synced it.host };
+
+    ghost apart = { λ it. H.apart it.host };
+
+    ghost plain = { λ it. H.plain it.host };
+
     fn read_file(&mut self, alloc: Global, name: &str, most: u32) -> io::Result<Vec<u8>> {
         let read = self.host.read_file(alloc, name, most);
         match &read {
@@ -115,7 +123,7 @@ impl<H: Host> Host for Remembering<H> {
         written
     }
 
-    fn sync_flash(&self) -> io::Result<()> {
+    fn sync_flash(&mut self) -> io::Result<()> {
         let synced = self.host.sync_flash();
         if let Err(error) = &synced {
             self.error.set(Some(*error));

@@ -1,6 +1,6 @@
 //! What is read of a file or of an input: its front, or a part without the rest of it.
 
-ghost use Rattle.std.specs.Prelude.{◌≡◌, ◌≤◌, IfOk, IfSome, length};
+ghost use Rattle.std.specs.Prelude.{◌≡◌, ◌+◌, ◌<◌, ◌≤◌, IfNone, IfOk, IfSome, length, slice_range};
 ghost use Rattle.command_ends.specs.Input.{IsKnownAs};
 
 use std::alloc::Global;
@@ -94,7 +94,10 @@ fn read_at(alloc: Global, file: &File, from: usize, count: usize) -> io::Result<
 
 /// So many of these bytes, from that number on, where there are as many.
 fn part_of(bytes: Vec<u8>, from: usize, count: usize) -> Option<Vec<u8>>
-    ensures { IfSome result (λ part. length part.items ≡ count) }
+    ensures many { IfSome result (λ part. length part.items ≡ count) }
+    ensures part { IfSome result (λ part.
+        part.items ≡ slice_range bytes.items from (from + count)) }
+    ensures short { IfNone result (length bytes.items < from + count) }
 {
     let mut bytes = bytes;
     if from > bytes.len() || count > bytes.len() - from {

@@ -1,5 +1,7 @@
 //! A flash file that is held while a command works, so that no other program changes it meanwhile.
 
+ghost use Rattle.std.specs.Prelude.{◌≡◌, IfOk, true};
+
 use command_ends::{Access, FlashFault};
 use std::fs::{File, Metadata, OpenOptions, TryLockError};
 use std::io::{ErrorKind, Seek, SeekFrom};
@@ -30,7 +32,10 @@ pub fn open<R: Files<File = File>>(
     name: &str,
     length: u64,
     access: Access,
-) -> Result<HeldFile, FlashFault> {
+) -> Result<HeldFile, FlashFault>
+    ensures device { IfOk result (λ held. held.is_device ≡ true → held.is_durable ≡ true) }
+    ensures asked { access ≡ Access.WriteDurably → IfOk result (λ held. held.is_durable ≡ true) }
+{
     let (file, is_device) = open_plain(runtime, name, access).map_err(FlashFault::Failed)?;
     hold(runtime, name, &file, access)?;
     if length_of(&file).map_err(FlashFault::Failed)? != length {

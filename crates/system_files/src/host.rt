@@ -1,6 +1,9 @@
 //! The system as a host.
 
+ghost use Rattle.std.specs.Prelude.{◌≡◌, IfOk, length};
+
 use crate::holding::HeldFile;
+use crate::lasting::{Medium, put};
 use crate::{file_reading, holding, replacing};
 use command_ends::{Access, FlashFault, Host};
 use std::alloc::Global;
@@ -83,16 +86,13 @@ impl<R: Files<File = File> + Clock, I: Read> Host for SystemHost<'_, R, I> {
         let Some(held) = &self.flash else {
             return Err(io::Error::from(ErrorKind::NotFound));
         };
-        held.file.write_all_at(bytes, at)?;
-        if held.is_durable {
-            held.file.sync_data()?;
-        }
-        Ok(())
+        let mut flash = FlashData { file: &held.file };
+        put(&mut flash, at, bytes, held.is_durable)
     }
 
-    fn sync_flash(&self) -> io::Result<()> {
+    fn sync_flash(&mut self) -> io::Result<()> {
         match &self.flash {
-            Some(held) => held.file.sync_data(),
+            Some(held) => FlashData { file: &held.file }.sync(),
             None => Ok(()),
         }
     }
@@ -109,9 +109,27 @@ impl<R: Files<File = File> + Clock, I: Read> Host for SystemHost<'_, R, I> {
     }
 }
 
-/// The bytes of a flash file that is so long.
-fn flash_bytes(alloc: Global, file: &File, length: u64) -> Result<Vec<u8>, FlashFault> {
-    let Ok(mut bytes) = vec![in alloc; 0; length as usize] else {
+/// The file of a flash, which is written in its place.
+#[derive(Drop)]
+struct FlashData<'a> {
+    file: &'a File,
+}
+
+impl Medium for FlashData<'_> {
+    fn write(&mut self, at: u64, bytes: &[u8]) -> io::Result<()> {
+        self.file.write_all_at(bytes, at)
+    }
+
+    fn sync(&mut self) -> io::Result<()> {
+        self.file.sync_data()
+    }
+}
+
+/// The bytes of a flash file that has so many.
+fn flash_bytes(alloc: Global, file: &File, count: u64) -> Result<Vec<u8>, FlashFault>
+    ensures { IfOk result (λ bytes. length bytes.items ≡ count) }
+{
+    let Ok(mut bytes) = vec![in alloc; 0; count as usize] else {
         return Err(FlashFault::NoMemory);
     };
     match file.read_exact_at(&mut bytes, 0) {

@@ -3,6 +3,7 @@
 
 use crate::holding;
 use crate::holding::{hold, is_one_file};
+use crate::lasting::{Medium, NewFile, place, put};
 use command_ends::{Access, FlashFault};
 use std::alloc::Global;
 use std::fs::{File, Metadata, OpenFile, OpenOptions, Permissions};
@@ -77,13 +78,24 @@ fn write_device<R: Files<File = File>>(
     if !held.is_device {
         return Err(FlashFault::Failed(io::Error::from(ErrorKind::InvalidInput)));
     }
-    write_through(&held.file, bytes).map_err(FlashFault::Failed)
+    let mut device = WholeFile { file: &held.file };
+    put(&mut device, 0, bytes, true).map_err(FlashFault::Failed)
 }
 
-/// Writes a file from its first byte on, and returns once all is on the medium.
-fn write_through(file: &File, bytes: &[u8]) -> io::Result<()> {
-    file.write_all_at(bytes, 0)?;
-    file.sync_all()
+/// A file that is written from its first byte on.
+#[derive(Drop)]
+struct WholeFile<'a> {
+    file: &'a File,
+}
+
+impl Medium for WholeFile<'_> {
+    fn write(&mut self, at: u64, bytes: &[u8]) -> io::Result<()> {
+        self.file.write_all_at(bytes, at)
+    }
+
+    fn sync(&mut self) -> io::Result<()> {
+        self.file.sync_all()
+    }
 }
 
 /// Opens and holds the file that is to be replaced, which is a plain one that can be written.
@@ -133,15 +145,45 @@ fn put_file<R: Files>(
     bytes: &[u8],
 ) -> io::Result<()> {
     let (file, new) = new_file(runtime, alloc, name)?;
-    let put = match fill(file, permissions, bytes) {
-        Ok(()) => fs::rename(runtime, new.as_str(), name),
-        Err(error) => Err(error),
+    let mut beside = Beside {
+        runtime,
+        file,
+        new,
+        name,
+        permissions,
     };
-    if put.is_err() {
-        // Nothing can be done where the new file can't be removed either.
-        let _ = fs::remove_file(runtime, new.as_str());
+    place(&mut beside, bytes)
+}
+
+/// A new file beside the one whose name it is to take.
+#[derive(Drop)]
+struct Beside<'a, 'n, R: Files> {
+    runtime: &'a R,
+    file: R::File,
+    new: String,
+    name: &'n str,
+    permissions: Option<Permissions>,
+}
+
+impl<R: Files> NewFile for Beside<'_, '_, R> {
+    fn fill(&mut self, bytes: &[u8]) -> io::Result<()> {
+        if let Some(permissions) = self.permissions.take() {
+            self.file.set_permissions(permissions)?;
+        }
+        self.file.write_all(bytes)
     }
-    put
+
+    fn sync(&mut self) -> io::Result<()> {
+        self.file.sync_all()
+    }
+
+    fn take_name(&mut self) -> io::Result<()> {
+        fs::rename(self.runtime, self.new.as_str(), self.name)
+    }
+
+    fn remove(&mut self) {
+        let _ = fs::remove_file(self.runtime, self.new.as_str());
+    }
 }
 
 /// An empty file that was not there, beside the one of this name, and its own name.
@@ -159,18 +201,4 @@ fn new_file<R: Files>(runtime: &R, alloc: Global, name: &str) -> io::Result<(R::
         }
     }
     Err(io::Error::from(ErrorKind::AlreadyExists))
-}
-
-/// Gives a new file its permissions and its bytes, and closes it once they are on the disk.
-fn fill<F: OpenFile + Write + Drop>(
-    file: F,
-    permissions: Option<Permissions>,
-    bytes: &[u8],
-) -> io::Result<()> {
-    let mut file = file;
-    if let Some(permissions) = permissions {
-        file.set_permissions(permissions)?;
-    }
-    file.write_all(bytes)?;
-    file.sync_all()
 }
