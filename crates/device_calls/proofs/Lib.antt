@@ -1,3 +1,4 @@
 mod SameBytes
 mod StepLaws
 mod Provisioned
+mod Telling

@@ -24,7 +24,7 @@ use Rattle.device_calls.specs.declared.calls.Call.TheVariants.{Accept, Piece, Fi
 use Rattle.device_calls.specs.declared.kept.Kept.{Kept}
 use Rattle.device_calls.specs.declared.kept.KeptUpload.{KeptUpload}
 use Rattle.device_calls.specs.declared.setup.Made.{Made}
-use Rattle.device_calls.specs.Calls.{IsStepOf, MakesCall, StepsOn}
+use Rattle.device_calls.specs.Calls.{IsCallOf, IsStepOf, MakesCall, StepsOn}
 use Rattle.device_calls.specs.Setup.{HasRoom}
 use Rattle.device_calls.specs.Kept.{IsDeviceOf, IsFlashOf, IsKept, KeepsDevice, KeepsUpload, no_row, Up, Down}
 use Rattle.device_calls.proofs.SameBytes.{SameFlash, SameIfOpen, same_holds, upload_moved, upload_same}
@@ -222,6 +222,11 @@ pub steps_on : (made_of : Made) (call : Call) (old new : List ℕ) (was is : Kep
     → MakesCall made_of.map made_of.identity made_of.boots call (seen before told was_up) (seen behind left is_up) reply
     → behind.bytes ≡ new → KeepsDevice is left is_up → StepsOn made_of call old was new is reply
 steps_on made_of call old new was is before behind told left was_up is_up reply flash kept makes bytes keeps = record {
+  before = seen before told was_up;
+  is_before = record { flash = flash; kept = kept };
+  left = seen behind left is_up;
+  is_left = record { laid_out = makes.laid; has = bytes; keeps = keeps };
+  makes = makes;
   each = λ device given. (
     after behind left is_up,
     kept_after made_of.map new behind left is_up is makes.laid bytes makes.opens keeps,
@@ -236,13 +241,15 @@ steps_on made_of call old new was is before behind told left was_up is_up reply 
 pub makes : (map : SectorMap) (identity : Identity) (boots : ℕ) (call given : Call) (old new : DeviceView)
     (reply told : Reply) → call ≡ given → reply ≡ told → new.flash.fixed ≡ old.flash.fixed → IsLaidOut map new.flash
     → AllOpenAt (view map new.flash) new.sessions → IsStepOf (made map identity boots) given old new told
-    → MakesCall map identity boots call old new reply
-makes map identity boots call given old new reply told is same fixed laid opens step = record {
+    → IsCallOf map identity boots given old new told → MakesCall map identity boots call old new reply
+makes map identity boots call given old new reply told is same fixed laid opens step all = record {
   fixed = fixed;
   laid = laid;
   opens = opens;
   steps = subst (λ k. IsStepOf (made map identity boots) k old new reply) (sym is)
       (subst (λ r. IsStepOf (made map identity boots) given old new r) (sym same) step);
+  is = subst (λ k. IsCallOf map identity boots k old new reply) (sym is)
+      (subst (λ r. IsCallOf map identity boots given old new r) (sym same) all);
 }
 
 none_some : (u : Upload) → None ≡ Some u → ⊥

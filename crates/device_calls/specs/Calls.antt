@@ -1,9 +1,11 @@
 -- What a call does to a device, and to the bytes that it is kept in.
-use Rattle.std.specs.Prelude.{◌≡◌, ◌⊎◌, ℕ, List}
+use Rattle.std.specs.Prelude.{◌≡◌, ◌⊎◌, ℕ, ◌+◌, ◌<◌, ◌≤◌, List, length, Result}
 use Rattle.std.specs.Borrow.{Bor}
 use Rattle.events.specs.declared.event.Event.TheVariants as event
 use Rattle.sector_map.specs.declared.layout.SectorMap.{SectorMap}
+use Rattle.sector_map.specs.declared.layout.Side.TheVariants.{Primary, Secondary}
 use Rattle.sector_map.specs.Map.{IsLaidOut}
+use Rattle.sector_map.specs.Part.{Slot, TrailerOf, incoming_of, only}
 use Rattle.manifest.specs.declared.identity.Identity.{Identity}
 use Rattle.manifest.specs.Fault.{IsManifest}
 use Rattle.upload.specs.View.{view}
@@ -11,15 +13,20 @@ use Rattle.upload.specs.Sessions.{AllOpenAt}
 use Rattle.machine.specs.Holding.{DeviceView}
 use Rattle.machine.specs.Intake as device
 use Rattle.machine.specs.Passing.{StepsTo}
+use Rattle.machine.specs.declared.error.Fault.{Fault}
 use Rattle.machine.specs.declared.reply.Reply.{Reply}
+use Rattle.boot_core.specs.Answers.{reply_of_boot, reply_of_result}
+use Rattle.boot_core.specs.Booting.{EndsUploadsAndBoots}
 use Rattle.boot_core.specs.Device.{StaysHeld, made}
+use Rattle.boot_core.specs.Taking.{FinishesHere, TakesHere, TakesManifestHere}
 use Rattle.device_calls.specs.declared.calls.Call.{Call}
 use Rattle.device_calls.specs.declared.calls.Call.TheVariants.{Accept, Piece, Finish, Withdraw, Confirm, Boot}
+use Rattle.device_calls.specs.declared.cuts.CutRow.{CutRow}
 use Rattle.device_calls.specs.declared.kept.Kept.{Kept}
-use Rattle.device_calls.specs.declared.numbers.TheConstants.{TOO_MANY}
 use Rattle.device_calls.specs.declared.setup.Made.{Made}
 use Rattle.device_calls.specs.declared.setup.Setup.{Setup}
-use Rattle.device_calls.specs.Kept.{IsDeviceOf}
+use Rattle.device_calls.specs.Kept.{IsDeviceOf, IsLeftIn}
+use Rattle.device_calls.specs.Numbers.{MOST_CUTS, TOO_MANY}
 use Rattle.device_calls.specs.Setup.{IsMade, IsUnmade}
 
 -- A call is a step of the machine. One that takes a manifest is the step that takes any text which
@@ -38,6 +45,32 @@ IsStepOf setup (Withdraw image) old new reply =
 IsStepOf setup (Confirm image) old new reply = StepsTo setup old new (event.Confirm image) reply
 IsStepOf setup Boot old new reply = StepsTo setup old new event.Boot reply
 
+-- A call has a result that this is the reply to, and of which something is so.
+abbrev pub HasResult : Reply → (Result Unit Fault → Type 0) → Type 0
+HasResult reply says = (result : Result Unit Fault) × (reply ≡ reply_of_result result) × says result
+
+-- A boot has one, and so many boots are left to a trial that begins.
+abbrev pub HasBootResult : Reply → ℕ → (ℕ → Result Reply Fault → Type 0) → Type 0
+HasBootResult reply boots says = (left : ℕ) × (left + 1 ≡ boots)
+    × (result : Result Reply Fault) × (reply ≡ reply_of_boot result) × says left result
+
+-- Each call does all that the call of a device in Rust promises: which parts of the flash it
+-- touches, what a refusal leaves, how it ends.
+abbrev pub IsCallOf : SectorMap → Identity → ℕ → Call → DeviceView → DeviceView → Reply → Type 0
+IsCallOf map identity boots (Accept manifest) old new reply =
+    HasResult reply (TakesManifestHere map identity manifest.now old new)
+IsCallOf map identity boots (Piece image more) old new reply =
+    HasResult reply (TakesHere map (event.Piece image more) (only (Slot image Secondary)) old new)
+IsCallOf map identity boots (Finish image) old new reply =
+    HasResult reply (FinishesHere map image old new)
+IsCallOf map identity boots (Withdraw image) old new reply =
+    HasResult reply (TakesHere map (event.Withdraw image) (incoming_of image) old new)
+IsCallOf map identity boots (Confirm image) old new reply =
+    HasResult reply
+    (TakesHere map (event.Confirm image) (only (TrailerOf image Primary)) old new)
+IsCallOf map identity boots Boot old new reply =
+    HasBootResult reply boots (λ left. EndsUploadsAndBoots map left old new)
+
 -- A call is made on a device whose flash has power.
 pub record MakesCall (map : SectorMap) (identity : Identity) (boots : ℕ) (call : Call)
     (old new : DeviceView) (reply : Reply) : Type 0 where
@@ -47,23 +80,46 @@ pub record MakesCall (map : SectorMap) (identity : Identity) (boots : ℕ) (call
   pub laid : IsLaidOut map new.flash
   -- the open uploads stand on it,
   pub opens : AllOpenAt (view map new.flash) new.sessions
-  -- and the call is a step of the machine.
+  -- the call is a step of the machine,
   pub steps : IsStepOf (made map identity boots) call old new reply
+  -- and does what is promised of it beside.
+  pub is : IsCallOf map identity boots call old new reply
 
--- A call is a step of the device that the caller's bytes hold, to the one that they hold then.
+-- A call is made on the device that the caller's bytes hold.
 pub record StepsOn (made_of : Made) (call : Call) (old : List ℕ) (was : Kept) (new : List ℕ)
     (is : Kept) (reply : Reply) : Type 0 where
+  -- It is made on a device that the bytes are, whose flash has power,
+  pub before : DeviceView
+  pub is_before : IsDeviceOf made_of.map old was before
+  -- and leaves one that they are then, whose flash is off after a cut.
+  pub left : DeviceView
+  pub is_left : IsLeftIn made_of.map new is left
+  -- Between these it does all that is promised of it.
+  pub makes : MakesCall made_of.map made_of.identity made_of.boots call before left reply
+  -- From each device that the bytes are it is a step to one that they are then: the flash of this
+  -- one has power again, after a cut too.
   pub each : (device : DeviceView) → IsDeviceOf made_of.map old was device
       → (next : DeviceView) × IsDeviceOf made_of.map new is next
       × IsStepOf (made made_of.map made_of.identity made_of.boots) call device next reply
 
--- A call is a step of what a setup makes.
-pub record CallsOn (setup : Setup) (call : Call) (old : List ℕ) (was : Kept) (new : List ℕ)
-    (is : Kept) (reply : Reply) : Type 0 where
+-- A call is made on what a setup makes, with no more cuts than it takes.
+pub record CallsOn (setup : Setup) (cuts : List CutRow) (call : Call) (old : List ℕ) (was : Kept)
+    (new : List ℕ) (is : Kept) (reply : Reply) : Type 0 where
   pub made_of : Made
   pub made : IsMade setup old made_of
+  pub few : length cuts ≤ MOST_CUTS
   pub steps : StepsOn made_of call old was new is reply
 
--- Why no call is made: the setup makes nothing over these bytes, or too much is asked for at once.
-abbrev pub IsRefusedBefore : Setup → List ℕ → ℕ → Type 0
-IsRefusedBefore setup bytes number = IsUnmade setup bytes number ⊎ (number ≡ TOO_MANY)
+-- More cuts are asked for than a call takes, of what a setup makes.
+pub record AsksTooMuch (setup : Setup) (cuts : List CutRow) (bytes : List ℕ) (number : ℕ)
+    : Type 0 where
+  pub number_is : number ≡ TOO_MANY
+  pub many : MOST_CUTS < length cuts
+  pub made_of : Made
+  pub made : IsMade setup bytes made_of
+
+-- Why no call is made: the setup makes nothing over these bytes; or it does, and more cuts are
+-- asked for than a call takes.
+abbrev pub IsRefusedBefore : Setup → List CutRow → List ℕ → ℕ → Type 0
+IsRefusedBefore setup cuts bytes number =
+    IsUnmade setup bytes number ⊎ AsksTooMuch setup cuts bytes number

@@ -8,7 +8,7 @@ use Rattle.certificate.specs.ReportText.{IsReportText, IsSomeReport, report_text
 use Rattle.certificate.specs.Rightness.{IsRight}
 use Rattle.certificate.specs.StandardOrder.{IsInStandardOrder}
 use Rattle.certificate.specs.TableText.{IsSomeTable, IsTableText}
-use Rattle.device_calls.specs.declared.numbers.TheConstants.{DONE, INVALID_SET, NO_REPORT, NO_ROOM, NO_TABLE, WRONG}
+use Rattle.device_calls.specs.Numbers.{DONE, INVALID_SET, NO_REPORT, NO_ROOM, NO_TABLE, WRONG}
 
 -- What a choice returns.
 pub data AnswersChoice (text room : List ℕ) (told number : ℕ) : Type 0 where

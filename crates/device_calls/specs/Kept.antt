@@ -88,3 +88,11 @@ pub record KeepsDevice (kept : Kept) (sessions : List (Option Upload)) (is_up : 
 -- Nothing is kept but that the device isn't up.
 abbrev pub IsDown : Kept → Type 0
 IsDown kept = kept.is_up ≡ 0
+
+-- A device that a call left is in these bytes, and in what is kept beside them. Its flash may be
+-- off.
+pub record IsLeftIn (map : SectorMap) (bytes : List ℕ) (beside : Kept) (device : DeviceView)
+    : Type 0 where
+  pub laid_out : IsLaidOut map device.flash
+  pub has : device.flash.bytes ≡ bytes
+  pub keeps : KeepsDevice beside device.sessions device.up

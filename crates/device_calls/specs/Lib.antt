@@ -1,5 +1,7 @@
+pub mod Numbers
 pub mod Setup
 pub mod Kept
+pub mod Cuts
 pub mod Calls
 pub mod Told
 pub mod Texts

@@ -1,9 +1,10 @@
 -- Manifests that are given by their fields.
-use Rattle.std.specs.Prelude.{◌≡◌, ◌==◌, map, take, not, Some, None, if◌then◌else◌}
+use Rattle.std.specs.Prelude.{◌≡◌, ◌==◌, ◌≤◌, map, take, not, Some, None, if◌then◌else◌}
 use Rattle.manifest.specs.declared.manifest.Component.{Component}
 use Rattle.manifest.specs.declared.manifest.Manifest.{Manifest}
 use Rattle.device_calls.specs.declared.manifests.ComponentRow.{ComponentRow}
 use Rattle.device_calls.specs.declared.manifests.ManifestRow.{ManifestRow}
+use Rattle.device_calls.specs.Numbers.{MOST_COMPONENTS}
 
 -- The component of a row.
 abbrev pub component_in : ComponentRow → Component
@@ -17,5 +18,6 @@ component_in row = record {
 
 -- The manifest of a row.
 pub record IsManifestOf (row : ManifestRow) (manifest : Manifest) : Type 0 where
+  pub few : row.count ≤ MOST_COMPONENTS
   pub sequence : manifest.sequence ≡ row.sequence
   pub components : manifest.components.items ≡ map component_in (take row.count row.components)

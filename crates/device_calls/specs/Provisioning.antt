@@ -1,5 +1,5 @@
 -- Making the bytes of a flash a device's.
-use Rattle.std.specs.Prelude.{◌≡◌, ℕ, List, Result, OnOk}
+use Rattle.std.specs.Prelude.{◌≡◌, ℕ, ◌≤◌, List, length, Result, OnOk}
 use Rattle.flash_model.specs.Chip.{Chip}
 use Rattle.sector_map.specs.declared.layout.SectorMap.{SectorMap}
 use Rattle.upload.specs.Device.{DeviceState}
@@ -9,13 +9,15 @@ use Rattle.machine.specs.declared.reply.Reply.{Reply}
 use Rattle.boot_core.specs.Answers.{reply_of_result}
 use Rattle.boot_core.specs.Provisioned.{IsFirstState}
 use Rattle.boot_core.specs.Provisions.{Provisions}
+use Rattle.device_calls.specs.declared.cuts.CutRow.{CutRow}
 use Rattle.device_calls.specs.declared.setup.Made.{Made}
 use Rattle.device_calls.specs.declared.setup.Setup.{Setup}
 use Rattle.device_calls.specs.declared.told.Told.{Told}
 use Rattle.device_calls.specs.Calls.{IsRefusedBefore}
 use Rattle.device_calls.specs.Kept.{IsFlashOf}
+use Rattle.device_calls.specs.Numbers.{MOST_CUTS}
 use Rattle.device_calls.specs.Setup.{IsMade}
-use Rattle.device_calls.specs.Told.{TellsReply, number_of}
+use Rattle.device_calls.specs.Told.{TellsReply, nothing, number_of}
 
 -- Bytes are made a device's.
 pub record ProvisionsOn (map : SectorMap) (old new : List ℕ) (reply : Reply) : Type 0 where
@@ -32,10 +34,10 @@ pub record ProvisionsOn (map : SectorMap) (old new : List ℕ) (reply : Reply) :
       × ((chip : Chip) → IsFlashOf map new chip → Stands map chip state))
 
 -- What the call returns.
-pub data AnswersProvision (setup : Setup) (old new : List ℕ) (told : Told) (number : ℕ)
-    : Type 0 where
-  Replied : (made : Made) (reply : Reply) → IsMade setup old made
+pub data AnswersProvision (setup : Setup) (cuts : List CutRow) (old new : List ℕ) (told : Told)
+    (number : ℕ) : Type 0 where
+  Replied : (made : Made) (reply : Reply) → IsMade setup old made → length cuts ≤ MOST_CUTS
       → ProvisionsOn made.map old new reply → TellsReply reply told
-      → number ≡ number_of reply → AnswersProvision setup old new told number
-  Unmade : IsRefusedBefore setup old number → new ≡ old
-      → AnswersProvision setup old new told number
+      → number ≡ number_of reply → AnswersProvision setup cuts old new told number
+  Unmade : IsRefusedBefore setup cuts old number → new ≡ old → told ≡ nothing
+      → AnswersProvision setup cuts old new told number

@@ -1,12 +1,11 @@
 -- What a setup makes.
 use Rattle.std.specs.Prelude.{◌≡◌, ℕ, ◌*◌, ◌%◌, ◌^◌, ◌<◌, ◌≤◌, List, length, take}
-use Rattle.common.specs.declared.limits.TheConstants.{MOST_TRIAL_BOOTS}
 use Rattle.sector_map.specs.declared.layout.SectorMap.{SectorMap}
 use Rattle.sector_map.specs.Making.{HasSizes}
 use Rattle.sector_map.specs.Map.{sectors_of}
 use Rattle.sector_map.specs.Sizes.{MakeMap}
 use Rattle.manifest.specs.declared.identity.Identity.{Identity}
-use Rattle.device_calls.specs.declared.numbers.TheConstants.{NO_FLASH, NO_MAP, NO_TRIAL}
+use Rattle.device_calls.specs.Numbers.{NO_FLASH, NO_MAP, NO_TRIAL}
 use Rattle.device_calls.specs.declared.setup.Setup.{Setup}
 use Rattle.device_calls.specs.declared.setup.Made.{Made}
 
@@ -35,10 +34,10 @@ pub record HasRoom (map : SectorMap) (bytes : List ℕ) : Type 0 where
   pub addressed : length bytes < 2 ^ 32
   pub room : sectors_of map * map.sector_size ≤ length bytes
 
--- A trial has a boot at least, and not too many.
+-- A trial has 1 to 7 boots.
 pub record IsTrial (boots : ℕ) : Type 0 where
   pub some : 1 ≤ boots
-  pub few : boots ≤ MOST_TRIAL_BOOTS
+  pub few : boots ≤ 7
 
 -- What a setup makes over a flash of these bytes ..
 pub record IsMade (setup : Setup) (bytes : List ℕ) (made : Made) : Type 0 where
@@ -48,10 +47,10 @@ pub record IsMade (setup : Setup) (bytes : List ℕ) (made : Made) : Type 0 wher
   pub trial : IsTrial setup.trial_boots
   pub room : HasRoom made.map bytes
 
--- .. or why it makes nothing.
+-- .. or why it makes nothing: of the sizes first, then of the trial, then of the bytes.
 pub data IsUnmade (setup : Setup) (bytes : List ℕ) (number : ℕ) : Type 0 where
   NoMap : number ≡ NO_MAP → MakesNoMap setup → IsUnmade setup bytes number
-  NoTrial : number ≡ NO_TRIAL → (IsTrial setup.trial_boots → ⊥) → IsUnmade setup bytes number
-  NoFlash : number ≡ NO_FLASH
-      → ((map : SectorMap) × IsMapOf setup map × (HasRoom map bytes → ⊥))
-      → IsUnmade setup bytes number
+  NoTrial : number ≡ NO_TRIAL → (map : SectorMap) → IsMapOf setup map
+      → (IsTrial setup.trial_boots → ⊥) → IsUnmade setup bytes number
+  NoFlash : number ≡ NO_FLASH → (map : SectorMap) → IsMapOf setup map
+      → IsTrial setup.trial_boots → (HasRoom map bytes → ⊥) → IsUnmade setup bytes number

@@ -1,15 +1,15 @@
 -- What stands in a slot of a flash.
-use Rattle.std.specs.Prelude.{◌≡◌, ℕ, ◌<◌, List}
+use Rattle.std.specs.Prelude.{◌≡◌, ◌⊎◌, ℕ, ◌<◌, ◌≤◌, List}
 use Rattle.flash_model.specs.Chip.{Chip}
 use Rattle.sector_map.specs.declared.layout.SectorMap.{SectorMap}
 use Rattle.sector_map.specs.declared.layout.Side.{Side}
 use Rattle.sector_map.specs.declared.layout.Side.TheVariants.{Primary, Secondary}
 use Rattle.image_reading.specs.Slot.{slot_bytes}
 use Rattle.device_calls.specs.declared.description.Description.{Description}
-use Rattle.device_calls.specs.declared.numbers.TheConstants.{NO_IMAGE}
+use Rattle.device_calls.specs.Numbers.{NO_IMAGE}
 use Rattle.device_calls.specs.declared.setup.Made.{Made}
 use Rattle.device_calls.specs.declared.setup.Setup.{Setup}
-use Rattle.device_calls.specs.Description.{AnswersFront}
+use Rattle.device_calls.specs.Description.{AnswersFront, no_description}
 use Rattle.device_calls.specs.Kept.{IsFlashOf}
 use Rattle.device_calls.specs.Setup.{IsMade, IsUnmade}
 
@@ -26,13 +26,18 @@ abbrev pub IsSide : ℕ → Side → Type 0
 IsSide number Primary = number ≡ 0
 IsSide number Secondary = number ≡ 1
 
--- What the call returns.
+-- There is no such slot: the map lacks the image, or the number is of no side.
+abbrev pub IsNoSlot : SectorMap → ℕ → ℕ → Type 0
+IsNoSlot map image number = (map.images ≤ image) ⊎ (2 ≤ number)
+
+-- What the call returns. No byte changes, and without a slot nothing is described.
 pub data AnswersSlot (setup : Setup) (image number_of_side : ℕ) (old new : List ℕ)
     (told : Description) (number : ℕ) : Type 0 where
   Told : (made : Made) (side : Side) → IsMade setup old made → IsSide number_of_side side
       → image < made.map.images → DescribesSlot made.map old image side new told number
       → AnswersSlot setup image number_of_side old new told number
-  Unmade : IsUnmade setup old number → new ≡ old
+  Unmade : IsUnmade setup old number → new ≡ old → told ≡ no_description
       → AnswersSlot setup image number_of_side old new told number
-  NoImage : number ≡ NO_IMAGE → new ≡ old
+  NoImage : (made : Made) → IsMade setup old made → IsNoSlot made.map image number_of_side
+      → number ≡ NO_IMAGE → new ≡ old → told ≡ no_description
       → AnswersSlot setup image number_of_side old new told number

@@ -1,6 +1,7 @@
 //! The writes that are to be cut in a call.
 
 ghost use Rattle.std.specs.Prelude.{◌≤◌, length};
+ghost use Rattle.device_calls.specs.Cuts.{AreCutsOf, IsCutOf};
 
 use slice_flash::{Cut, Left};
 
@@ -24,7 +25,9 @@ pub struct CutRow {
 }
 
 /// A row of the table that the flash takes.
-fn cut_of(row: &CutRow) -> Cut<'_> {
+fn cut_of(row: &CutRow) -> Cut<'_>
+    ensures { IsCutOf row.now result }
+{
     let length = (row.pattern_length as usize).min(8);
     let left = match row.left {
         0 => Left::Keep,
@@ -40,6 +43,7 @@ fn cut_of(row: &CutRow) -> Cut<'_> {
 /// The table that the flash takes. Write 0 never comes.
 pub(crate) fn table_of(rows: &[CutRow]) -> [Cut<'_>; MOST_CUTS]
     requires { length rows.now ≤ MOST_CUTS }
+    ensures { AreCutsOf rows.now result }
 {
     let mut table = [Cut {
         write: 0,

@@ -1,8 +1,7 @@
 //! The calls of a device: what comes to it.
 
-ghost use Rattle.device_calls.specs.Answers.{Accepts, Answers, TellsBoot};
+ghost use Rattle.device_calls.specs.Answers.{Accepts, Answers, HasTexts, no_more};
 ghost use Rattle.device_calls.specs.Kept.{IsDown};
-ghost use Rattle.device_calls.specs.Told.{TellsReply};
 ghost use Rattle.device_calls.specs.declared.calls.Call.TheVariants as call;
 
 use crate::calls::Call;
@@ -12,7 +11,7 @@ use crate::lent::{Ended, call};
 use crate::manifests::{ManifestRow, manifest_in};
 use crate::numbers::TOO_MANY;
 use crate::setup::Setup;
-use crate::texts::put_texts;
+use crate::texts::{NO_TEXTS, put_texts};
 use crate::told::{NOTHING, Told, number_of, told_of};
 
 /// Makes a call on the device of a setup, tells how it ended, and returns its number.
@@ -24,13 +23,13 @@ fn make_and_tell(
     asked: &Call<'_>,
     told: &mut Told,
 ) -> u32
-    ensures { Answers setup.now asked.now flash.old kept.old flash.new kept.new
-        (λ reply. TellsReply reply told.new) result }
+    ensures { Answers setup.now cuts.now asked.now flash.old kept.old flash.new kept.new told.new
+        no_more result }
 {
     match call(setup, flash, kept, cuts, asked) {
         Ok(ended) => {
             let Ended { reply, writes } = ended;
-            *told = told_of(&reply, Told { writes, ..NOTHING });
+            *told = told_of(&reply, writes, NO_TEXTS);
             number_of(&reply)
         }
         Err(number) => {
@@ -55,20 +54,14 @@ pub extern "C" fn bootswap_boot(
     report: &mut [u8],
     told: &mut Told,
 ) -> u32
-    ensures { Answers setup.now call.Boot flash.old kept.old flash.new kept.new
-        (TellsBoot told.new table.new report.new) result }
+    ensures { Answers setup.now cuts.now call.Boot flash.old kept.old flash.new kept.new told.new
+        (HasTexts told.new.table_length told.new.report_length table.new report.new) result }
 {
     match call(setup, flash, kept, cuts, &Call::Boot) {
         Ok(ended) => {
             let Ended { reply, writes } = ended;
             let lengths = put_texts(&reply, table, report);
-            let lengths_told = Told {
-                writes,
-                table_length: lengths.table,
-                report_length: lengths.report,
-                ..NOTHING
-            };
-            *told = told_of(&reply, lengths_told);
+            *told = told_of(&reply, writes, lengths);
             number_of(&reply)
         }
         Err(number) => {
@@ -92,7 +85,8 @@ pub extern "C" fn bootswap_accept(
     manifest: &ManifestRow,
     told: &mut Told,
 ) -> u32
-    ensures { Accepts setup.now manifest.now flash.old kept.old flash.new kept.new told.new result }
+    ensures { Accepts setup.now cuts.now manifest.now flash.old kept.old flash.new kept.new
+        told.new result }
 {
     match manifest_in(manifest) {
         Some(manifest) => make_and_tell(setup, flash, kept, cuts, &Call::Accept(&manifest), told),
@@ -117,8 +111,8 @@ pub extern "C" fn bootswap_piece(
     bytes: &[u8],
     told: &mut Told,
 ) -> u32
-    ensures { Answers setup.now (call.Piece image bytes.entry) flash.old kept.old flash.new
-        kept.new (λ reply. TellsReply reply told.new) result }
+    ensures { Answers setup.now cuts.now (call.Piece image bytes.entry) flash.old kept.old flash.new
+        kept.new told.new no_more result }
 {
     make_and_tell(setup, flash, kept, cuts, &Call::Piece(image, bytes), told)
 }
@@ -136,8 +130,8 @@ pub extern "C" fn bootswap_finish(
     image: u8,
     told: &mut Told,
 ) -> u32
-    ensures { Answers setup.now (call.Finish image) flash.old kept.old flash.new kept.new
-        (λ reply. TellsReply reply told.new) result }
+    ensures { Answers setup.now cuts.now (call.Finish image) flash.old kept.old flash.new
+        kept.new told.new no_more result }
 {
     make_and_tell(setup, flash, kept, cuts, &Call::Finish(image), told)
 }
@@ -154,8 +148,8 @@ pub extern "C" fn bootswap_withdraw(
     image: u8,
     told: &mut Told,
 ) -> u32
-    ensures { Answers setup.now (call.Withdraw image) flash.old kept.old flash.new kept.new
-        (λ reply. TellsReply reply told.new) result }
+    ensures { Answers setup.now cuts.now (call.Withdraw image) flash.old kept.old flash.new
+        kept.new told.new no_more result }
 {
     make_and_tell(setup, flash, kept, cuts, &Call::Withdraw(image), told)
 }
@@ -172,8 +166,8 @@ pub extern "C" fn bootswap_confirm(
     image: u8,
     told: &mut Told,
 ) -> u32
-    ensures { Answers setup.now (call.Confirm image) flash.old kept.old flash.new kept.new
-        (λ reply. TellsReply reply told.new) result }
+    ensures { Answers setup.now cuts.now (call.Confirm image) flash.old kept.old flash.new
+        kept.new told.new no_more result }
 {
     make_and_tell(setup, flash, kept, cuts, &Call::Confirm(image), told)
 }

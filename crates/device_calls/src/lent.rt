@@ -148,12 +148,15 @@ pub(crate) fn call(
     cuts: &[CutRow],
     call: &Call<'_>,
 ) -> Result<Ended, u32>
-    ensures ended { IfOk result (λ ended. CallsOn setup.now call.now bytes.old kept.old
+    ensures ended { IfOk result (λ ended. CallsOn setup.now cuts.now call.now bytes.old kept.old
         bytes.new kept.new ended.reply) }
-    ensures refused { IfErr result (λ number. IsRefusedBefore setup.now bytes.old number
+    ensures refused { IfErr result (λ number. IsRefusedBefore setup.now cuts.now bytes.old number
         × (bytes.new ≡ bytes.old) × (kept.new ≡ kept.old)) }
 {
-    let made = make(setup, bytes)?;
+    let made = match make(setup, bytes) {
+        Ok(made) => made,
+        Err(number) => return Err(number),
+    };
     if cuts.len() > MOST_CUTS {
         return Err(TOO_MANY);
     }

@@ -7,6 +7,7 @@ ghost use Rattle.device_calls.specs.Setup.{HasRoom};
 use crate::cuts::{CutRow, MOST_CUTS, table_of};
 use crate::numbers::TOO_MANY;
 use crate::setup::{Setup, make};
+use crate::texts::NO_TEXTS;
 use crate::told::{NOTHING, Told, number_of, told_of};
 use boot_core::apart::answer;
 use boot_core::provision;
@@ -50,7 +51,7 @@ pub extern "C" fn bootswap_provision(
     cuts: &[CutRow],
     told: &mut Told,
 ) -> u32
-    ensures { AnswersProvision setup.now flash.old flash.new told.new result }
+    ensures { AnswersProvision setup.now cuts.now flash.old flash.new told.new result }
 {
     let made = match make(setup, flash) {
         Ok(made) => made,
@@ -66,6 +67,6 @@ pub extern "C" fn bootswap_provision(
     let table = table_of(cuts);
     let mut writes = 0;
     let reply = provision_on::<Brand>(Blank::new(2), &made.map, flash, &table, &mut writes);
-    *told = told_of(&reply, Told { writes, ..NOTHING });
+    *told = told_of(&reply, writes, NO_TEXTS);
     number_of(&reply)
 }

@@ -1,7 +1,7 @@
 //! How a device is set up.
 
 ghost use Rattle.std.specs.Prelude.{◌≡◌, ◌↔◌, IfErr, IfOk, IfSome, IsTrue, None};
-ghost use Rattle.device_calls.specs.Setup.{HasRoom, IsIdentityOf, IsMade, IsMapOf, IsUnmade, MakesNoMap};
+ghost use Rattle.device_calls.specs.Setup.{HasRoom, IsIdentityOf, IsMade, IsMapOf, IsTrial, IsUnmade, MakesNoMap};
 
 use crate::numbers::{NO_FLASH, NO_MAP, NO_TRIAL};
 use common::limits::{MOST_IMAGES, MOST_TRIAL_BOOTS};
@@ -62,6 +62,13 @@ fn identity_of(setup: &Setup, images: u8) -> Identity
     }
 }
 
+/// Whether a trial may have so many boots.
+fn is_trial(boots: u32) -> bool
+    ensures { IsTrue result ↔ IsTrial boots }
+{
+    (1..=u32::from(MOST_TRIAL_BOOTS)).contains(&boots)
+}
+
 /// Whether bytes are whole sectors of the map's size, as many at least as the map has, and fewer
 /// than 2^32.
 fn fits(map: &SectorMap, bytes: &[u8]) -> bool
@@ -83,7 +90,7 @@ pub(crate) fn make(setup: &Setup, bytes: &[u8]) -> Result<Made, u32>
     let Some(map) = map_of(setup) else {
         return Err(NO_MAP);
     };
-    if setup.trial_boots < 1 || setup.trial_boots > u32::from(MOST_TRIAL_BOOTS) {
+    if !is_trial(setup.trial_boots) {
         return Err(NO_TRIAL);
     }
     if !fits(&map, bytes) {

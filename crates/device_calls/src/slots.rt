@@ -1,6 +1,6 @@
 //! What stands in a slot.
 
-ghost use Rattle.std.specs.Prelude.{◌≡◌, ◌<◌, IfSome};
+ghost use Rattle.std.specs.Prelude.{◌≡◌, ◌<◌, ◌≤◌, IfSome, None};
 ghost use Rattle.device_calls.specs.Setup.{HasRoom};
 ghost use Rattle.device_calls.specs.Slots.{AnswersSlot, DescribesSlot, IsSide};
 
@@ -15,7 +15,8 @@ use std::sync::ledger::{Blank, Ledger};
 
 /// The side that a number tells.
 fn side_of(number: u8) -> Option<Side>
-    ensures { IfSome result (IsSide number) }
+    ensures some { IfSome result (IsSide number) }
+    ensures none { result ≡ None → 2 ≤ number }
 {
     match number {
         0 => Some(Side::Primary),

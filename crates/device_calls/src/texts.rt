@@ -57,18 +57,21 @@ pub(crate) struct Lengths {
     pub(crate) report: u32,
 }
 
+/// No text.
+pub(crate) const NO_TEXTS: Lengths = Lengths {
+    table: 0,
+    report: 0,
+};
+
 /// Puts the texts of a boot that decided at the front of two buffers.
 pub(crate) fn put_texts(reply: &Reply, table_room: &mut [u8], report_room: &mut [u8]) -> Lengths
-    ensures { HasTexts reply.now result.table result.report table_room.new report_room.new }
+    ensures { HasTexts result.table result.report table_room.new report_room.new reply.now }
 {
     match reply {
         Reply::Booted { table, report, .. } => Lengths {
             table: put_table(table, table_room),
             report: put_report(report, report_room),
         },
-        _ => Lengths {
-            table: 0,
-            report: 0,
-        },
+        _ => NO_TEXTS,
     }
 }

@@ -2,11 +2,12 @@
 
 ghost use Rattle.std.specs.Prelude.{◌≡◌, ◌<◌, ◌≤◌, ◌^◌, length};
 ghost use Rattle.device_calls.specs.Told.{AreToldNeeds, AreToldRefusals, AreToldVersions};
-ghost use Rattle.device_calls.specs.Told.{HasLengthsOf, IsToldRefusal, TellsFault, TellsReply, TellsReport};
+ghost use Rattle.device_calls.specs.Told.{IsToldRefusal, TellsLengths, TellsReply, TellsReport};
 ghost use Rattle.device_calls.specs.Told.{check_of, detail_of, needs_of, number_of, reason_number};
-ghost use Rattle.device_calls.specs.Told.{taken_mask, told_need, told_version};
+ghost use Rattle.device_calls.specs.Told.{taken_mask, told_fault, told_need, told_version};
 
 use crate::numbers::{BOOTED, CUT, DONE, REFUSED, REVERTED, TRIAL_AGAIN};
+use crate::texts::Lengths;
 use arrayvec::ArrayVec;
 use certificate::{Reason, Refusal, Report, ReportedImage};
 use common::limits::{MOST_ALTERNATIVES, MOST_IMAGES};
@@ -270,58 +271,66 @@ fn check_of(fault: Fault) -> u32
     }
 }
 
-/// What is told of a report, beside what is told already.
-fn told_report(report: &Report, permanent: bool, told: Told) -> Told
+/// What is told of a report, beside the count of writes and the lengths of texts.
+fn told_report(report: &Report, permanent: bool, writes: u64, lengths: Lengths) -> Told
     ensures tells { TellsReport report.now permanent result }
-    ensures rest { HasLengthsOf told result }
+    ensures writes { result.writes ≡ writes }
+    ensures table { result.table_length ≡ lengths.table }
+    ensures report { result.report_length ≡ lengths.report }
 {
     Told {
+        writes,
         set: taken_mask(report.images.as_slice()),
         permanent: u32::from(permanent),
         images: report.images.len() as u32,
         refusals: report.refusals.len() as u32,
+        table_length: lengths.table,
+        report_length: lengths.report,
         versions: versions_of(report.images.as_slice()),
         refused: refusals_of(report.refusals.as_slice()),
-        ..told
+        ..NOTHING
     }
 }
 
-/// What is told of a refusal, beside what is told already.
-fn told_fault(fault: Fault, told: Told) -> Told
-    ensures tells { TellsFault fault result }
-    ensures rest { HasLengthsOf told result }
+/// What is told of a refusal, beside the count of writes.
+fn told_fault(fault: Fault, writes: u64) -> Told
+    ensures { result ≡ told_fault fault writes }
 {
     Told {
+        writes,
         fault: u32::from(fault.code()),
         detail: detail_of(fault),
         check: check_of(fault),
-        ..told
+        ..NOTHING
     }
 }
 
-/// What is told of a reply, beside what is told already: the count of writes and the lengths of
+/// What is told of a reply, beside the count of writes and, of a boot that decided, the lengths of
 /// texts.
-pub(crate) fn told_of(reply: &Reply, told: Told) -> Told
+pub(crate) fn told_of(reply: &Reply, writes: u64, lengths: Lengths) -> Told
     ensures tells { TellsReply reply.now result }
-    ensures rest { HasLengthsOf told result }
+    ensures writes { result.writes ≡ writes }
+    ensures lengths { TellsLengths reply.now lengths.table lengths.report result }
 {
     match reply {
         Reply::Booted {
             table: _,
             report,
             permanent,
-        } => told_report(report, *permanent, told),
+        } => told_report(report, *permanent, writes, lengths),
         Reply::Reverted(set) => Told {
+            writes,
             set: u32::from(*set),
-            ..told
+            ..NOTHING
         },
         Reply::TrialAgain { set, left } => Told {
+            writes,
             set: u32::from(*set),
             left: u32::from(*left),
-            ..told
+            ..NOTHING
         },
-        Reply::Refused(fault) => told_fault(*fault, told),
-        Reply::Done | Reply::Cut => told,
+        Reply::Refused(fault) => told_fault(*fault, writes),
+        Reply::Done | Reply::Cut => Told { writes, ..NOTHING },
     }
 }
 

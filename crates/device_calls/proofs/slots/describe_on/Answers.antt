@@ -32,5 +32,5 @@ returns-in-Err-Image g c =
       flash = lent_flash c.args.map.now c.args.bytes.now (chip_of c.new-flash.result) _ c.args.map.now.is_map
           c.requires.room (ap (λ (s : Slice). s.chip) c.new-flash.ensures);
       answers = Fails c.in-Err-Image.fault (rw c.in-Err-Image.field-0-is at c.in-Err-Image.ensures.fault).1
-          (c.from.ensures ∙ c.code.ensures);
+          (c.from.ensures ∙ c.code.ensures) refl;
     }
