@@ -42,8 +42,10 @@ pub data Accepts (setup : Setup) (cuts : List CutRow) (row : ManifestRow) (old :
   TooMany : MOST_COMPONENTS < row.count → number ≡ TOO_MANY → new ≡ old → is ≡ was
       → told ≡ nothing → Accepts setup cuts row old was new is told number
 
--- The texts of a boot that decided.
-abbrev pub HasTexts : ℕ → ℕ → List ℕ → List ℕ → Reply → Type 0
-HasTexts table_length report_length rows lines (Booted table report permanent) =
-    IsPut (table_text table) table_length rows × IsPut (report_text report) report_length lines
-HasTexts table_length report_length rows lines other = Unit {0}
+-- The texts of a boot that decided. After any other the two buffers are as they were.
+abbrev pub HasTexts : ℕ → ℕ → List ℕ → List ℕ → List ℕ → List ℕ → Reply → Type 0
+HasTexts table_length report_length old_rows rows old_lines lines (Booted table report permanent) =
+    IsPut (table_text table) table_length old_rows rows
+    × IsPut (report_text report) report_length old_lines lines
+HasTexts table_length report_length old_rows rows old_lines lines other =
+    (rows ≡ old_rows) × (lines ≡ old_lines)

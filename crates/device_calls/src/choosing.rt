@@ -15,7 +15,7 @@ use chooser::choose;
 /// images don't fit each other; or `NO_ROOM`.
 #[unsafe(no_mangle)]
 pub extern "C" fn bootswap_choose(table: &[u8], room: &mut [u8], length: &mut u64) -> u32
-    ensures { AnswersChoice table.now room.new length.new result }
+    ensures { AnswersChoice table.now room.old room.new length.new result }
 {
     let table = match Table::parse(table) {
         Ok(table) => table,

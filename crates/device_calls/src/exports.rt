@@ -55,7 +55,8 @@ pub extern "C" fn bootswap_boot(
     told: &mut Told,
 ) -> u32
     ensures { Answers setup.now cuts.now call.Boot flash.old kept.old flash.new kept.new told.new
-        (HasTexts told.new.table_length told.new.report_length table.new report.new) result }
+        (HasTexts told.new.table_length told.new.report_length table.old table.new
+        report.old report.new) result }
 {
     match call(setup, flash, kept, cuts, &Call::Boot) {
         Ok(ended) => {

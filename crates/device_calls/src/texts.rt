@@ -19,7 +19,7 @@ const MOST_REPORT: usize = 2048;
 
 /// Puts a text at the front of a buffer, where there is room, and tells its length, else 0.
 fn put(text: &[u8], room: &mut [u8]) -> u32
-    ensures { IsPut text.now result room.new }
+    ensures { IsPut text.now result room.old room.new }
 {
     if text.len() > room.len() || text.len() > u32::MAX as usize {
         return 0;
@@ -30,7 +30,7 @@ fn put(text: &[u8], room: &mut [u8]) -> u32
 
 /// Puts the text of a table at the front of a buffer.
 fn put_table(table: &Table, room: &mut [u8]) -> u32
-    ensures { IsPut (table_text table.now) result room.new }
+    ensures { IsPut (table_text table.now) result room.old room.new }
 {
     let mut text = ArrayString::<MOST_TABLE>::new();
     match write!(text, "{table}") {
@@ -41,7 +41,7 @@ fn put_table(table: &Table, room: &mut [u8]) -> u32
 
 /// Puts the text of a report at the front of a buffer.
 pub(crate) fn put_report(report: &Report, room: &mut [u8]) -> u32
-    ensures { IsPut (report_text report.now) result room.new }
+    ensures { IsPut (report_text report.now) result room.old room.new }
 {
     let mut text = ArrayString::<MOST_REPORT>::new();
     match write!(text, "{report}") {
@@ -65,7 +65,8 @@ pub(crate) const NO_TEXTS: Lengths = Lengths {
 
 /// Puts the texts of a boot that decided at the front of two buffers.
 pub(crate) fn put_texts(reply: &Reply, table_room: &mut [u8], report_room: &mut [u8]) -> Lengths
-    ensures { HasTexts result.table result.report table_room.new report_room.new reply.now }
+    ensures { HasTexts result.table result.report table_room.old table_room.new
+        report_room.old report_room.new reply.now }
 {
     match reply {
         Reply::Booted { table, report, .. } => Lengths {

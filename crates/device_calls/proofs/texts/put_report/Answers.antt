@@ -9,5 +9,5 @@ returns-in-Ok c =
     let written : c.write.new.self.bytes ≡ report_text c.args.report.now =
     contents_after_writes _ (λ s. s.bytes) (λ _ _ _ t. t) _ _ _ c.in-Ok.ensures.writes
     ∙ ap (λ (l : List ℕ). l ++ report_text c.args.report.now) c.new-text.ensures in
-    subst (λ (l : List ℕ). IsPut l c.put.result c.put.new.room) (c.as_bytes.ensures.value ∙ c.as_str.ensures.value ∙ written)
+    subst (λ (l : List ℕ). IsPut l c.put.result c.args.room.now c.put.new.room) (c.as_bytes.ensures.value ∙ c.as_str.ensures.value ∙ written)
     c.put.ensures
