@@ -1,5 +1,5 @@
 -- The program as `clap` is told of it, and what a parse by it finds and refuses.
-use Rattle.std.proofs.Common.{◌≡◌, List, refl, rules, subst, true}
+use Rattle.std.proofs.Common.{◌≡◌, List, [], refl, rules, subst, true}
 use Rattle.std.specs.Prelude.{Err, IfErr, IfOk, Ok, Result}
 use Rattle.clap.specs.Faults.{is_simple_and_free}
 use Rattle.clap.specs.Simple.{is_simple}
@@ -35,3 +35,16 @@ pub fault_found : {T : Type 0} (app : App) (words : List Text) (parsed : Result 
 fault_found app words parsed same kinds =
     let of_program = subst (λ (a : App). is_simple_and_free a ≡ true → FailsBy (fault_of a words) parsed) same kinds in
     error_of words parsed (of_program is_free_program)
+
+untroubled : {T : Type 0} (words : List Text) (parsed : Result T Error) → FailsBy (fault_of bootswap words) parsed
+    → IfOk parsed (λ _. fault_of bootswap words ≡ [])
+untroubled words (Ok value) fails = fails
+untroubled words (Err error) fails = search rules
+
+-- A parse by the program finds something only where `clap` defines no fault.
+pub none_found : {T : Type 0} (app : App) (words : List Text) (parsed : Result T Error) → app ≡ bootswap
+    → (is_simple_and_free app ≡ true → FailsBy (fault_of app words) parsed)
+    → IfOk parsed (λ _. fault_of bootswap words ≡ [])
+none_found app words parsed same kinds =
+    let of_program = subst (λ (a : App). is_simple_and_free a ≡ true → FailsBy (fault_of a words) parsed) same kinds in
+    untroubled words parsed (of_program is_free_program)

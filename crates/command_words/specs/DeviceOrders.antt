@@ -1,7 +1,7 @@
 -- What an order to a device says, by the matches that `clap` gives for the words.
 use Rattle.std.specs.Prelude.{◌≡◌, Bool, List, ◌∷◌, [], Option, Some, None, codes, if◌then◌else◌, map, nat_lt}
 use Rattle.std.specs.Borrow.{Bor}
-use Rattle.clap.specs.Words.{Row, Text, all_of, subcommand_of}
+use Rattle.clap.specs.Words.{Row, Text, all_of, fault_of, subcommand_of}
 use Rattle.clap.specs.declared.error.kind.ErrorKind.{ErrorKind}
 use Rattle.clap.specs.declared.error.kind.ErrorKind.TheVariants.{ArgumentConflict, InvalidValue}
 use Rattle.command_words.specs.Commands.{bootswap}
@@ -51,3 +51,10 @@ abbrev pub misuse_of : DeviceOrder → Option ErrorKind
 misuse_of order =
     if writes_to_standard_input order then Some InvalidValue
     else (if nat_lt 1 (standard_inputs (names_of order)) then Some ArgumentConflict else None)
+
+-- The words give this order: `clap` takes them, they ask for it, and it doesn't misuse standard
+-- input.
+pub record GiveOrder (words : List Text) (order : DeviceOrder) : Type 0 where
+  pub taken : fault_of bootswap words ≡ []
+  pub asks : IsOrder words order
+  pub sound : misuse_of order ≡ None

@@ -1,5 +1,5 @@
 -- What is answered where words give no order.
-use Rattle.std.specs.Prelude.{◌≡◌, ◌≢◌, List, Some, ⊤}
+use Rattle.std.specs.Prelude.{◌≡◌, ◌≢◌, List, [], Some, ⊤}
 use Rattle.clap.specs.Words.{IsAmong, Text, fault_of, kind_of}
 use Rattle.clap.specs.declared.error.Error.{Error}
 use Rattle.clap.specs.declared.error.kind.ErrorKind.{ErrorKind}
@@ -11,11 +11,12 @@ use Rattle.command_words.specs.declared.error.OrderError.TheVariants.{Usage, NoM
 use Rattle.command_words.specs.declared.device_orders.DeviceOrder.{DeviceOrder}
 
 -- Why words that may ask for an order to a device are answered by an error of this kind: `clap` has
--- a fault with them, or they ask for help or the version; or their order misuses standard input.
+-- a fault with them, or they ask for help or the version; or it takes them, and their order misuses
+-- standard input.
 pub data IsDeviceFault (words : List Text) (kind : ErrorKind) : Type 0 where
   of_clap : IsAmong kind (fault_of bootswap words) → IsDeviceFault words kind
-  misuse : (order : DeviceOrder) → IsOrder words order → misuse_of order ≡ Some kind
-      → IsDeviceFault words kind
+  misuse : (order : DeviceOrder) → fault_of bootswap words ≡ [] → IsOrder words order
+      → misuse_of order ≡ Some kind → IsDeviceFault words kind
 
 -- The answer to words that give no order. An answer of `clap` is never want of memory.
 abbrev pub IsDeviceRefusal : List Text → OrderError → Type 0

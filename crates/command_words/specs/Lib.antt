@@ -3,3 +3,4 @@ pub mod Commands
 pub mod DeviceOrders
 pub mod Faults
 pub mod Given
+pub mod Status

@@ -1,7 +1,9 @@
 //! From words to an order to a device.
 
-ghost use Rattle.std.specs.Prelude.{◌≡◌, IfErr, IfOk, IfSome, IsSomeAnd, None, codes, map, option_map};
-ghost use Rattle.clap.specs.Words.{found_of, kind_of, rows_of, subcommand_rows_of};
+ghost use Rattle.std.specs.Prelude.{◌≡◌, IfErr, IfOk, IfSome, IsSomeAnd, None, [], codes, map};
+ghost use Rattle.std.specs.Prelude.{option_map};
+ghost use Rattle.clap.specs.Words.{fault_of, found_of, kind_of, rows_of, subcommand_rows_of};
+ghost use Rattle.command_words.specs.Commands.{bootswap};
 ghost use Rattle.command_words.specs.DeviceOrders.{Asks, IsOrder, IsOrderOf, misuse_of};
 ghost use Rattle.command_words.specs.Faults.{IsDeviceRefusal};
 ghost use Rattle.command_words.specs.Given.{Finds, is_explained};
@@ -27,6 +29,7 @@ pub fn device_request<'a, S: AsStr>(
     alloc: Global,
     words: &'a [S],
 ) -> Result<Option<DeviceRequest<'a>>, OrderError>
+    ensures taken { IfOk result (λ _. fault_of bootswap (map S.text words.entry.now) ≡ []) }
     ensures order { IfOk result (λ found. Finds (IsOrder (map S.text words.entry.now))
         (option_map (λ request. request.order) found)) }
     ensures explained { IfOk result (λ found. IfSome found (λ request.
@@ -52,7 +55,7 @@ fn request_of<'a>(
         (request.order ≡ order.entry) × (request.is_explained ≡ is_explained))) }
     ensures sound { IfOk result (λ found.
         IfSome found (λ request. misuse_of request.order ≡ None)) }
-    ensures refused { (words : _) → IsOrder words order.entry
+    ensures refused { (words : _) → fault_of bootswap words ≡ [] → IsOrder words order.entry
         → IfErr result (IsDeviceRefusal words) }
 {
     match misuse(alloc, &order)? {

@@ -1,6 +1,6 @@
 //! What `clap` finds in words.
 
-ghost use Rattle.std.specs.Prelude.{◌≡◌, IfErr, IfOk, codes, map, option_map};
+ghost use Rattle.std.specs.Prelude.{◌≡◌, IfErr, IfOk, [], codes, map, option_map};
 ghost use Rattle.clap.specs.Words.{HasKind, all_of, fault_of, first_of, found_of};
 ghost use Rattle.clap.specs.Words.{rows_of, subcommand_of, subcommand_rows_of};
 ghost use Rattle.command_words.specs.Commands.{bootswap};
@@ -20,6 +20,7 @@ use std::convert::AsStr;
 pub fn matches_of<'a, S: AsStr>(alloc: Global, words: &'a [S]) -> Result<ArgMatches<'a>, Error>
     ensures found { IfOk result (λ matches. subcommand_rows_of matches
         ≡ subcommand_of bootswap (map S.text words.entry.now)) }
+    ensures taken { IfOk result (λ _. fault_of bootswap (map S.text words.entry.now) ≡ []) }
     ensures refused { IfErr result (HasKind (fault_of bootswap (map S.text words.entry.now))) }
 {
     bootswap(alloc)?.try_get_matches_from(words)

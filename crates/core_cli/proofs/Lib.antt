@@ -3,3 +3,4 @@ mod FileLaws
 mod ImageLaws
 pub mod KeptLaws
 mod TellingLaws
+pub mod WordsLaws

@@ -1,6 +1,7 @@
 //! The core of the program: the orders that make a flash a device's, and run a device on one.
-ghost use Rattle.std.specs.Prelude.{◌≡◌, IfOk};
+ghost use Rattle.std.specs.Prelude.{◌≡◌, ◌≢◌, IfOk, map};
 ghost use Rattle.core_cli.specs.CoreEnd.{AnswersCore};
+ghost use Rattle.core_cli.specs.WordsEnd.{EndsCore};
 
 use crate::{provision, run};
 use command_ends::{Access, Answer, Host, Refusal, Source, finish};
@@ -24,7 +25,10 @@ pub fn core_cli<S: AsStr, H: Host, O: Write, E: Write>(
     host: &mut H,
     out: &mut O,
     err: &mut E,
-) -> u8 {
+) -> u8
+    ensures { EndsCore (map S.text words.entry.now) result (H.input host.old) (H.file host.old)
+        (H.file host.new) (O.contents out.old) (O.contents out.new) }
+{
     match device_request(alloc, words) {
         Ok(Some(request)) if !request.is_explained => {
             run_core_order(alloc, &request.order, host, out, err)
@@ -43,8 +47,9 @@ pub fn run_core_order<H: Host, O: Write, E: Write>(
     out: &mut O,
     err: &mut E,
 ) -> u8
-    ensures { result ≡ 0 → AnswersCore Answer.Done order.now (H.input host.old) (H.file host.old)
-        (H.file host.new) (O.contents out.old) (O.contents out.new) }
+    ensures done { result ≡ 0 → AnswersCore Answer.Done order.now (H.input host.old)
+        (H.file host.old) (H.file host.new) (O.contents out.old) (O.contents out.new) }
+    ensures other { result ≢ 2 }
 {
     let outcome = perform(alloc, order, host, out, &mut NoNotes);
     finish(&outcome, out, err)

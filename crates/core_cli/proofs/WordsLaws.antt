@@ -1,0 +1,139 @@
+-- What the exit status says of the words.
+use Rattle.std.proofs.Common.{◌≡◌, ◌≢◌, ◌⊎◌, ◌∙◌, ℕ, Bool, List, Option, Some, None, Result, Ok, Err, ap, arith, false, if◌then◌else◌, inl, inr, option_map, refl, sym, true}
+use Rattle.clap.specs.Words.{Text, kind_of}
+use Rattle.clap.specs.declared.error.kind.ErrorKind.{ErrorKind}
+use Rattle.clap.specs.declared.error.kind.ErrorKind.TheVariants.{ArgumentConflict, InvalidValue}
+use Rattle.command_words.specs.DeviceOrders.{GiveOrder, writes_to_standard_input}
+use Rattle.command_words.specs.Faults.{IsDeviceFault, IsDeviceRefusal}
+use Rattle.command_words.specs.Faults.IsDeviceFault.{misuse, of_clap}
+use Rattle.command_words.specs.Given.{is_explained}
+use Rattle.command_words.specs.Status.{AskHelp, EndsWords, is_help}
+use Rattle.command_words.specs.declared.device_orders.DeviceOrder.{DeviceOrder}
+use Rattle.command_words.specs.declared.error.OrderError.{OrderError}
+use Rattle.command_words.specs.declared.error.OrderError.TheVariants.{Usage, NoMemory}
+use Rattle.command_ends.specs.declared.answer.Answer.{Answer}
+use Rattle.command_ends.specs.declared.answer.Answer.TheVariants.{Done, Refused, Cut}
+use Rattle.command_ends.specs.declared.error.Refusal.{Refusal}
+use Rattle.command_ends.specs.declared.error.Refusal.TheVariants as no
+use Rattle.command_ends.specs.Input.{FileBytes}
+use Rattle.command_ends.specs.Status.{Ends, status_of}
+use Rattle.command_ends.proofs.InputLaws.{KeepsFiles-itself}
+use Rattle.core_cli.specs.CoreEnd.{AnswersCore}
+use Rattle.core_cli.specs.WordsEnd.{AskNothing, EndsCore}
+
+-- the status of no command is that of a fault in the words
+no_usage : (outcome : Result Answer Refusal) → status_of outcome ≢ 2
+no_usage (Ok Done) two = absurd (omega (arith, two))
+no_usage (Ok Refused) two = absurd (omega (arith, two))
+no_usage (Ok Cut) two = absurd (omega (arith, two))
+no_usage (Err (no.TableLine line)) two = absurd (omega (arith, two))
+no_usage (Err (no.ReportLine line)) two = absurd (omega (arith, two))
+no_usage (Err no.NotValid) two = absurd (omega (arith, two))
+no_usage (Err no.DeviceFile) two = absurd (omega (arith, two))
+no_usage (Err no.Manifest) two = absurd (omega (arith, two))
+no_usage (Err no.FlashSize) two = absurd (omega (arith, two))
+no_usage (Err no.FlashInUse) two = absurd (omega (arith, two))
+no_usage (Err no.FlashIsInput) two = absurd (omega (arith, two))
+no_usage (Err no.ImageIsInput) two = absurd (omega (arith, two))
+no_usage (Err no.PictureIsInput) two = absurd (omega (arith, two))
+no_usage (Err no.ImageInUse) two = absurd (omega (arith, two))
+no_usage (Err no.ImageCount) two = absurd (omega (arith, two))
+no_usage (Err (no.NoImage image)) two = absurd (omega (arith, two))
+no_usage (Err (no.ImageTooBig image)) two = absurd (omega (arith, two))
+no_usage (Err (no.ScriptLine line)) two = absurd (omega (arith, two))
+no_usage (Err (no.OfSource refusal)) two = absurd (omega (arith, two))
+no_usage (Err no.NotOfCore) two = absurd (omega (arith, two))
+no_usage (Err no.NoMemory) two = absurd (omega (arith, two))
+no_usage (Err no.FlashFile) two = absurd (omega (arith, two))
+no_usage (Err no.CannotWrite) two = absurd (omega (arith, two))
+
+-- No command ends with the status of a fault in the words.
+pub never_usage : (outcome : Result Answer Refusal) (status : ℕ) → Ends outcome status → status ≢ 2
+never_usage outcome status (inl same) two = no_usage outcome (sym same ∙ two)
+never_usage outcome status (inr one) two = absurd (omega (arith, one, two))
+
+-- The misuse of standard input is no request for help.
+pub misuse_helps_none : (is_written is_twice : Bool) (kind : ErrorKind)
+    → (if is_written then Some InvalidValue else (if is_twice then Some ArgumentConflict else None)) ≡ Some kind
+    → is_help kind ≡ true → ⊥
+misuse_helps_none true is_twice kind same helps =
+    let tests : Some false ≡ Some (is_help kind) = ap (option_map is_help) same in absurd (cc (tests, helps))
+misuse_helps_none false true kind same helps =
+    let tests : Some false ≡ Some (is_help kind) = ap (option_map is_help) same in absurd (cc (tests, helps))
+misuse_helps_none false false kind same helps = absurd (cc same)
+
+-- the status after help, and after a fault in the words
+abbrev pub status_by : Bool → ℕ
+status_by helps = if helps then 0 else 2
+
+-- The status after an answer that was written says whether it is help.
+pub status_helps : (helps : Bool) → status_by helps ≡ 0 → helps ≡ true
+status_helps true zero = refl
+status_helps false zero = absurd (omega (arith, zero))
+
+pub status_faults : (helps : Bool) → status_by helps ≡ 2 → helps ≡ false
+status_faults true two = absurd (omega (arith, two))
+status_faults false two = refl
+
+helped : (words : List Text) (kind : ErrorKind) → is_help kind ≡ true → IsDeviceFault words kind → AskHelp words
+helped words kind helps (of_clap among) = record { kind = kind; among = among; helps = helps }
+helped words kind helps (misuse order taken asks is_misuse) =
+    absurd (misuse_helps_none (writes_to_standard_input order) _ kind is_misuse helps)
+
+-- where a fault is written, and no help, it is a fault in the words
+wrong_status : (words : List Text) (kind : ErrorKind) (helps : Bool) (status : ℕ) → is_help kind ≡ helps
+    → IsDeviceFault words kind → status ≡ status_by helps → AskNothing words → (status ≡ 2) ⊎ (status ≡ 1)
+wrong_status words kind true status same fault ends nothing = absurd (nothing.no_help (helped words kind same fault))
+wrong_status words kind false status same fault ends nothing = inl ends
+
+-- Words that give no order end by what is answered to them.
+pub EndsCore-error : (words : List Text) (error : OrderError) (status : ℕ) (input : Option (List ℕ)) (file : FileBytes)
+    (old new : Option (List ℕ)) → IsDeviceRefusal words error → EndsWords error status
+    → EndsCore words status input file file old new
+EndsCore-error words error status input file old new refusal (inr one) = record {
+  done = λ zero. absurd (omega (arith, zero, one));
+  usage = λ two. absurd (omega (arith, two, one));
+  wrong = λ nothing. inr one;
+  kept = λ nothing. KeepsFiles-itself file;
+}
+EndsCore-error words NoMemory status input file old new refusal (inl one) = record {
+  done = λ zero. absurd (omega (arith, zero, one));
+  usage = λ two. absurd (omega (arith, two, one));
+  wrong = λ nothing. inr one;
+  kept = λ nothing. KeepsFiles-itself file;
+}
+EndsCore-error words (Usage answer) status input file old new refusal (inl ends) = record {
+  done = λ zero.
+      inl (helped words (kind_of answer) (status_helps (is_help (kind_of answer)) (sym ends ∙ zero)) refusal.1);
+  usage = λ two. record {
+    kind = kind_of answer;
+    fault = refusal.1;
+    no_help = status_faults (is_help (kind_of answer)) (sym ends ∙ two);
+  };
+  wrong = λ nothing.
+      wrong_status words (kind_of answer) (is_help (kind_of answer)) status refl refusal.1 ends nothing;
+  kept = λ nothing. KeepsFiles-itself file;
+}
+
+-- Where they give another order, nothing is done.
+pub EndsCore-other : (words : List Text) (status : ℕ) (input : Option (List ℕ)) (file : FileBytes)
+    (old new : Option (List ℕ)) → Ends (Err no.NotOfCore) status → EndsCore words status input file file old new
+EndsCore-other words status input file old new ends =
+    let one : status ≡ 1 = elim ends [ inl same ↦ same | inr same ↦ same ] in record {
+      done = λ zero. absurd (omega (arith, zero, one));
+      usage = λ two. absurd (omega (arith, two, one));
+      wrong = λ nothing. inr one;
+      kept = λ nothing. KeepsFiles-itself file;
+    }
+
+-- Where they give an order, it is answered.
+pub EndsCore-order : (words : List Text) (order : DeviceOrder) (status : ℕ) (input : Option (List ℕ))
+    (file after : FileBytes) (old new : Option (List ℕ)) → GiveOrder words order → is_explained words ≡ false
+    → (status ≡ 0 → AnswersCore Done order input file after old new) → status ≢ 2
+    → EndsCore words status input file after old new
+EndsCore-order words order status input file after old new given plain answered other = record {
+  done = λ zero. inr (record { order = order; given = given; plain = plain; answered = answered zero });
+  usage = λ two. absurd (other two);
+  wrong = λ nothing. absurd (nothing.no_order order given);
+  kept = λ nothing. absurd (nothing.no_order order given);
+}
