@@ -1,6 +1,8 @@
 -- What a call that takes steps of the swap of one image does: each record is one call.
-use Rattle.std.specs.Prelude.{◌≡◌, ◌⊎◌, ℕ, ◌+◌, ◌*◌, ◌/◌, ◌%◌, ◌<◌, ◌≤◌, List, Result, OnOk, IfOk}
+use Rattle.std.specs.Prelude.{◌≡◌, ◌⊎◌, ℕ, ◌+◌, ◌*◌, ◌/◌, ◌%◌, ◌<◌, ◌≤◌, false, List}
+use Rattle.std.specs.Prelude.{Result, IsErrOf, OnOk, IfOk}
 use Rattle.flash_model.specs.declared.error.FlashError.{FlashError}
+use Rattle.flash_model.specs.declared.error.FlashError.TheVariants.{Off}
 use Rattle.flash_model.specs.Chip.{Chip, Ends}
 use Rattle.sector_map.specs.declared.layout.SectorMap.{SectorMap}
 use Rattle.sector_map.specs.declared.layout.Side.{Side}
@@ -22,6 +24,8 @@ pub record ReadsUsed (map : SectorMap) (image : ℕ) (side : Side) (old new : Ch
   -- and no more than the slot has.
   pub few : IfOk result (λ used. used ≤ slot_sectors map image)
   pub erases : OnOk result (new.erases ≡ old.erases)
+  -- A flash without power is answered so.
+  pub off : old.is_on ≡ false → IsErrOf result Off
   pub ends : Ends result old new
 
 -- A call reads how far the swap of an image has come that its trailer of a side counts.
@@ -32,6 +36,8 @@ pub record ReadsProgress (map : SectorMap) (image : ℕ) (side : Side) (old new 
   -- and both numbers are exact.
   pub ok : IfOk result (λ progress. (progress.taken ≡ status_count_of map old image side)
       × (progress.steps ≡ steps_of map old side image))
+  -- A flash without power is answered so.
+  pub off : old.is_on ≡ false → IsErrOf result Off
   pub ends : Ends result old new
 
 -- The swap of so many sectors of each slot of an image has a step after so many.
@@ -106,4 +112,6 @@ pub record SwapsImage (map : SectorMap) (image : ℕ) (side : Side) (old new : C
   -- and a sector was erased for each step that was left.
   pub erases : OnOk result ((x y : List ℕ) (c : ℕ) → IsImagePlace map old side image x y c
       → new.erases + c ≡ old.erases + steps_of map old side image)
+  -- A flash without power is answered so.
+  pub off : old.is_on ≡ false → IsErrOf result Off
   pub ends : Ends result old new

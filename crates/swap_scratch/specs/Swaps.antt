@@ -1,6 +1,7 @@
 -- What a call that swaps the images of a mask does: each record is one call.
-use Rattle.std.specs.Prelude.{◌≡◌, ℕ, ◌+◌, ◌<◌, true, List, Result, OnOk}
+use Rattle.std.specs.Prelude.{◌≡◌, ℕ, ◌+◌, ◌<◌, true, false, List, Result, IsErrOf, OnOk}
 use Rattle.flash_model.specs.declared.error.FlashError.{FlashError}
+use Rattle.flash_model.specs.declared.error.FlashError.TheVariants.{Off}
 use Rattle.flash_model.specs.Chip.{Chip, Ends}
 use Rattle.sector_map.specs.declared.layout.SectorMap.{SectorMap}
 use Rattle.sector_map.specs.declared.layout.Side.{Side}
@@ -35,6 +36,8 @@ pub record SwapsMember (map : SectorMap) (mask : ℕ) (side : Side) (image : ℕ
       → IsDoneBelow map old side mask counts x y image
       → new.erases + share mask counts image
       ≡ old.erases + share mask (λ i. steps_of map old side i) image)
+  -- A flash without power is answered so, if the image is in the mask.
+  pub off : is_member mask image ≡ true → old.is_on ≡ false → IsErrOf result Off
   pub ends : Ends result old new
 
 -- A call swaps the slots of the images of a mask, from wherever the swap stands.
@@ -57,4 +60,6 @@ pub record Swaps (map : SectorMap) (mask : ℕ) (side : Side) (old new : Chip) {
   -- and a sector was erased for each step that was left.
   pub erases : OnOk result ((x y : ℕ → List ℕ) → IsSwapAt map old side mask x y
       → new.erases + steps_done map old side mask ≡ old.erases + steps_in_all map old side mask)
+  -- A flash without power is answered so, if the mask has an image.
+  pub off : (i : ℕ) → is_member mask i ≡ true → old.is_on ≡ false → IsErrOf result Off
   pub ends : Ends result old new

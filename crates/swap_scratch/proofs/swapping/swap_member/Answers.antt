@@ -1,5 +1,6 @@
 use Rattle.std.proofs.Common.{rules, ◌≡◌, true}
 use Rattle.sector_map.specs.Part.{is_member}
+use Rattle.trailer.proofs.Told.{refuses_failed, refuses_first}
 use Rattle.swap_scratch.proofs.Members.{resumed, finished, counted_on}
 use Rattle.flash_model.proofs.Ending.{at_error, ends_passed, ends_done}
 use Rattle.swap_scratch.proofs.swapping.swap_member.Goals as goal
@@ -16,6 +17,8 @@ returns-in_err-swap_image g c = record {
   done = at_error _ _ c.from_residual.ensures.0;
   counted = at_error _ _ c.from_residual.ensures.0;
   erases = at_error _ _ c.from_residual.ensures.0;
+  off = λ member. refuses_failed _ _ _ c.from_residual.ensures.0
+      (ends_passed _ _ _ _ c.from_residual.ensures.1 c.in_err-swap_image.ensures.ends);
   ends = ends_passed _ _ _ _ c.from_residual.ensures.1 c.in_err-swap_image.ensures.ends;
 }
 
@@ -35,5 +38,6 @@ returns-in_ok-swap_image g c = record {
   counted = λ was.
       counted_on _ _ _ _ _ _ c.swap_image.ensures.outside c.in_ok-swap_image.ensures.counted was;
   erases = search rules;
+  off = λ member. refuses_first _ _ _ c.in_ok-swap_image.ensures.off;
   ends = ends_done _ _ _ _ c.in_ok-swap_image.ensures.ends;
 }

@@ -3,7 +3,9 @@ use Rattle.sector_map.proofs.Parts.{keeps_refl, keeps_trans, laid_out_kept}
 use Rattle.swap_scratch.specs.Used.{steps_of}
 use Rattle.swap_scratch.specs.Swap.{IsAllCounted, sum_over}
 use Rattle.swap_scratch.proofs.Taking.{rest_refl, rest_trans}
-use Rattle.swap_scratch.proofs.Members.{begun}
+use Rattle.std.proofs.lemmas.Bool.{false≢true}
+use Rattle.trailer.proofs.Told.{refuses_failed}
+use Rattle.swap_scratch.proofs.Members.{begun, on_further}
 use Rattle.swap_scratch.proofs.Sums.{sum_none, sum_more, share_same, counts_are}
 use Rattle.swap_scratch.proofs.Contents.{swapped_one}
 use Rattle.flash_model.specs.Chip.{Chip}
@@ -32,6 +34,7 @@ loop-image-init g c = record {
   erases = λ counts x y at. omega (arith, sum_none);
   uncut = uncut_refl _;
   asleep = λ off. refl;
+  on = λ i lt in_mask. absurd (omega arith);
 }
 
 pub returns-in_err-swap_member : goal.returns-in_err-swap_member
@@ -45,6 +48,9 @@ returns-in_err-swap_member g c =
       swapped = at_error _ _ c.from_residual.ensures.0;
       counted = at_error _ _ c.from_residual.ensures.0;
       erases = at_error _ _ c.from_residual.ensures.0;
+      off = λ i member. refuses_failed _ _ _ c.from_residual.ensures.0
+          (ends_after _ _ _ _ kept.uncut kept.asleep
+          (ends_passed _ _ _ _ c.from_residual.ensures.1 c.in_err-swap_member.ensures.ends));
       ends = ends_after _ _ _ _ kept.uncut kept.asleep
           (ends_passed _ _ _ _ c.from_residual.ensures.1 c.in_err-swap_member.ensures.ends);
     }
@@ -69,6 +75,7 @@ loop-image-preserved g c =
       );
       uncut = uncut_trans _ _ _ kept.uncut c.in_ok-swap_member.ensures.ends.uncut;
       asleep = asleep_trans _ _ _ kept.uncut kept.asleep c.swap_member.ensures.ends.asleep;
+      on = on_further _ _ _ _ _ kept.uncut.on c.in_ok-swap_member.ensures.off kept.on;
     }
 
 pub returns : goal.returns
@@ -95,5 +102,8 @@ returns g c =
           ≡ (g.F.Flash.chip c.args.flash.now).erases
           + sum_over c.args.mask (λ i. steps_of c.args.map.now (g.F.Flash.chip c.args.flash.now) c.args.side i) n)
           all (kept.erases at.counts x y at.place);
+      off = λ i member off.
+          let lt = c.requires.images.within i member in
+          absurd (false≢true (sym off ∙ kept.on i (omega arith) member));
       ends = ends_well _ _ _ kept.uncut kept.asleep;
     }
