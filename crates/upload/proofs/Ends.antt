@@ -85,6 +85,11 @@ only_off Cut old new same ends = absurd (no_more new.cuts old.cuts (ap (λ (chip
     (ends.cut refl).cuts)
 only_off Off old new same ends = refl
 
+-- a flash that was off stops a call
+pub off_stops : {T : Type 0} (error : FlashError) (old new : Chip) → Ends {T = T} (Err error) old new
+    → old.is_on ≡ false → error ≡ Off
+off_stops error old new ends off = only_off error old new (ends.asleep off) ends
+
 pub ends_well : {T U : Type 0} (value : T) (other : U) (old new : Chip) → Ends (Ok value) old new
     → EndsUpload (Ok other) old new
 ends_well value other old new ends = ends_unstopped (Ok other) old new refl ends.asleep ends.uncut
@@ -98,3 +103,22 @@ decides answer fact old new same tells = record {
   erases = ap (λ (chip : Chip). chip.erases) same;
   ends = reads_well answer old new same;
 }
+
+-- one answer isn't another
+pub not_no_session : {T : Type 0} (error : FlashError) → IsErrOf {T = T} (Err (no.Flash error)) no.NoSession → ⊥
+not_no_session error e = cc
+
+pub not_size : {T : Type 0} (error : FlashError) → IsErrOf {T = T} (Err (no.Flash error)) no.SizeWrong → ⊥
+not_size error e = cc
+
+pub not_too_much : {T : Type 0} (error : FlashError) → IsErrOf {T = T} (Err (no.Flash error)) no.TooMuch → ⊥
+not_too_much error e = cc
+
+pub too_much_none : {T : Type 0} → IsErrOf {T = T} (Err no.TooMuch) no.NoSession → ⊥
+too_much_none e = cc
+
+pub state_none : {T : Type 0} (value : T) (error : FlashError) → IsErrOf (Ok value) error → ⊥
+state_none value error e = cc
+
+pub done_none : {T : Type 0} (value : T) (error : UploadError) → IsErrOf (Ok value) error → ⊥
+done_none value error e = cc

@@ -1,7 +1,7 @@
 -- What is left of a device at rest when one image's secondary slot and trailer are written.
-use Rattle.std.proofs.Common.{◌≡◌, ℕ, ◌<◌, ◌≤◌, ◌==◌, ◌&&◌, Bool, true, false, List, length, Option, Some, None, refl, sym, ◌∙◌, ap, subst, if◌then◌else◌}
+use Rattle.std.proofs.Common.{◌≡◌, ◌≢◌, ℕ, ◌<◌, ◌≤◌, ◌==◌, ◌&&◌, Bool, true, false, List, length, Option, Some, None, refl, sym, ◌∙◌, ap, subst, if◌then◌else◌}
 use Rattle.std.proofs.Math.Bool.{and-false}
-use Rattle.std.proofs.lemmas.Bool.{eqb-true}
+use Rattle.std.proofs.lemmas.Bool.{eqb-true, ne_eqb}
 use Rattle.sector_map.specs.declared.layout.Side.TheVariants.{Primary, Secondary}
 use Rattle.sector_map.specs.Part.{Slot, only, incoming_of}
 use Rattle.trailer.specs.declared.kinds.Kind.{Kind}
@@ -163,3 +163,8 @@ with_with i first second a b c one two j = twice (j == i) (upload_at a j) (uploa
           → z ≡ (if d then second else x)
       twice true x y z e f = f
       twice false x y z e f = f ∙ e
+
+-- other images' uploads are as they were
+pub with_others : (i j : ℕ) (upload : Option Upload) (a b : List (Option Upload)) → j ≢ i → IsWith i upload a b
+    → upload_at b j ≡ upload_at a j
+with_others i j upload a b away now = now j ∙ ap (λ is. if is then upload else upload_at a j) (ne_eqb j i away)

@@ -13,6 +13,7 @@ pub mod Opened
 pub mod AcceptRow
 pub mod TakenRow
 pub mod Finished
+pub mod RefusedFinish
 pub mod FinishRow
 pub mod Worn
 pub mod StandingLaws

@@ -2,6 +2,7 @@
 use Rattle.std.proofs.Common.{◌≡◌, ℕ, ◌+◌, ◌<◌, ◌≤◌, ◌==◌, Bool, true, false, List, length, Option, Some, None, Ok, Err, refl, sym, ◌∙◌, ap, subst, arith, length-append, if◌then◌else◌}
 use Rattle.std.proofs.lemmas.Bool.{eqb-true}
 use Rattle.std.proofs.lemmas.Bool.Decides.{nat_tests}
+use Rattle.std.proofs.lemmas.Option.{same_Some}
 use Rattle.flash_model.specs.declared.error.FlashError.{FlashError}
 use Rattle.sector_map.specs.declared.layout.Side.TheVariants.{Secondary}
 use Rattle.sector_map.specs.Part.{Slot, only}
@@ -142,3 +143,9 @@ took_more i old new told tmid tnew before after bytes was put takes u is = (
   put i ∙ ap (λ b. if b then Some after else upload_at tmid i) (same_image i),
   subst (λ v. TakesMore old new i v after bytes) (some_upload before u (was ∙ is)) takes,
 )
+
+-- there is room for bytes in an upload, and none
+pub no_room : (a b : Upload) (n : ℕ) → Some a ≡ Some b → b.received + n ≤ b.size → a.size < a.received + n → ⊥
+no_room a b n same fits long =
+    let is = same_Some a b same in
+    omega (arith, fits, long, ap (λ (v : Upload). v.received) is, ap (λ (v : Upload). v.size) is)

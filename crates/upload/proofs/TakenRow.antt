@@ -1,6 +1,6 @@
 -- The row of accepting a manifest, by what taking it answered.
 use Rattle.std.proofs.Common.{◌≡◌, ℕ, ◌<◌, ◌≤◌, false, List, length, Option, Some, None, Ok, Err, Result, refl, sym, ◌∙◌, ap, subst, arith}
-use Rattle.std.specs.Prelude.{All, slice_index_or}
+use Rattle.std.specs.Prelude.{All, IfErr, slice_index_or}
 use Rattle.sector_map.specs.declared.layout.SectorMap.{SectorMap}
 use Rattle.sector_map.specs.declared.layout.Side.TheVariants.{Primary, Secondary}
 use Rattle.sector_map.specs.Part.{Slot, Log}
@@ -17,7 +17,7 @@ use Rattle.upload.specs.View.{View, view}
 use Rattle.upload.specs.Device.{DeviceState, Machine, closed}
 use Rattle.upload.specs.Steady.{IsFront, IsSteadyAt, logged}
 use Rattle.upload.specs.Sessions.{AllOpenAt, IsUpAt}
-use Rattle.upload.specs.Ending.{IsClosedAfter}
+use Rattle.upload.specs.Ending.{IsClosedAfter, is_flash}
 use Rattle.upload.specs.Accepted.{Accepts, AreBlank, AllFit, AreThere, MayAccept, latest, AllFollow, AllFollowAt, FrontHasDigest, HasDigest, IsPrecursor, accepted}
 use Rattle.upload.specs.Taking.{CutsAccept, EndsAccept, IsNewer, IsTaken, IsUnchanged, LeavesAccept, MayTake, Refuses}
 use Rattle.upload.specs.declared.sessions.Upload.{Upload}
@@ -227,3 +227,11 @@ named_fit map chip cs laid there fit i c is =
       subst (λ n. c.size ≤ n) (sym (length_part map chip (Slot i Secondary) laid))
           (subst (λ k. c.size ≤ length_of map (Slot k Secondary)) at.1 long.0),
     )
+
+-- the table stays after a refusal that isn't of the flash
+pub table_stays : (result : Result Unit UploadError) (told tmid tnew : List (Option Upload))
+    → IfErr result (λ error. is_flash {T = Unit} (Err error) ≡ false → tmid ≡ told)
+    → IsClosedAfter result tmid tnew
+    → IfErr result (λ error. is_flash {T = Unit} (Err error) ≡ false → tnew ≡ told)
+table_stays (Ok done) told tmid tnew stays after = tt
+table_stays (Err error) told tmid tnew stays after = λ plain. after.same plain ∙ stays plain

@@ -49,6 +49,10 @@ behind_erased map chip image at n front laid long was room = record { each = λ 
       ∙ behind_at (slot_of map chip image) front was (k - start) (omega (arith, long))
       (omega (arith, length_part map chip (Slot image Secondary) laid))
 
+-- there are some bytes, and none
+pub no_bytes : (bytes : List ℕ) → bytes ≡ [] → 0 < length bytes → ⊥
+no_bytes bytes none some = let long = ap length none in omega (arith, long, some)
+
 -- a whole unit of a slot lies at a whole unit of the flash
 pub slot_aligned : (map : SectorMap) (image at k : ℕ) → IsMap map → at ≡ 8 * k
     → (start_of map (Slot image Secondary) + at) % 8 ≡ 0

@@ -1,7 +1,8 @@
 -- What a call does that takes a manifest: each record is one call.
 use Rattle.std.specs.Prelude.{◌≡◌, ◌⊎◌, ◌+◌, ◌≤◌, ℕ, true, false, List, Option, Some, Result, Err}
-use Rattle.std.specs.Prelude.{IfErr, OnOk}
+use Rattle.std.specs.Prelude.{IfErr, IsErrOf, OnOk}
 use Rattle.flash_model.specs.declared.error.FlashError.{FlashError}
+use Rattle.flash_model.specs.declared.error.FlashError.TheVariants.{Off}
 use Rattle.flash_model.specs.Chip.{Chip, Ends}
 use Rattle.sector_map.specs.declared.layout.SectorMap.{SectorMap}
 use Rattle.sector_map.specs.Part.{Log, only}
@@ -12,6 +13,7 @@ use Rattle.set_log.specs.Record as format
 use Rattle.manifest.specs.declared.manifest.Component.{Component}
 use Rattle.manifest.specs.declared.manifest.Manifest.{Manifest}
 use Rattle.upload.specs.declared.error.UploadError.{UploadError}
+use Rattle.upload.specs.declared.error.UploadError.TheVariants.{Flash}
 use Rattle.upload.specs.declared.sessions.Upload.{Upload}
 use Rattle.upload.specs.View.{view}
 use Rattle.upload.specs.Device.{DeviceState, Machine}
@@ -78,8 +80,12 @@ pub record TakesManifest (map : SectorMap) (manifest : Manifest) (told tnew : Li
   -- On any flash: what is answered, and what is left then,
   pub accepts : EndsAccept map (view map old) (view map new) told tnew
       manifest.sequence manifest.components.items result
-  -- and nothing changes where a check fails.
+  -- and nothing changes where a check fails,
   pub nothing : IfErr result (λ error. is_flash {T = Unit} (Err error) ≡ false → new ≡ old)
+  -- nor does the table.
+  pub stays : IfErr result (λ error. is_flash {T = Unit} (Err error) ≡ false → tnew ≡ told)
+  -- A flash that is off is answered.
+  pub off : old.is_on ≡ false → IsErrOf result (Flash Off)
   -- An equal sequence number takes no record.
   pub equal : (state : State) → state_of map old ≡ Some state
       → state.sequence ≡ manifest.sequence → part_of map new Log ≡ part_of map old Log
@@ -104,8 +110,12 @@ pub record AcceptsManifest (map : SectorMap) (manifest : Manifest)
   -- On any flash: what is answered, and what is left then,
   pub accepts : EndsAccept map (view map old) (view map new) told tnew
       manifest.sequence manifest.components.items result
-  -- and nothing changes where a check fails.
+  -- and nothing changes where a check fails,
   pub nothing : IfErr result (λ error. is_flash {T = Unit} (Err error) ≡ false → new ≡ old)
+  -- nor does the table.
+  pub stays : IfErr result (λ error. is_flash {T = Unit} (Err error) ≡ false → tnew ≡ told)
+  -- A flash that is off is answered, whatever the manifest says.
+  pub off : old.is_on ≡ false → IsErrOf result (Flash Off)
   -- An equal sequence number takes no record.
   pub equal : (state : State) → state_of map old ≡ Some state
       → state.sequence ≡ manifest.sequence → part_of map new Log ≡ part_of map old Log

@@ -1,18 +1,19 @@
 -- What a call does that adds bytes to an open upload: each record is one call.
-use Rattle.std.specs.Prelude.{◌≡◌, ◌+◌, ◌≤◌, ◌<◌, ℕ, true, false, List, ◌++◌, length, Option, Some}
-use Rattle.std.specs.Prelude.{None, Result, Err, IfErr, OnOk}
+use Rattle.std.specs.Prelude.{◌≡◌, ◌≢◌, ◌+◌, ◌≤◌, ◌<◌, ℕ, true, false, List, ◌++◌, length, Option}
+use Rattle.std.specs.Prelude.{Some, None, Result, Ok, Err, IfErr, IsErrOf, IsOk, OnOk}
 use Rattle.flash_model.specs.declared.error.FlashError.{FlashError}
+use Rattle.flash_model.specs.declared.error.FlashError.TheVariants.{Off}
 use Rattle.flash_model.specs.Chip.{Chip, Ends}
 use Rattle.sector_map.specs.declared.layout.SectorMap.{SectorMap}
 use Rattle.sector_map.specs.declared.layout.Side.TheVariants.{Secondary}
 use Rattle.sector_map.specs.Part.{Slot, only}
 use Rattle.sector_map.specs.Map.{IsLaidOut, Keeps}
 use Rattle.upload.specs.declared.error.UploadError.{UploadError}
-use Rattle.upload.specs.declared.error.UploadError.TheVariants.{NoSession, TooMuch}
+use Rattle.upload.specs.declared.error.UploadError.TheVariants.{Flash, NoSession, TooMuch}
 use Rattle.upload.specs.declared.sessions.Upload.{Upload}
 use Rattle.upload.specs.View.{view}
 use Rattle.upload.specs.Device.{Machine}
-use Rattle.upload.specs.Sessions.{AllClosed, AllOpenAt, IsOpenAt, IsUpAt, upload_at}
+use Rattle.upload.specs.Sessions.{AllClosed, AllOpenAt, IsOpenAt, IsUpAt, IsWith, upload_at}
 use Rattle.upload.specs.Ending.{EndsUpload, is_flash}
 use Rattle.upload.specs.Piece.{Pieces, TakesMore}
 
@@ -32,6 +33,10 @@ pub record AddsBytes (map : SectorMap) (image : ℕ) (before after : Upload) (by
   pub ok : OnOk result (TakesMore (view map old) (view map new) image before after bytes)
   -- and no sector is erased.
   pub erases : OnOk result (new.erases ≡ old.erases)
+  -- Bytes that complete no unit are held back, whether the flash is on or off,
+  pub held : length before.held.items + length bytes < 8 → IsOk result × (new ≡ old)
+  -- and others ask one that is on.
+  pub on : OnOk result (8 ≤ length before.held.items + length bytes → old.is_on ≡ true)
   pub ends : Ends result old new
 
 -- A call of `piece`, with the table of uploads before and after it.
@@ -54,7 +59,20 @@ pub record TakesPiece (map : SectorMap) (image : ℕ) (bytes : List ℕ)
       → u.size < u.received + length bytes → result ≡ Err TooMuch
   -- and the flash stays as it was where a check fails.
   pub nothing : IfErr result (λ error. is_flash {T = Unit} (Err error) ≡ false → new ≡ old)
-  -- Where the flash stops the call all uploads are closed.
+  -- Bytes that complete no unit are held back, whether the flash is on or off.
+  pub held : (u : Upload) → upload_at told image ≡ Some u → u.received + length bytes ≤ u.size
+      → length u.held.items + length bytes < 8 → (result ≡ Ok tt) × (new ≡ old)
+  -- Of others it is answered that the flash is off.
+  pub off : old.is_on ≡ false → (u : Upload) → upload_at told image ≡ Some u
+      → u.received + length bytes ≤ u.size → 8 ≤ length u.held.items + length bytes
+      → IsErrOf result (Flash Off)
+  -- An upload to which too much came is closed, and no other,
+  pub too_much : IsErrOf result TooMuch → IsWith image None told tnew
+  -- the table stays where none is open,
+  pub stays : IsErrOf result NoSession → tnew ≡ told
+  -- and the uploads of other images do unless the flash stops the call:
+  pub others : is_flash result ≡ false → (j : ℕ) → j ≢ image → upload_at tnew j ≡ upload_at told j
+  -- then all uploads are closed.
   pub closed : is_flash result ≡ true → AllClosed tnew
   -- On a flash that holds a state: the step of a machine that knows whole images.
   pub row : (m : Machine) → IsUpAt (view map old) told m

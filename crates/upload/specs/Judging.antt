@@ -1,7 +1,8 @@
 -- What a call does that judges a manifest: each record is one call. None of them writes.
-use Rattle.std.specs.Prelude.{◌≡◌, ◌≢◌, ◌↔◌, Bool, true, List, None, Some, Result, IfErr, IfOk}
-use Rattle.std.specs.Prelude.{IsTrue}
+use Rattle.std.specs.Prelude.{◌≡◌, ◌≢◌, ◌↔◌, Bool, true, false, List, None, Some, Result, IfErr, IfOk}
+use Rattle.std.specs.Prelude.{IsErrOf, IsTrue}
 use Rattle.flash_model.specs.declared.error.FlashError.{FlashError}
+use Rattle.flash_model.specs.declared.error.FlashError.TheVariants.{Off}
 use Rattle.flash_model.specs.Chip.{Chip, Ends}
 use Rattle.sector_map.specs.declared.layout.SectorMap.{SectorMap}
 use Rattle.sector_map.specs.declared.layout.Side.TheVariants.{Primary}
@@ -13,6 +14,7 @@ use Rattle.set_log.specs.Record as format
 use Rattle.manifest.specs.declared.manifest.Component.{Component}
 use Rattle.manifest.specs.declared.manifest.Manifest.{Manifest}
 use Rattle.upload.specs.declared.error.UploadError.{UploadError}
+use Rattle.upload.specs.declared.error.UploadError.TheVariants.{Flash}
 use Rattle.upload.specs.View.{view}
 use Rattle.upload.specs.Ending.{EndsUpload}
 use Rattle.upload.specs.Accepted.{AllFollowAt, AreThere, FrontHasDigest}
@@ -41,6 +43,8 @@ pub record ReadsState (map : SectorMap) (old new : Chip) (result : Result State 
   -- A state that the log has keeps the table of records.
   pub fits : (state : State) → state_of map old ≡ Some state
       → format.fits map.images state ≡ true
+  -- A flash that is off has none.
+  pub off : old.is_on ≡ false → IsErrOf result Off
   pub ends : Ends result old new
 
 -- A manifest with these components can be judged: the log has a state, and each of them names an
@@ -62,4 +66,6 @@ pub record JudgesManifest (map : SectorMap) (manifest : Manifest) (old new : Chi
   -- Where it may not, the first check that fails is answered.
   pub refused : IfErr result (Refuses map (view map old)
       manifest.sequence manifest.components.items)
+  -- Of a flash that is off that is answered.
+  pub off : old.is_on ≡ false → IsErrOf result (Flash Off)
   pub ends : EndsUpload result old new

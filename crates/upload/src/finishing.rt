@@ -7,8 +7,8 @@ ghost use Rattle.sector_map.specs.declared.layout.Side.TheVariants.{Secondary};
 ghost use Rattle.upload.specs.View.{view};
 ghost use Rattle.upload.specs.Sessions.{IsOpenAt, upload_at};
 ghost use Rattle.upload.specs.declared.sessions.Upload.{Upload};
-ghost use Rattle.upload.specs.Slots.{Appends, HasRoomBehind};
-ghost use Rattle.upload.specs.Finishing.{FinishesTaken, FinishesUpload, JudgesSlot};
+ghost use Rattle.upload.specs.Slots.{AppendsLast, HasRoomBehind};
+ghost use Rattle.upload.specs.Finishing.{FinishesTaken, FinishesUpload, JudgesSlot, ReadsDigest};
 
 use crate::adding::extend;
 use crate::error::UploadError;
@@ -42,13 +42,30 @@ fn write_last<F: Flash>(
 ) -> Result<(), FlashError>
     requires behind { HasRoomBehind map.now image start (length unit.items) (F.chip flash.old) }
     requires few { length unit.items < 8 }
-    ensures { Appends map.now image start unit.items (F.chip flash.old) (F.chip flash.new) result }
+    ensures { AppendsLast map.now image start unit.items
+        (F.chip flash.old) (F.chip flash.new) result }
 {
     if unit.is_empty() {
         return Ok(());
     }
     fill(&mut unit);
     write_slot(flash, map, image, start, unit.as_slice())
+}
+
+/// The SHA-256 of the first bytes of a secondary slot.
+fn digest_incoming<F: Flash>(
+    flash: &mut F,
+    map: &SectorMap,
+    image: u8,
+    size: u32,
+) -> Result<[u8; 32], FlashError>
+    requires image { HasImage map.now image (F.chip flash.old) }
+    requires room { size ≤ length_of map.now (Slot image Secondary) }
+    ensures { ReadsDigest map.now image size (F.chip flash.old) (F.chip flash.new) result }
+{
+    // A read of no bytes is answered only by a flash that is on.
+    flash.read(0, &mut [])?;
+    digest_file(flash, map, image, Side::Secondary, size)
 }
 
 /// Judges the first bytes of a secondary slot: their digest, and then whether they are an intact
@@ -65,7 +82,7 @@ fn judge<F: Flash>(
     ensures { JudgesSlot map.now image size digest.now
         (F.chip flash.old) (F.chip flash.new) result }
 {
-    let found = digest_file(flash, map, image, Side::Secondary, size)?;
+    let found = digest_incoming(flash, map, image, size)?;
     if found != *digest {
         return Err(UploadError::DigestWrong);
     }

@@ -50,6 +50,7 @@ impl Uploads {
     pub(crate) fn take(&mut self, image: u8) -> Option<Upload>
         ensures value { result ≡ upload_at self.old.sessions image }
         ensures rest { IsWith image None self.old.sessions self.new.sessions }
+        ensures kept { result ≡ None → self.new.sessions ≡ self.old.sessions }
         ensures within { (u : Upload) → result ≡ Some u → image < MOST_IMAGES }
     {
         let index = usize::from(image);

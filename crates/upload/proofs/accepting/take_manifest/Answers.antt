@@ -5,7 +5,7 @@ use Rattle.upload.specs.Ending.{EndsUpload}
 use Rattle.upload.specs.View.{view}
 use Rattle.upload.specs.declared.error.UploadError.TheVariants as no
 use Rattle.upload.specs.Taking.{CutsAccept, IsTaken, LeavesAccept}
-use Rattle.upload.proofs.Ends.{ends_flash, ends_well, err_passed, same_off, true_false}
+use Rattle.upload.proofs.Ends.{done_none, ends_flash, ends_well, err_passed, same_off, true_false}
 use Rattle.upload.proofs.TakenRow.{equal_blank, equal_log, stopped}
 use Rattle.upload.proofs.Worn.{worn_of_state}
 use Rattle.upload.proofs.accepting.take_manifest.Goals as goal
@@ -33,6 +33,8 @@ returns g c =
             c.in_ok-write_manifest.ensures.ok),
       );
       nothing = tt;
+      stays = tt;
+      off = λ off. absurd (done_none _ _ (c.in_ok-state.ensures.off off));
       equal = λ state read equal.
           equal_log map old judged _ state c.in_ok-state.state sequence c.judge_manifest.ensures.same read
           c.in_ok-state.ensures.ok.newer.read equal c.write_manifest.ensures.equal;
@@ -72,6 +74,8 @@ returns-in_err-write_manifest g c =
           (λ is. ap (λ chip. view map chip) (same_off c.in_err-write_manifest.field-0.0 _ _
           c.in_err-write_manifest.ensures.ends is) ∙ same);
       nothing = λ unstopped. absurd (true_false unstopped);
+      stays = λ unstopped. absurd (true_false unstopped);
+      off = λ off. absurd (done_none _ _ (c.in_ok-state.ensures.off off));
       equal = λ state read equal.
           equal_log map old judged _ state c.in_ok-state.state sequence c.judge_manifest.ensures.same read
           c.in_ok-state.ensures.ok.newer.read equal c.write_manifest.ensures.equal;

@@ -1,4 +1,4 @@
-use Rattle.std.proofs.Common.{arith, ap, refl}
+use Rattle.std.proofs.Common.{◌+◌, ◌<◌, arith, ap, length, refl}
 use Rattle.sector_map.proofs.Parts.{keeps_refl}
 use Rattle.upload.specs.declared.sessions.Upload.{Upload}
 use Rattle.upload.proofs.Added.{held_back}
@@ -18,6 +18,9 @@ returns-then-len-bytes-lt-UNIT g c =
         held = c.hold.ensures.held;
       }) (omega (arith, c.len.ensures.value, c.if-len-bytes-lt-UNIT.true)) c.requires.fits;
       erases = refl;
+      held = λ few. (refl, refl);
+      on = λ enough. absurd (
+          let few = c.if-len-bytes-lt-UNIT.true in omega (arith, c.len.ensures.value, few, enough));
       ends = reads_well _ _ _ refl;
     }
 

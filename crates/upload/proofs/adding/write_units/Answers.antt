@@ -101,6 +101,8 @@ returns-in_err-write_slot-2 g c =
           c.write_slot-2.ensures.outside;
       ok = tt;
       erases = tt;
+      held = λ few. absurd (let enough = c.requires.enough in omega (arith, few, enough));
+      on = tt;
       ends = ends_after _ _ (g.F.Flash.chip c.write_slot.new.flash) _ first.uncut first.asleep
           c.in_err-write_slot-2.ensures.ends;
     })
@@ -154,6 +156,12 @@ returns g c =
           (c.in_ok-write_slot.ensures.ok front long written))
           c.in_ok-write_slot-2.ensures.ok;
       erases = c.write_slot-2.ensures.erases ∙ c.write_slot.ensures.erases;
+      held = λ few. absurd (let enough = c.requires.enough in omega (arith, few, enough));
+      on = λ enough. c.in_ok-write_slot.ensures.on (
+          let m = ap length (c.as_slice.ensures.value ∙ c.extend.ensures)
+          ∙ length-append c.take-unit.result.items c.split_at.result.0.now in
+          let long = ap length h in
+          omega (arith, m, long, n, c.split_at.ensures.front_len, was.few));
       ends = ends_well _ _ _ (uncut_trans _ (g.F.Flash.chip c.write_slot.new.flash) _ one.uncut two.uncut)
           (asleep_trans _ (g.F.Flash.chip c.write_slot.new.flash) _ one.uncut one.asleep two.asleep);
     }

@@ -2,7 +2,7 @@ use Rattle.std.proofs.Common.{◌-◌, arith, ◌∙◌, ap, subst}
 use Rattle.std.proofs.Common.{Err, Ok, length-append, refl, sym}
 use Rattle.std.proofs.lemmas.Grind.{common_steps}
 use Rattle.sector_map.specs.declared.layout.Side.TheVariants.{Secondary}
-use Rattle.sector_map.specs.Part.{Slot, incoming_of}
+use Rattle.sector_map.specs.Part.{Slot, incoming_of, only}
 use Rattle.sector_map.specs.Map.{Keeps}
 use Rattle.sector_map.proofs.Parts.{keeps_wider, laid_out_kept}
 use Rattle.sector_map.proofs.Touched.{slot_of_incoming}
@@ -13,7 +13,8 @@ use Rattle.upload.specs.Sessions.{session_of}
 use Rattle.upload.specs.Ending.{EndsUpload}
 use Rattle.upload.specs.declared.error.UploadError.TheVariants as no
 use Rattle.upload.proofs.Views.{view_kept, slot_then_trailer}
-use Rattle.upload.proofs.Ends.{ends_flash, ends_later, ends_well, err_passed, same_off}
+use Rattle.upload.proofs.Ends.{done_none, ends_flash, ends_later, ends_well, err_passed, off_stops, same_off}
+use Rattle.upload.proofs.RefusedFinish.{done_finish, judged_finish, last_unit, stopped_finish}
 use Rattle.upload.proofs.Finished.{refused, finish_refused, finish_done, finish_cut}
 use Rattle.upload.proofs.finishing.finish_upload.Goals as goal
 
@@ -57,6 +58,9 @@ returns-in_err-write_last g c =
           ((view_kept c.args.map.now _ _ _ c.write_last.ensures.outside).trailers c.args.image Secondary refl
           ∙ was.trailer) tt;
       erases = tt;
+      refused = stopped_finish _ _ _ _ _ c.in_err-write_last.field-0.0;
+      off = λ off size. ap (λ error. Err (no.Flash error)) (off_stops c.in_err-write_last.field-0.0 _ _
+          c.in_err-write_last.ensures.ends off);
       ends = ends_flash c.in_err-write_last.field-0.0 _ _ c.in_err-write_last.ensures.ends;
     })
 
@@ -76,6 +80,13 @@ returns-in_err-judge g c =
           c.in_ok-write_last.ensures.ok (omega (arith, n, was.count)) (omega (arith, c.if-upload.false)) c.in_err-judge.field-0.0
           c.in_err-judge.ensures.judges;
       erases = tt;
+      refused = judged_finish map c.args.image _ _ c.args.upload c.in_err-judge.field-0.0 _ _
+          c.in_err-judge.ensures.judges
+          (subst (λ chip. Keeps map (only (Slot c.args.image Secondary)) (g.F.Flash.chip c.args.flash.now) chip)
+          (sym c.judge.ensures.same) c.write_last.ensures.outside)
+          (last_unit map c.args.image c.len.result c.args.upload _ _ _ _ n c.judge.ensures.same c.write_last.ensures)
+          (ap (λ chip. chip.erases) c.judge.ensures.same ∙ c.write_last.ensures.erases);
+      off = λ off size. c.in_err-judge.ensures.off (first.uncut.on ∙ off);
       ends = ends_later _ _ (g.F.Flash.chip c.write_last.new.flash) _ first.uncut first.asleep
           c.in_err-judge.ensures.ends;
     })
@@ -95,6 +106,8 @@ returns g c =
           (view_kept map _ _ _ c.request.ensures.outside) c.in_ok-judge.ensures.judges c.in_ok-request.ensures.ok;
       erases = c.in_ok-request.ensures.erases ∙ ap (λ chip. chip.erases) c.judge.ensures.same
           ∙ c.write_last.ensures.erases;
+      refused = done_finish _ _ _ _ _;
+      off = λ off size. absurd (done_none tt _ (c.in_ok-judge.ensures.off (first.uncut.on ∙ off)));
       ends = ends_later _ _ (g.F.Flash.chip c.write_last.new.flash) _ first.uncut first.asleep
           (subst (λ chip. EndsUpload (Ok tt) chip (g.F.Flash.chip c.request.new.flash)) c.judge.ensures.same
           (ends_well _ _ _ _ c.in_ok-request.ensures.ends));
@@ -116,6 +129,8 @@ returns-in_err-request g c =
           c.request.ensures.either
           (λ is. ap (λ chip. view map chip) (same_off c.in_err-request.field-0.0 _ _ c.in_err-request.ensures.ends is));
       erases = tt;
+      refused = stopped_finish _ _ _ _ _ c.in_err-request.field-0.0;
+      off = λ off size. absurd (done_none tt _ (c.in_ok-judge.ensures.off (first.uncut.on ∙ off)));
       ends = ends_later _ _ (g.F.Flash.chip c.write_last.new.flash) _ first.uncut first.asleep
           (subst (λ chip. EndsUpload {T = Unit} (Err (no.Flash c.in_err-request.field-0.0)) chip
           (g.F.Flash.chip c.request.new.flash)) c.judge.ensures.same

@@ -6,9 +6,10 @@ use Rattle.sector_map.specs.declared.layout.Side.TheVariants.{Secondary}
 use Rattle.sector_map.specs.Part.{Slot}
 use Rattle.sector_map.proofs.Parts.{keeps_refl}
 use Rattle.sector_map.proofs.PartBytes.{keeps_write, range_inside}
-use Rattle.flash_model.specs.Chip.{IsErased}
+use Rattle.flash_model.specs.Chip.{IsErased, SameOutside}
+use Rattle.flash_model.proofs.Frame.{same_outside_refl}
 use Rattle.flash_model.proofs.Ending.{ends_well, uncut_refl}
-use Rattle.upload.proofs.Writing.{behind_erased, slot_aligned, written_more}
+use Rattle.upload.proofs.Writing.{behind_erased, no_bytes, slot_aligned, written_more}
 use Rattle.upload.proofs.slots.write_slot.Goals as goal
 
 pub overflow_add-slot_start : goal.overflow_add-slot_start
@@ -43,7 +44,10 @@ returns-then-is_empty g c =
     let none = nil_from_length c.args.bytes.now (eqb-true _ 0 (sym c.if-is_empty.ensures)) in
     record {
       outside = keeps_refl _ _ _;
+      range = same_outside_refl _ _ _;
+      none = λ none. refl;
       ok = λ front long was. rw (none, append-nil) was;
+      on = λ some. absurd (no_bytes c.args.bytes.now none some);
       erases = refl;
       ends = ends_well _ _ _ (uncut_refl _) (λ off. refl);
     }
@@ -54,11 +58,15 @@ returns g c = record {
       (length c.args.bytes.now) (g.F.Flash.chip c.args.flash.now) (g.F.Flash.chip c.program.new.self)
       c.requires.behind.laid_out c.program.ensures.outside (ap (λ k. k + c.args.at) c.slot_start.ensures)
       c.requires.behind.room;
+  range = subst (λ place. SameOutside (place + c.args.at) (length c.args.bytes.now) (g.F.Flash.chip c.args.flash.now)
+      (g.F.Flash.chip c.program.new.self)) c.slot_start.ensures c.program.ensures.outside;
+  none = λ none. absurd (no_bytes c.args.bytes.now none (search rules));
   ok = on_ok_weaker c.program.result (λ reads. λ front long was.
       written_more c.args.map.now (g.F.Flash.chip c.args.flash.now) (g.F.Flash.chip c.program.new.self) c.args.image
       c.args.at (c.slot_start.result + c.args.at) front c.args.bytes.now c.requires.behind.laid_out
       c.program.ensures.outside reads (ap (λ k. k + c.args.at) c.slot_start.ensures) c.requires.behind.room long was)
       c.program.ensures.ok;
+  on = on_ok_weaker c.program.result (λ on some. on) c.program.ensures.on;
   erases = c.program.ensures.erases;
   ends = c.program.ensures.ends;
 }

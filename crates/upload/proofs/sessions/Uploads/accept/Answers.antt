@@ -1,4 +1,4 @@
-use Rattle.upload.proofs.TakenRow.{accept_row, accept_open, accept_ends}
+use Rattle.upload.proofs.TakenRow.{accept_row, accept_open, accept_ends, table_stays}
 use Rattle.upload.proofs.sessions.Uploads.accept.Goals as goal
 
 pub returns : goal.returns
@@ -13,6 +13,8 @@ returns g c =
       all_open = accept_open map _ _ told _ _ sequence cs c.requires.there _ taken.accepts c.close_after.ensures;
       accepts = accept_ends map _ _ told _ _ sequence cs _ taken.accepts c.close_after.ensures;
       nothing = taken.nothing;
+      stays = table_stays _ told _ _ taken.stays c.close_after.ensures;
+      off = taken.off;
       equal = taken.equal;
       idle = taken.idle;
       erases = taken.erases;
