@@ -1,4 +1,4 @@
-use Rattle.std.proofs.Common.{◌+◌, ◌<◌, arith, ap, length, refl}
+use Rattle.std.proofs.Common.{arith, ap, refl}
 use Rattle.sector_map.proofs.Parts.{keeps_refl}
 use Rattle.upload.specs.declared.sessions.Upload.{Upload}
 use Rattle.upload.proofs.Added.{held_back}
