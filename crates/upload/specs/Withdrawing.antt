@@ -1,11 +1,13 @@
 -- What a call does that takes a request back: each record is one call.
-use Rattle.std.specs.Prelude.{◌≡◌, ◌≤◌, ◌<◌, ◌+◌, ℕ, false, List, Option, Result, Err, IfErr, OnOk}
+use Rattle.std.specs.Prelude.{◌≡◌, ◌≤◌, ◌<◌, ◌+◌, ℕ, false, List, Option, Result, Err, IfErr}
+use Rattle.std.specs.Prelude.{IsErrOf, OnOk}
+use Rattle.flash_model.specs.declared.error.FlashError.TheVariants.{Off}
 use Rattle.flash_model.specs.Chip.{Chip}
 use Rattle.sector_map.specs.declared.layout.SectorMap.{SectorMap}
 use Rattle.sector_map.specs.Part.{incoming_of}
 use Rattle.sector_map.specs.Map.{Keeps}
 use Rattle.upload.specs.declared.error.UploadError.{UploadError}
-use Rattle.upload.specs.declared.error.UploadError.TheVariants.{NothingRequested}
+use Rattle.upload.specs.declared.error.UploadError.TheVariants.{Flash, NothingRequested}
 use Rattle.upload.specs.declared.sessions.Upload.{Upload}
 use Rattle.upload.specs.View.{view}
 use Rattle.upload.specs.Device.{Machine}
@@ -24,6 +26,8 @@ pub record WithdrawsStanding (map : SectorMap) (image : ℕ) (old new : Chip)
   pub nothing : IfErr result (λ error. is_flash {T = Unit} (Err error) ≡ false → new ≡ old)
   -- and the slot's first sector and its trailer are erased once each where one does.
   pub erases : OnOk result (new.erases ≡ old.erases + 2)
+  -- A flash that is off is answered.
+  pub off : old.is_on ≡ false → IsErrOf result (Flash Off)
   pub ends : EndsUpload result old new
 
 -- A call of `withdraw`, with the table of uploads before and after it.
@@ -37,6 +41,8 @@ pub record WithdrawsRequest (map : SectorMap) (image : ℕ) (told tnew : List (O
   pub withdraws : image < map.images → EndsWithdraw (view map old) (view map new) image result
   -- and for any other number.
   pub unknown : map.images ≤ image → result ≡ Err NothingRequested
+  -- Of an image of the map a flash that is off is answered.
+  pub off : old.is_on ≡ false → image < map.images → IsErrOf result (Flash Off)
   -- Nothing changes where nothing is requested.
   pub nothing : IfErr result (λ error. is_flash {T = Unit} (Err error) ≡ false → new ≡ old)
   -- What is withdrawn costs the slot's first sector and its trailer one erase each.

@@ -13,6 +13,7 @@ returns g c =
       all_open = withdraw_open c.args.image _ _ (omega arith) kept told _ _ done.withdraws c.close_after.ensures;
       withdraws = λ there. done.withdraws;
       unknown = search rules;
+      off = λ off there. done.off off;
       nothing = done.nothing;
       erases = done.erases;
       table = c.close_after.ensures;
