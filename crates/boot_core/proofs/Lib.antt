@@ -16,6 +16,7 @@ mod Wholes
 pub mod Steps
 mod Afresh
 mod Resting
+mod Trials
 mod OnMap
 mod Passed
 pub mod Measured

@@ -1,5 +1,5 @@
 -- What a call of uploads leaves of a device: one that takes none now, and one that takes them.
-use Rattle.std.proofs.Common.{◌≡◌, Bool, true, false, List, Option, Result, Err, refl, sym, ◌∙◌, ap, subst}
+use Rattle.std.proofs.Common.{◌≡◌, Bool, true, false, List, Option, Result, Ok, Err, refl, sym, ◌∙◌, ap, subst}
 use Rattle.flash_model.specs.Chip.{Chip}
 use Rattle.flash_model.specs.declared.error.FlashError.TheVariants as flash
 use Rattle.sector_map.specs.declared.layout.SectorMap.{SectorMap}
@@ -18,7 +18,7 @@ use Rattle.machine.specs.Passing.{needs_rest, needs_up}
 use Rattle.machine.specs.Steps.{DeviceEvent}
 use Rattle.machine.specs.declared.error.Fault.{Fault}
 use Rattle.machine.specs.declared.error.Fault.TheVariants as no
-use Rattle.boot_core.specs.Answers.{IsNotBooted, is_stop}
+use Rattle.boot_core.specs.Answers.{IsNotBooted, IsOff, is_stop}
 use Rattle.boot_core.specs.Device.{made, seen}
 use Rattle.boot_core.specs.Ready.{IsReadiness}
 use Rattle.boot_core.specs.Taking.{ChecksReady, Stops, TakesHere}
@@ -74,9 +74,21 @@ module _ (map : SectorMap) (old mid : Chip) (told tnew : List (Option Upload)) (
       same = seen_same down;
     };
     refused = λ own. asked.same;
+    off = λ here off. record {
+      is = ap (λ f. Err f) after.is ∙ asked.off here off;
+      same = asked.same;
+    };
     ends = not_ready_ends (state_of map old) old mid told tnew up upn asked.same given fault after.is asked.ready
         (stops fault given told tnew up upn after);
   }
+
+ok_err : {T : Type 0} (done : T) (fault : Fault) → Ok done ≡ Err fault → ⊥
+ok_err done fault is = cc
+
+-- uploads are taken on a flash with power alone
+pub ready_on : (map : SectorMap) (old mid new : Chip) (up : Bool) (result : Result Unit Fault)
+    → ChecksReady map up old mid (Ok tt) → up ≡ true → old.is_on ≡ false → IsOff result old new
+ready_on map old mid new up result asked here off = absurd (ok_err tt _ (asked.off here off))
 
 -- nothing is asked of a device that is up
 pub not_down : (result : Result Unit Fault) (old new : DeviceView) → old.up ≡ true → old.up ≡ false

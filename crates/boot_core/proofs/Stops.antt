@@ -15,6 +15,7 @@ use Rattle.machine.specs.Boots.{is_answer}
 use Rattle.machine.specs.Passing.{reply_of}
 use Rattle.machine.specs.declared.finding.Finding.{Finding}
 use Rattle.machine.specs.declared.finding.Finding.TheVariants.{Decided, Damaged, Invalid}
+use Rattle.machine.specs.declared.error.Fault.{Fault}
 use Rattle.machine.specs.declared.error.Fault.TheVariants as no
 use Rattle.machine.specs.declared.reply.Reply.TheVariants.{Refused}
 use Rattle.machine.specs.declared.reply.Reply.{Reply}
@@ -209,9 +210,9 @@ flash_over flash.Cut map state old new ends on nothing = absurd nothing
 flash_over flash.Off map state old new ends on nothing = absurd (true_false (sym on ∙ ends.off refl))
 
 -- a flash that is off is the answer
-pub flash_off : (error : FlashError) (old new : Chip) → Ends {T = Reply} (Err error) old new
-    → IsErrOf {T = Reply} (Err error) flash.Off → IsOff {T = Reply} (Err (no.Flash error)) old new
-flash_off error old new ends is = record {
-  is = let same : error ≡ flash.Off = cc in ap (λ (e : FlashError). Err (no.Flash e)) same;
+pub flash_off : {S T : Type 0} (error : FlashError) (given : Fault) (old new : Chip) → given ≡ no.Flash error
+    → Ends {T = S} (Err error) old new → IsErrOf {T = S} (Err error) flash.Off → IsOff {T = T} (Err given) old new
+flash_off error given old new passed ends is = record {
+  is = let same : error ≡ flash.Off = cc in ap (λ f. Err f) (passed ∙ ap (λ e. no.Flash e) same);
   same = ends.asleep (ends.off is);
 }

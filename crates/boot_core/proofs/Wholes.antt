@@ -25,5 +25,6 @@ device_takes event touched map identity boots old new whole result is took =
       outside = took.outside;
       down = took.down;
       refused = took.refused;
+      off = took.off;
       ends = took.ends;
     })

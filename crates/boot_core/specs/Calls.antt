@@ -1,12 +1,13 @@
 -- What the calls of a device do, and what a run of events on it does.
 use Rattle.std.specs.Prelude.{◌≡◌, ◌⊎◌, ℕ, ◌+◌, Bool, true, false, List, length, None, Some, Vec}
-use Rattle.std.specs.Prelude.{Result, Err, IfErr, IfOk}
+use Rattle.std.specs.Prelude.{Result, Err, IfErr, IfOk, OnOk}
 use Rattle.std.specs.Borrow.{Bor}
 use Rattle.events.specs.declared.event.Event.TheVariants as event
 use Rattle.flash_model.specs.Chip.{Chip}
 use Rattle.sector_map.specs.declared.layout.SectorMap.{SectorMap}
 use Rattle.sector_map.specs.Map.{Keeps}
-use Rattle.sector_map.specs.Part.{Part, any_part, incoming_of}
+use Rattle.sector_map.specs.Part.{Part, TrailerOf, any_part, incoming_of, only}
+use Rattle.sector_map.specs.declared.layout.Side.TheVariants.{Primary}
 use Rattle.manifest.specs.declared.error.ManifestError.TheVariants.{NoComponent}
 use Rattle.manifest.specs.declared.identity.Identity.{Identity}
 use Rattle.manifest.specs.declared.manifest.Manifest as given
@@ -31,7 +32,8 @@ use Rattle.boot_core.specs.Answers.{EndsCall, IsBootReply, IsNotBooted, IsOff, i
 use Rattle.boot_core.specs.Answers.{reply_of_boot, reply_of_result}
 use Rattle.boot_core.specs.Device.{StaysHeld, Whole, made}
 use Rattle.boot_core.specs.Found.{IsStopped}
-use Rattle.boot_core.specs.Ready.{LogsNoTrial, RefusesManifest}
+use Rattle.boot_core.specs.Ready.{LogsNoTrial, LogsTrialOf, RefusesManifest}
+use Rattle.boot_core.specs.Confirming.{IsOkSet}
 use Rattle.boot_core.specs.Over.{IsOverAlone}
 use Rattle.boot_core.specs.Wear.{DoesNothing, IsWorn}
 
@@ -118,6 +120,9 @@ pub record Takes (event : DeviceEvent) (touched : Part → Bool) (old new : Whol
   -- and nothing where a refusal is not of the flash.
   pub refused : IfErr result (λ fault. is_stop fault ≡ false
       → new.here.flash ≡ old.here.flash)
+  -- Where the flash is off, that is the answer of a device that is up, and the flash is as it was.
+  pub off : old.here.up ≡ true → old.here.flash.is_on ≡ false
+      → IsOff result old.here.flash new.here.flash
   -- A cut is told where a write was cut and nowhere else, and that the flash is off where it was.
   pub ends : EndsCall (reply_of_result result) old.here new.here
 
@@ -148,6 +153,9 @@ pub record TakesManifest (manifest : given.Manifest) (old new : Whole) (result :
       → new.here.flash ≡ old.here.flash)
   -- No other refusal is of the manifest as such.
   pub told : IfErr result (RefusesManifest old.setup.identity manifest)
+  -- Where the flash is off, that is the answer of a device that is up, and the flash is as it was.
+  pub off : old.here.up ≡ true → old.here.flash.is_on ≡ false
+      → IsOff result old.here.flash new.here.flash
   -- A cut is told where a write was cut and nowhere else, and that the flash is off where it was.
   pub ends : EndsCall (reply_of_result result) old.here new.here
 
@@ -163,6 +171,41 @@ pub record FinishesUpload (image : ℕ) (old new : Whole) (result : Result Unit 
   pub outside : Keeps old.setup.map (incoming_of image) old.here.flash new.here.flash
   -- and nothing where the device isn't up, which is the answer then.
   pub down : old.here.up ≡ false → IsNotBooted result old.here new.here
+  -- Where the flash is off, that is the answer of a device that is up, and the flash is as it was.
+  pub off : old.here.up ≡ true → old.here.flash.is_on ≡ false
+      → IsOff result old.here.flash new.here.flash
+  -- A cut is told where a write was cut and nowhere else, and that the flash is off where it was.
+  pub ends : EndsCall (reply_of_result result) old.here new.here
+
+-- A device confirms an image.
+pub record ConfirmsTried (image : ℕ) (old new : Whole) (result : Result Unit Fault) : Type 0 where
+  -- What it was made with stays.
+  pub setup : new.setup ≡ old.setup
+  -- On a flash with power the call is a step of the machine, to a state that the device holds then.
+  pub steps : old.here.flash.is_on ≡ true
+      → StepsTo old.setup old.here new.here (event.Confirm image) (reply_of_result result)
+  -- On any flash only the trailer of what the image runs is touched:
+  pub outside : Keeps old.setup.map (only (TrailerOf image Primary)) old.here.flash new.here.flash
+  -- nothing where the device isn't up, which is the answer then,
+  pub down : old.here.up ≡ false → IsNotBooted result old.here new.here
+  -- and nothing where a refusal is not of the flash.
+  pub refused : IfErr result (λ fault. is_stop fault ≡ false
+      → new.here.flash ≡ old.here.flash)
+  -- On any flash a call that ends found the image on trial by the log, and image_ok of its primary
+  -- trailer is set then.
+  pub ok : OnOk result
+      (LogsTrialOf old.setup.map.images image (state_of old.setup.map old.here.flash)
+      × IsOkSet old.setup.map image new.here.flash)
+  -- That it isn't on trial is the answer where the log doesn't say so, and nothing changes then,
+  pub untried : old.here.up ≡ true → old.here.flash.is_on ≡ true
+      → (LogsTrialOf old.setup.map.images image (state_of old.setup.map old.here.flash) → ⊥)
+      → (result ≡ Err no.NotOnTrial) × (new.here ≡ old.here)
+  -- and nowhere else.
+  pub tried : LogsTrialOf old.setup.map.images image (state_of old.setup.map old.here.flash)
+      → result ≡ Err no.NotOnTrial → ⊥
+  -- Where the flash is off, that is the answer of a device that is up, and the flash is as it was.
+  pub off : old.here.up ≡ true → old.here.flash.is_on ≡ false
+      → IsOff result old.here.flash new.here.flash
   -- A cut is told where a write was cut and nowhere else, and that the flash is off where it was.
   pub ends : EndsCall (reply_of_result result) old.here new.here
 

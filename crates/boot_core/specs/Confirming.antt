@@ -1,22 +1,41 @@
 -- What a call does that confirms an image: each record is one call.
-use Rattle.std.specs.Prelude.{◌≡◌, ◌⊎◌, ℕ, Bool, true, false, Result, IfOk, IsErrOf}
+use Rattle.std.specs.Prelude.{◌≡◌, ◌⊎◌, ℕ, ◌<◌, Bool, true, false, Result, Ok, Err, IfOk, IsErrOf}
 use Rattle.flash_model.specs.Chip.{Chip, Ends}
 use Rattle.flash_model.specs.declared.error.FlashError.{FlashError}
-use Rattle.flash_model.specs.declared.error.FlashError.TheVariants.{Cut}
+use Rattle.flash_model.specs.declared.error.FlashError.TheVariants.{Cut, Off}
 use Rattle.sector_map.specs.Map.{Keeps}
-use Rattle.sector_map.specs.Part.{only, TrailerOf}
+use Rattle.sector_map.specs.Part.{is_member, only, TrailerOf}
 use Rattle.sector_map.specs.declared.layout.SectorMap.{SectorMap}
 use Rattle.sector_map.specs.declared.layout.Side.TheVariants.{Primary}
+use Rattle.trailer.specs.Fields.{fields_at}
+use Rattle.set_log.specs.Log.{state_of}
 use Rattle.upload.specs.Device.{DeviceState, Trial}
 use Rattle.upload.specs.View.{view}
 use Rattle.machine.specs.Boots.{IsOnTrial}
 use Rattle.machine.specs.Holding.{IsTrialAt, IsAtRest}
 use Rattle.machine.specs.Passing.{CutsConfirm, EndsConfirm}
 use Rattle.machine.specs.States.{with_confirmed}
+use Rattle.boot_core.specs.Ready.{LogsTrialOf}
+
+-- image_ok of the primary trailer of an image is set.
+abbrev pub IsOkSet : SectorMap → ℕ → Chip → Type 0
+IsOkSet map image chip = (fields_at map chip image Primary).image_ok ≡ true
+
+-- What each answer tells where an image is confirmed exactly if it is on trial: whether it is, and
+-- after yes it is confirmed in its trailer. Only an image on trial is cut in being confirmed.
+abbrev pub AnswersTrial : Type 0 → SectorMap → ℕ → Chip → Chip → Result Bool FlashError → Type 0
+AnswersTrial OnTrial map image old new (Ok true) = OnTrial × IsOkSet map image new
+AnswersTrial OnTrial map image old new (Ok false) = OnTrial → ⊥
+AnswersTrial OnTrial map image old new (Err Cut) = OnTrial
+AnswersTrial OnTrial map image old new (Err Off) = old.is_on ≡ false
+
+-- An image of the map is in a mask.
+abbrev pub IsOfSet : SectorMap → ℕ → ℕ → Type 0
+IsOfSet map mask image = (image < map.images) × (is_member mask image ≡ true)
 
 -- A call confirms an image where it is of the set that this record has on trial, and answers
 -- whether it is.
-pub record ConfirmsImage (map : SectorMap) (image : ℕ) (old new : Chip)
+pub record ConfirmsImage (map : SectorMap) (mask image : ℕ) (old new : Chip)
     (result : Result Bool FlashError) : Type 0 where
   -- Nothing is written but the trailer of what the image runs.
   pub outside : Keeps map (only (TrailerOf image Primary)) old new
@@ -32,6 +51,8 @@ pub record ConfirmsImage (map : SectorMap) (image : ℕ) (old new : Chip)
   pub none : IfOk result (λ yes. yes ≡ false → (s : DeviceState) (trial : Trial)
       → IsTrialAt (view map old) s trial
       → IsTrialAt (view map new) s trial × ((other : Trial) → IsOnTrial s image other → ⊥))
+  -- On any flash the answer is whether the image is of the set.
+  pub answers : AnswersTrial (IsOfSet map mask image) map image old new result
   -- Only an image that is on trial is cut in being confirmed.
   pub tried : IsErrOf result Cut → (s : DeviceState) (trial : Trial)
       → IsTrialAt (view map old) s trial → IsOnTrial s image trial
@@ -50,6 +71,11 @@ pub record Confirms (map : SectorMap) (image : ℕ) (old new : Chip)
   -- Else it is confirmed, or isn't on trial and all stands as it was.
   pub ok : IfOk result (λ yes. (s : DeviceState) → IsAtRest (view map old) s
       → EndsConfirm (view map new) s image yes)
+  -- On any flash the answer is whether the log says that the image is on trial.
+  pub answers : AnswersTrial (LogsTrialOf map.images image (state_of map old)) map image old new
+      result
+  -- A flash that is off is the answer.
+  pub off : old.is_on ≡ false → IsErrOf result Off
   -- With the answer no the flash is as it was.
   pub same : IfOk result (λ yes. yes ≡ false → new ≡ old)
   pub ends : Ends result old new

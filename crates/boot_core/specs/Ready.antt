@@ -1,5 +1,5 @@
 -- Whether a device takes uploads now.
-use Rattle.std.specs.Prelude.{◌≡◌, ℕ, Bool, true, false, List, Option, Some, None, Result, Ok, Err}
+use Rattle.std.specs.Prelude.{◌≡◌, ℕ, ◌<◌, Bool, true, false, List, Option, Some, None, Result, Ok, Err}
 use Rattle.flash_model.specs.declared.error.FlashError.TheVariants as flash
 use Rattle.manifest.specs.declared.identity.Identity.{Identity}
 use Rattle.manifest.specs.declared.manifest.Manifest.{Manifest}
@@ -7,6 +7,7 @@ use Rattle.manifest.specs.Fault.{IsRefusal}
 use Rattle.manifest.specs.Manifest.{NamesImages}
 use Rattle.manifest.specs.declared.error.ManifestError.{ManifestError}
 use Rattle.manifest.specs.declared.error.ManifestError.TheVariants as text
+use Rattle.sector_map.specs.Part.{is_member}
 use Rattle.set_log.specs.declared.state.State.{State}
 use Rattle.set_log.specs.declared.state.Kind.TheVariants as log
 use Rattle.machine.specs.declared.error.Fault.{Fault}
@@ -15,6 +16,14 @@ use Rattle.machine.specs.declared.error.Fault.TheVariants as no
 -- A set is on trial, by the log.
 abbrev pub LogsTrial : Option State → Type 0
 LogsTrial recorded = (state : State) × (recorded ≡ Some state) × (state.kind ≡ log.Trial)
+
+-- A set is on trial, by the log, and an image of so many is in it.
+pub record LogsTrialOf (images image : ℕ) (recorded : Option State) : Type 0 where
+  pub state : State
+  pub logged : recorded ≡ Some state
+  pub trial : state.kind ≡ log.Trial
+  pub there : image < images
+  pub member : is_member state.mask image ≡ true
 
 -- The log has a state, and no set is on trial.
 abbrev pub LogsNoTrial : Option State → Type 0

@@ -1,12 +1,14 @@
 -- What a call does that takes an event of a device: on the flash, in the table of uploads, and to
 -- whether it is up.
-use Rattle.std.specs.Prelude.{◌≡◌, ℕ, Bool, true, false, List, Option, Result, Err, IfErr}
+use Rattle.std.specs.Prelude.{◌≡◌, ℕ, Bool, true, false, List, Option, Result, Err, IfErr, OnOk}
 use Rattle.std.specs.Borrow.{Bor}
 use Rattle.events.specs.declared.event.Event.TheVariants as event
 use Rattle.flash_model.specs.Chip.{Chip}
+use Rattle.flash_model.specs.declared.error.FlashError.TheVariants.{Off}
 use Rattle.sector_map.specs.declared.layout.SectorMap.{SectorMap}
 use Rattle.sector_map.specs.Map.{IsLaidOut, Keeps}
-use Rattle.sector_map.specs.Part.{Part, any_part, incoming_of}
+use Rattle.sector_map.specs.Part.{Part, TrailerOf, any_part, incoming_of, only}
+use Rattle.sector_map.specs.declared.layout.Side.TheVariants.{Primary}
 use Rattle.manifest.specs.declared.error.ManifestError.TheVariants.{NoComponent}
 use Rattle.manifest.specs.declared.identity.Identity.{Identity}
 use Rattle.manifest.specs.declared.manifest.Manifest as given
@@ -21,9 +23,10 @@ use Rattle.machine.specs.Passing.{StepsTo}
 use Rattle.machine.specs.Steps.{DeviceEvent}
 use Rattle.machine.specs.declared.error.Fault.{Fault}
 use Rattle.machine.specs.declared.error.Fault.TheVariants as no
-use Rattle.boot_core.specs.Answers.{EndsCall, IsNotBooted, is_stop, reply_of_result}
+use Rattle.boot_core.specs.Answers.{EndsCall, IsNotBooted, IsOff, is_stop, reply_of_result}
+use Rattle.boot_core.specs.Confirming.{IsOkSet}
 use Rattle.boot_core.specs.Device.{StaysHeld, made}
-use Rattle.boot_core.specs.Ready.{IsReadiness, LogsNoTrial, RefusesManifest}
+use Rattle.boot_core.specs.Ready.{IsReadiness, LogsNoTrial, LogsTrialOf, RefusesManifest}
 
 -- A call asks whether uploads are taken now.
 pub record ChecksReady (map : SectorMap) (is_up : Bool) (old new : Chip)
@@ -32,6 +35,8 @@ pub record ChecksReady (map : SectorMap) (is_up : Bool) (old new : Chip)
   pub same : new ≡ old
   -- and the answer is the first check that fails.
   pub ready : IsReadiness result is_up (state_of map old) old.is_on
+  -- A flash that is off is the answer of a device that is up.
+  pub off : is_up ≡ true → old.is_on ≡ false → result ≡ Err (no.Flash Off)
 
 -- A call passes a fault on, and stops the device where the flash is its reason.
 pub record Stops (fault : Fault) (old : List (Option Upload)) (was_up : Bool)
@@ -63,6 +68,8 @@ pub record TakesHere (map : SectorMap) (event : DeviceEvent) (touched : Part →
   pub down : old.up ≡ false → IsNotBooted result old new
   -- and nothing of the flash where a refusal is not of the flash.
   pub refused : IfErr result (λ fault. is_stop fault ≡ false → new.flash ≡ old.flash)
+  -- Where the flash is off that is the answer of a device that is up, and nothing is written.
+  pub off : old.up ≡ true → old.flash.is_on ≡ false → IsOff result old.flash new.flash
   pub ends : EndsCall (reply_of_result result) old new
 
 -- A call takes a manifest of a device that has this map and this identity.
@@ -81,6 +88,8 @@ pub record AcceptsHere (map : SectorMap) (identity : Identity) (text : Bor (List
   pub down : old.up ≡ false → IsNotBooted result old new
   -- and nothing of the flash where a refusal is not of the flash.
   pub refused : IfErr result (λ fault. is_stop fault ≡ false → new.flash ≡ old.flash)
+  -- Where the flash is off that is the answer of a device that is up, and nothing is written.
+  pub off : old.up ≡ true → old.flash.is_on ≡ false → IsOff result old.flash new.flash
   pub ends : EndsCall (reply_of_result result) old new
 
 -- A call opens the uploads of a manifest, on a device that takes uploads.
@@ -132,6 +141,8 @@ pub record TakesManifestHere (map : SectorMap) (identity : Identity) (manifest :
   pub refused : IfErr result (λ fault. is_stop fault ≡ false → new.flash ≡ old.flash)
   -- No other refusal is of the manifest as such.
   pub told : IfErr result (RefusesManifest identity manifest)
+  -- Where the flash is off that is the answer of a device that is up, and nothing is written.
+  pub off : old.up ≡ true → old.flash.is_on ≡ false → IsOff result old.flash new.flash
   pub ends : EndsCall (reply_of_result result) old new
 
 -- A call finishes an upload of a device that has this map.
@@ -148,4 +159,36 @@ pub record FinishesHere (map : SectorMap) (image : ℕ) (old new : DeviceView)
   pub outside : Keeps map (incoming_of image) old.flash new.flash
   -- and nothing where the device isn't up.
   pub down : old.up ≡ false → IsNotBooted result old new
+  -- Where the flash is off that is the answer of a device that is up, and nothing is written.
+  pub off : old.up ≡ true → old.flash.is_on ≡ false → IsOff result old.flash new.flash
+  pub ends : EndsCall (reply_of_result result) old new
+
+-- A call confirms an image of a device that has this map.
+pub record ConfirmsHere (map : SectorMap) (image : ℕ) (old new : DeviceView)
+    (result : Result Unit Fault) : Type 0 where
+  -- The map is still laid out on the flash,
+  pub laid : IsLaidOut map new.flash
+  -- and the open uploads stand on it.
+  pub opens : AllOpenAt (view map new.flash) new.sessions
+  -- On a flash with power it is a step of the machine, whatever else the device was made with.
+  pub steps : (identity : Identity) (boots : ℕ) → old.flash.is_on ≡ true
+      → StepsTo (made map identity boots) old new (event.Confirm image) (reply_of_result result)
+  -- Only the trailer of what the image runs is touched:
+  pub outside : Keeps map (only (TrailerOf image Primary)) old.flash new.flash
+  -- nothing where the device isn't up,
+  pub down : old.up ≡ false → IsNotBooted result old new
+  -- and nothing of the flash where a refusal is not of the flash.
+  pub refused : IfErr result (λ fault. is_stop fault ≡ false → new.flash ≡ old.flash)
+  -- Where the call ends the log says that the image is on trial, and it is confirmed then.
+  pub ok : OnOk result (LogsTrialOf map.images image (state_of map old.flash)
+      × IsOkSet map image new.flash)
+  -- That it isn't on trial is told where the log doesn't say so, and nothing changes then,
+  pub untried : old.up ≡ true → old.flash.is_on ≡ true
+      → (LogsTrialOf map.images image (state_of map old.flash) → ⊥)
+      → (result ≡ Err no.NotOnTrial) × (new ≡ old)
+  -- and nowhere else.
+  pub tried : LogsTrialOf map.images image (state_of map old.flash)
+      → result ≡ Err no.NotOnTrial → ⊥
+  -- Where the flash is off that is the answer of a device that is up, and nothing is written.
+  pub off : old.up ≡ true → old.flash.is_on ≡ false → IsOff result old.flash new.flash
   pub ends : EndsCall (reply_of_result result) old new

@@ -1,13 +1,10 @@
 //! Confirming an image on trial.
 
 ghost use Rattle.std.specs.Prelude.{◌≡◌, true, false, Some};
-ghost use Rattle.events.specs.declared.event.Event.TheVariants as event;
 ghost use Rattle.boot_core.specs.Confirming.{Confirms, ConfirmsImage};
 ghost use Rattle.boot_core.specs.Device.{seen};
-ghost use Rattle.boot_core.specs.Taking.{TakesHere};
+ghost use Rattle.boot_core.specs.Taking.{ConfirmsHere};
 ghost use Rattle.sector_map.specs.Map.{IsLaidOut};
-ghost use Rattle.sector_map.specs.Part.{TrailerOf, only};
-ghost use Rattle.sector_map.specs.declared.layout.Side.TheVariants.{Primary};
 ghost use Rattle.set_log.specs.Log.{state_of};
 ghost use Rattle.set_log.specs.declared.state.Kind.{Kind};
 ghost use Rattle.upload.specs.Sessions.{AllOpenAt};
@@ -30,7 +27,8 @@ fn confirm_image<F: Flash>(
 ) -> Result<bool, FlashError>
     requires laid_out { IsLaidOut map.now (F.chip flash.old) }
     requires read { state_of map.now (F.chip flash.old) ≡ Some state.now }
-    ensures { ConfirmsImage map.now image (F.chip flash.old) (F.chip flash.new) result }
+    ensures { ConfirmsImage map.now state.now.mask image
+        (F.chip flash.old) (F.chip flash.new) result }
 {
     if image >= map.images {
         return Ok(false);
@@ -91,7 +89,7 @@ pub fn confirm_on<F: Flash>(
 ) -> Result<(), Fault>
     requires laid_out { IsLaidOut map.now (F.chip flash.old) }
     requires opens { AllOpenAt (view map.now (F.chip flash.old)) uploads.old.sessions }
-    ensures { TakesHere map.now (event.Confirm image) (only (TrailerOf image Primary))
+    ensures { ConfirmsHere map.now image
         (seen (F.chip flash.old) uploads.old.sessions is_up.old)
         (seen (F.chip flash.new) uploads.new.sessions is_up.new) result }
 {

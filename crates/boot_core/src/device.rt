@@ -4,9 +4,9 @@ ghost use Rattle.std.specs.Prelude.{◌≡◌, ◌≤◌};
 ghost use Rattle.common.specs.Limits.{MOST_TRIAL_BOOTS};
 ghost use Rattle.events.specs.declared.event.Event.TheVariants as event;
 ghost use Rattle.sector_map.specs.Map.{IsLaidOut};
-ghost use Rattle.sector_map.specs.Part.{Slot, TrailerOf, any_part, incoming_of, only};
-ghost use Rattle.sector_map.specs.declared.layout.Side.TheVariants.{Primary, Secondary};
-ghost use Rattle.boot_core.specs.Calls.{BootsDevice, FinishesUpload, IsNew, Resets, Takes};
+ghost use Rattle.sector_map.specs.Part.{Slot, any_part, incoming_of, only};
+ghost use Rattle.sector_map.specs.declared.layout.Side.TheVariants.{Secondary};
+ghost use Rattle.boot_core.specs.Calls.{BootsDevice, ConfirmsTried, FinishesUpload, IsNew, Resets, Takes};
 ghost use Rattle.boot_core.specs.Calls.{TakesManifest};
 
 use crate::boots::boot_device;
@@ -235,8 +235,7 @@ impl<F: Flash> Device<F> {
     /// `Flash` where power failed or the flash was off: the device isn't up and no upload is open;
     /// after a cut the image is confirmed or as it was.
     pub fn confirm(&mut self, image: u8) -> Result<(), Fault>
-        ensures { Takes (event.Confirm image) (only (TrailerOf image Primary))
-            self.old self.new result }
+        ensures { ConfirmsTried image self.old self.new result }
     {
         confirm_on(
             &mut self.flash,

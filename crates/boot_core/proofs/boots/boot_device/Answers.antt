@@ -78,6 +78,6 @@ returns-in_err-reply g c =
           flash_stopped c.args.map.now state old new error finding permanent is;
       idle = λ state stood kind nothing. flash_idle error old new ends nothing;
       over = λ on state stood kind nothing. flash_over error c.args.map.now state old new ends on nothing;
-      off = λ off. flash_off error old new ends (c.in_err-reply.ensures.off off);
+      off = λ off. flash_off error (no.Flash error) old new refl ends (c.in_err-reply.ensures.off off);
       ends = stopped_ends old new _ _ _ _ c.new.ensures refl error ends;
     })

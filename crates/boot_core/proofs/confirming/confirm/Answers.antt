@@ -1,6 +1,11 @@
+use Rattle.std.proofs.Common.{◌≡◌, ◌∙◌, true, false, sym}
 use Rattle.machine.proofs.Confirming.{confirm_cut, confirm_ends}
 use Rattle.machine.proofs.Stepping.{if_ok_both}
+use Rattle.boot_core.proofs.Trials.{logged_trial}
 use Rattle.boot_core.proofs.confirming.confirm.Goals as goal
+
+true_false : true ≡ false → ⊥
+true_false e = cc
 
 pub returns-then-on_trial : goal.returns-then-on_trial
 returns-then-on_trial g c = record {
@@ -13,6 +18,10 @@ returns-then-on_trial g c = record {
       confirm_ends c.args.map.now _ _ _ c.in-Ok.state c.args.image c.read_state.ensures.same c.in-Ok.ensures.answers.0
       (c.is_trial-on_trial.ensures.yes c.if-on_trial.true) b done none)
       c.confirm_image.ensures.done c.confirm_image.ensures.none;
+  answers = logged_trial c.args.map.now c.args.image _ c.in-Ok.state c.in-Ok.ensures.answers.0
+      (c.is_trial-on_trial.ensures.yes c.if-on_trial.true) _ _ c.confirm_image.result c.read_state.ensures.same
+      c.confirm_image.ensures.answers;
+  off = λ off. absurd (true_false (sym c.in-Ok.ensures.answers.1 ∙ off));
   same = rw c.read_state.ensures.same at c.confirm_image.ensures.same;
   ends = rw c.read_state.ensures.same at c.confirm_image.ensures.ends;
 }

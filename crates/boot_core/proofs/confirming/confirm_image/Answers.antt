@@ -1,7 +1,9 @@
-use Rattle.std.proofs.Common.{rules, arith, ◌≡◌, ◌<◌, true}
+use Rattle.std.proofs.Common.{rules, arith, ◌≡◌, ◌<◌, true, ap}
 use Rattle.sector_map.specs.Part.{is_member}
+use Rattle.trailer.specs.Fields.{Fields}
 use Rattle.upload.proofs.Ends.{err_passed}
 use Rattle.machine.proofs.Confirming.{confirm_either, confirm_yes}
+use Rattle.boot_core.proofs.Trials.{set_answers}
 use Rattle.boot_core.proofs.Passed.{err_ends, ok_ends}
 use Rattle.boot_core.proofs.confirming.confirm_image.Goals as goal
 
@@ -16,6 +18,8 @@ returns-in_err-set_ok g c =
           c.set_ok.ensures.outside c.set_ok.ensures.either;
       done = tt;
       none = tt;
+      answers = set_answers _ c.args.map.now _ _ c.args.image c.in_err-set_ok.field-0.0 c.in_err-set_ok.ensures.ends
+          (omega arith, search rules);
       tried = search rules;
       same = tt;
       ends = err_ends c.in_err-set_ok.ensures.ends;
@@ -35,6 +39,10 @@ returns g c = record {
       confirm_yes c.args.map.now _ _ c.args.state.now c.args.image c.requires.read lt member
       c.set_ok.ensures.outside c.in_ok-set_ok.ensures.ok;
   none = search rules;
+  answers = (
+    (omega arith, search rules),
+    ap (λ (t : Fields). t.image_ok) c.in_ok-set_ok.ensures.ok,
+  );
   tried = search rules;
   same = search rules;
   ends = ok_ends c.in_ok-set_ok.ensures.ends;

@@ -1,4 +1,4 @@
-use Rattle.std.proofs.Common.{refl, subst, sym}
+use Rattle.std.proofs.Common.{◌≡◌, Ok, Err, ap, refl, subst, sym}
 use Rattle.events.specs.declared.event.Event.TheVariants as event
 use Rattle.sector_map.proofs.Parts.{laid_out_kept}
 use Rattle.upload.proofs.OpenOnes.{open_none}
@@ -8,10 +8,19 @@ use Rattle.machine.proofs.Uploading.{open_confirmed}
 use Rattle.machine.specs.declared.error.Fault.TheVariants as no
 use Rattle.machine.specs.declared.reply.Reply.TheVariants.{Done, Refused}
 use Rattle.boot_core.specs.Answers.{fault_reply}
+use Rattle.set_log.specs.Log.{state_of}
 use Rattle.boot_core.specs.Device.{made, seen}
+use Rattle.boot_core.specs.Ready.{LogsTrialOf}
 use Rattle.boot_core.proofs.Stopping.{confirm_stopped, ended, no_own, stopped_ends}
+use Rattle.machine.specs.declared.error.Fault.{Fault}
 use Rattle.boot_core.proofs.NotReady.{not_down}
+use Rattle.boot_core.proofs.Passed.{ok_no_err}
+use Rattle.boot_core.proofs.Stops.{flash_off}
+use Rattle.boot_core.proofs.Trials.{flash_not_tried, stops_tried}
 use Rattle.boot_core.proofs.confirming.confirm_on.Goals as goal
+
+ok_err : {T : Type 0} (done : T) (fault : Fault) → Ok done ≡ Err fault → ⊥
+ok_err done fault is = cc
 
 pub returns-in-Ok-true : goal.returns-in-Ok-true
 returns-in-Ok-true g c = record {
@@ -24,6 +33,10 @@ returns-in-Ok-true g c = record {
   outside = c.confirm.ensures.outside;
   down = not_down _ _ _ c.if-not-is_up.false;
   refused = tt;
+  ok = rw c.in-Ok-true.field-0-test at c.in-Ok-true.ensures.answers;
+  untried = λ up on never. absurd (never (rw c.in-Ok-true.field-0-test at c.in-Ok-true.ensures.answers).0);
+  tried = λ logged is. ok_err _ _ is;
+  off = λ up off. absurd (ok_no_err _ _ (c.in-Ok-true.ensures.off off));
   ends = ended _ _ _ _ _ _ Done refl refl c.in-Ok-true.ensures.ends.uncut;
 }
 
@@ -38,6 +51,14 @@ returns-in-Ok-false g c = record {
   outside = c.confirm.ensures.outside;
   down = not_down _ _ _ c.if-not-is_up.false;
   refused = λ own. c.in-Ok-false.ensures.same c.in-Ok-false.field-0-test;
+  ok = tt;
+  untried = λ up on never. (
+    refl,
+    ap (λ chip. seen chip c.args.uploads.now.sessions c.args.is_up.now)
+        (c.in-Ok-false.ensures.same c.in-Ok-false.field-0-test),
+  );
+  tried = λ logged is. (rw c.in-Ok-false.field-0-test at c.in-Ok-false.ensures.answers) logged;
+  off = λ up off. absurd (ok_no_err _ _ (c.in-Ok-false.ensures.off off));
   ends = ended _ _ _ _ _ _ (Refused no.NotOnTrial) refl refl c.in-Ok-false.ensures.ends.uncut;
 }
 
@@ -56,6 +77,14 @@ returns-in-Err g c = record {
   outside = c.confirm.ensures.outside;
   down = not_down _ _ _ c.if-not-is_up.false;
   refused = λ own. absurd (no_own c.in-Err.error c.stop.result c.stop.ensures.is own);
+  ok = tt;
+  untried = λ up on never. absurd (stops_tried (LogsTrialOf c.args.map.now.images c.args.image (state_of c.args.map.now (g.F.Flash.chip c.args.flash.now)))
+      c.args.map.now c.args.image (g.F.Flash.chip c.args.flash.now) (g.F.Flash.chip c.confirm.new.flash) c.in-Err.error
+      c.in-Err.ensures.answers on never);
+  tried = λ logged. flash_not_tried c.in-Err.error c.stop.result _ c.stop.ensures.is refl;
+  off = λ up off. flash_off c.in-Err.error c.stop.result (g.F.Flash.chip c.args.flash.now) (g.F.Flash.chip c.confirm.new.flash)
+      c.stop.ensures.is c.in-Err.ensures.ends
+      (c.in-Err.ensures.off off);
   ends = rw c.stop.ensures.is (stopped_ends _ _ _ _ _ _ (c.stop.ensures.closed refl) (c.stop.ensures.down refl)
       c.in-Err.error c.in-Err.ensures.ends);
 }

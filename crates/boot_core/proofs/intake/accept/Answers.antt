@@ -7,7 +7,7 @@ use Rattle.upload.specs.Sessions.{AllOpenAt}
 use Rattle.upload.specs.View.{view}
 use Rattle.boot_core.specs.Device.{made, seen}
 use Rattle.boot_core.proofs.Given.{opened_after}
-use Rattle.boot_core.proofs.NotReady.{declines, kept_after, not_down}
+use Rattle.boot_core.proofs.NotReady.{declines, kept_after, not_down, ready_on}
 use Rattle.boot_core.proofs.Texts.{text_ends, text_steps}
 use Rattle.boot_core.proofs.intake.accept.Goals as goal
 
@@ -25,6 +25,7 @@ returns-in-Err g c =
       outside = declined.outside;
       down = declined.down;
       refused = declined.refused;
+      off = declined.off;
       ends = declined.ends;
     }
 
@@ -50,6 +51,8 @@ returns g c =
           (seen (g.F.Flash.chip c.open_uploads.new.flash) c.open_uploads.new.uploads.sessions c.open_uploads.new.is_up)
           c.in-Ok.ensures.ready.0;
       refused = opened.refused;
+      off = ready_on c.args.map.now old mid (g.F.Flash.chip c.open_uploads.new.flash) c.args.is_up.now
+          c.open_uploads.result c.in-Ok.ensures;
       ends = opened.ends;
     }
 
@@ -73,5 +76,6 @@ returns-in_err-manifest g c =
       outside = kept_after map any_part old mid mid same (keeps_refl map any_part mid);
       down = not_down (Err fault) (seen old told up) (seen mid told up) ready.0;
       refused = λ own. same;
+      off = ready_on map old mid mid up (Err fault) c.in-Ok.ensures;
       ends = text_ends c.args.identity.now c.args.text.now old mid told up same fault c.in_err-manifest.ensures.refused;
     })

@@ -14,7 +14,7 @@ use Rattle.machine.specs.declared.reply.Reply.TheVariants.{Refused}
 use Rattle.boot_core.specs.Device.{made, seen}
 use Rattle.boot_core.specs.Ready.{RefusesManifest}
 use Rattle.boot_core.proofs.Given.{not_ready_told, opened_after, ready_not}
-use Rattle.boot_core.proofs.NotReady.{declines, kept_after, not_down}
+use Rattle.boot_core.proofs.NotReady.{declines, kept_after, not_down, ready_on}
 use Rattle.boot_core.proofs.Stopping.{IsStopped, idle_ends, not_ready}
 use Rattle.boot_core.proofs.intake.accept_manifest.Goals as goal
 
@@ -53,6 +53,7 @@ returns-in-Err g c =
       refused = declined.refused;
       told = subst (λ fault. RefusesManifest c.args.identity.now c.args.manifest.now fault) (sym c.stop.ensures.is)
           (not_ready_told c.args.identity.now c.args.manifest.now _ _ _ c.in-Err.fault c.in-Err.ensures.ready);
+      off = declined.off;
       ends = declined.ends;
     }
 
@@ -77,6 +78,7 @@ returns-then-not-names_images g c =
       lacks = λ on is_up rests more. (refl, ap (λ chip. seen chip told up) same);
       refused = λ own. same;
       told = lacks;
+      off = ready_on map old mid mid up (Err (no.Manifest NoComponent)) c.in-Ok.ensures;
       ends = idle_ends old mid told told up up (Refused (no.Manifest NoComponent)) refl refl same;
     }
 
@@ -99,6 +101,8 @@ returns g c =
       lacks = λ on up rests more. absurd (more names);
       refused = opened.refused;
       told = opened.told;
+      off = ready_on c.args.map.now (g.F.Flash.chip c.args.flash.now) (g.F.Flash.chip c.check_ready.new.flash)
+          (g.F.Flash.chip c.open_uploads.new.flash) c.args.is_up.now c.open_uploads.result c.in-Ok.ensures;
       ends = opened.ends;
     }
 

@@ -10,7 +10,7 @@ use Rattle.machine.specs.declared.error.Fault.TheVariants as no
 use Rattle.machine.specs.declared.reply.Reply.TheVariants.{Done, Refused}
 use Rattle.machine.proofs.Uploading.{TakesRow, steps_finish, upload_refused}
 use Rattle.boot_core.specs.Device.{made, seen}
-use Rattle.boot_core.proofs.NotReady.{declines, kept_after, laid_after, not_down, stops}
+use Rattle.boot_core.proofs.NotReady.{declines, kept_after, laid_after, not_down, ready_on, stops}
 use Rattle.boot_core.proofs.Stopping.{done_ends, failed, failed_ends, opens_stopped, finish_down}
 use Rattle.boot_core.proofs.intake.finish.Goals as goal
 
@@ -26,6 +26,7 @@ returns-in-Err g c = let declined =
       steps = declined.steps;
       outside = declined.outside;
       down = declined.down;
+      off = declined.off;
       ends = declined.ends;
     }
 
@@ -49,6 +50,7 @@ returns-in-Ok-finish g c =
       outside = kept_after map (incoming_of c.args.image) old mid new same c.finish.ensures.outside;
       down = not_down (Ok tt) (seen old c.args.uploads.now.sessions c.args.is_up.now)
           (seen new c.finish.new.self.sessions c.args.is_up.now) ready.0;
+      off = ready_on map old mid new c.args.is_up.now (Ok tt) c.in-Ok.ensures;
       ends = done_ends old mid new c.args.uploads.now.sessions c.finish.new.self.sessions c.args.is_up.now same
           c.in-Ok-finish.ensures.ends;
     }
@@ -84,6 +86,7 @@ returns-in-Err-finish g c =
           c.stop-in-Err-finish.result c.stop-in-Err-finish.ensures.is;
       outside = kept_after map (incoming_of c.args.image) old mid new same c.finish.ensures.outside;
       down = not_down (Err c.stop-in-Err-finish.result) (seen old told up) (seen new tnew upn) ready.0;
+      off = ready_on map old mid new up (Err c.stop-in-Err-finish.result) c.in-Ok.ensures;
       ends = failed_ends old mid new told tmid tnew up upn error same c.in-Err-finish.ensures.ends stopped
           c.stop-in-Err-finish.result c.stop-in-Err-finish.ensures.is;
     }

@@ -11,7 +11,7 @@ use Rattle.machine.specs.declared.error.Fault.TheVariants as no
 use Rattle.machine.specs.declared.reply.Reply.TheVariants.{Done, Refused}
 use Rattle.machine.proofs.Uploading.{TakesRow, steps_piece, upload_refused}
 use Rattle.boot_core.specs.Device.{made, seen}
-use Rattle.boot_core.proofs.NotReady.{declines, kept_after, laid_after, not_down, refused_after, stops}
+use Rattle.boot_core.proofs.NotReady.{declines, kept_after, laid_after, not_down, ready_on, refused_after, stops}
 use Rattle.boot_core.proofs.Stopping.{done_ends, failed, failed_ends, opens_stopped, piece_down}
 use Rattle.boot_core.proofs.intake.piece.Goals as goal
 
@@ -45,6 +45,7 @@ returns-in-Ok-piece g c =
       down = not_down (Ok tt) (seen old c.args.uploads.now.sessions c.args.is_up.now)
           (seen new c.piece.new.self.sessions c.args.is_up.now) ready.0;
       refused = tt;
+      off = ready_on map old mid new c.args.is_up.now (Ok tt) c.in-Ok.ensures;
       ends = done_ends old mid new c.args.uploads.now.sessions c.piece.new.self.sessions c.args.is_up.now same
           c.in-Ok-piece.ensures.ends;
     }
@@ -84,6 +85,7 @@ returns-in-Err-piece g c =
       down = not_down (Err c.stop-in-Err-piece.result) (seen old told up) (seen new tnew upn) ready.0;
       refused = refused_after old mid new error c.stop-in-Err-piece.result c.stop-in-Err-piece.ensures.is same
           (rw c.in-Err-piece.is at c.piece.ensures.nothing);
+      off = ready_on map old mid new up (Err c.stop-in-Err-piece.result) c.in-Ok.ensures;
       ends = failed_ends old mid new told tmid tnew up upn error same c.in-Err-piece.ensures.ends stopped
           c.stop-in-Err-piece.result c.stop-in-Err-piece.ensures.is;
     }

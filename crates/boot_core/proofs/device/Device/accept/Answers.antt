@@ -18,5 +18,6 @@ returns g c =
       outside = c.accept.ensures.outside;
       down = c.accept.ensures.down;
       refused = c.accept.ensures.refused;
+      off = c.accept.ensures.off;
       ends = c.accept.ensures.ends;
     })

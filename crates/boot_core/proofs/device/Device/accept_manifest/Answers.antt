@@ -20,5 +20,6 @@ returns g c =
       lacks = c.accept_manifest.ensures.lacks;
       refused = c.accept_manifest.ensures.refused;
       told = c.accept_manifest.ensures.told;
+      off = c.accept_manifest.ensures.off;
       ends = c.accept_manifest.ensures.ends;
     })

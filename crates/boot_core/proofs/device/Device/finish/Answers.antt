@@ -14,5 +14,6 @@ returns g c =
       steps = c.finish.ensures.steps c.self.inside.identity boots;
       outside = c.finish.ensures.outside;
       down = c.finish.ensures.down;
+      off = c.finish.ensures.off;
       ends = c.finish.ensures.ends;
     })

@@ -1,0 +1,57 @@
+-- Whether an image is on trial by the log, and what a confirmation answers then.
+use Rattle.std.proofs.Common.{◌≡◌, ℕ, Bool, true, false, Some, Result, Ok, Err, refl, sym, subst, ◌∙◌}
+use Rattle.flash_model.specs.Chip.{Chip, Ends}
+use Rattle.flash_model.specs.declared.error.FlashError.{FlashError}
+use Rattle.flash_model.specs.declared.error.FlashError.TheVariants as flash
+use Rattle.sector_map.specs.declared.layout.SectorMap.{SectorMap}
+use Rattle.sector_map.specs.Part.{is_member}
+use Rattle.set_log.specs.Log.{state_of}
+use Rattle.set_log.specs.declared.state.State.{State}
+use Rattle.set_log.specs.declared.state.Kind.TheVariants as log
+use Rattle.machine.specs.declared.error.Fault.{Fault}
+use Rattle.machine.specs.declared.error.Fault.TheVariants as no
+use Rattle.boot_core.specs.Confirming.{AnswersTrial, IsOfSet}
+use Rattle.boot_core.specs.Ready.{LogsTrialOf}
+
+true_false : true ≡ false → ⊥
+true_false e = cc
+
+some_same : (x y : State) → Some x ≡ Some y → x ≡ y
+some_same x y e = cc
+
+-- an image of a set, of which the flash stopped the confirmation
+pub set_answers : (OnTrial : Type 0) (map : SectorMap) (old new : Chip) (image : ℕ) (error : FlashError)
+    → Ends {T = Unit} (Err error) old new → OnTrial → AnswersTrial OnTrial map image old new (Err error)
+set_answers OnTrial map old new image flash.Cut ends tried = tried
+set_answers OnTrial map old new image flash.Off ends tried = ends.off refl
+
+-- the log says that a set is on trial: an image is on trial where it is of that set
+module _ (map : SectorMap) (image : ℕ) (old : Chip) (state : State) (read : state_of map old ≡ Some state)
+    (kind : state.kind ≡ log.Trial) where
+  logged : IsOfSet map state.mask image → LogsTrialOf map.images image (state_of map old)
+  logged (there, member) = record { state = state; logged = read; trial = kind; there = there; member = member }
+
+  of_set : LogsTrialOf map.images image (state_of map old) → IsOfSet map state.mask image
+  of_set tried = (
+    tried.there,
+    subst (λ (s : State). is_member s.mask image ≡ true) (some_same tried.state state (sym tried.logged ∙ read))
+        tried.member,
+  )
+
+  pub logged_trial : (mid new : Chip) (result : Result Bool FlashError) → mid ≡ old
+      → AnswersTrial (IsOfSet map state.mask image) map image mid new result
+      → AnswersTrial (LogsTrialOf map.images image (state_of map old)) map image old new result
+  logged_trial mid new (Ok true) same (tried, set) = (logged tried, set)
+  logged_trial mid new (Ok false) same other = λ tried. other (of_set tried)
+  logged_trial mid new (Err flash.Cut) same tried = logged tried
+  logged_trial mid new (Err flash.Off) same off = subst (λ (chip : Chip). chip.is_on ≡ false) same off
+
+-- a flash with power stops only the confirmation of an image on trial
+pub stops_tried : (OnTrial : Type 0) (map : SectorMap) (image : ℕ) (old new : Chip) (error : FlashError)
+    → AnswersTrial OnTrial map image old new (Err error) → old.is_on ≡ true → (OnTrial → ⊥) → ⊥
+stops_tried OnTrial map image old new flash.Cut tried on never = never tried
+stops_tried OnTrial map image old new flash.Off off on never = true_false (sym on ∙ off)
+
+pub flash_not_tried : (error : FlashError) (given : Fault) (result : Result Unit Fault) → given ≡ no.Flash error
+    → result ≡ Err given → result ≡ Err no.NotOnTrial → ⊥
+flash_not_tried error given result passed is told = cc
