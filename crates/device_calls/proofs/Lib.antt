@@ -1,4 +1,5 @@
 mod SameBytes
+mod Leaving
 mod StepLaws
 mod Provisioned
 mod Telling

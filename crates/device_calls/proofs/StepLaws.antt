@@ -27,6 +27,7 @@ use Rattle.device_calls.specs.declared.setup.Made.{Made}
 use Rattle.device_calls.specs.Calls.{IsCallOf, IsStepOf, MakesCall, StepsOn}
 use Rattle.device_calls.specs.Setup.{HasRoom}
 use Rattle.device_calls.specs.Kept.{IsDeviceOf, IsFlashOf, IsKept, KeepsDevice, KeepsUpload, no_row, Up, Down}
+use Rattle.device_calls.proofs.Leaving.{leaves_of}
 use Rattle.device_calls.proofs.SameBytes.{SameFlash, SameIfOpen, same_holds, upload_moved, upload_same}
 
 zero_one : (n : ℕ) → n ≡ 0 → n ≡ 1 → ⊥
@@ -227,6 +228,8 @@ steps_on made_of call old new was is before behind told left was_up is_up reply 
   left = seen behind left is_up;
   is_left = record { laid_out = makes.laid; has = bytes; keeps = keeps };
   makes = makes;
+  leaves = leaves_of made_of.map made_of.identity made_of.boots (seen before told was_up) (seen behind left is_up) reply
+      call old new flash.on flash.has bytes makes.is;
   each = λ device given. (
     after behind left is_up,
     kept_after made_of.map new behind left is_up is makes.laid bytes makes.opens keeps,

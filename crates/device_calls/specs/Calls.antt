@@ -1,10 +1,10 @@
 -- What a call does to a device, and to the bytes that it is kept in.
-use Rattle.std.specs.Prelude.{◌≡◌, ◌⊎◌, ℕ, ◌+◌, ◌<◌, ◌≤◌, List, length, Result}
+use Rattle.std.specs.Prelude.{◌≡◌, ◌⊎◌, ℕ, ◌+◌, ◌<◌, ◌≤◌, List, length, slice_index, Result}
 use Rattle.std.specs.Borrow.{Bor}
 use Rattle.events.specs.declared.event.Event.TheVariants as event
 use Rattle.sector_map.specs.declared.layout.SectorMap.{SectorMap}
 use Rattle.sector_map.specs.declared.layout.Side.TheVariants.{Primary, Secondary}
-use Rattle.sector_map.specs.Map.{IsLaidOut}
+use Rattle.sector_map.specs.Map.{IsLaidOut, end_of_map}
 use Rattle.sector_map.specs.Part.{Slot, TrailerOf, incoming_of, only}
 use Rattle.manifest.specs.declared.identity.Identity.{Identity}
 use Rattle.manifest.specs.Fault.{IsManifest}
@@ -15,6 +15,7 @@ use Rattle.machine.specs.Intake as device
 use Rattle.machine.specs.Passing.{StepsTo}
 use Rattle.machine.specs.declared.error.Fault.{Fault}
 use Rattle.machine.specs.declared.reply.Reply.{Reply}
+use Rattle.machine.specs.declared.reply.Reply.TheVariants.{Refused}
 use Rattle.boot_core.specs.Answers.{reply_of_boot, reply_of_result}
 use Rattle.boot_core.specs.Booting.{EndsUploadsAndBoots}
 use Rattle.boot_core.specs.Device.{StaysHeld, made}
@@ -85,6 +86,21 @@ pub record MakesCall (map : SectorMap) (identity : Identity) (boots : ℕ) (call
   -- and does what is promised of it beside.
   pub is : IsCallOf map identity boots call old new reply
 
+-- A refusal leaves the bytes as they were. Not so of an upload that is finished, which writes its
+-- last bytes before they are checked, and of a boot, of which its result says what it wrote.
+abbrev pub RefusesUnchanged : Call → List ℕ → List ℕ → Reply → Type 0
+RefusesUnchanged (Finish image) old new reply = Unit {0}
+RefusesUnchanged Boot old new reply = Unit {0}
+RefusesUnchanged other old new reply = (fault : Fault) → reply ≡ Refused fault → new ≡ old
+
+-- What a call leaves of the bytes.
+pub record LeavesBytes (map : SectorMap) (call : Call) (old new : List ℕ) (reply : Reply)
+    : Type 0 where
+  -- They are as many as before, and behind the map each is as it was.
+  pub size : length new ≡ length old
+  pub behind : (k : ℕ) → end_of_map map ≤ k → slice_index new k ≡ slice_index old k
+  pub refused : RefusesUnchanged call old new reply
+
 -- A call is made on the device that the caller's bytes hold.
 pub record StepsOn (made_of : Made) (call : Call) (old : List ℕ) (was : Kept) (new : List ℕ)
     (is : Kept) (reply : Reply) : Type 0 where
@@ -96,6 +112,7 @@ pub record StepsOn (made_of : Made) (call : Call) (old : List ℕ) (was : Kept) 
   pub is_left : IsLeftIn made_of.map new is left
   -- Between these it does all that is promised of it.
   pub makes : MakesCall made_of.map made_of.identity made_of.boots call before left reply
+  pub leaves : LeavesBytes made_of.map call old new reply
   -- From each device that the bytes are it is a step to one that they are then: the flash of this
   -- one has power again, after a cut too.
   pub each : (device : DeviceView) → IsDeviceOf made_of.map old was device
