@@ -7,6 +7,9 @@ use Rattle.device_texts.specs.declared.device.DeviceFile.{DeviceFile}
 use Rattle.command_ends.specs.declared.source.Source.{Source}
 use Rattle.device_texts.specs.AnswerText.{map_refusal_text}
 use Rattle.device_texts.specs.DeviceFile.{IsDeviceFault, IsDeviceFile}
+use Rattle.command_ends.specs.declared.host.Access.{Access}
+use Rattle.command_ends.specs.declared.source.Source.TheVariants.{StandardInput, File}
+use Rattle.command_ends.specs.Doings.{IsOpenedFor, Openings}
 use Rattle.command_ends.specs.Input.{FileBytes, Gives}
 
 -- A source held the device file of a device ..
@@ -28,3 +31,9 @@ abbrev pub ReadsDevice : Option DeviceFile → Source → Option (List ℕ) → 
 ReadsDevice (Some device) source input files old new =
     GivesDevice source input files device × (new ≡ old)
 ReadsDevice None source input files old new = RefusesMap source input files old new
+
+-- How a host opened the file of a flash that was read: for this, and not at all where the flash is
+-- standard input.
+abbrev pub OpensFlash : Access → Source → Openings → Openings → Type 0
+OpensFlash access StandardInput old new = new ≡ old
+OpensFlash access (File name) old new = IsOpenedFor access old new

@@ -1,19 +1,23 @@
 -- What reading a script leaves, line by line: for the private contracts of its readers.
-use Rattle.std.specs.Prelude.{◌≡◌, ◌↔◌, ℕ, List, [], ◌∷◌, ◌++◌, false, Bool, Option, Vec, length, map, take}
+use Rattle.std.specs.Prelude.{◌≡◌, ◌≢◌, ◌⊎◌, ◌↔◌, ℕ, ◌+◌, List, [], ◌∷◌, ◌++◌, false, Bool, IfSome, IsTrue, Option, Some, Vec, length, map, slice_get, take}
+use Rattle.std.specs.Borrow.{Bor}
 use Rattle.std.specs.Io.KnownBytes.{Keeps}
 use Rattle.std.specs.List.{AllZip}
 use Rattle.common.specs.Lines.{lines_of}
 use Rattle.events.specs.declared.event.Event.{Event}
+use Rattle.events.specs.declared.event.Event.TheVariants as event
 use Rattle.events.specs.Event.{event_map}
 use Rattle.flash_model.specs.declared.torn.Armed.{Armed}
+use Rattle.script.specs.declared.line.FileText.{FileText}
 use Rattle.script.specs.declared.line.Line.{Line}
 use Rattle.script.specs.InOrder.{AreInOrder, CanFollow}
 use Rattle.script.specs.LineText.{IsLineText}
-use Rattle.script.specs.Said.{PartWords, Said, SaidFile, said, said_file}
+use Rattle.script.specs.Said.{PartWords, Said, SaidEvent, SaidFile, said, said_file}
 use Rattle.script.specs.Said as say
 use Rattle.reading_inputs.specs.declared.judging.Cut.{Cut}
 use Rattle.reading_inputs.specs.declared.judging.Kept.{Kept}
 use Rattle.reading_inputs.specs.declared.lines.Lines.{Lines}
+use Rattle.command_ends.specs.Doings.{AreApart}
 use Rattle.command_ends.specs.Input.{FileBytes, IsKnownAs, KeepsFiles}
 use Rattle.reading_inputs.specs.Script.{AllCome, AllCut, IsCutBy, IsPieceOf, Known, ReadsFile, StaysKnown}
 
@@ -113,3 +117,46 @@ BringsFirst count text kept files came =
 abbrev pub BringsAll : List ℕ → List Kept → FileBytes
     → List (Event (List ℕ)) → Type 0
 BringsAll text kept files came = BringsFirst (length (lines_of text)) text kept files came
+
+-- What is read of the file of this name is the same when it is read later: it is a plain file, and
+-- none that a run writes.
+pub record CanBeReadAgain (plain : List ℕ → Bool) (apart : List ℕ → List ℕ → Bool)
+    (name : List ℕ) (flash : Option (Bor (List ℕ))) : Type 0 where
+  pub plain_file : IsTrue (plain name)
+  pub other : IfSome flash (λ word. AreApart apart name word.now)
+
+-- What a line names is kept behind all that was kept before, or it can be read again and nothing
+-- more is kept.
+abbrev pub KeptOrAgain : (List ℕ → Bool) → (List ℕ → List ℕ → Bool) → Option (Bor (List ℕ))
+    → FileText → List Kept → List Kept → Type 0
+KeptOrAgain plain apart flash file old new =
+    ((item : Kept) × (item.file ≡ file) × (new ≡ old ++ item ∷ []))
+    ⊎ (CanBeReadAgain plain apart file.name.now flash × (new ≡ old))
+
+-- Bytes are those of the item that was kept next, which is of what a line names, and one item more
+-- was used; so nothing that was read once comes twice.
+pub record ComesOfKept (kept : List Kept) (used after : ℕ) (file : SaidFile) (bytes : List ℕ)
+    : Type 0 where
+  pub item : Kept
+  pub next : slice_get kept used ≡ Some item
+  pub same : said_file item.file ≡ file
+  pub content : bytes ≡ item.bytes.items
+  pub one_more : after ≡ used + 1
+
+-- The item that was kept next, if there is one, isn't of what a line names, and none was used.
+pub record LeavesKept (kept : List Kept) (used after : ℕ) (file : SaidFile) : Type 0 where
+  pub other : (item : Kept) → slice_get kept used ≡ Some item → said_file item.file ≢ file
+  pub none : after ≡ used
+
+-- What was used of what was kept, where a line brought these bytes of a file.
+abbrev pub TakesNext : List Kept → ℕ → ℕ → SaidFile → List ℕ → Type 0
+TakesNext kept used after file bytes =
+    ComesOfKept kept used after file bytes ⊎ LeavesKept kept used after file
+
+-- What was used of what was kept, where an event came with the bytes of its file, if it names one.
+abbrev pub EventTakesNext : List Kept → ℕ → ℕ → SaidEvent → Event (List ℕ) → Type 0
+EventTakesNext kept used after (event.Accept file) came =
+    (bytes : List ℕ) × TakesNext kept used after file bytes × (came ≡ event.Accept bytes)
+EventTakesNext kept used after (event.Piece image file) came =
+    (bytes : List ℕ) × TakesNext kept used after file bytes × (came ≡ event.Piece image bytes)
+EventTakesNext kept used after other came = after ≡ used

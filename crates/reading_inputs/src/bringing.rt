@@ -1,11 +1,11 @@
 //! What comes to a device by the lines of a script, with the bytes of the files that they name.
-ghost use Rattle.std.specs.Prelude.{◌≡◌, ◌≢◌, IfErr, IfOk, IfSome, Some, codes, IsTrue};
+ghost use Rattle.std.specs.Prelude.{◌≡◌, ◌≢◌, IfErr, IfOk, IfSome, Some, codes, IsTrue, false};
 ghost use Rattle.std.specs.Option.{option_map};
 ghost use Rattle.events.specs.Event.{event_map};
 ghost use Rattle.command_ends.specs.Input.{IsKnownAs, IsKnownPart};
 ghost use Rattle.command_ends.specs.Status.{status_of_refusal};
 ghost use Rattle.script.specs.Said.{file_of, part_words, said_file};
-ghost use Rattle.reading_inputs.specs.Loading.{Brings, ReadsNow, came_of};
+ghost use Rattle.reading_inputs.specs.Loading.{Brings, EventTakesNext, ReadsNow, TakesNext, came_of};
 ghost use Rattle.reading_inputs.specs.Script.{Comes, IsPieceOf, ReadsFile};
 
 use crate::judging::Kept;
@@ -41,6 +41,9 @@ impl<H: Host> Sources<'_, '_, '_, H> {
         ensures brought { IfOk result (λ read.
             Brings self.now.kept.now (H.file self.now.host.now)
             (λ known after. Comes (event_map said_file event.entry) known (came_of read) after)) }
+        ensures next { IfOk result (λ read.
+            EventTakesNext self.now.kept.now used.old used.new (event_map said_file event.entry)
+            (came_of read)) }
         ensures refused { IfErr result (λ refusal. status_of_refusal refusal ≡ 1) }
     {
         match event {
@@ -70,6 +73,8 @@ impl<H: Host> Sources<'_, '_, '_, H> {
         ensures brought { IfOk result (λ bytes.
             Brings self.now.kept.now (H.file self.now.host.now)
             (ReadsFile (said_file file.entry) bytes.items)) }
+        ensures next { IfOk result (λ bytes.
+            TakesNext self.now.kept.now used.old used.new (said_file file.entry) bytes.items) }
         ensures refused { IfErr result (λ refusal. status_of_refusal refusal ≡ 1) }
     {
         let Some(kept) = self.kept.get(*used) else {
@@ -78,7 +83,10 @@ impl<H: Host> Sources<'_, '_, '_, H> {
         if !is_same_text(kept.file, file) {
             return piece_of(self.alloc, self.host, number, file);
         }
-        *used = used.saturating_add(1);
+        let Some(next) = used.checked_add(1) else {
+            return Err(Refusal::NoMemory);
+        };
+        *used = next;
         match Vec::from_slice(self.alloc, &kept.bytes) {
             Ok(bytes) => Ok(bytes),
             Err(_) => Err(Refusal::NoMemory),
@@ -88,7 +96,8 @@ impl<H: Host> Sources<'_, '_, '_, H> {
 
 /// Whether two lines name the same of a file, by the same words.
 fn is_same_text(one: FileText<'_>, other: FileText<'_>) -> bool
-    ensures { IsTrue result → said_file one.entry ≡ said_file other.entry }
+    ensures same { IsTrue result → said_file one.entry ≡ said_file other.entry }
+    ensures differ { result ≡ false → said_file one.entry ≢ said_file other.entry }
 {
     let is_same_part = match (one.part, other.part) {
         (None, None) => true,

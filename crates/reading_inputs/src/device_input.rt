@@ -1,9 +1,10 @@
 //! What the commands of a device read: its device file, and the bytes of its flash.
-ghost use Rattle.std.specs.Prelude.{IfOk};
+ghost use Rattle.std.specs.Prelude.{◌≡◌, IfErr, IfOk, OnOk};
 ghost use Rattle.std.specs.Io.KnownBytes.{Appends, Keeps};
 ghost use Rattle.device_texts.specs.AnswerText.{map_refusal_text};
 ghost use Rattle.device_texts.specs.FlashOf.{IsFlashOf};
-ghost use Rattle.reading_inputs.specs.DeviceInput.{ReadsDevice};
+ghost use Rattle.reading_inputs.specs.DeviceInput.{OpensFlash, ReadsDevice};
+ghost use Rattle.command_ends.specs.Doings.{IsOpenedFor};
 ghost use Rattle.command_ends.specs.Input.{Gives, IsKnownAs, KeepsFiles, KeepsOthers};
 
 use command_ends::{Access, FlashFault, Host, MOST_JSON, Refusal, Source, SourceFault};
@@ -24,6 +25,8 @@ pub fn read_device<H: Host, O: Write>(
         (H.input host.old) (H.file host.old) (O.contents out.old) (O.contents out.new)) }
     ensures others { KeepsOthers device.entry (H.input host.old) (H.file host.old)
         (H.input host.new) (H.file host.new) }
+    ensures files { KeepsFiles (H.file host.old) (H.file host.new) }
+    ensures opened { H.opened host.new ≡ H.opened host.old }
 {
     let bytes = device.read_start(alloc, host, MOST_JSON)?;
     if bytes.len() > MOST_JSON as usize {
@@ -68,6 +71,11 @@ pub fn read_flash<H: Host>(
     ensures whole { IfOk result (λ bytes. IsFlashOf map.now bytes.items) }
     ensures others { KeepsOthers flash.entry (H.input host.old) (H.file host.old)
         (H.input host.new) (H.file host.new) }
+    ensures files { KeepsFiles (H.file host.old) (H.file host.new) }
+    ensures opened { IfOk result (λ _.
+        OpensFlash access flash.entry (H.opened host.old) (H.opened host.new)) }
+    ensures to_read { access ≡ Access.Read
+        → (H.opened host.new).to_write ≡ (H.opened host.old).to_write }
 {
     let bytes = match flash {
         Source::StandardInput => flash.read_start(alloc, host, map.bytes_in_all())?,
@@ -90,6 +98,8 @@ fn open_flash<H: Host>(
     ensures bytes { IfOk result (λ bytes. IsKnownAs (H.file host.old name.entry.now) bytes.items) }
     ensures files { KeepsFiles (H.file host.old) (H.file host.new) }
     ensures input { Keeps (H.input host.old) (H.input host.new) }
+    ensures opened { OnOk result (IsOpenedFor access (H.opened host.old) (H.opened host.new)) }
+    ensures unopened { IfErr result (λ _. H.opened host.new ≡ H.opened host.old) }
 {
     host.open_flash(alloc, name, u64::from(map.bytes_in_all()), access)
         .map_err(|fault| match fault {

@@ -3,7 +3,7 @@ ghost use Rattle.std.specs.Prelude.{◌≡◌, ◌++◌, ◌∷◌, [], IfOk, On
 ghost use Rattle.std.specs.Option.{option_map};
 ghost use Rattle.script.specs.Said.{part_words, said, said_torn};
 ghost use Rattle.command_ends.specs.Input.{KeepsFiles};
-ghost use Rattle.reading_inputs.specs.Loading.{AddsCut, AreCutsOf, AreKept, IsInputPiece, KeepsKept, armed_in, armed_of};
+ghost use Rattle.reading_inputs.specs.Loading.{AddsCut, AreCutsOf, AreKept, CanBeReadAgain, IsInputPiece, KeepsKept, KeptOrAgain, armed_in, armed_of};
 ghost use Rattle.reading_inputs.specs.Script.{IsCutBy};
 
 use crate::bringing::{part_of, piece_of};
@@ -65,6 +65,7 @@ pub fn judge<'a, H: Host>(
     ensures kept { IfOk result (λ judged.
         AreKept judged.kept.items (H.input host.old) (H.file host.old)) }
     ensures files { KeepsFiles (H.file host.old) (H.file host.new) }
+    ensures opened { H.opened host.new ≡ H.opened host.old }
 {
     let mut judged = Judged {
         cuts: Vec::new(alloc),
@@ -94,6 +95,7 @@ fn judge_line<'a, H: Host>(
         judged.old.is_input_read judged.new.is_input_read
         (H.input host.old) (H.file host.old) (H.input host.new)) }
     ensures files { KeepsFiles (H.file host.old) (H.file host.new) }
+    ensures opened { H.opened host.new ≡ H.opened host.old }
 {
     match line {
         Line::Cut { write, torn } => {
@@ -148,7 +150,10 @@ fn judge_file<'a, H: Host>(
     ensures kept { OnOk result (KeepsKept judged.old.kept.items judged.new.kept.items
         judged.old.is_input_read judged.new.is_input_read
         (H.input host.old) (H.file host.old) (H.input host.new)) }
+    ensures again { OnOk result (KeptOrAgain (H.plain host.new) (H.apart host.new) flash.entry
+        file.entry judged.old.kept.items judged.new.kept.items) }
     ensures files { KeepsFiles (H.file host.old) (H.file host.new) }
+    ensures opened { H.opened host.new ≡ H.opened host.old }
 {
     match Source::named(file.name) {
         Source::StandardInput => {
@@ -188,6 +193,7 @@ fn input_part<H: Host>(
     ensures piece { IfOk result (λ piece. IsInputPiece (option_map part_words file.entry.part)
         (H.input host.old) piece.items) }
     ensures files { KeepsFiles (H.file host.old) (H.file host.new) }
+    ensures opened { H.opened host.new ≡ H.opened host.old }
 {
     if *is_read {
         return Err(Refusal::ScriptLine(number));
@@ -199,7 +205,10 @@ fn input_part<H: Host>(
 
 /// Whether what is read of a file is the same as its event comes: it is a plain one, and not that
 /// of the flash, by whatever name. Where that can't be said it is taken not to be.
-fn can_be_read_again<H: Host>(host: &H, name: &str, flash: Option<&str>) -> bool {
+fn can_be_read_again<H: Host>(host: &H, name: &str, flash: Option<&str>) -> bool
+    ensures { result ≡ true
+        → CanBeReadAgain (H.plain host.now) (H.apart host.now) name.now flash.entry }
+{
     let is_plain = host.is_plain(name).unwrap_or(false);
     let is_flash = match flash {
         Some(flash) => host.is_same_file(name, flash).unwrap_or(true),

@@ -26,6 +26,8 @@ pub fn read_script<H: Host>(
         Gives script.entry (H.input host.old) (H.file host.old) bytes.items) }
     ensures others { KeepsOthers script.entry (H.input host.old) (H.file host.old)
         (H.input host.new) (H.file host.new) }
+    ensures files { KeepsFiles (H.file host.old) (H.file host.new) }
+    ensures opened { H.opened host.new ≡ H.opened host.old }
 {
     let start = script.read_start(alloc, host, MOST_SCRIPT)?;
     if start.len() <= MOST_SCRIPT as usize {
@@ -51,9 +53,11 @@ pub fn load<H: Host>(
     is_input_read: bool,
     host: &mut H,
 ) -> Result<Vec<Event<Vec<u8>>>, Refusal>
-    ensures { IfOk result (λ events. (known : Known)
+    ensures script { IfOk result (λ events. (known : Known)
         → StaysKnown known (H.input host.old) (H.file host.old)
         → IsScript text.now known [] (came_in events.items)) }
+    ensures files { KeepsFiles (H.file host.old) (H.file host.new) }
+    ensures opened { H.opened host.new ≡ H.opened host.old }
 {
     let judged = judge(alloc, text, None, is_input_read, host)?;
     if !judged.cuts.as_slice().is_empty() {

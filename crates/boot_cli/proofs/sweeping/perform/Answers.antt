@@ -21,6 +21,6 @@ returns g c =
     (λ answer low. AnswersSweep-read answer c.args.named.device c.args.named.script _ _ _ _ _ _ _ _
     c.in_ok-text.text.items came c.in-Some.device read.0 c.in_ok-device.ensures.others
     c.in_ok-text.ensures.bytes c.in_ok-text.ensures.others
-    (λ known stays. subst (λ text. IsScript text known [] came) c.deref.ensures.value (c.in_ok-events.ensures known stays))
+    (λ known stays. subst (λ text. IsScript text known [] came) c.deref.ensures.value (c.in_ok-events.ensures.script known stays))
     low)
     c.sweep_images.ensures

@@ -1,4 +1,4 @@
-use Rattle.std.proofs.Common.{eqb-true, subst, sym}
+use Rattle.std.proofs.Common.{◌∙◌, eqb-true, refl, subst, sym}
 use Rattle.command_ends.proofs.InputLaws.{KeepsFiles-itself, KeepsFiles-twice, kept_itself}
 use Rattle.reading_inputs.specs.Loading.{AreKept, armed_in}
 use Rattle.reading_inputs.proofs.ScriptLaws.{AreCutsOf-all, CutSoFar, CutSoFar-more, CutSoFar-none}
@@ -12,6 +12,7 @@ loop-lines-init g c = record {
   kept = subst (λ kept. AreKept kept (g.H.Host.input c.args.host.now) (g.H.Host.file c.args.host.now))
       (sym c.new-2.ensures.items) tt;
   files = KeepsFiles-itself (g.H.Host.file c.args.host.now);
+  opened = refl;
   input = λ unread. kept_itself (g.H.Host.input c.args.host.now);
 }
 
@@ -26,6 +27,7 @@ loop-lines-preserved g c =
           c.in_ok-line.ensures.next c.in_ok-judge_line.ensures.cuts before.cuts;
       kept = kept.0;
       files = KeepsFiles-twice _ _ _ before.files c.judge_line.ensures.files;
+      opened = c.judge_line.ensures.opened ∙ before.opened;
       input = kept.1;
     }
 

@@ -7,12 +7,13 @@ use Rattle.reading_inputs.proofs.judging.judge.Given as goal
 
 -- the cuts so far are those of the lines so far, and of what lines name that can't be read again all
 -- is kept, as of the host as it was; its files are as they were, and its input too, unless a line
--- named it
+-- named it; and it opened nothing more
 abbrev pub invariant-loop-lines : goal.invariant-loop-lines
 invariant-loop-lines g l = record {
   cuts : CutSoFar l.text l.lines.rest.now (armed_in l.judged.cuts.items);
   kept : AreKept l.judged.kept.items (g.H.Host.input l.fn.host) (g.H.Host.file l.fn.host);
   files : KeepsFiles (g.H.Host.file l.fn.host) (g.H.Host.file l.host);
+  opened : g.H.Host.opened l.host ≡ g.H.Host.opened l.fn.host;
   input : l.judged.is_input_read ≡ false → Keeps (g.H.Host.input l.fn.host) (g.H.Host.input l.host);
 }
 

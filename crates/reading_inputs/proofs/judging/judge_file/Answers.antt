@@ -1,3 +1,4 @@
+use Rattle.std.proofs.Common.{inl, refl}
 use Rattle.std.proofs.lemmas.Result.{on_ok_weaker}
 use Rattle.reading_inputs.proofs.ScriptLaws.{KeepsKept-file, KeepsKept-input}
 use Rattle.reading_inputs.proofs.judging.judge_file.Goals as goal
@@ -17,3 +18,12 @@ returns-else-can_be_read_again-clause-kept g c =
     on_ok_weaker c.keep-in-File.result
     (λ pushed. KeepsKept-file _ _ _ _ _ _ pushed c.in_ok-bytes-in-File.ensures.read)
     c.keep-in-File.ensures
+
+-- What was kept is of what the line names.
+pub returns-in_ok-bytes-in-StandardInput-clause-again : goal.returns-in_ok-bytes-in-StandardInput-clause-again
+returns-in_ok-bytes-in-StandardInput-clause-again g c =
+    on_ok_weaker c.keep.result (λ pushed. inl (_, refl, pushed)) c.keep.ensures
+
+pub returns-else-can_be_read_again-clause-again : goal.returns-else-can_be_read_again-clause-again
+returns-else-can_be_read_again-clause-again g c =
+    on_ok_weaker c.keep-in-File.result (λ pushed. inl (_, refl, pushed)) c.keep-in-File.ensures

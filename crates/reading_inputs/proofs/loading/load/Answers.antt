@@ -5,8 +5,8 @@ use Rattle.reading_inputs.proofs.ScriptLaws.{IsScript-brought, no_cuts}
 use Rattle.reading_inputs.proofs.loading.load.Goals as goal
 
 -- No line cuts a write, and all events were brought.
-pub returns : goal.returns
-returns g c =
+pub returns-clause-script : goal.returns-clause-script
+returns-clause-script g c =
     let judged = c.in_ok-judged.judged in
     let files = g.H.Host.file c.judge.new.host in
     let none = no_cuts judged.cuts.items
