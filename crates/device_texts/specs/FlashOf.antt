@@ -9,7 +9,7 @@ use Rattle.sector_map.specs.Map.{sectors_of}
 abbrev pub IsFlashOf : SectorMap → List ℕ → Type 0
 IsFlashOf map bytes = length bytes ≡ sectors_of map * map.sector_size
 
--- The flash that has these bytes. It has power, neither a cut nor an erase was counted, and no
--- write is to be cut.
+-- The flash that has these bytes. It has power, no write, no cut and no erase was counted, and
+-- no write is to be cut.
 abbrev pub flash_of : SectorMap → List ℕ → Chip
 flash_of map bytes = new_chip map.sector_size (sectors_of map) bytes

@@ -1,6 +1,6 @@
 //! The flash of a device, in memory.
 ghost use Rattle.std.specs.Prelude.{◌≡◌, ◌≤◌};
-ghost use Rattle.flash_model.specs.Memory.{chip_of, memory_of};
+ghost use Rattle.flash_model.specs.Memory.{chip_of};
 ghost use Rattle.sector_map.specs.Map.{IsLaidOut};
 ghost use Rattle.device_texts.specs.FlashOf.{IsFlashOf, flash_of};
 
@@ -25,7 +25,6 @@ pub fn flash_of<L: Ledger>(
     requires whole { IsFlashOf map.now bytes.items }
     ensures chip { chip_of result ≡ flash_of map.now bytes.items }
     ensures laid_out { IsLaidOut map.now (chip_of result) }
-    ensures writes { (memory_of result).writes ≡ 0 }
 {
     MemFlash::from_bytes(alloc, blank, map.sector_size, bytes)
 }

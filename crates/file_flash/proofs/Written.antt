@@ -8,7 +8,7 @@ use Rattle.std.proofs.lemmas.List.{ext_get_or, get_or_append_left, get_or-append
 use Rattle.std.proofs.lemmas.Option.{none-some, same_Some}
 use Rattle.flash_model.specs.declared.error.FlashError.{FlashError}
 use Rattle.flash_model.specs.Chip.{Chip, SameOutside}
-use Rattle.flash_model.specs.Memory.{Memory, Writes}
+use Rattle.flash_model.specs.Memory.{Writes}
 use Rattle.flash_model.specs.Torn.{replaced}
 use Rattle.file_flash.specs.FileFlash.{OverFile, WritesThrough}
 use Rattle.flash_model.proofs.Ranges.{length_range, range_at}
@@ -60,9 +60,9 @@ still_written (Err error) failed at n old new before after is through same insid
     absurd (false≢true (sym fine ∙ is))
 
 -- A write that was done in memory and in the file is done.
-pub done_through : (below : Result Unit FlashError) (at : ℕ) (range : List ℕ) (done : Memory)
+pub done_through : (below : Result Unit FlashError) (at : ℕ) (range : List ℕ) (done : Chip)
     (old new : OverFile) → Writes below at range done old.memory new.memory → is_ok below ≡ true
-    → old.memory.chip.is_on ≡ true → old.chip.is_on ≡ true → old.has_failed ≡ false → new.has_failed ≡ false
+    → old.memory.is_on ≡ true → old.chip.is_on ≡ true → old.has_failed ≡ false → new.has_failed ≡ false
     → WritesThrough (Ok tt) at range done old new
 done_through below at range done old new writes is powered on before after = record {
   off = λ off. absurd (false≢true (sym off ∙ on));

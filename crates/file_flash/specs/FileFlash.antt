@@ -5,22 +5,24 @@ use Rattle.flash_model.specs.declared.error.FlashError.{FlashError}
 use Rattle.flash_model.specs.declared.error.FlashError.TheVariants.{Cut, Off}
 use Rattle.flash_model.specs.declared.torn.Torn.{Torn}
 use Rattle.flash_model.specs.Chip.{Chip}
-use Rattle.flash_model.specs.Memory.{Memory, memory_of, erased, next_torn, programmed, torn}
+use Rattle.flash_model.specs.Memory.{chip_of as memory_of, erased, next_torn, programmed, torn}
 use Rattle.file_flash.specs.declared.flash.FileFlash.{FileFlash}
 
 -- A flash over a file: the flash itself, the one in memory that has its bytes, and whether a write
 -- of the file failed.
 pub record OverFile : Type 0 where
   pub chip : Chip
-  pub memory : Memory
+  pub memory : Chip
   pub has_failed : Bool
 
--- The flash itself: sectors and bytes are those in memory, power and counts its own.
+-- The flash itself: sectors, bytes and writes are those in memory, power and erases its own. Cuts
+-- are those of the flash in memory, and the faults, of which that one knows nothing.
 abbrev pub chip_of : {F L M : Type 0} {g : _} → FileFlash F L M g → Chip
-chip_of flash = record ((memory_of flash.memory).chip) {
+chip_of flash = record (memory_of flash.memory) {
   is_on = flash.is_on;
-  cuts = flash.cuts.amount;
+  cuts = (memory_of flash.memory).cuts + flash.faults.amount;
   erases = flash.erases.amount;
+  faults = flash.faults.amount;
 }
 
 -- The flash, with the one in memory.
@@ -35,10 +37,10 @@ over_file flash = record {
 abbrev pub file_of : {F L M : Type 0} {g : _} → FileFlash F L M g → F
 file_of flash = flash.file
 
--- A flash over a file that was just made, of one in memory: no cut was counted, and no erase.
-abbrev pub new_over : Memory → OverFile
+-- A flash over a file that was just made, of one in memory: no erase was counted.
+abbrev pub new_over : Chip → OverFile
 new_over below = record {
-  chip = record (below.chip) { cuts = 0; erases = 0 };
+  chip = record below { erases = 0 };
   memory = below;
   has_failed = false;
 }
@@ -46,20 +48,24 @@ new_over below = record {
 -- After a cut of which the flash in memory knows nothing.
 abbrev pub cut_short : OverFile → OverFile
 cut_short old = record old {
-  chip = record (old.chip) { is_on = false; cuts = old.chip.cuts + 1 };
+  chip = record (old.chip) {
+    is_on = false;
+    cuts = old.chip.cuts + 1;
+    faults = old.chip.faults + 1;
+  };
 }
 
 -- With power again, and no byte changed.
 abbrev pub restarted : OverFile → OverFile
 restarted old = record old {
   chip = record (old.chip) { is_on = true };
-  memory = record (old.memory) { chip = record (old.memory.chip) { is_on = true } };
+  memory = record (old.memory) { is_on = true };
 }
 
 -- A write of these bytes, of a flash over a file. One that is off refuses it; one whose file failed
 -- before is cut, and nothing changes. Else the flash in memory is written, or cut as it was armed,
 -- and the write is done exactly where neither that was cut nor the file failed.
-pub record WritesThrough (result : Result Unit FlashError) (at : ℕ) (range : List ℕ) (done : Memory)
+pub record WritesThrough (result : Result Unit FlashError) (at : ℕ) (range : List ℕ) (done : Chip)
     (old new : OverFile) : Type 0 where
   pub off : old.chip.is_on ≡ false → IsErrOf result Off × (new ≡ old)
   pub failed : old.chip.is_on ≡ true → old.has_failed ≡ true

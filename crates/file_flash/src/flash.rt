@@ -5,7 +5,7 @@ ghost use Rattle.std.specs.Bool.{OnFalse};
 ghost use Rattle.std.specs.Option.{ForSome};
 ghost use Rattle.flash_model.specs.Chip.{size_of};
 ghost use Rattle.flash_model.specs.Calls.{CanProgram, Erases, Programs, ReadsBytes};
-ghost use Rattle.flash_model.specs.Memory.{memory_of};
+ghost use Rattle.flash_model.specs.Memory.{chip_of as memory_of};
 ghost use Rattle.flash_model.specs.Torn.{replaced};
 
 use crate::file::FlashFile;
@@ -20,7 +20,8 @@ use std::sync::ledger::{Blank, Book, Ledger, Share};
 /// bytes too, by one `write_at`. The write is done where both are; where the flash in memory was
 /// cut or the file failed it answers `Cut`, which is counted once, and the flash is off until
 /// `restart`. Once a write of the file failed, each later write is cut, also after a restart, and
-/// changes nothing, in memory or in the file. Reading goes on.
+/// changes nothing, in memory or in the file. Reading goes on. Cuts that the flash in memory wasn't
+/// armed for are counted as faults.
 ///
 /// As long as no write of the file failed, what the file is known to hold (`contents` of
 /// `FlashFile`) is what the flash holds. That is kept in the type, whoever calls the flash, and
@@ -29,10 +30,9 @@ use std::sync::ledger::{Blank, Book, Ledger, Share};
 /// No call allocates.
 ///
 /// Contracts see it as an `OverFile` (`over_file`): the chip, the flash in memory, and whether a
-/// write of the file failed; and the file itself (`file_of`). The counts of cuts and of completed
+/// write of the file failed; and the file itself (`file_of`). The counts of faults and of completed
 /// erases are tokens of a ledger of its own, `L`, since an erase that was completed in memory and
-/// didn't reach the file is a cut; those of the flash in memory, of the ledger `M`, count for
-/// nothing. So it is made in a function that is generic in both ledgers:
+/// didn't reach the file is a cut. So it is made in a function that is generic in both ledgers:
 ///
 /// ```text
 /// fn helper<L: Ledger, M: Ledger>(alloc: Global, blanks: (Blank, Blank), ..)
@@ -71,12 +71,13 @@ pub struct FileFlash<F: FlashFile, L: Ledger, M: Ledger> {
     is_on: bool,
     has_failed: bool,
     book: Book<L>,
-    cuts: Share<L>,
+    faults: Share<L>,
     erases: Share<L>,
-    ghost powered: { is_on ≡ true → (memory_of memory).chip.is_on ≡ true },
+    ghost powered: { is_on ≡ true → (memory_of memory).is_on ≡ true },
     ghost written: { has_failed ≡ false
-        → ForSome (F.contents file) (λ all. all ≡ (memory_of memory).chip.bytes) },
-    ghost counts_cuts: { 0 < cuts.parts },
+        → ForSome (F.contents file) (λ all. all ≡ (memory_of memory).bytes) },
+    ghost unfailed: { has_failed ≡ false → faults.amount ≡ 0 },
+    ghost counts_faults: { 0 < faults.parts },
     ghost counts_erases: { 0 < erases.parts },
 }
 
@@ -87,10 +88,10 @@ fn write_through<F: FlashFile, M: Ledger>(
     at: u32,
     len: usize,
 ) -> io::Result<()>
-    requires inside { at + len ≤ size_of (memory_of memory.now).chip }
+    requires inside { at + len ≤ size_of (memory_of memory.now) }
     requires file { ForSome (F.contents file.old) (λ all. at + len ≤ length all) }
     ensures { OnOk result (F.contents file.new
-        ≡ option_map (replaced at (slice_range (memory_of memory.now).chip.bytes at (at + len)))
+        ≡ option_map (replaced at (slice_range (memory_of memory.now).bytes at (at + len)))
         (F.contents file.old)) }
 {
     let from = at as usize;
@@ -108,28 +109,29 @@ impl<F: FlashFile, L: Ledger, M: Ledger> FileFlash<F, L, M> {
         requires name { blank.name ≡ L.name }
         requires parts { blank.parts ≡ L.parts }
         requires two { L.parts ≡ 2 }
-        requires on { (memory_of memory).chip.is_on ≡ true }
-        requires held { ForSome (F.contents file) (λ all. all ≡ (memory_of memory).chip.bytes) }
+        requires on { (memory_of memory).is_on ≡ true }
+        requires held { ForSome (F.contents file) (λ all. all ≡ (memory_of memory).bytes) }
         ensures made { over_file result ≡ new_over (memory_of memory) }
         ensures file { file_of result ≡ file }
     {
-        let (book, mut cuts) = blank.open::<L>();
-        let erases = cuts.split_off(1, 0);
+        let (book, mut faults) = blank.open::<L>();
+        let erases = faults.split_off(1, 0);
         FileFlash {
             memory,
             file,
             is_on: true,
             has_failed: false,
             book,
-            cuts,
+            faults,
             erases,
         }
     }
 
     /// Whether a write of the file failed. Until one has, what the file is known to hold is what
-    /// the flash holds.
+    /// the flash holds, and each cut is one that was armed.
     pub fn has_failed(&self) -> bool
         ensures answer { result ≡ (over_file self.now).has_failed }
+        ensures faults { OnFalse result ((chip_of self.now).faults ≡ 0) }
         ensures written { OnFalse result
             (IfSome (F.contents (file_of self.now)) (λ all. all ≡ (chip_of self.now).bytes)) }
     {
@@ -150,19 +152,21 @@ impl<F: FlashFile, L: Ledger, M: Ledger> FileFlash<F, L, M> {
         &self.file
     }
 
-    /// Ends a write that is cut: counts it, and turns the flash off.
+    /// Ends a write that the file cuts: counts the fault, and turns the flash off.
     fn cut(&mut self) -> Result<(), FlashError>
+        requires { (over_file self.old).has_failed ≡ true }
         ensures cut { IsErrOf result FlashError.Cut }
         ensures flash { over_file self.new ≡ cut_short (over_file self.old) }
         ensures file { file_of self.new ≡ file_of self.old }
     {
         self.is_on = false;
-        self.book.add(&mut self.cuts, 1);
+        self.book.add(&mut self.faults, 1);
         Err(FlashError::Cut)
     }
 }
 
 impl<F: FlashFile, L: Ledger, M: Ledger> Flash for FileFlash<F, L, M> {
+    ghost use Rattle.std.proofs.Common.{ap};
     ghost use Rattle.file_flash.specs.FileFlash.{chip_of, file_of, over_file, restarted, ErasesThrough, ProgramsThrough};
 
     ghost chip = { chip_of };
@@ -172,6 +176,8 @@ impl<F: FlashFile, L: Ledger, M: Ledger> Flash for FileFlash<F, L, M> {
     ghost addressed = { λ f. f.memory.addressed };
 
     ghost bytes = { λ f. f.memory.are_bytes };
+
+    ghost armed = { λ f. ap (λ n. n + f.faults.amount) f.memory.cut_as_armed };
 
     fn sector_size(&self) -> u32 {
         self.memory.sector_size()
@@ -209,7 +215,10 @@ impl<F: FlashFile, L: Ledger, M: Ledger> Flash for FileFlash<F, L, M> {
         }
         self.is_on = self.memory.program(at, bytes).is_ok();
         self.has_failed = write_through(&mut self.file, &self.memory, at, bytes.len()).is_err();
-        if self.has_failed || !self.is_on {
+        if !self.is_on {
+            return Err(FlashError::Cut);
+        }
+        if self.has_failed {
             return self.cut();
         }
         Ok(())
@@ -232,7 +241,10 @@ impl<F: FlashFile, L: Ledger, M: Ledger> Flash for FileFlash<F, L, M> {
         let at = sector * n;
         self.is_on = self.memory.erase(sector).is_ok();
         self.has_failed = write_through(&mut self.file, &self.memory, at, n as usize).is_err();
-        if self.has_failed || !self.is_on {
+        if !self.is_on {
+            return Err(FlashError::Cut);
+        }
+        if self.has_failed {
             return self.cut();
         }
         self.book.add(&mut self.erases, 1);

@@ -1,25 +1,39 @@
 -- What a write of a flash in memory leaves.
-use Rattle.std.proofs.Common.{◌≡◌, ℕ, suc, ◌+◌, ◌-◌, ◌^◌, ◌<◌, ◌≤◌, ◌==◌, Bool, true, false, List, [], ◌∷◌}
+use Rattle.std.proofs.Common.{◌≡◌, ℕ, zero, suc, ◌+◌, ◌-◌, ◌^◌, ◌<◌, ◌≤◌, ◌==◌, Bool, true, false, List, [], ◌∷◌, ◌++◌}
 use Rattle.std.proofs.Common.{Some, None, Ok, Err}
-use Rattle.std.proofs.Common.{refl, sym, ◌∙◌, ap, arith, ⊎_elim}
+use Rattle.std.proofs.Common.{refl, sym, ◌∙◌, ap, arith, subst, ⊎_elim}
+use Rattle.std.specs.Prelude.{if◌then◌else◌}
 use Rattle.std.specs.List.{All}
 use Rattle.std.proofs.lemmas.Bool.{cases_lt, false≢true, ne_eqb}
+use Rattle.std.proofs.lemmas.List.Elements.{All-append}
 use Rattle.std.proofs.lemmas.Option.{none-some, same_Some}
 use Rattle.flash_model.specs.declared.error.FlashError.TheVariants.{Cut}
 use Rattle.flash_model.specs.declared.torn.Armed.{Armed}
 use Rattle.flash_model.specs.declared.torn.Torn.{Torn}
-use Rattle.flash_model.specs.Chip.{unarmed}
-use Rattle.flash_model.specs.Memory.{Memory, Writes, next_torn, one_more, torn}
+use Rattle.flash_model.specs.Chip.{Chip, unarmed}
+use Rattle.flash_model.specs.Memory.{Writes, armed_with, next_torn, one_more, torn}
 use Rattle.flash_model.specs.Torn.{torn_for}
 
 -- No write is armed from a number on, below which all armed ones are.
-none_behind : (armed : List Armed) (limit number : ℕ) → All (λ write. write.at < limit) armed
+pub none_behind : (armed : List Armed) (limit number : ℕ) → All (λ write. write.at < limit) armed
     → limit ≤ number → torn_for number armed ≡ None
 none_behind [] limit number below past = refl
 none_behind (write ∷ armed) limit number below past =
     let first : write.at < limit = below 0 write (omega arith) in
     let other : (write.at == number) ≡ false = ne_eqb write.at number (λ same. absurd (omega (arith, same, first))) in
     rw other (none_behind armed limit number (λ k d lt. below (suc k) d (omega arith)) past)
+
+-- All armed ones are below it, also with one more.
+pub below_pushed : (pushed : Bool) (armed new : List Armed) (limit : ℕ) (write : Armed)
+    → new ≡ (if pushed then armed ++ write ∷ [] else armed) → All (λ w. w.at < limit) armed → write.at < limit
+    → All (λ w. w.at < limit) new
+below_pushed true armed new limit write is below last =
+    subst (λ all. All (λ w. w.at < limit) all) (sym is) (All-append (λ w. w.at < limit) armed (write ∷ []) below one)
+  where
+    one : All (λ w. w.at < limit) (write ∷ [])
+    one zero d lt = last
+    one (suc k) d lt = absurd (omega (arith, lt))
+below_pushed false armed new limit write is below last = subst (λ all. All (λ w. w.at < limit) all) (sym is) below
 
 -- The number at which counting stops isn't armed, and so it stands for all that follow.
 pub torn_for_next : (armed : List Armed) (writes next : ℕ) → All (λ write. write.at < 2 ^ 64 - 1) armed
@@ -34,18 +48,17 @@ torn_for_next armed writes next below is = ⊎_elim
     (cases_lt (writes + 1) (2 ^ 64 - 1))
 
 -- A flash in memory, put together.
-abbrev memory : ℕ → ℕ → Bool → List Armed → List ℕ → ℕ → ℕ → ℕ → Memory
+abbrev memory : ℕ → ℕ → Bool → List Armed → List ℕ → ℕ → ℕ → ℕ → Chip
 memory size sectors on armed bytes cuts erases writes = record {
-  chip = record {
-    sector_size = size;
-    sectors = sectors;
-    bytes = bytes;
-    is_on = on;
-    cuts = cuts;
-    erases = erases;
-    fixed = record unarmed { armed = armed };
-  };
+  sector_size = size;
+  sectors = sectors;
+  bytes = bytes;
+  is_on = on;
+  cuts = cuts;
+  erases = erases;
   writes = writes;
+  faults = 0;
+  fixed = armed_with armed unarmed;
 }
 
 -- It is the same where its parts are.
@@ -61,7 +74,7 @@ same_memory size sectors on armed bytes bytes' cuts cuts' erases erases' writes 
     ∙ ap (λ x. memory size sectors on armed bytes' cuts' erases' x) w
 
 -- A write that isn't armed is done.
-pub writes_done : (at : ℕ) (range : List ℕ) (done old new : Memory) → old.chip.is_on ≡ true
+pub writes_done : (at : ℕ) (range : List ℕ) (done old new : Chip) → old.is_on ≡ true
     → next_torn old ≡ None → new ≡ done → Writes (Ok tt) at range done old new
 writes_done at range done old new on unarmed is = record {
   off = λ off. absurd (false≢true (sym off ∙ on));
@@ -70,7 +83,7 @@ writes_done at range done old new on unarmed is = record {
 }
 
 -- A write that is armed is cut.
-pub writes_cut : (at : ℕ) (range : List ℕ) (left : Torn) (done old new : Memory) → old.chip.is_on ≡ true
+pub writes_cut : (at : ℕ) (range : List ℕ) (left : Torn) (done old new : Chip) → old.is_on ≡ true
     → next_torn old ≡ Some left → new ≡ torn at range left old → Writes (Err Cut) at range done old new
 writes_cut at range left done old new on armed is = record {
   off = λ off. absurd (false≢true (sym off ∙ on));

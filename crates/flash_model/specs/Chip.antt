@@ -1,6 +1,8 @@
 -- What a contract sees of a flash, and what its calls do to it, said by address.
-use Rattle.std.specs.Prelude.{◌≡◌, ℕ, ◌+◌, ◌*◌, ◌<◌, ◌≤◌, Bool, false, List, [], length}
-use Rattle.std.specs.Prelude.{slice_index, Result, OnOk, IsErrOf}
+use Rattle.std.specs.Prelude.{◌≡◌, ℕ, zero, suc, ◌+◌, ◌*◌, ◌<◌, ◌≤◌, ◌==◌, Bool, false}
+use Rattle.std.specs.Prelude.{List, [], length, map}
+use Rattle.std.specs.Prelude.{slice_index, if◌then◌else◌, Result, OnOk, IsErrOf}
+use Rattle.std.specs.List.{list_any}
 use Rattle.flash_model.specs.declared.error.FlashError.{FlashError}
 use Rattle.flash_model.specs.declared.error.FlashError.TheVariants.{Cut, Off}
 use Rattle.flash_model.specs.declared.torn.Armed.{Armed}
@@ -9,15 +11,22 @@ use Rattle.flash_model.specs.declared.torn.Armed.{Armed}
 pub record Fixed : Type 0 where
   -- The writes that are to be cut, where it is one of a simulation: of a real part there are none.
   pub armed : List Armed
+  -- The numbers of those writes, counted from 1.
+  pub numbers : List ℕ
   -- The name of the borrow of its bytes, where they are somebody else's, and else 0.
   pub name : ℕ
 
 -- A flash of which no write is to be cut, with bytes of its own.
 abbrev pub unarmed : Fixed
-unarmed = record { armed = []; name = 0 }
+unarmed = record { armed = []; numbers = []; name = 0 }
+
+-- The numbers of armed writes.
+abbrev pub numbers_of : List Armed → List ℕ
+numbers_of armed = map (λ write. write.at) armed
 
 -- A flash: so many sectors of so many bytes each, the bytes in the order of their addresses,
--- whether it has power, how often a write of it was cut, how many erases it completed, and what is
+-- whether it has power, how often a write of it was cut, how many erases it completed, how many
+-- programs and erases it took (up to 2 ^ 64 - 1), how many of its cuts weren't armed, and what is
 -- fixed of it.
 pub record Chip : Type 0 where
   pub sector_size : ℕ
@@ -26,7 +35,20 @@ pub record Chip : Type 0 where
   pub is_on : Bool
   pub cuts : ℕ
   pub erases : ℕ
+  pub writes : ℕ
+  pub faults : ℕ
   pub fixed : Fixed
+
+-- How many of the numbers from 1 to n are among these.
+abbrev pub reached : List ℕ → ℕ → ℕ
+reached numbers zero = 0
+reached numbers (suc n) = if list_any (λ number. number == suc n) numbers
+    then reached numbers n + 1 else reached numbers n
+
+-- A flash was cut as it was armed: there was one cut for each armed write that it took, and beside
+-- those only the faults.
+abbrev pub IsCutAsArmed : Chip → Type 0
+IsCutAsArmed chip = chip.cuts ≡ reached chip.fixed.numbers chip.writes + chip.faults
 
 -- How many bytes it has.
 abbrev pub size_of : Chip → ℕ

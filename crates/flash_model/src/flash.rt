@@ -2,7 +2,7 @@
 
 ghost use Rattle.std.specs.Prelude.{◌≡◌, ◌^◌, ◌+◌, ◌*◌, ◌%◌, ◌<◌, ◌≤◌, ℕ, length, slice_index};
 ghost use Rattle.std.specs.Prelude.{true};
-ghost use Rattle.flash_model.specs.Chip.{Chip, size_of, IsErased};
+ghost use Rattle.flash_model.specs.Chip.{Chip, size_of, IsCutAsArmed, IsErased};
 ghost use Rattle.flash_model.specs.Calls.{Erases, Programs, ReadsBytes};
 
 use crate::error::FlashError;
@@ -24,7 +24,8 @@ use crate::error::FlashError;
 /// - `sector_size` and `sectors` never change, nor what is `fixed` of the chip: of a real part no
 ///   write is to be cut.
 ///
-/// The counts of cuts and of erases are for contracts alone: a driver keeps no number for them.
+/// The counts of cuts, erases, writes and faults are for contracts alone: a driver keeps no number
+/// for them. Of a real part each cut is a fault, that is one that wasn't armed.
 pub trait Flash {
     ghost chip: { Self → Chip };
 
@@ -80,4 +81,7 @@ pub trait Flash {
 
     /// A byte is below 256.
     ghost bytes: { (f : Self) (k : ℕ) → slice_index (chip f).bytes k < 256 };
+
+    /// Each armed write that the flash took was cut, and no other one, but for the faults.
+    ghost armed: { (f : Self) → IsCutAsArmed (chip f) };
 }

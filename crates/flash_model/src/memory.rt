@@ -2,6 +2,7 @@
 
 ghost use Rattle.std.specs.Prelude.{◌≡◌, ◌+◌, ◌-◌, ◌*◌, ◌/◌, ◌%◌, ◌^◌, ◌<◌, [], ℕ, All, length};
 ghost use Rattle.std.specs.Prelude.{min, replicate, slice_index, vec_len, IfOk};
+ghost use Rattle.flash_model.specs.Chip.{numbers_of, reached};
 
 use crate::error::FlashError;
 use crate::flash::Flash;
@@ -21,10 +22,11 @@ use std::sync::ledger::{Blank, Book, Ledger, Share};
 /// Reading, writing and restarting don't allocate: the bytes are there from its making, and those
 /// that cuts leave from `arm`.
 ///
-/// Contracts see it as a `Memory` (`memory_of`): the chip, which has the armed cuts in the order of
-/// their arming, and the number of writes. The counts of cuts and of completed erases have no bound
-/// and take no bytes: they are tokens of the ledger `L`. So a flash is made in a function that is
-/// generic in `L`, whose caller picks the ledger:
+/// Contracts see it as a `Chip` (`chip_of`), which has the armed writes in the order of their
+/// arming. Whoever calls the flash, it counts exactly one cut for each armed write that it took. The
+/// counts of cuts and of completed erases have no bound and take no bytes: they are tokens of the
+/// ledger `L`. So a flash is made in a function that is generic in `L`, whose caller picks the
+/// ledger:
 ///
 /// ```text
 /// fn helper<L: Ledger>(alloc: Global, blank: Blank) -> Result<(), AllocError>
@@ -68,11 +70,13 @@ pub struct MemFlash<L: Ledger> {
     ghost counts_cuts: { 0 < cuts.parts },
     ghost counts_erases: { 0 < erases.parts },
     ghost counts: { completed ≡ min erases.amount (2 ^ 64 - 1) },
+    ghost fits: { writes < 2 ^ 64 },
     ghost armed_below: { All (λ write. write.at < 2 ^ 64 - 1) armed.items },
+    ghost cut_as_armed: { cuts.amount ≡ reached (numbers_of armed.items) writes },
 }
 
 impl<L: Ledger> MemFlash<L> {
-    ghost use Rattle.flash_model.specs.Memory.{chip_of, memory_of, new_chip, Arms};
+    ghost use Rattle.flash_model.specs.Memory.{chip_of, new_chip, Arms};
 
     /// A flash of so many sectors of `sector_size` bytes each, all erased, and on. Nothing is
     /// armed.
@@ -94,7 +98,6 @@ impl<L: Ledger> MemFlash<L> {
         requires addressed { sectors * sector_size < 2 ^ 32 }
         ensures chip { IfOk result (λ flash. chip_of flash
             ≡ new_chip sector_size sectors (replicate (sectors * sector_size) 0xff)) }
-        ensures writes { IfOk result (λ flash. (memory_of flash).writes ≡ 0) }
     {
         let bytes = vec![in alloc; 0xff; sectors as usize * sector_size as usize]?;
         Ok(Self::of_sectors(alloc, blank, sector_size, sectors, bytes))
@@ -114,7 +117,6 @@ impl<L: Ledger> MemFlash<L> {
         requires addressed { vec_len bytes < 2 ^ 32 }
         ensures chip { chip_of result
             ≡ new_chip sector_size (vec_len bytes / sector_size) bytes.items }
-        ensures writes { (memory_of result).writes ≡ 0 }
     {
         let sectors = bytes.len() as u32 / sector_size;
         Self::of_sectors(alloc, blank, sector_size, sectors, bytes)
@@ -134,7 +136,6 @@ impl<L: Ledger> MemFlash<L> {
         requires whole { vec_len bytes ≡ sectors * sector_size }
         requires addressed { vec_len bytes < 2 ^ 32 }
         ensures chip { chip_of result ≡ new_chip sector_size sectors bytes.items }
-        ensures writes { (memory_of result).writes ≡ 0 }
     {
         let (book, mut cuts) = blank.open::<L>();
         let erases = cuts.split_off(1, 0);
@@ -155,22 +156,25 @@ impl<L: Ledger> MemFlash<L> {
     /// Has the k-th write cut, counted from the making of the flash, from 1, and leave what `torn`
     /// says. `k` is below 2^64 - 1, where counting stops.
     ///
-    /// Calls add up; of several for the same `k` the first counts. A `k` of 0, or of a write that
-    /// is over, does nothing.
+    /// Calls add up; of several for the same `k` the first counts. A `k` of a write that is over
+    /// changes nothing, and there is no write 0.
     ///
     /// # Errors
     /// Where memory for one more is refused: the flash is as it was.
     pub fn arm(&mut self, k: u64, torn: Torn) -> Result<(), AllocError>
         requires { k < 2 ^ 64 - 1 }
-        ensures { Arms k torn (memory_of self.old) (memory_of self.new) result }
+        ensures { Arms k torn (chip_of self.old) (chip_of self.new) result }
     {
+        if 0 < k && k <= self.writes {
+            return Ok(());
+        }
         self.armed.push(Armed { at: k, torn })?;
         Ok(())
     }
 
     /// How many writes it took, programs and erases, also those that were cut. Stops at 2^64 - 1.
     pub fn writes(&self) -> u64
-        ensures { result ≡ (memory_of self.now).writes }
+        ensures { result ≡ (chip_of self.now).writes }
     {
         self.writes
     }
@@ -194,7 +198,9 @@ impl<L: Ledger> Flash for MemFlash<L> {
     ghost use Rattle.std.specs.Prelude.{◌≡◌, ◌+◌, ◌<◌, ◌≤◌, length, true};
     ghost use Rattle.flash_model.specs.Chip.{size_of};
     ghost use Rattle.flash_model.specs.Calls.{CanProgram, Erases, Programs, ReadsBytes};
-    ghost use Rattle.flash_model.specs.Memory.{chip_of, memory_of, ErasesAsArmed, ProgramsAsArmed};
+    ghost use Rattle.flash_model.specs.Memory.{chip_of, ErasesAsArmed, ProgramsAsArmed};
+    ghost use Rattle.std.proofs.Common.{sym, ◌∙◌};
+    ghost use Rattle.std.proofs.Math.Nat.{add-zero};
 
     ghost chip = { chip_of };
 
@@ -203,6 +209,8 @@ impl<L: Ledger> Flash for MemFlash<L> {
     ghost addressed = { λ f. f.addressed };
 
     ghost bytes = { λ f. f.are_bytes };
+
+    ghost armed = { λ f. f.cut_as_armed ∙ sym (add-zero _) };
 
     fn sector_size(&self) -> u32 {
         self.sector_size
@@ -214,8 +222,7 @@ impl<L: Ledger> Flash for MemFlash<L> {
 
     fn read(&mut self, at: u32, out: &mut [u8]) -> Result<(), FlashError>
         requires { at + length out.old ≤ size_of (chip_of self.old) }
-        ensures chip { ReadsBytes at out.new (chip_of self.old) (chip_of self.new) result }
-        ensures memory { memory_of self.new ≡ memory_of self.old }
+        ensures { ReadsBytes at out.new (chip_of self.old) (chip_of self.new) result }
     {
         if !self.is_on {
             return Err(FlashError::Off);
@@ -228,8 +235,7 @@ impl<L: Ledger> Flash for MemFlash<L> {
     fn program(&mut self, at: u32, bytes: &[u8]) -> Result<(), FlashError>
         requires { CanProgram at (length bytes.now) (chip_of self.old) }
         ensures chip { Programs at bytes.now (chip_of self.old) (chip_of self.new) result }
-        ensures memory { ProgramsAsArmed at bytes.now (memory_of self.old) (memory_of self.new)
-            result }
+        ensures memory { ProgramsAsArmed at bytes.now (chip_of self.old) (chip_of self.new) result }
     {
         if !self.is_on {
             return Err(FlashError::Off);
@@ -253,7 +259,7 @@ impl<L: Ledger> Flash for MemFlash<L> {
     fn erase(&mut self, sector: u32) -> Result<(), FlashError>
         requires { sector < (chip_of self.old).sectors }
         ensures chip { Erases sector (chip_of self.old) (chip_of self.new) result }
-        ensures memory { ErasesAsArmed sector (memory_of self.old) (memory_of self.new) result }
+        ensures memory { ErasesAsArmed sector (chip_of self.old) (chip_of self.new) result }
     {
         let n = self.sector_size as usize;
         let at = sector as usize * n;
@@ -278,9 +284,7 @@ impl<L: Ledger> Flash for MemFlash<L> {
     }
 
     fn restart(&mut self)
-        ensures chip { chip_of self.new ≡ record (chip_of self.old) { is_on = true } }
-        ensures memory { memory_of self.new
-            ≡ record (memory_of self.old) { chip = record (chip_of self.old) { is_on = true } } }
+        ensures { chip_of self.new ≡ record (chip_of self.old) { is_on = true } }
     {
         self.is_on = true;
     }

@@ -10,12 +10,12 @@ pub enum Torn {
     Keep,
     /// What the write was to leave.
     Done,
-    /// The first half of what the write was to leave, and behind it what was there before. Of an
-    /// odd number of bytes the half is the smaller one.
-    Half,
     /// These bytes over the range, again and again from its first byte on. No bytes at all are
     /// `Keep`.
     Bytes(Vec<u8>),
+    /// The first half of what the write was to leave, and behind it what was there before. Of an
+    /// odd number of bytes the half is the smaller one.
+    Half,
 }
 
 /// A write that is to be cut.

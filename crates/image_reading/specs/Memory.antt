@@ -11,6 +11,8 @@ memory_chip bytes = record {
   is_on = true;
   cuts = 0;
   erases = 0;
+  writes = 0;
+  faults = 0;
   fixed = unarmed;
 }
 

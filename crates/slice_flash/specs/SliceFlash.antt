@@ -1,7 +1,6 @@
 -- A flash over lent bytes: what a contract sees of it, and what a write of it leaves.
-use Rattle.std.specs.Prelude.{◌≡◌, ℕ, ◌+◌, ◌-◌, ◌*◌, ◌/◌, ◌^◌, ◌==◌, List, true, false, length, nat_lt}
-use Rattle.std.specs.Prelude.{Option, Some, None, option_map, find, if◌then◌else◌, replicate, slice_range}
-use Rattle.std.specs.Prelude.{Result, IsOk, IsErrOf}
+use Rattle.std.specs.Prelude.{◌≡◌, ℕ, ◌+◌, ◌*◌, ◌/◌, List, true, false, length, replicate}
+use Rattle.std.specs.Prelude.{Option, Some, None, slice_range, Result, IsOk, IsErrOf}
 use Rattle.std.specs.Borrow.{MutBor}
 use Rattle.flash_model.specs.declared.error.FlashError.{FlashError}
 use Rattle.flash_model.specs.declared.error.FlashError.TheVariants.{Cut, Off}
@@ -9,19 +8,18 @@ use Rattle.flash_model.specs.Calls.{Programs}
 use Rattle.flash_model.specs.Chip.{Chip, unarmed}
 use Rattle.flash_model.specs.Memory.{new_chip, one_more}
 use Rattle.flash_model.specs.Torn.{replaced, with_pattern}
+use Rattle.slice_flash.specs.Rows.{left_after, numbers_in, torn_bytes}
 use Rattle.slice_flash.specs.declared.flash.SliceFlash.{SliceFlash}
 use Rattle.slice_flash.specs.declared.table.Cut as row
 use Rattle.slice_flash.specs.declared.table.Left.{Left}
-use Rattle.slice_flash.specs.declared.table.Left.TheVariants.{Keep, Done, Bytes}
 
--- A flash over lent bytes: the flash itself, how many programs and erases it took (up to
--- 2 ^ 64 - 1), and which of them are to be cut.
+-- A flash over lent bytes: the flash itself, and which writes of it are to be cut.
 pub record Slice : Type 0 where
   pub chip : Chip
-  pub writes : ℕ
   pub table : List row.Cut
 
 -- The flash itself. By the name of the borrow it is over the same bytes for as long as it lasts.
+-- Each cut is one of the table.
 abbrev pub chip_of : {L : Type 0} → SliceFlash L → Chip
 chip_of flash = record {
   sector_size = flash.sector_size;
@@ -30,48 +28,49 @@ chip_of flash = record {
   is_on = flash.is_on;
   cuts = flash.cuts.amount;
   erases = flash.erases.amount;
-  fixed = record unarmed { name = flash.bytes.ghost_name };
+  writes = flash.writes;
+  faults = 0;
+  fixed = record unarmed {
+    numbers = numbers_in flash.table.now;
+    name = flash.bytes.ghost_name;
+  };
 }
 
--- The flash with its count of writes and its table.
+-- The flash with its table.
 abbrev pub slice_of : {L : Type 0} → SliceFlash L → Slice
-slice_of flash = record { chip = chip_of flash; writes = flash.writes; table = flash.table.now }
+slice_of flash = record { chip = chip_of flash; table = flash.table.now }
 
 -- A flash that was just made over these bytes, in sectors of this size.
 abbrev pub new_slice : ℕ → MutBor (List ℕ) → List row.Cut → Slice
 new_slice size lent table = record {
   chip = record (new_chip size (length lent.now / size) lent.now) {
-    fixed = record unarmed { name = lent.ghost_name };
+    fixed = record unarmed { numbers = numbers_in table; name = lent.ghost_name };
   };
-  writes = 0;
   table = table;
 }
 
--- What the cut of the write of this number leaves, where it is to be cut: the first row counts.
-abbrev pub left_for : ℕ → List row.Cut → Option Left
-left_for number table = option_map (λ cut. cut.left) (find (λ cut. cut.write == number) table)
-
--- What the cut of the next write leaves, where it is to be cut. Numbers end at 2 ^ 64 - 1, and no
--- write behind that one is cut.
+-- What the cut of the next write leaves, where it is to be cut.
 abbrev pub next_left : Slice → Option Left
-next_left slice =
-    if nat_lt slice.writes (2 ^ 64 - 1) then left_for (slice.writes + 1) slice.table else None
+next_left slice = left_after slice.chip.writes slice.table
 
--- With one write more.
-abbrev pub counted : Slice → Slice
-counted old = record old { writes = one_more old.writes }
-
--- What a cut leaves in a range, of the bytes that it had and those that it was to have.
-abbrev pub torn_bytes : Left → List ℕ → List ℕ → List ℕ
-torn_bytes Keep old done = old
-torn_bytes Done old done = done
-torn_bytes (Bytes pattern) old done = with_pattern pattern.now old
+-- With one write more, that is done or cut.
+abbrev pub counted : Option Left → Slice → Slice
+counted None old = record old { chip = record (old.chip) { writes = one_more old.chip.writes } }
+counted (Some left) old = record old {
+  chip = record (old.chip) {
+    is_on = false;
+    cuts = old.chip.cuts + 1;
+    writes = one_more old.chip.writes;
+  };
+}
 
 -- After a write of these bytes that was done, ..
 abbrev pub done : ℕ → List ℕ → Slice → Slice
 done at range old = record old {
-  chip = record (old.chip) { bytes = replaced at range old.chip.bytes };
-  writes = one_more old.writes;
+  chip = record (old.chip) {
+    bytes = replaced at range old.chip.bytes;
+    writes = one_more old.chip.writes;
+  };
 }
 
 -- .. after an erase that was done, ..
@@ -89,8 +88,8 @@ torn at range left old =
         bytes = replaced at (torn_bytes left before range) old.chip.bytes;
         is_on = false;
         cuts = old.chip.cuts + 1;
+        writes = one_more old.chip.writes;
       };
-      writes = one_more old.writes;
     }
 
 -- A write of these bytes ends as the table says. A flash that is off refuses it, and doesn't count

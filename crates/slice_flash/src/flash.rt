@@ -1,8 +1,10 @@
 //! A flash over bytes that somebody else lends.
 
 ghost use Rattle.std.specs.Prelude.{◌≡◌, ◌+◌, ◌*◌, ◌%◌, ◌^◌, ◌<◌, ◌≤◌, ℕ, length, slice_index, slice_range};
+ghost use Rattle.flash_model.specs.Chip.{reached};
+ghost use Rattle.slice_flash.specs.Rows.{numbers_in};
 
-use crate::table::{Cut, Left, left_for, repeat};
+use crate::table::{Cut, Left, left_after, repeat, tear};
 use flash_model::{Flash, FlashError};
 use std::sync::ledger::{Blank, Book, Ledger, Share};
 
@@ -17,9 +19,9 @@ use std::sync::ledger::{Blank, Book, Ledger, Share};
 /// knows that where calls borrowed the flash; where it was moved into another struct it knows the
 /// length alone.
 ///
-/// Contracts see it as a `Slice` (`slice_of`): the chip, the number of writes, and the table. It is
-/// made in a function that is generic in the ledger, as a `MemFlash` is, whose page says what the
-/// caller of that function writes:
+/// Contracts see it as a `Slice` (`slice_of`): the chip and the table. It is made in a function that
+/// is generic in the ledger, as a `MemFlash` is, whose page says what the caller of that function
+/// writes:
 ///
 /// ```text
 /// fn helper<L: Ledger>(blank: Blank, bytes: &mut [u8])
@@ -50,6 +52,8 @@ pub struct SliceFlash<'a, L: Ledger> {
     ghost are_bytes: { (k : ℕ) → slice_index bytes.now k < 256 },
     ghost counts_cuts: { 0 < cuts.parts },
     ghost counts_erases: { 0 < erases.parts },
+    ghost fits: { writes < 2 ^ 64 },
+    ghost cut_as_told: { cuts.amount ≡ reached (numbers_in table.now) writes },
 }
 
 // Written out for its clause, by which the lender knows the bytes again: a derived `drop` of a
@@ -118,21 +122,24 @@ impl<'a, L: Ledger> SliceFlash<'a, L> {
 
     /// How many writes were counted so far, up to 2^64 - 1.
     pub fn writes(&self) -> u64
-        ensures { result ≡ (slice_of self.now).writes }
+        ensures { result ≡ (chip_of self.now).writes }
     {
         self.writes
     }
 
-    /// Counts a write, and tells what its cut leaves, where it is to be cut.
+    /// Counts a write, and tells what its cut leaves, where it is to be cut: then the flash is off.
     fn count_write(&mut self) -> Option<Left<'a>>
         ensures left { result ≡ next_left (slice_of self.old) }
-        ensures counted { slice_of self.new ≡ counted (slice_of self.old) }
+        ensures counted { slice_of self.new ≡ counted result (slice_of self.old) }
     {
-        if self.writes == u64::MAX {
+        let left = left_after(self.table, self.writes);
+        self.writes = self.writes.saturating_add(1);
+        if left.is_none() {
             return None;
         }
-        self.writes += 1;
-        left_for(self.table, self.writes)
+        self.is_on = false;
+        self.book.add(&mut self.cuts, 1);
+        left
     }
 
     /// A write: puts a pattern over `n` bytes from `at` on, or cuts that.
@@ -147,16 +154,15 @@ impl<'a, L: Ledger> SliceFlash<'a, L> {
         let bytes = &mut *self.bytes;
         let range = &mut bytes[at..at + n];
         match left {
-            None | Some(Left::Done) => repeat(range, pattern),
-            Some(Left::Keep) => {}
-            Some(Left::Bytes(torn)) => repeat(range, torn),
+            None => {
+                repeat(range, pattern);
+                Ok(())
+            }
+            Some(left) => {
+                tear(range, pattern, left);
+                Err(FlashError::Cut)
+            }
         }
-        if left.is_none() {
-            return Ok(());
-        }
-        self.is_on = false;
-        self.book.add(&mut self.cuts, 1);
-        Err(FlashError::Cut)
     }
 }
 
@@ -165,6 +171,8 @@ impl<'a, L: Ledger> Flash for SliceFlash<'a, L> {
     ghost use Rattle.flash_model.specs.Chip.{size_of};
     ghost use Rattle.flash_model.specs.Calls.{CanProgram, Erases, Programs, ReadsBytes};
     ghost use Rattle.slice_flash.specs.SliceFlash.{chip_of, slice_of, ErasesAsTold, ProgramsAsTold};
+    ghost use Rattle.std.proofs.Common.{sym, ◌∙◌};
+    ghost use Rattle.std.proofs.Math.Nat.{add-zero};
 
     ghost chip = { chip_of };
 
@@ -173,6 +181,8 @@ impl<'a, L: Ledger> Flash for SliceFlash<'a, L> {
     ghost addressed = { λ f. f.addressed };
 
     ghost bytes = { λ f. f.are_bytes };
+
+    ghost armed = { λ f. f.cut_as_told ∙ sym (add-zero _) };
 
     fn sector_size(&self) -> u32 {
         self.sector_size

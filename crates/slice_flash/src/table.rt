@@ -2,7 +2,7 @@
 
 ghost use Rattle.std.specs.Prelude.{◌≡◌};
 ghost use Rattle.flash_model.specs.Torn.{with_pattern};
-ghost use Rattle.slice_flash.specs.SliceFlash.{left_for};
+ghost use Rattle.slice_flash.specs.Rows.{left_after, left_for, torn_bytes};
 
 /// What a cut leaves in its range.
 #[derive(Clone, Copy, Debug, PartialEq, Eq)]
@@ -27,13 +27,23 @@ pub struct Cut<'a> {
 
 /// What the cut of write `number` leaves, where that write is to be cut: the first row for it
 /// counts.
-pub(crate) fn left_for<'a>(table: &[Cut<'a>], number: u64) -> Option<Left<'a>>
+fn left_for<'a>(table: &[Cut<'a>], number: u64) -> Option<Left<'a>>
     ensures { result ≡ left_for number table.now }
 {
     table
         .iter()
         .find(|cut| cut.write == number)
         .map(|cut| cut.left)
+}
+
+/// What the cut of the next write leaves, after so many, where it is to be cut.
+pub(crate) fn left_after<'a>(table: &[Cut<'a>], writes: u64) -> Option<Left<'a>>
+    ensures { result ≡ left_after writes table.now }
+{
+    if writes == u64::MAX {
+        return None;
+    }
+    left_for(table, writes + 1)
 }
 
 /// Puts a pattern over a range, again and again from its first byte on.
@@ -46,5 +56,16 @@ pub(crate) fn repeat(range: &mut [u8], pattern: &[u8])
     }
     for i in 0..range.len() {
         range[i] = pattern[i % pattern.len()];
+    }
+}
+
+/// Leaves of a range what a cut leaves, of a write that was to put a pattern over it.
+pub(crate) fn tear(range: &mut [u8], pattern: &[u8], left: Left<'_>)
+    ensures { range.new ≡ torn_bytes left.entry range.old (with_pattern pattern.now range.old) }
+{
+    match left {
+        Left::Keep => {}
+        Left::Done => repeat(range, pattern),
+        Left::Bytes(torn) => repeat(range, torn),
     }
 }

@@ -27,6 +27,8 @@ impl<F: Flash> Flash for Counted<F> {
 
     ghost bytes = { λ counted. F.bytes counted.flash };
 
+    ghost armed = { λ counted. F.armed counted.flash };
+
     fn sector_size(&self) -> u32 {
         self.flash.sector_size()
     }

@@ -29,6 +29,8 @@ impl<F: Flash> Flash for Counting<F> {
 
     ghost bytes = { λ counting. F.bytes counting.flash };
 
+    ghost armed = { λ counting. F.armed counting.flash };
+
     fn sector_size(&self) -> u32 {
         self.flash.sector_size()
     }

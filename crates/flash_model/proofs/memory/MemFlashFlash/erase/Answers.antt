@@ -1,8 +1,9 @@
-use Rattle.std.proofs.Common.{ℕ, ◌+◌, ◌*◌, ◌≤◌, length, arith, refl, sym, ap, ◌∙◌}
+use Rattle.std.proofs.Common.{ℕ, ◌^◌, ◌-◌, ◌+◌, ◌*◌, ◌≤◌, length, arith, refl, sym, ap, ◌∙◌}
 use Rattle.std.proofs.lemmas.List.{length-replicate, take_at}
 use Rattle.std.proofs.lemmas.Bool.{false≢true}
 use Rattle.flash_model.proofs.Ending.{ends_cut, ends_well}
-use Rattle.flash_model.proofs.MemoryLaws.{same_memory, torn_for_next, writes_done, writes_cut}
+use Rattle.flash_model.proofs.MemoryLaws.{none_behind, same_memory, torn_for_next, writes_done, writes_cut}
+use Rattle.flash_model.proofs.Reached.{reached_armed, reached_unarmed}
 use Rattle.flash_model.proofs.TornBytes.{blank_inside, items_after, erased_of_replaced, items_after_torn_blank, length-replaced, outside_of_replaced, outside_of_torn}
 use Rattle.flash_model.proofs.memory.MemFlashFlash.erase.Goals as goal
 
@@ -86,3 +87,18 @@ invariant_of-self-in-Some-clause-whole g c =
 pub invariant_of-self-in-Some-clause-are_bytes : goal.invariant_of-self-in-Some-clause-are_bytes
 invariant_of-self-in-Some-clause-are_bytes g c k =
     rw (take_at _ _ _ (c.tear_erase.auto.all ∙ c.deref_mut-in-Some.ensures.len)) (c.tear_erase.ensures.are_bytes k)
+
+pub invariant_of-self-clause-cut_as_armed : goal.invariant_of-self-clause-cut_as_armed
+invariant_of-self-clause-cut_as_armed g c =
+    let flash = c.args.self.now in
+    flash.cut_as_armed
+    ∙ sym (reached_unarmed flash.armed.items flash.writes _ flash.fits c.saturating_add-self.ensures
+    (sym (rw c.deref.ensures.value at c.in-None.ensures)))
+
+pub invariant_of-self-in-Some-clause-cut_as_armed : goal.invariant_of-self-in-Some-clause-cut_as_armed
+invariant_of-self-in-Some-clause-cut_as_armed g c =
+    let flash = c.args.self.now in
+    c.add-in-Some.ensures.amount ∙ ap (λ n. n + 1) flash.cut_as_armed
+    ∙ sym (reached_armed flash.armed.items flash.writes _ c.in-Some.torn.now c.saturating_add-self.ensures
+    (λ past. none_behind flash.armed.items (2 ^ 64 - 1) _ flash.armed_below past)
+    (sym (rw c.deref.ensures.value at c.in-Some.ensures)))

@@ -1,0 +1,27 @@
+-- Which writes are to be cut, by the rows of a table.
+use Rattle.std.specs.Prelude.{ℕ, ◌+◌, ◌-◌, ◌^◌, ◌==◌, List, map, find, nat_lt, if◌then◌else◌}
+use Rattle.std.specs.Prelude.{Option, None, option_map}
+use Rattle.flash_model.specs.Torn.{with_pattern}
+use Rattle.slice_flash.specs.declared.table.Cut as row
+use Rattle.slice_flash.specs.declared.table.Left.{Left}
+use Rattle.slice_flash.specs.declared.table.Left.TheVariants.{Keep, Done, Bytes}
+
+-- The numbers of the writes that are to be cut.
+abbrev pub numbers_in : List row.Cut → List ℕ
+numbers_in table = map (λ cut. cut.write) table
+
+-- What the cut of the write of this number leaves, where it is to be cut: the first row counts.
+abbrev pub left_for : ℕ → List row.Cut → Option Left
+left_for number table = option_map (λ cut. cut.left) (find (λ cut. cut.write == number) table)
+
+-- What the cut of the next write leaves, after so many writes, where it is to be cut. Numbers end
+-- at 2 ^ 64 - 1, and no write behind that one is cut.
+abbrev pub left_after : ℕ → List row.Cut → Option Left
+left_after writes table =
+    if nat_lt writes (2 ^ 64 - 1) then left_for (writes + 1) table else None
+
+-- What a cut leaves in a range, of the bytes that it had and those that it was to have.
+abbrev pub torn_bytes : Left → List ℕ → List ℕ → List ℕ
+torn_bytes Keep old done = old
+torn_bytes Done old done = done
+torn_bytes (Bytes pattern) old done = with_pattern pattern.now old
