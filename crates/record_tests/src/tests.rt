@@ -2,3 +2,4 @@
 mod calls;
 mod flashes;
 mod states;
+mod torn;

@@ -12,7 +12,7 @@ use std::process::Abort;
 use std::sync::ledger::{Blank, Ledger};
 use std::test::Fail;
 use swap_scratch::swap_set;
-use trailer::{Kind, Settling, clear, request, set_ok, settle, withdraw};
+use trailer::{Kind, Magic, Settling, clear, read_trailer, request, set_ok, settle, withdraw};
 
 /// A call, on a trailer or a slot of image 0 where it names none.
 #[derive(Clone, Copy)]
@@ -24,24 +24,31 @@ pub(super) enum Call {
     Settle(Settling),
     /// Swaps a set of images.
     Swap(u8),
-    Begin,
-    Append,
+    /// Begins a log with a steady state of this sequence number.
+    Begin(u32),
+    /// Appends such a state, or begins a log with it where there is none.
+    Append(u32),
 }
 
-/// What calls leave: the answer of the last one, how many writes there were, and the bytes.
-pub(super) type Outcome = (Result<(), FlashError>, u64, Vec<u8>);
+/// What calls leave: the answer of the last one, how many writes and completed erases there were,
+/// and the bytes.
+pub(super) type Outcome = (Result<(), FlashError>, u64, u64, Vec<u8>);
 
 /// Makes a call on a log.
 fn record<F: Flash>(
     rt: &impl Abort,
     flash: &mut F,
     map: &SectorMap,
-    call: Call,
+    sequence: u32,
+    is_append: bool,
 ) -> Result<(), FlashError> {
-    assert!(rt; map.fits(flash) && STEADY.fits(map.images));
-    match call {
-        Call::Append if read_state(flash, map).is_ok() => append(flash, map, &STEADY),
-        _ => start(flash, map, &STEADY),
+    let mut state = STEADY;
+    state.sequence = sequence;
+    assert!(rt; map.fits(flash) && state.fits(map.images));
+    if is_append && read_state(flash, map).is_ok() {
+        append(flash, map, &state)
+    } else {
+        start(flash, map, &state)
     }
 }
 
@@ -65,17 +72,19 @@ fn make<F: Flash>(
             assert!(rt; is_within(map, mask));
             swap_set(flash, map, mask, Side::Primary)
         }
-        Call::Begin | Call::Append => record(rt, flash, map, call),
+        Call::Begin(sequence) => record(rt, flash, map, sequence, false),
+        Call::Append(sequence) => record(rt, flash, map, sequence, true),
     }
 }
 
-/// Makes calls on a flash of these bytes, whose write of this number is cut and changes nothing.
+/// Makes calls on a flash of these bytes, whose write of this number is cut and leaves this.
 fn made<L: Ledger>(
     rt: &impl Abort,
     alloc: Global,
     blank: Blank,
     bytes: Vec<u8>,
     cut: u32,
+    torn: Torn,
     calls: &[Call],
 ) -> Result<Outcome, Fail>
     requires name { blank.name ≡ L.name }
@@ -85,16 +94,30 @@ fn made<L: Ledger>(
     let map = SectorMap::new(512, &[2, 2])?;
     assert!(rt; bytes.len() % 512 == 0 && bytes.len() < 65536);
     let mut flash = MemFlash::<L>::from_bytes(alloc, blank, 512, bytes);
-    flash.arm(u64::from(cut), Torn::Keep)?;
+    flash.arm(u64::from(cut), torn)?;
     let mut last = Ok(());
     for call in calls {
         last = make(rt, &mut flash, &map, *call);
     }
-    Ok((last, flash.writes(), Vec::from_slice(alloc, flash.bytes())?))
+    let bytes = Vec::from_slice(alloc, flash.bytes())?;
+    Ok((last, flash.writes(), flash.erases(), bytes))
+}
+
+/// What calls leave on a flash of these bytes, whose write of this number is cut and leaves this.
+/// Writes are counted from 1.
+pub(super) fn torn_outcome_of(
+    rt: &impl Abort,
+    alloc: Global,
+    bytes: Vec<u8>,
+    cut: u32,
+    torn: Torn,
+    calls: &[Call],
+) -> Result<Outcome, Fail> {
+    made::<Brand>(rt, alloc, Blank::new(2), bytes, cut, torn, calls)
 }
 
 /// What calls leave on a flash of these bytes, whose write of this number is cut and changes
-/// nothing. Writes are counted from 1.
+/// nothing.
 pub(super) fn outcome_of(
     rt: &impl Abort,
     alloc: Global,
@@ -102,5 +125,41 @@ pub(super) fn outcome_of(
     cut: u32,
     calls: &[Call],
 ) -> Result<Outcome, Fail> {
-    made::<Brand>(rt, alloc, Blank::new(2), bytes, cut, calls)
+    torn_outcome_of(rt, alloc, bytes, cut, Torn::Keep, calls)
+}
+
+/// Reads a flash of these bytes.
+fn read<L: Ledger>(
+    rt: &impl Abort,
+    alloc: Global,
+    blank: Blank,
+    bytes: Vec<u8>,
+) -> Result<(Option<u32>, Option<Magic>), Fail>
+    requires name { blank.name ≡ L.name }
+    requires parts { blank.parts ≡ L.parts }
+    requires two { L.parts ≡ 2 }
+{
+    let map = SectorMap::new(512, &[2, 2])?;
+    assert!(rt; bytes.len() % 512 == 0 && bytes.len() < 65536);
+    let mut flash = MemFlash::<L>::from_bytes(alloc, blank, 512, bytes);
+    assert!(rt; map.images == 2 && map.fits(&flash));
+    let sequence = match read_state(&mut flash, &map) {
+        Ok(state) => Some(state.sequence),
+        Err(_) => None,
+    };
+    let magic = match read_trailer(&mut flash, &map, 0, Side::Secondary) {
+        Ok(trailer) => Some(trailer.magic),
+        Err(_) => None,
+    };
+    Ok((sequence, magic))
+}
+
+/// What is read of a flash of these bytes: the sequence number of its state, and the magic of the
+/// secondary trailer of image 0.
+pub(super) fn read_of(
+    rt: &impl Abort,
+    alloc: Global,
+    bytes: Vec<u8>,
+) -> Result<(Option<u32>, Option<Magic>), Fail> {
+    read::<Brand>(rt, alloc, Blank::new(2), bytes)
 }

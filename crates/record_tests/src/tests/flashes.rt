@@ -7,12 +7,17 @@ use std::alloc::Global;
 use std::test::Fail;
 use trailer::{Kind, Settling};
 
+/// A byte that isn't 0xFF, by its address.
+pub(super) fn odd_byte(at: u16) -> u8 {
+    (at % 251) as u8
+}
+
 /// So many bytes, none of which is 0xFF but those of sector 2 and of sector 5.
-fn odd_bytes(alloc: Global, count: u16) -> Result<Vec<u8>, Fail> {
+pub(super) fn odd_bytes(alloc: Global, count: u16) -> Result<Vec<u8>, Fail> {
     let mut bytes = vec![in alloc; 0; 0]?;
     for at in 0..count {
         let is_erased = at / 512 == 2 || at / 512 == 5;
-        bytes.push(if is_erased { 0xff } else { (at % 251) as u8 })?;
+        bytes.push(if is_erased { 0xff } else { odd_byte(at) })?;
     }
     Ok(bytes)
 }
@@ -28,29 +33,29 @@ const EVERY: [Call; 33] = [
     Call::Confirm,
     Call::Settle(Settling::Permanent),
     Call::Settle(Settling::Back),
-    Call::Begin,
-    Call::Append,
-    Call::Append,
-    Call::Append,
-    Call::Append,
-    Call::Append,
-    Call::Append,
-    Call::Append,
-    Call::Append,
-    Call::Append,
-    Call::Append,
-    Call::Append,
-    Call::Append,
-    Call::Append,
-    Call::Append,
-    Call::Append,
-    Call::Append,
-    Call::Append,
-    Call::Append,
-    Call::Append,
-    Call::Append,
-    Call::Append,
-    Call::Append,
+    Call::Begin(1),
+    Call::Append(1),
+    Call::Append(1),
+    Call::Append(1),
+    Call::Append(1),
+    Call::Append(1),
+    Call::Append(1),
+    Call::Append(1),
+    Call::Append(1),
+    Call::Append(1),
+    Call::Append(1),
+    Call::Append(1),
+    Call::Append(1),
+    Call::Append(1),
+    Call::Append(1),
+    Call::Append(1),
+    Call::Append(1),
+    Call::Append(1),
+    Call::Append(1),
+    Call::Append(1),
+    Call::Append(1),
+    Call::Append(1),
+    Call::Append(1),
     Call::Swap(0b11),
 ];
 
@@ -59,8 +64,8 @@ fn sectors_behind_those_of_the_map_stay(rt: HostRuntime) -> Result<(), Fail> {
     let usual = outcome_of(&rt, rt.alloc(), odd_bytes(rt.alloc(), 8192)?, 0, &EVERY)?;
     let longer = outcome_of(&rt, rt.alloc(), odd_bytes(rt.alloc(), 9728)?, 0, &EVERY)?;
     let odd = odd_bytes(rt.alloc(), 9728)?;
-    let is_kept = longer.2.as_slice().starts_with(usual.2.as_slice())
-        && longer.2.as_slice().get(8192..) == odd.as_slice().get(8192..);
+    let is_kept = longer.3.as_slice().starts_with(usual.3.as_slice())
+        && longer.3.as_slice().get(8192..) == odd.as_slice().get(8192..);
     assert!(rt; is_kept && usual.1 > 100 && longer.0.is_ok() && longer.1 == usual.1);
     Ok(())
 }
@@ -75,19 +80,19 @@ const PLACE: [u8; 64] = [
 #[test]
 fn a_log_is_begun_on_any_bytes(rt: HostRuntime) -> Result<(), Fail> {
     let odd = odd_bytes(rt.alloc(), 8192)?;
-    let (last, writes, bytes) = outcome_of(
+    let (last, writes, erases, bytes) = outcome_of(
         &rt,
         rt.alloc(),
         odd_bytes(rt.alloc(), 8192)?,
         0,
-        &[Call::Begin],
+        &[Call::Begin(1)],
     )?;
     let bytes = bytes.as_slice();
     let is_begun = bytes.get(..6656) == odd.as_slice().get(..6656)
         && bytes.get(6656..6720) == Some(&PLACE[..])
         && bytes.get(6720..8184) == Some(&[0xff; 1464][..])
         && bytes.get(8184..) == Some(&PLACE[56..]);
-    assert!(rt; is_begun && last.is_ok() && writes == 6);
+    assert!(rt; is_begun && last.is_ok() && writes == 6 && erases == 3);
     Ok(())
 }
 
@@ -95,7 +100,7 @@ fn a_log_is_begun_on_any_bytes(rt: HostRuntime) -> Result<(), Fail> {
 fn a_swap_of_no_image_writes_nothing(rt: HostRuntime) -> Result<(), Fail> {
     let bytes = odd_bytes(rt.alloc(), 8192)?;
     let seen = outcome_of(&rt, rt.alloc(), bytes, 0, &[Call::Swap(0)])?;
-    assert!(rt; seen == (Ok(()), 0, odd_bytes(rt.alloc(), 8192)?));
+    assert!(rt; seen == (Ok(()), 0, 0, odd_bytes(rt.alloc(), 8192)?));
     Ok(())
 }
 
@@ -112,7 +117,7 @@ fn a_flash_that_is_off_stays_as_it_is(rt: HostRuntime) -> Result<(), Fail> {
         } else {
             FlashError::Off
         };
-        assert!(rt; seen == (Err(error), 1, odd_bytes(rt.alloc(), 8192)?));
+        assert!(rt; seen == (Err(error), 1, 0, odd_bytes(rt.alloc(), 8192)?));
     }
     Ok(())
 }
