@@ -1,5 +1,5 @@
 -- A flash that is made a device's.
-use Rattle.std.proofs.Common.{◌≡◌, ◌⊎◌, ℕ, ◌+◌, ◌<◌, ◌≤◌, ◌==◌, max, true, false, List, [], ◌∷◌, ◌++◌, length, Option, Some, None, Result, Ok, Err}
+use Rattle.std.proofs.Common.{◌≡◌, ◌⊎◌, ℕ, ◌+◌, ◌<◌, ◌≤◌, ◌==◌, max, Bool, true, false, List, [], ◌∷◌, ◌++◌, length, Option, Some, None, Result, Ok, Err}
 use Rattle.std.proofs.Common.{OnOk, IfErr, refl, sym, ◌∙◌, ap, subst, arith, slice_get, slice_index, get_or, ⊎_elim, inl, inr, zero, suc, replicate, length-append}
 use Rattle.std.proofs.Math.Bool.{and-false}
 use Rattle.std.proofs.lemmas.Bool.{cases_lt}
@@ -14,7 +14,7 @@ use Rattle.sector_map.specs.declared.layout.Side.TheVariants.{Primary, Secondary
 use Rattle.sector_map.specs.Part.{Part, Slot, TrailerOf, Scratch, Log, is_member, only, trailers_of}
 use Rattle.sector_map.specs.Map.{Keeps}
 use Rattle.sector_map.proofs.Parts.{keeps_trans, keeps_wider}
-use Rattle.trailer.specs.Fields.{erased_fields, fields_at}
+use Rattle.flash_model.specs.Units.{are_erased}
 use Rattle.set_log.specs.Log.{state_of}
 use Rattle.set_log.specs.Record.{fits}
 use Rattle.set_log.proofs.Table.{fits_of}
@@ -45,8 +45,8 @@ use Rattle.machine.proofs.Unique.{one_description}
 use Rattle.boot_core.proofs.Records.{none_within}
 use Rattle.boot_core.specs.Provisioned.{AnswersMaking, AreCleared, AreCounters, AreRunningRows, EndsMaking, HasCounters}
 use Rattle.boot_core.specs.Provisioned.{HoldsImage, IsBegunAfresh, IsDoneOrCut, IsFirstDamaged, IsFirstState}
-use Rattle.boot_core.specs.Provisioned.{IsInvalidThere, IsProvisioned, IsRunningRow, IsRunningTable}
-use Rattle.boot_core.specs.Provisioned.{IsValidThere, RefusesMaking, first_record, provided, running_bytes}
+use Rattle.boot_core.specs.Provisioned.{IsInvalidThere, IsProvisioned, IsRunningRow, IsRunningTable, IsTrailerErased}
+use Rattle.boot_core.specs.Provisioned.{IsValidThere, RefusesMaking, any_trailer, first_record, provided, running_bytes}
 
 none_some : {X : Type 0} (x : X) → None ≡ Some x → ⊥
 none_some x e = cc
@@ -137,18 +137,33 @@ counters_rest map chip floors (table, there, valid, counters) i le =
 
 -- ---- trailers are erased
 
-pub both_cleared : (map : SectorMap) (mid new : Chip) (i : ℕ) → fields_at map mid i Primary ≡ erased_fields
-    → Keeps map (only (TrailerOf i Secondary)) mid new → fields_at map new i Secondary ≡ erased_fields
-    → (side : Side) → fields_at map new i side ≡ erased_fields
+-- an erased trailer stays so where it isn't touched
+erased_kept : (map : SectorMap) (touched : Part → Bool) (mid new : Chip) (i : ℕ) (side : Side)
+    → touched (TrailerOf i side) ≡ false → Keeps map touched mid new → IsTrailerErased map mid i side
+    → IsTrailerErased map new i side
+erased_kept map touched mid new i side off keeps was = record {
+  bytes = ap (λ l. are_erased l) (keeps.parts (TrailerOf i side) off) ∙ was.bytes;
+  fields = (view_kept map touched mid new keeps).trailers i side off ∙ was.fields;
+}
+
+pub both_cleared : (map : SectorMap) (mid new : Chip) (i : ℕ) → IsTrailerErased map mid i Primary
+    → Keeps map (only (TrailerOf i Secondary)) mid new → IsTrailerErased map new i Secondary
+    → (side : Side) → IsTrailerErased map new i side
 both_cleared map mid new i first keeps second Primary =
-    (view_kept map _ _ _ keeps).trailers i Primary (and-false (i == i)) ∙ first
+    erased_kept map (only (TrailerOf i Secondary)) mid new i Primary (and-false (i == i)) keeps first
 both_cleared map mid new i first keeps second Secondary = second
 
-trailers_provided : (j : ℕ) (part : Part) → provided part ≡ false → trailers_of j part ≡ false
-trailers_provided j (Slot i side) e = refl
-trailers_provided j (TrailerOf i side) e = absurd (true_false e)
-trailers_provided j Scratch e = refl
-trailers_provided j Log e = refl
+trailers_among : (j : ℕ) (part : Part) → any_trailer part ≡ false → trailers_of j part ≡ false
+trailers_among j (Slot i side) e = refl
+trailers_among j (TrailerOf i side) e = absurd (true_false e)
+trailers_among j Scratch e = refl
+trailers_among j Log e = refl
+
+any_provided : (part : Part) → provided part ≡ false → any_trailer part ≡ false
+any_provided (Slot i side) e = refl
+any_provided (TrailerOf i side) e = absurd (true_false e)
+any_provided Scratch e = refl
+any_provided Log e = refl
 
 log_provided : (part : Part) → provided part ≡ false → only Log part ≡ false
 log_provided (Slot i side) e = refl
@@ -156,26 +171,37 @@ log_provided (TrailerOf i side) e = refl
 log_provided Scratch e = refl
 log_provided Log e = absurd (true_false e)
 
-pub provided_more : (map : SectorMap) (j : ℕ) (old mid new : Chip) → Keeps map provided old mid
-    → Keeps map (trailers_of j) mid new → Keeps map provided old new
-provided_more map j old mid new first second = keeps_trans map provided old mid new first
-    (keeps_wider map (trailers_of j) provided mid new (trailers_provided j) second)
+pub trailers_more : (map : SectorMap) (j : ℕ) (old mid new : Chip) → Keeps map any_trailer old mid
+    → Keeps map (trailers_of j) mid new → Keeps map any_trailer old new
+trailers_more map j old mid new first second = keeps_trans map any_trailer old mid new first
+    (keeps_wider map (trailers_of j) any_trailer mid new (trailers_among j) second)
 
-pub provided_log : (map : SectorMap) (old mid new : Chip) → Keeps map provided old mid
+pub provided_trailers : (map : SectorMap) (old new : Chip) → Keeps map any_trailer old new
+    → Keeps map provided old new
+provided_trailers map old new keeps = keeps_wider map any_trailer provided old new any_provided keeps
+
+pub provided_log : (map : SectorMap) (old mid new : Chip) → Keeps map any_trailer old mid
     → Keeps map (only Log) mid new → Keeps map provided old new
-provided_log map old mid new first second = keeps_trans map provided old mid new first
+provided_log map old mid new first second =
+    keeps_trans map provided old mid new (provided_trailers map old mid first)
     (keeps_wider map (only Log) provided mid new log_provided second)
+
+-- the trailers stay erased while the log is begun
+pub cleared_kept : (map : SectorMap) (mid new : Chip) → AreCleared map mid map.images
+    → Keeps map (only Log) mid new → AreCleared map new map.images
+cleared_kept map mid new cleared keeps i lt side =
+    erased_kept map (only Log) mid new i side refl keeps (cleared i lt side)
 
 pub cleared_more : (map : SectorMap) (mid new : Chip) (n : ℕ) → AreCleared map mid n
     → Keeps map (trailers_of n) mid new
-    → ((side : Side) → fields_at map new n side ≡ erased_fields) → AreCleared map new (n + 1)
+    → ((side : Side) → IsTrailerErased map new n side) → AreCleared map new (n + 1)
 cleared_more map mid new n before keeps here i lt side = ⊎_elim
     (λ (below : i < n).
     let other : i ≡ n → ⊥ = λ e. not_below e below in
-    (view_kept map _ _ _ keeps).trailers i side (eqb_no i n (i == n) refl other) ∙ before i below side)
+    erased_kept map (trailers_of n) mid new i side (eqb_no i n (i == n) refl other) keeps (before i below side))
     (λ (above : n ≤ i).
     let same : n ≡ i = omega (arith, lt, above) in
-    subst (λ k. fields_at map new k side ≡ erased_fields) same (here side))
+    subst (λ k. IsTrailerErased map new k side) same (here side))
     (cases_lt i n)
   where
     not_below : i ≡ n → i < n → ⊥
@@ -191,7 +217,7 @@ pub begun_afresh : (map : SectorMap) (floors : List ℕ) (mid new : Chip) → Ar
     → Keeps map (only Log) mid new → state_of map new ≡ Some (first_record floors)
     → IsBegunAfresh map floors new
 begun_afresh map floors mid new cleared keeps log = record {
-  cleared = λ i lt side. (view_kept map _ _ _ keeps).trailers i side refl ∙ cleared i lt side;
+  cleared = cleared_kept map mid new cleared keeps;
   log = log;
 }
 
@@ -309,7 +335,7 @@ module _ (map : SectorMap) (old new : Chip) (floors : List ℕ) (table : Table)
               (sym ((view_kept map _ _ _ keeps).slots i Primary refl))
               (held_front (running_bytes map old i) (first_state.running i) found.0 found.2);
           request = none_asked ((view map new).trailer i Secondary) ((view map new).slot i Secondary)
-              (begun.cleared i lt Secondary);
+              (begun.cleared i lt Secondary).fields;
         };
   }
 

@@ -7,7 +7,8 @@ use Rattle.sector_map.specs.declared.layout.SectorMap.{SectorMap}
 use Rattle.sector_map.specs.declared.layout.Side.{Side}
 use Rattle.sector_map.specs.declared.layout.Side.TheVariants.{Primary}
 use Rattle.sector_map.specs.Part.{Part, Slot, TrailerOf, Scratch, Log}
-use Rattle.trailer.specs.Fields.{erased_fields, fields_at}
+use Rattle.flash_model.specs.Units.{are_erased}
+use Rattle.trailer.specs.Fields.{erased_fields, fields_at, trailer_bytes}
 use Rattle.set_log.specs.Log.{state_of}
 use Rattle.set_log.specs.declared.state.Kind.TheVariants.{Steady}
 use Rattle.set_log.specs.declared.state.State.{State}
@@ -35,6 +36,13 @@ provided (Slot image side) = false
 provided (TrailerOf image side) = true
 provided Scratch = false
 provided Log = true
+
+-- The trailers alone.
+abbrev pub any_trailer : Part → Bool
+any_trailer (Slot image side) = false
+any_trailer (TrailerOf image side) = true
+any_trailer Scratch = false
+any_trailer Log = false
 
 -- ---- what is found
 
@@ -147,10 +155,16 @@ abbrev pub IsJudged : SectorMap → Chip → Result (List ℕ) Fault → Type 0
 IsJudged map chip (Ok floors) = HasCounters map chip floors
 IsJudged map chip (Err fault) = RefusesMaking map chip chip fault
 
+-- The trailer of an image's side is erased, byte for byte, and reads so.
+pub record IsTrailerErased (map : SectorMap) (chip : Chip) (image : ℕ) (side : Side)
+    : Type 0 where
+  pub bytes : are_erased (trailer_bytes map chip image side) ≡ true
+  pub fields : fields_at map chip image side ≡ erased_fields
+
 -- The trailers of the images below this number are erased.
 abbrev pub AreCleared : SectorMap → Chip → ℕ → Type 0
 AreCleared map chip n =
-    (i : ℕ) → i < n → (side : Side) → fields_at map chip i side ≡ erased_fields
+    (i : ℕ) → i < n → (side : Side) → IsTrailerErased map chip i side
 
 -- The first record of a device.
 abbrev pub first_record : List ℕ → State

@@ -4,9 +4,9 @@ ghost use Rattle.std.specs.Prelude.{◌≡◌, ℕ, ◌≤◌, List, slice_index
 ghost use Rattle.sector_map.specs.Map.{HasImage, IsLaidOut};
 ghost use Rattle.sector_map.specs.Part.{trailers_of};
 ghost use Rattle.image_reading.specs.Image.{BeginsIntact};
-ghost use Rattle.boot_core.specs.Provisioned.{AreCounters, IsBegunAfresh, IsReadThere};
-ghost use Rattle.boot_core.specs.Provisioned.{IsRunningRow, provided};
-ghost use Rattle.boot_core.specs.Provisions.{AreClearedIn, IsClearedIn, IsRowIn};
+ghost use Rattle.boot_core.specs.Provisioned.{AreCounters, IsReadThere};
+ghost use Rattle.boot_core.specs.Provisioned.{IsRunningRow, any_trailer};
+ghost use Rattle.boot_core.specs.Provisions.{AreClearedIn, BeginsAfresh, IsClearedIn, IsRowIn};
 ghost use Rattle.boot_core.specs.Provisions.{Judges, Leaves, MakesDevice, Provisions};
 ghost use Rattle.decision.specs.Telling.{TellsUnlessOff};
 
@@ -103,7 +103,7 @@ fn clear_image<F: Flash>(flash: &mut F, map: &SectorMap, image: u8) -> Result<()
 /// Erases the trailers of all images.
 fn clear_all<F: Flash>(flash: &mut F, map: &SectorMap) -> Result<(), FlashError>
     requires laid_out { IsLaidOut map.now (F.chip flash.old) }
-    ensures { Leaves map.now provided (AreClearedIn map.now)
+    ensures { Leaves map.now any_trailer (AreClearedIn map.now)
         (F.chip flash.old) (F.chip flash.new) result }
 {
     let images = map.images;
@@ -121,7 +121,7 @@ fn begin_afresh<F: Flash>(
 ) -> Result<(), FlashError>
     requires laid_out { IsLaidOut map.now (F.chip flash.old) }
     requires rest { (i : ℕ) → map.now.images ≤ i → slice_index floors.now i ≡ 0 }
-    ensures { Leaves map.now provided (IsBegunAfresh map.now floors.now)
+    ensures { BeginsAfresh map.now floors.now
         (F.chip flash.old) (F.chip flash.new) result }
 {
     clear_all(flash, map)?;

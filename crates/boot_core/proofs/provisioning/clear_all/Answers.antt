@@ -1,6 +1,6 @@
 use Rattle.std.proofs.Common.{rules, arith}
 use Rattle.sector_map.proofs.Parts.{keeps_refl, laid_out_kept}
-use Rattle.boot_core.proofs.Afresh.{cleared_more, provided_more}
+use Rattle.boot_core.proofs.Afresh.{cleared_more, trailers_more}
 use Rattle.boot_core.proofs.provisioning.clear_all.Goals as goal
 
 pub loop-image-init : goal.loop-image-init
@@ -17,7 +17,7 @@ loop-image-preserved g c =
     let kept = c.loop-image.invariant in
     record {
       laid_out = laid_out_kept _ _ _ _ kept.laid_out c.clear_image.ensures.outside;
-      outside = provided_more _ _ _ _ _ kept.outside c.clear_image.ensures.outside;
+      outside = trailers_more _ _ _ _ _ kept.outside c.clear_image.ensures.outside;
       cleared = cleared_more c.args.map.now _ _ _ kept.cleared c.clear_image.ensures.outside
           c.in_ok-clear_image.ensures.ok;
       uncut = search rules;

@@ -7,6 +7,8 @@ returns g c = record {
   outside = search rules;
   laid = search rules;
   ok = search rules;
+  erased = c.make_device.ensures.erased;
+  order = c.make_device.ensures.order;
   refused = search rules;
   damaged = λ on i first. damaged_answer c.args.map.now _ _ c.make_device.result i
       c.make_device.ensures.answers on first;
@@ -14,5 +16,6 @@ returns g c = record {
       c.make_device.ensures.answers on there;
   whole = λ on there. whole_answer c.args.map.now _ _ c.make_device.result
       c.make_device.ensures.answers on there;
+  off = λ off. record { is = c.make_device.ensures.off off; same = c.make_device.ensures.asleep off };
   ends = search rules;
 }

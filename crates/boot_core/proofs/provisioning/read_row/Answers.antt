@@ -11,6 +11,7 @@ returns-in-Err-Image g c = record {
       front_has_no_fault (running_bytes c.args.map.now (g.F.Flash.chip c.args.flash.now) c.args.image) held.0
       c.in-Err-Image.field-0-0 held.1 fault.1;
   ends = search rules;
+  on = (rw c.in-Err-Image.field-0-is at c.in-Err-Image.ensures.fault).0;
   off = search rules;
 }
 
@@ -19,5 +20,6 @@ returns-in-Ok g c = record {
   same = c.describe_slot.ensures.same;
   ok = c.running_image.ensures _ c.in-Ok.ensures.described;
   ends = search rules;
+  on = c.in-Ok.ensures.on;
   off = tt;
 }

@@ -1,4 +1,5 @@
-use Rattle.std.proofs.Common.{rules, sym, subst, arith, ◌<◌, ◌+◌, ◌∙◌}
+use Rattle.std.proofs.Common.{rules, sym, subst, arith, ◌≡◌, ◌<◌, ◌≤◌, ◌+◌, ◌∙◌, true}
+use Rattle.flash_model.specs.Chip.{Chip}
 use Rattle.sector_map.specs.Map.{IsLaidOut}
 use Rattle.boot_core.specs.Provisioned.{AreRunningRows, IsRowThere, running_bytes}
 use Rattle.boot_core.proofs.Afresh.{first_damaged, rows_more, rows_none}
@@ -9,6 +10,7 @@ loop-image-init g c = record {
   laid_out = c.requires.laid_out;
   few = c.requires.laid_out.is_map.counts.few;
   same = search rules;
+  on = λ some. absurd (omega (arith, some));
   rows = subst (λ l. AreRunningRows c.args.map.now (g.F.Flash.chip c.args.flash.now) 0 l)
       (sym c.new-images.ensures) (rows_none c.args.map.now (g.F.Flash.chip c.args.flash.now));
 }
@@ -25,6 +27,7 @@ returns-in-None g c = record {
       (subst (λ chip. IsRowThere (running_bytes map chip c.loop-image.image) c.in_ok-read_row.field-0)
       c.loop-image.invariant.same c.in_ok-read_row.ensures.ok));
   ends = search rules;
+  on = subst (λ (chip : Chip). chip.is_on ≡ true) c.loop-image.invariant.same c.in_ok-read_row.ensures.on;
   off = search rules;
 }
 
@@ -37,9 +40,21 @@ loop-image-preserved g c =
           c.loop-image.invariant.laid_out;
       few = search rules;
       same = c.read_row.ensures.same ∙ c.loop-image.invariant.same;
+      on = λ some. subst (λ (chip : Chip). chip.is_on ≡ true) c.loop-image.invariant.same c.in_ok-read_row.ensures.on;
       rows = subst (λ l. AreRunningRows map old (c.loop-image.image + 1) l) (sym c.push.ensures.items)
           (rows_more map old c.loop-image.image _ _ c.loop-image.invariant.rows
           (subst (λ found. IsRowThere (running_bytes map old c.loop-image.image) found) c.in-Some.is
           (subst (λ chip. IsRowThere (running_bytes map chip c.loop-image.image) c.in_ok-read_row.field-0)
           c.loop-image.invariant.same c.in_ok-read_row.ensures.ok)));
+    }
+
+pub returns : goal.returns
+returns g c =
+    let some : 1 ≤ c.args.map.now.images = c.requires.laid_out.is_map.counts.one in
+    record {
+      same = search rules;
+      ok = search rules;
+      ends = search rules;
+      on = c.loop-image.invariant.on (omega arith);
+      off = search rules;
     }
