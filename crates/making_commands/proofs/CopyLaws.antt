@@ -1,5 +1,5 @@
 -- The image that a slot begins with, its bytes on the flash, and what copying it comes to.
-use Rattle.std.proofs.Common.{◌≡◌, ◌≢◌, ◌∙◌, ℕ, ◌+◌, ◌-◌, ◌<◌, ◌≤◌, List, ◌++◌, Option, ap, append-nil, arith, length, length-append, inl, refl, subst, sym, take}
+use Rattle.std.proofs.Common.{◌≡◌, ◌≢◌, ◌∙◌, ℕ, ◌+◌, ◌-◌, ◌<◌, ◌≤◌, List, ◌++◌, Bool, Option, ap, append-nil, arith, length, length-append, inl, refl, subst, sym, take}
 use Rattle.std.specs.Prelude.{Err, IfErr, IfOk, Ok, Result, slice_range}
 use Rattle.std.proofs.KnownBytes.{Appends-kept}
 use Rattle.std.specs.Io.KnownBytes.{Keeps}
@@ -20,12 +20,11 @@ use Rattle.command_ends.specs.declared.answer.Answer.TheVariants.{Done, Refused,
 use Rattle.command_ends.specs.declared.error.Refusal.{Refusal}
 use Rattle.command_ends.specs.declared.error.Refusal.TheVariants as no
 use Rattle.command_ends.specs.declared.source.Source.{Source}
-use Rattle.command_ends.specs.declared.source.Source.TheVariants.{StandardInput, File}
 use Rattle.reading_inputs.specs.DeviceInput.{GivesDevice}
 use Rattle.command_ends.specs.Input.{FileBytes, Gives, KeepsFiles, KeepsOthers}
-use Rattle.command_ends.proofs.InputLaws.{GiveBoth-read}
-use Rattle.command_ends.proofs.InputLaws.{KeepsFiles-twice}
-use Rattle.making_commands.specs.CopyEnd.{AnswersCopied, AnswersCopy, EndsCopy, IsImageOf, LeavesBoth}
+use Rattle.command_ends.specs.Doings.{IsApartFrom, KeepsApart, KeepsSource}
+use Rattle.command_ends.proofs.InputLaws.{GiveBoth-read, KeepsSource-apart, KeepsSource-kept}
+use Rattle.making_commands.specs.CopyEnd.{AnswersCopied, AnswersCopy, EndsCopy, IsImageOf}
 use Rattle.making_commands.specs.NewImageEnd.{EndsUnmade}
 use Rattle.making_commands.specs.declared.extract.Copied.{Copied}
 use Rattle.making_commands.specs.declared.extract.Copied.TheVariants as copied
@@ -76,14 +75,20 @@ copy_is map chip image side long laid fits =
     ∙ sym (range_of_part map chip (Slot image side) 0 long laid
     (omega (arith, length_part map chip (Slot image side) laid, fits)))
 
--- A device file and a flash were read, and then files were kept.
-pub both_left : (device flash : Source) (input mid_input far_input : Option (List ℕ)) (old mid far new : FileBytes)
-    → KeepsOthers device input old mid_input mid → KeepsOthers flash mid_input mid far_input far
-    → KeepsFiles far new → LeavesBoth device flash old new
-both_left StandardInput flash input mid_input far_input old mid far new first second after = tt
-both_left (File device) StandardInput input mid_input far_input old mid far new first second after = tt
-both_left (File device) (File flash) input mid_input far_input old mid far new first second after =
-    KeepsFiles-twice old mid new first.1 (KeepsFiles-twice mid far new second.1 after)
+-- What is read of two sources stays where all files were kept ..
+pub both_kept : (device flash : Source) (old new : FileBytes) → KeepsFiles old new
+    → KeepsSource device old new × KeepsSource flash old new
+both_kept device flash old new kept =
+    (KeepsSource-kept device old new kept, KeepsSource-kept flash old new kept)
+
+-- .. or then one was replaced that is neither of them.
+pub both_apart : (device flash : Source) (name : List ℕ) (apart : List ℕ → List ℕ → Bool) (old mid new : FileBytes)
+    → KeepsFiles old mid → IsApartFrom apart name device → IsApartFrom apart name flash
+    → KeepsApart (apart name) mid new → KeepsSource device old new × KeepsSource flash old new
+both_apart device flash name apart old mid new kept first second after = (
+  KeepsSource-apart device name apart old mid new kept first after,
+  KeepsSource-apart flash name apart old mid new kept second after,
+)
 
 -- Where no image was copied, files were kept, whatever could be told.
 pub copied_told : (told : Result Answer Refusal) (outcome : Copied) (mid new : FileBytes) (old_out new_out : Option (List ℕ))

@@ -1,5 +1,4 @@
 pub mod CopyLaws
-mod FileLaws
 pub mod NewDeviceLaws
 pub mod NewImageLaws
 pub mod NewManifestEnds

@@ -16,9 +16,8 @@ use Rattle.device_texts.specs.declared.device.DeviceFile.{DeviceFile}
 use Rattle.command_ends.specs.declared.answer.Answer.{Answer}
 use Rattle.command_ends.specs.declared.answer.Answer.TheVariants.{Done, Refused, Cut}
 use Rattle.command_ends.specs.declared.source.Source.{Source}
-use Rattle.command_ends.specs.declared.source.Source.TheVariants.{StandardInput, File}
 use Rattle.reading_inputs.specs.DeviceInput.{RefusesMap}
-use Rattle.command_ends.specs.Input.{FileBytes, GiveBoth, IsKnownAs, KeepsFiles}
+use Rattle.command_ends.specs.Input.{FileBytes, GiveBoth, IsKnownAs}
 use Rattle.making_commands.specs.NewImageEnd.{done_text}
 use Rattle.making_commands.specs.declared.extract.Copied.{Copied}
 use Rattle.making_commands.specs.declared.extract.Copied.TheVariants as copied
@@ -69,10 +68,3 @@ AnswersCopy Refused device flash image side input files held old new =
     CopiesImage Refused device flash image side input files held old new
     ⊎ RefusesMap device input files old new
 AnswersCopy Cut device flash image side input files held old new = ⊥
-
--- Each file keeps what it is known to hold. What files hold once standard input was read is not
--- said.
-abbrev pub LeavesBoth : Source → Source → FileBytes → FileBytes → Type 0
-LeavesBoth StandardInput flash old new = Unit {0}
-LeavesBoth (File device) StandardInput old new = Unit {0}
-LeavesBoth (File device) (File flash) old new = KeepsFiles old new

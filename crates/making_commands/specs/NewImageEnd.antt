@@ -16,8 +16,7 @@ use Rattle.command_ends.specs.declared.answer.Answer.TheVariants.{Done, Refused,
 use Rattle.command_ends.specs.declared.error.Refusal.{Refusal}
 use Rattle.command_ends.specs.declared.error.Refusal.TheVariants as no
 use Rattle.command_ends.specs.declared.source.Source.{Source}
-use Rattle.command_ends.specs.declared.source.Source.TheVariants.{StandardInput, File}
-use Rattle.command_ends.specs.Input.{FileBytes, Gives, IsKnownAs, KeepsFiles}
+use Rattle.command_ends.specs.Input.{FileBytes, Gives, IsKnownAs}
 
 -- A group has these alternatives.
 abbrev pub AreAlternatives : List Dependency → Bor (List Dependency) → Type 0
@@ -84,9 +83,3 @@ EndsUnmade (Ok Refused) = Unit {0}
 EndsUnmade (Ok Cut) = Unit {0}
 EndsUnmade (Err no.CannotWrite) = ⊥
 EndsUnmade (Err refusal) = Unit {0}
-
--- Each file keeps what it is known to hold. What files hold once standard input was read is not
--- said.
-abbrev pub LeavesFiles : Source → FileBytes → FileBytes → Type 0
-LeavesFiles StandardInput old new = Unit {0}
-LeavesFiles (File name) old new = KeepsFiles old new

@@ -6,7 +6,7 @@ ghost use Rattle.device_texts.specs.AnswerText.{refused_text};
 ghost use Rattle.device_texts.specs.FlashOf.{IsFlashOf, flash_of};
 ghost use Rattle.command_ends.specs.Input.{KeepsFiles};
 ghost use Rattle.making_commands.specs.CopyEnd.{AnswersCopied, AnswersCopy, EndsCopy, IsImageOf};
-ghost use Rattle.making_commands.specs.CopyEnd.{LeavesBoth};
+ghost use Rattle.command_ends.specs.Doings.{KeepsApart, KeepsSource};
 ghost use Rattle.making_commands.specs.NewImageEnd.{EndsUnmade};
 ghost use Rattle.image_reading.specs.Codes.{code_of, name_of};
 ghost use Rattle.image_reading.specs.Fault.{IsFrontFault};
@@ -49,8 +49,9 @@ pub enum Copied {
 /// slot begins with into a file, which is made or replaced. Writes to `out` that it is done, or why
 /// there is no image. All stands in memory of `alloc`.
 ///
-/// The file is none of those that are read. Unless the answer is `Done`, or can't be written, it is
-/// as it was.
+/// The file is none of those that are read, which stay as they were whatever comes of it, and the
+/// flash is opened to be read alone. Unless the answer is `Done`, or can't be written, the file is as
+/// it was too.
 pub fn perform<H: Host, O: Write>(
     alloc: Global,
     device: Source<'_>,
@@ -63,8 +64,10 @@ pub fn perform<H: Host, O: Write>(
         AnswersCopy answer device.entry flash.entry copying.entry.image copying.entry.side
         (H.input host.old) (H.file host.old) (H.file host.new copying.entry.out.now)
         (O.contents out.old) (O.contents out.new)) }
-    ensures kept { EndsUnmade result
-        → LeavesBoth device.entry flash.entry (H.file host.old) (H.file host.new) }
+    ensures kept { EndsUnmade result → KeepsFiles (H.file host.old) (H.file host.new) }
+    ensures inputs { KeepsSource device.entry (H.file host.old) (H.file host.new)
+        × KeepsSource flash.entry (H.file host.old) (H.file host.new) }
+    ensures to_read { (H.opened host.new).to_write ≡ (H.opened host.old).to_write }
 {
     let Some(of_device) = read_device(alloc, device, host, out)? else {
         return Ok(Answer::Refused);
@@ -100,6 +103,9 @@ fn copy<L: Ledger, H: Host>(
     ensures refused { IfOk result (λ copied. copied ≢ Copied.Done
         → KeepsFiles (H.file host.old) (H.file host.new)) }
     ensures failed { IfErr result (λ _. KeepsFiles (H.file host.old) (H.file host.new)) }
+    ensures others { KeepsApart (H.apart host.old copying.entry.out.now)
+        (H.file host.old) (H.file host.new) }
+    ensures opened { H.opened host.new ≡ H.opened host.old }
 {
     let mut flash = flash_of::<L>(alloc, blank, map, bytes);
     let length = match image_length(&mut flash, map, copying.image, copying.side) {

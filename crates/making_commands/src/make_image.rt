@@ -2,8 +2,9 @@
 ghost use Rattle.std.specs.Prelude.{◌≡◌, ◌≢◌, IfErr, IfOk, OnOk, map, string_bytes};
 ghost use Rattle.std.specs.List.{AllZip};
 ghost use Rattle.std.specs.Io.KnownBytes.{Appends};
+ghost use Rattle.command_ends.specs.Doings.{KeepsApart, KeepsSource};
 ghost use Rattle.command_ends.specs.Input.{KeepsFiles};
-ghost use Rattle.making_commands.specs.NewImageEnd.{AnswersMade, AnswersNewImage, AreAlternatives, EndsUnmade, IsImageFor, LeavesFiles, RefusesImage, fault_text};
+ghost use Rattle.making_commands.specs.NewImageEnd.{AnswersMade, AnswersNewImage, AreAlternatives, EndsUnmade, IsImageFor, RefusesImage, fault_text};
 
 use crate::image_file::{refuse_input, replace};
 use crate::telling::tell;
@@ -22,8 +23,9 @@ const USUAL_HEADER_SIZE: u16 = 32;
 /// replaces its file. Writes to `out` that it is done, or why there is no such image. All stands in
 /// memory of `alloc`.
 ///
-/// The image is made before its file is touched, which isn't that of the body. Unless the answer is
-/// `Done`, or can't be written, the file is as it was.
+/// The image is made before its file is touched, which isn't that of the body: that one stays as it
+/// was whatever comes of it. Unless the answer is `Done`, or can't be written, the file of the image
+/// is as it was too.
 pub fn perform<H: Host, O: Write>(
     alloc: Global,
     image: &str,
@@ -35,8 +37,9 @@ pub fn perform<H: Host, O: Write>(
     ensures answers { IfOk result (λ answer. AnswersNewImage answer body.entry asked.now
         (H.input host.old) (H.file host.old) (H.file host.new image.now)
         (O.contents out.old) (O.contents out.new)) }
-    ensures kept { EndsUnmade result
-        → LeavesFiles body.entry (H.file host.old) (H.file host.new) }
+    ensures kept { EndsUnmade result → KeepsFiles (H.file host.old) (H.file host.new) }
+    ensures input { KeepsSource body.entry (H.file host.old) (H.file host.new) }
+    ensures opened { H.opened host.new ≡ H.opened host.old }
 {
     let source = body;
     let body = source.read(alloc, host, MOST_FILE)?;
@@ -56,6 +59,8 @@ fn make<H: Host, O: Write>(
     ensures made { IfOk result (λ answer. AnswersMade answer asked.now body.now
         (H.file host.new image.now) (O.contents out.old) (O.contents out.new)) }
     ensures kept { EndsUnmade result → KeepsFiles (H.file host.old) (H.file host.new) }
+    ensures others { KeepsApart (H.apart host.old image.now) (H.file host.old) (H.file host.new) }
+    ensures opened { H.opened host.new ≡ H.opened host.old }
 {
     match image_of(alloc, asked, body) {
         Ok(bytes) => {

@@ -8,6 +8,7 @@ ghost use Rattle.machine.specs.declared.error.Fault.TheVariants.{RunningDamaged}
 ghost use Rattle.making_commands.specs.NewManifestEnd.{AnswersNewManifest, HaveImages, IsFault};
 ghost use Rattle.making_commands.specs.NewManifestEnd.{Repeats};
 ghost use Rattle.making_commands.specs.NewManifestSteps.{IsReadBack, Writes};
+ghost use Rattle.command_ends.specs.Input.{KeepsFiles};
 ghost use Rattle.manifest.specs.Codes.{code_of, name_of};
 
 use crate::manifest_json::manifest_json;
@@ -41,8 +42,10 @@ pub fn perform<H: Host, O: Write, E: Write>(
     out: &mut O,
     err: &mut E,
 ) -> Result<Answer, Refusal>
-    ensures { IfOk result (λ answer. AnswersNewManifest answer device.entry asked.now
+    ensures answers { IfOk result (λ answer. AnswersNewManifest answer device.entry asked.now
         (H.input host.old) (H.file host.old) (O.contents out.old) (O.contents out.new)) }
+    ensures files { KeepsFiles (H.file host.old) (H.file host.new) }
+    ensures to_read { (H.opened host.new).to_write ≡ (H.opened host.old).to_write }
 {
     let Some(of_device) = read_device(alloc, device, host, out)? else {
         return Ok(Answer::Refused);
@@ -116,8 +119,10 @@ fn write_manifest<H: Host, O: Write, E: Write>(
 ) -> Result<(), Refusal>
     requires same { length running.digests.items ≡ length asked.now.components.items }
     requires there { HaveImages device.now.map.images asked.now.components.items }
-    ensures { OnOk result (Writes device.now asked.now running.digests.items
+    ensures written { OnOk result (Writes device.now asked.now running.digests.items
         (H.input host.old) (H.file host.old) (O.contents out.old) (O.contents out.new)) }
+    ensures files { KeepsFiles (H.file host.old) (H.file host.new) }
+    ensures opened { H.opened host.new ≡ H.opened host.old }
 {
     let mut notes = String::new(alloc);
     let Running { digests, mut table } = running;

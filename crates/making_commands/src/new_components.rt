@@ -1,5 +1,6 @@
 //! The files that may come to a device, which are read for its manifest.
 ghost use Rattle.std.specs.Prelude.{◌≡◌, ◌<◌, IfOk, length};
+ghost use Rattle.command_ends.specs.Input.{KeepsFiles};
 ghost use Rattle.making_commands.specs.NewManifestEnd.{HaveImages};
 ghost use Rattle.making_commands.specs.NewManifestSteps.{ReadsComponent, ReadsComponents};
 
@@ -28,8 +29,10 @@ pub fn read_components<H: Host>(
 ) -> Result<ArrayVec<Component, MOST_COMPONENTS>, Refusal>
     requires same { length precursors.now ≡ length asked.now }
     requires there { HaveImages map.now.images asked.now }
-    ensures { IfOk result (λ components. ReadsComponents asked.now precursors.now
+    ensures read { IfOk result (λ components. ReadsComponents asked.now precursors.now
         (H.input host.old) (H.file host.old) components.items) }
+    ensures files { KeepsFiles (H.file host.old) (H.file host.new) }
+    ensures opened { H.opened host.new ≡ H.opened host.old }
 {
     let mut components = ArrayVec::new();
     for place in 0..asked.len() {
@@ -54,8 +57,10 @@ fn read_component<H: Host>(
     notes: &mut String,
 ) -> Result<Component, Refusal>
     requires { asked.now.image < map.now.images }
-    ensures { IfOk result (ReadsComponent asked.now precursor (H.input host.old) (H.file host.old)
-        (H.input host.new) (H.file host.new)) }
+    ensures read { IfOk result (ReadsComponent asked.now precursor
+        (H.input host.old) (H.file host.old) (H.input host.new) (H.file host.new)) }
+    ensures files { KeepsFiles (H.file host.old) (H.file host.new) }
+    ensures opened { H.opened host.new ≡ H.opened host.old }
 {
     let source = Source::named(asked.file);
     let file = source.read(alloc, host, MOST_FILE)?;

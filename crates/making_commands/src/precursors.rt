@@ -1,6 +1,7 @@
 //! The images that have to run where the files of a manifest may come: those that run on a flash.
 ghost use Rattle.std.specs.Prelude.{◌≡◌, ◌<◌, IfOk, true};
 ghost use Rattle.sector_map.specs.Map.{IsLaidOut};
+ghost use Rattle.command_ends.specs.Input.{KeepsFiles};
 ghost use Rattle.device_texts.specs.FlashOf.{IsFlashOf, flash_of};
 ghost use Rattle.making_commands.specs.NewManifestEnd.{HaveImages};
 ghost use Rattle.making_commands.specs.NewManifestSteps.{FindsNone, FindsPrecursor};
@@ -52,8 +53,10 @@ pub fn read_precursors<H: Host>(
     host: &mut H,
 ) -> Result<Precursors, Refusal>
     requires there { HaveImages map.now.images asked.now.components.items }
-    ensures { IfOk result (ReadsPrecursors map.now asked.now (H.input host.old) (H.file host.old)
-        (H.input host.new) (H.file host.new)) }
+    ensures read { IfOk result (ReadsPrecursors map.now asked.now
+        (H.input host.old) (H.file host.old) (H.input host.new) (H.file host.new)) }
+    ensures files { KeepsFiles (H.file host.old) (H.file host.new) }
+    ensures to_read { (H.opened host.new).to_write ≡ (H.opened host.old).to_write }
 {
     let components = asked.components.as_slice();
     let Some(flash) = asked.precursor else {

@@ -1,7 +1,7 @@
 use Rattle.std.proofs.Common.{arith}
 use Rattle.std.proofs.lemmas.Result.{IfOk-weaker}
-use Rattle.command_ends.proofs.InputLaws.{KeepsFiles-itself}
-use Rattle.making_commands.proofs.CopyLaws.{both_left, copied_image, copied_told}
+use Rattle.command_ends.proofs.InputLaws.{KeepsFiles-twice}
+use Rattle.making_commands.proofs.CopyLaws.{both_apart, both_kept, copied_image, copied_told}
 use Rattle.making_commands.proofs.extract.perform.Goals as goal
 
 -- The device file and the flash were read, and what came of copying was written.
@@ -18,24 +18,60 @@ returns-clause-answers g c =
 -- The flash was read or not, and no image was copied.
 pub returns-in_err-bytes-clause-kept : goal.returns-in_err-bytes-clause-kept
 returns-in_err-bytes-clause-kept g c = λ ends.
-    both_left c.args.device c.args.flash _ _ _ _ _ _ _ c.in_ok-of_device.ensures.others c.in_err-bytes.ensures.others (KeepsFiles-itself _)
+    KeepsFiles-twice _ _ _ c.in_ok-of_device.ensures.files c.in_err-bytes.ensures.files
 
 pub returns-in_err-refuse_input-clause-kept : goal.returns-in_err-refuse_input-clause-kept
 returns-in_err-refuse_input-clause-kept g c = λ ends.
-    both_left c.args.device c.args.flash _ _ _ _ _ _ _ c.in_ok-of_device.ensures.others c.in_ok-bytes.ensures.others (KeepsFiles-itself _)
+    KeepsFiles-twice _ _ _ c.in_ok-of_device.ensures.files c.in_ok-bytes.ensures.files
 
 pub returns-in_err-refuse_input-2-clause-kept : goal.returns-in_err-refuse_input-2-clause-kept
 returns-in_err-refuse_input-2-clause-kept g c = λ ends.
-    both_left c.args.device c.args.flash _ _ _ _ _ _ _ c.in_ok-of_device.ensures.others c.in_ok-bytes.ensures.others (KeepsFiles-itself _)
+    KeepsFiles-twice _ _ _ c.in_ok-of_device.ensures.files c.in_ok-bytes.ensures.files
 
 -- The image was refused, or its file could not be replaced.
 pub returns-in_err-copied-clause-kept : goal.returns-in_err-copied-clause-kept
 returns-in_err-copied-clause-kept g c = λ ends.
-    both_left c.args.device c.args.flash _ _ _ _ _ _ _ c.in_ok-of_device.ensures.others c.in_ok-bytes.ensures.others
-    c.in_err-copied.ensures.failed
+    KeepsFiles-twice _ _ _ c.in_ok-of_device.ensures.files
+    (KeepsFiles-twice _ _ _ c.in_ok-bytes.ensures.files c.in_err-copied.ensures.failed)
 
 pub returns-clause-kept : goal.returns-clause-kept
 returns-clause-kept g c = λ ends.
-    both_left c.args.device c.args.flash _ _ _ _ _ _ _ c.in_ok-of_device.ensures.others c.in_ok-bytes.ensures.others
+    KeepsFiles-twice _ _ _ c.in_ok-of_device.ensures.files
+    (KeepsFiles-twice _ _ _ c.in_ok-bytes.ensures.files
     (copied_told c.tell_copied.result c.in_ok-copied.copied _ _ _ _ c.tell_copied.ensures.told c.tell_copied.ensures.late
-    c.in_ok-copied.ensures.refused ends)
+    c.in_ok-copied.ensures.refused ends))
+
+-- What was read stays: nothing was written yet ..
+pub returns-in_err-of_device-clause-inputs : goal.returns-in_err-of_device-clause-inputs
+returns-in_err-of_device-clause-inputs g c = both_kept c.args.device c.args.flash _ _ c.in_err-of_device.ensures.files
+
+pub returns-in_default-clause-inputs : goal.returns-in_default-clause-inputs
+returns-in_default-clause-inputs g c = both_kept c.args.device c.args.flash _ _ c.in_ok-of_device.ensures.files
+
+pub returns-then-copying-map-clause-inputs : goal.returns-then-copying-map-clause-inputs
+returns-then-copying-map-clause-inputs g c = both_kept c.args.device c.args.flash _ _ c.in_ok-of_device.ensures.files
+
+pub returns-in_err-bytes-clause-inputs : goal.returns-in_err-bytes-clause-inputs
+returns-in_err-bytes-clause-inputs g c = both_kept c.args.device c.args.flash _ _
+    (KeepsFiles-twice _ _ _ c.in_ok-of_device.ensures.files c.in_err-bytes.ensures.files)
+
+pub returns-in_err-refuse_input-clause-inputs : goal.returns-in_err-refuse_input-clause-inputs
+returns-in_err-refuse_input-clause-inputs g c = both_kept c.args.device c.args.flash _ _
+    (KeepsFiles-twice _ _ _ c.in_ok-of_device.ensures.files c.in_ok-bytes.ensures.files)
+
+pub returns-in_err-refuse_input-2-clause-inputs : goal.returns-in_err-refuse_input-2-clause-inputs
+returns-in_err-refuse_input-2-clause-inputs g c = both_kept c.args.device c.args.flash _ _
+    (KeepsFiles-twice _ _ _ c.in_ok-of_device.ensures.files c.in_ok-bytes.ensures.files)
+
+-- .. or a file that is neither of them.
+pub returns-in_err-copied-clause-inputs : goal.returns-in_err-copied-clause-inputs
+returns-in_err-copied-clause-inputs g c = both_apart c.args.device c.args.flash c.args.copying.out.now
+    (g.H.Host.apart c.read_flash.new.host) _ _ _
+    (KeepsFiles-twice _ _ _ c.in_ok-of_device.ensures.files c.in_ok-bytes.ensures.files)
+    c.in_ok-refuse_input.ensures c.in_ok-refuse_input-2.ensures c.in_err-copied.ensures.others
+
+pub returns-clause-inputs : goal.returns-clause-inputs
+returns-clause-inputs g c = both_apart c.args.device c.args.flash c.args.copying.out.now
+    (g.H.Host.apart c.read_flash.new.host) _ _ _
+    (KeepsFiles-twice _ _ _ c.in_ok-of_device.ensures.files c.in_ok-bytes.ensures.files)
+    c.in_ok-refuse_input.ensures c.in_ok-refuse_input-2.ensures c.in_ok-copied.ensures.others

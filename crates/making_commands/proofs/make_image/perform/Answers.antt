@@ -1,6 +1,5 @@
 use Rattle.std.proofs.lemmas.Result.{IfOk-weaker}
-use Rattle.command_ends.proofs.InputLaws.{KeepsFiles-itself}
-use Rattle.making_commands.proofs.FileLaws.{LeavesFiles-read}
+use Rattle.command_ends.proofs.InputLaws.{KeepsFiles-twice, KeepsSource-apart, KeepsSource-kept}
 use Rattle.making_commands.proofs.NewImageLaws.{AnswersMade-same}
 use Rattle.making_commands.proofs.make_image.perform.Goals as goal
 
@@ -15,16 +14,19 @@ returns-clause-answers g c =
     ))
     c.make.ensures.made
 
--- The body was read or not, and nothing more was done.
-pub returns-in_err-body-clause-kept : goal.returns-in_err-body-clause-kept
-returns-in_err-body-clause-kept g c = λ ends.
-    LeavesFiles-read c.args.body _ _ _ _ _ c.in_err-body.ensures.others (KeepsFiles-itself _)
-
-pub returns-in_err-refuse_input-clause-kept : goal.returns-in_err-refuse_input-clause-kept
-returns-in_err-refuse_input-clause-kept g c = λ ends.
-    LeavesFiles-read c.args.body _ _ _ _ _ c.in_ok-body.ensures.others (KeepsFiles-itself _)
-
 -- The image was refused, or its file could not be replaced.
 pub returns-clause-kept : goal.returns-clause-kept
 returns-clause-kept g c = λ ends.
-    LeavesFiles-read c.args.body _ _ _ _ _ c.in_ok-body.ensures.others (c.make.ensures.kept ends)
+    KeepsFiles-twice _ _ _ c.in_ok-body.ensures.files (c.make.ensures.kept ends)
+
+-- The body stays: nothing was written yet, or a file that isn't that of the body.
+pub returns-in_err-body-clause-input : goal.returns-in_err-body-clause-input
+returns-in_err-body-clause-input g c = KeepsSource-kept c.args.body _ _ c.in_err-body.ensures.files
+
+pub returns-in_err-refuse_input-clause-input : goal.returns-in_err-refuse_input-clause-input
+returns-in_err-refuse_input-clause-input g c = KeepsSource-kept c.args.body _ _ c.in_ok-body.ensures.files
+
+pub returns-clause-input : goal.returns-clause-input
+returns-clause-input g c = KeepsSource-apart c.args.body c.args.image.now (g.H.Host.apart c.read.new.host) _ _ _
+    c.in_ok-body.ensures.files
+    c.in_ok-refuse_input.ensures c.make.ensures.others
