@@ -16,9 +16,9 @@ use Rattle.sector_map.proofs.Places.{before_within}
 use Rattle.command_ends.specs.declared.source.Source.{Source}
 use Rattle.device_texts.specs.FlashOf.{IsFlashOf}
 use Rattle.command_ends.specs.Input.{FileBytes, Gives, IsNamed, KeepsFiles, KeepsOthers}
-use Rattle.command_ends.specs.Inputs.{GiveEach, NameFiles, names_of}
+use Rattle.command_ends.specs.Inputs.{GiveEach, names_of}
 use Rattle.core_cli.specs.ProvisionEnd.{new_flash, with_files}
-use Rattle.command_ends.proofs.InputLaws.{GiveEach-read, KeepsFiles-itself, KeepsFiles-read, KeepsFiles-twice}
+use Rattle.command_ends.proofs.InputLaws.{GiveEach-read, KeepsFiles-itself, KeepsFiles-twice}
 
 -- a slot lies in the flash
 pub slot_within : (map : SectorMap) (image : ℕ) → IsMap map → image < map.images
@@ -67,7 +67,7 @@ pub record AreRead (map : SectorMap) (names : List (Bor (List ℕ))) (count : �
       → length content ≤ length_of map (Slot i Primary)
   pub put : bytes ≡ new_flash map contents
   pub whole : IsFlashOf map bytes
-  pub kept : NameFiles (names_of names) → KeepsFiles old_file file
+  pub kept : KeepsFiles old_file file
 
 -- none was read
 pub AreRead-none : (map : SectorMap) (names : List (Bor (List ℕ))) (input : Option (List ℕ))
@@ -82,7 +82,7 @@ AreRead-none map names input file bytes put whole = record {
   fit = λ i content is. absurd (none-some content is);
   put = put;
   whole = whole;
-  kept = λ all. KeepsFiles-itself file;
+  kept = KeepsFiles-itself file;
 }
 
 -- the word at the next place names a source more
@@ -105,13 +105,13 @@ pub AreRead-more : (map : SectorMap) (names : List (Bor (List ℕ))) (count : �
     (source : Source) (content : List ℕ)
     → IsMap map → count < map.images → count < length names
     → IfSome (slice_get names count) (λ name. IsNamed name.now source) → Gives source input file content
-    → KeepsOthers source input file new_input new_file
+    → KeepsOthers source input file new_input new_file → KeepsFiles file new_file
     → length content ≤ length_of map (Slot count Primary)
     → new_bytes ≡ replaced (start_of map (Slot count Primary)) content bytes
     → AreRead map names count old_input old_file input file bytes
     → AreRead map names (count + 1) old_input old_file new_input new_file new_bytes
 AreRead-more map names count old_input old_file input file new_input new_file bytes new_bytes source content
-    fits there within named gives keeps short put before =
+    fits there within named gives keeps files_kept short put before =
     let sources = before.sources in
     let contents = before.contents in
     let inside : start_of map (Slot count Primary) + length content ≤ length bytes =
@@ -133,6 +133,5 @@ AreRead-more map names count old_input old_file input file new_input new_file by
           ∙ sym (with_files-push map 0 contents content (replicate (sectors_of map * map.sector_size) 0xff));
       whole = ap (λ all. length all) put ∙ length-replaced (start_of map (Slot count Primary)) content bytes inside
           ∙ before.whole;
-      kept = λ all. KeepsFiles-twice old_file file new_file (before.kept all)
-          (KeepsFiles-read names count source input new_input file new_file within all named keeps);
+      kept = KeepsFiles-twice old_file file new_file before.kept files_kept;
     }

@@ -2,5 +2,6 @@ mod EndLaws
 mod FileLaws
 mod ImageLaws
 pub mod KeptLaws
+mod OtherFiles
 mod TellingLaws
 pub mod WordsLaws

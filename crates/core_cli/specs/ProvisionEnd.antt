@@ -1,6 +1,7 @@
 -- What making a flash a device's comes to.
-use Rattle.std.specs.Prelude.{◌≡◌, ◌≢◌, ◌⊎◌, ℕ, ◌+◌, ◌*◌, ◌≤◌, List, [], ◌∷◌, ◌++◌, length, replicate, slice_get, Option, Some, codes, Result, Ok, Err}
-use Rattle.std.specs.Io.KnownBytes.{Appends}
+use Rattle.std.specs.Prelude.{◌≡◌, ◌≢◌, ◌⊎◌, Bool, IsTrue, ℕ, ◌+◌, ◌*◌, ◌≤◌, List, [], ◌∷◌, ◌++◌, length, replicate, slice_get, Option, Some, codes, Result, Ok, Err}
+use Rattle.std.specs.Borrow.{Bor}
+use Rattle.std.specs.Io.KnownBytes.{Appends, Keeps}
 use Rattle.std.specs.List.{AllZip}
 use Rattle.flash_model.specs.Chip.{Chip}
 use Rattle.flash_model.specs.Torn.{replaced}
@@ -17,7 +18,6 @@ use Rattle.core_cli.specs.declared.provision.Made.{Made}
 use Rattle.core_cli.specs.declared.provision.Made.TheVariants as made
 use Rattle.device_texts.specs.declared.device.DeviceFile.{DeviceFile}
 use Rattle.command_ends.specs.declared.source.Source.{Source}
-use Rattle.command_ends.specs.declared.source.Source.TheVariants.{StandardInput, File}
 use Rattle.device_texts.specs.DeviceFile.{IsDeviceFile}
 use Rattle.device_texts.specs.FlashOf.{flash_of}
 use Rattle.reading_inputs.specs.DeviceInput.{RefusesMap}
@@ -50,10 +50,15 @@ EndsMade made.Done map bytes held =
 EndsMade (made.Refused fault) map bytes held =
     (new : Chip) × RefusesMaking map (flash_of map bytes) new fault
 
--- A source isn't the file of this name.
-abbrev pub IsOther : List ℕ → Source → Type 0
-IsOther name StandardInput = Unit {0}
-IsOther name (File other) = other.now ≢ name
+-- Each of these words that names a file names one that was said not to be another.
+abbrev pub AreOthers : (List ℕ → Bool) → List (Bor (List ℕ)) → Type 0
+AreOthers apart words = (place : ℕ) (word : Bor (List ℕ)) → slice_get words place ≡ Some word
+    → word.now ≢ codes "-" → IsTrue (apart word.now)
+
+-- Each file that these words name keeps what it is known to hold.
+abbrev pub KeepsWords : List (Bor (List ℕ)) → FileBytes → FileBytes → Type 0
+KeepsWords words old new = (place : ℕ) (word : Bor (List ℕ)) → slice_get words place ≡ Some word
+    → word.now ≢ codes "-" → Keeps (old word.now) (new word.now)
 
 -- That a flash is a device's.
 abbrev pub done_text : List ℕ

@@ -4,8 +4,9 @@ ghost use Rattle.std.specs.Io.KnownBytes.{Appends};
 ghost use Rattle.flash_model.specs.Torn.{replaced};
 ghost use Rattle.device_texts.specs.FlashOf.{IsFlashOf};
 ghost use Rattle.command_ends.specs.Input.{IsKnownAs, IsNamed, KeepsFiles};
-ghost use Rattle.command_ends.specs.Inputs.{LeavesFiles, NameFiles, names_of};
-ghost use Rattle.core_cli.specs.ProvisionEnd.{AnswersMade, AnswersProvision, EndsBefore, EndsMade, IsOther, ReadsImages, done_text, new_flash};
+ghost use Rattle.command_ends.specs.Inputs.{names_of};
+ghost use Rattle.command_ends.specs.Doings.{IsApartFrom, KeepsApart, KeepsSource};
+ghost use Rattle.core_cli.specs.ProvisionEnd.{AnswersMade, AnswersProvision, AreOthers, EndsBefore, EndsMade, KeepsWords, ReadsImages, done_text, new_flash};
 
 use command_ends::{Answer, FlashFault, Host, Refusal, Source};
 use device_texts::{flash_of, refused_fault_text, write_all};
@@ -37,9 +38,9 @@ pub struct FlashName<'a> {
 /// its primary slot, makes it a device's, and then makes or replaces its file. Writes to `out` that
 /// it is done, or why it is refused. All stands in memory of `alloc`.
 ///
-/// All is judged before the file is touched, which is none of those that are read. Unless the
-/// answer is `Done`, or can't be written, the file is as it was; but a block device of which a
-/// write failed may hold a part of what it was to hold.
+/// All is judged before the file is touched, which is none of those that are read: they stay as they
+/// were whatever comes of it. Unless the answer is `Done`, or can't be written, the file is as it was
+/// too; but a block device of which a write failed may hold a part of what it was to hold.
 pub fn perform<H: Host, O: Write>(
     alloc: Global,
     device: Source<'_>,
@@ -52,8 +53,10 @@ pub fn perform<H: Host, O: Write>(
         AnswersProvision answer device.entry (names_of images.now)
         (H.input host.old) (H.file host.old) (H.file host.new flash.now)
         (O.contents out.old) (O.contents out.new)) }
-    ensures kept { EndsBefore result
-        → LeavesFiles device.entry (names_of images.now) (H.file host.old) (H.file host.new) }
+    ensures kept { EndsBefore result → KeepsFiles (H.file host.old) (H.file host.new) }
+    ensures device { KeepsSource device.entry (H.file host.old) (H.file host.new) }
+    ensures images { KeepsWords images.now (H.file host.old) (H.file host.new) }
+    ensures opened { H.opened host.new ≡ H.opened host.old }
 {
     let source = device;
     let Some(device) = read_device(alloc, source, host, out)? else {
@@ -77,8 +80,8 @@ pub fn read_images<H: Host>(
     ensures read { IfOk result (λ bytes. ReadsImages map.now (names_of images.now)
         (H.input host.old) (H.file host.old) bytes.items) }
     ensures whole { IfOk result (λ bytes. IsFlashOf map.now bytes.items) }
-    ensures kept { NameFiles (names_of images.now)
-        → KeepsFiles (H.file host.old) (H.file host.new) }
+    ensures kept { KeepsFiles (H.file host.old) (H.file host.new) }
+    ensures opened { H.opened host.new ≡ H.opened host.old }
 {
     if images.len() != usize::from(map.images) {
         return Err(Refusal::ImageCount);
@@ -129,7 +132,8 @@ fn refuse_inputs<H: Host>(
     device: Source<'_>,
     images: &[&str],
 ) -> Result<(), Refusal>
-    ensures { OnOk result (IsOther flash.now device.entry) }
+    ensures device { OnOk result (IsApartFrom (H.apart host.now) flash.now device.entry) }
+    ensures images { OnOk result (AreOthers (H.apart host.now flash.now) images.now) }
 {
     refuse_input(host, flash, device)?;
     for image in images {
@@ -140,15 +144,9 @@ fn refuse_inputs<H: Host>(
 
 /// Refuses a flash whose file is what is read here, by whatever name.
 fn refuse_input<H: Host>(host: &H, flash: &str, source: Source<'_>) -> Result<(), Refusal>
-    ensures { OnOk result (IsOther flash.now source.entry) }
+    ensures { OnOk result (IsApartFrom (H.apart host.now) flash.now source.entry) }
 {
-    let Source::File(name) = source else {
-        return Ok(());
-    };
-    if name == flash {
-        return Err(Refusal::FlashIsInput);
-    }
-    match host.is_same_file(name, flash) {
+    match source.is_file(host, flash) {
         Ok(false) => Ok(()),
         Ok(true) => Err(Refusal::FlashIsInput),
         Err(_) => Err(Refusal::FlashFile),
@@ -173,6 +171,9 @@ fn make_flash<L: Ledger, H: Host>(
     ensures refused { IfOk result (λ made. made ≢ Made.Done
         → KeepsFiles (H.file host.old) (H.file host.new)) }
     ensures failed { IfErr result (λ _. KeepsFiles (H.file host.old) (H.file host.new)) }
+    ensures others { KeepsApart (H.apart host.old file.entry.name.now)
+        (H.file host.old) (H.file host.new) }
+    ensures opened { H.opened host.new ≡ H.opened host.old }
 {
     let mut flash = flash_of::<L>(alloc, blank, map, bytes);
     if let Err(fault) = boot_core::provision(&mut flash, map) {
@@ -186,6 +187,8 @@ fn make_flash<L: Ledger, H: Host>(
 fn replace<H: Host>(alloc: Global, name: &str, bytes: &[u8], host: &mut H) -> Result<(), Refusal>
     ensures done { OnOk result (IsKnownAs (H.file host.new name.now) bytes.now) }
     ensures failed { IfErr result (λ _. KeepsFiles (H.file host.old) (H.file host.new)) }
+    ensures others { KeepsApart (H.apart host.old name.now) (H.file host.old) (H.file host.new) }
+    ensures opened { H.opened host.new ≡ H.opened host.old }
 {
     match host.replace_file(alloc, name, bytes) {
         Ok(()) => Ok(()),

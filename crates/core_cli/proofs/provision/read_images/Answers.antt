@@ -1,4 +1,4 @@
-use Rattle.std.proofs.Common.{◌≡◌, ◌*◌, ◌<◌, ◌≤◌, ◌∙◌, [], length, take, ap, arith, subst}
+use Rattle.std.proofs.Common.{◌≡◌, ◌*◌, ◌<◌, ◌≤◌, ◌∙◌, [], length, take, ap, arith, refl, subst}
 use Rattle.std.proofs.lemmas.List.{append-nil, length-replicate, take_all}
 use Rattle.std.specs.List.{AllZip}
 use Rattle.flash_model.specs.Torn.{replaced}
@@ -8,7 +8,7 @@ use Rattle.sector_map.specs.Part.{Slot}
 use Rattle.command_ends.specs.Input.{IsNamed}
 use Rattle.command_ends.specs.Inputs.{names_of}
 use Rattle.core_cli.proofs.ImageLaws.{AreRead-more, AreRead-none, slot_within}
-use Rattle.command_ends.proofs.InputLaws.{KeepsFiles-itself, KeepsFiles-read, KeepsFiles-twice}
+use Rattle.command_ends.proofs.InputLaws.{KeepsFiles-itself, KeepsFiles-twice}
 use Rattle.core_cli.proofs.provision.read_images.Goals as goal
 
 -- Nothing was read, and the flash is erased.
@@ -16,7 +16,7 @@ pub loop-image-init : goal.loop-image-init
 loop-image-init g c =
     let map = c.args.map.now in
     let whole = ap (λ all. length all) c.in-Ok.ensures ∙ length-replicate (sectors_of map * map.sector_size) 0xff in
-    AreRead-none map c.args.images.now _ _ _ c.in-Ok.ensures whole
+    record { read = AreRead-none map c.args.images.now _ _ _ c.in-Ok.ensures whole; opened = refl }
 
 -- The slot lies in the flash, and the file isn't longer.
 pub put-requires : goal.put-requires
@@ -34,7 +34,7 @@ put-requires g c =
       c.slot_length-most.ensures,
       c.in_ok-file.file.ok.0,
       c.slot_start.ensures,
-      c.loop-image.invariant.whole,
+      c.loop-image.invariant.read.whole,
     )
 
 -- One file more was read and put.
@@ -49,14 +49,17 @@ loop-image-preserved g c =
     let within : image < length c.args.images.now = omega (arith, c.loop-image-test.true, c.if-images-from.false, c.from.ensures) in
     let put = c.put.ensures ∙ ap (λ at. replaced at c.deref.result.now c.loop-image.bytes.items) c.slot_start.ensures
     ∙ ap (λ content. replaced (start_of map (Slot image Primary)) content c.loop-image.bytes.items) c.deref.ensures.value in
-    AreRead-more map c.args.images.now image _ _ _ _ _ _ _ _ c.source_at-source.result file.items
-    map.is_map c.loop-image-test.true within c.source_at-source.ensures (c.in_ok-file.ensures.bytes all)
-    c.in_ok-file.ensures.others short put c.loop-image.invariant
+    record {
+      read = AreRead-more map c.args.images.now image _ _ _ _ _ _ _ _ c.source_at-source.result file.items
+          map.is_map c.loop-image-test.true within c.source_at-source.ensures (c.in_ok-file.ensures.bytes all)
+          c.in_ok-file.ensures.others c.in_ok-file.ensures.files short put c.loop-image.invariant.read;
+      opened = c.in_ok-file.ensures.opened ∙ c.loop-image.invariant.opened;
+    }
 
 -- All were read.
 pub returns-clause-read : goal.returns-clause-read
 returns-clause-read g c =
-    let read = c.loop-image.invariant in
+    let read = c.loop-image.invariant.read in
     let names = c.args.images.now in
     let all : take c.loop-image.image names ≡ names = take_all c.loop-image.image names
     (omega (arith, c.loop-image-test.false, c.if-images-from.false, c.from.ensures)) in (
@@ -70,27 +73,17 @@ returns-clause-read g c =
 
 -- Nothing was read where the number of images is wrong, or there is no memory for the flash.
 pub returns-then-images-from-clause-kept : goal.returns-then-images-from-clause-kept
-returns-then-images-from-clause-kept g c = λ all. KeepsFiles-itself _
+returns-then-images-from-clause-kept g c = KeepsFiles-itself _
 
 pub returns-in_default-clause-kept : goal.returns-in_default-clause-kept
-returns-in_default-clause-kept g c = λ all. KeepsFiles-itself _
+returns-in_default-clause-kept g c = KeepsFiles-itself _
 
 -- A file that could not be read changes nothing, and nor does one that is too long.
 pub returns-in_err-file-clause-kept : goal.returns-in_err-file-clause-kept
-returns-in_err-file-clause-kept g c = λ all.
-    let image = c.loop-image.image in
-    let names = c.args.images.now in
-    let within : image < length names = omega (arith, c.loop-image-test.true, c.if-images-from.false, c.from.ensures) in
-    KeepsFiles-twice _ _ _ (c.loop-image.invariant.kept all)
-    (KeepsFiles-read names image c.source_at-source.result _ _ _ _ within all c.source_at-source.ensures c.in_err-file.ensures.others)
+returns-in_err-file-clause-kept g c = KeepsFiles-twice _ _ _ c.loop-image.invariant.read.kept c.in_err-file.ensures.files
 
 pub returns-then-len-most-clause-kept : goal.returns-then-len-most-clause-kept
-returns-then-len-most-clause-kept g c = λ all.
-    let image = c.loop-image.image in
-    let names = c.args.images.now in
-    let within : image < length names = omega (arith, c.loop-image-test.true, c.if-images-from.false, c.from.ensures) in
-    KeepsFiles-twice _ _ _ (c.loop-image.invariant.kept all)
-    (KeepsFiles-read names image c.source_at-source.result _ _ _ _ within all c.source_at-source.ensures c.in_ok-file.ensures.others)
+returns-then-len-most-clause-kept g c = KeepsFiles-twice _ _ _ c.loop-image.invariant.read.kept c.in_ok-file.ensures.files
 
 pub returns-clause-kept : goal.returns-clause-kept
-returns-clause-kept g c = c.loop-image.invariant.kept
+returns-clause-kept g c = c.loop-image.invariant.read.kept
