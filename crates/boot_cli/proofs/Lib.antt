@@ -1,2 +1,3 @@
 mod OrderLaws
 mod SweepLaws
+mod WordsLaws

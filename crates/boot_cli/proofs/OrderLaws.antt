@@ -3,6 +3,7 @@ use Rattle.std.proofs.Common.{ℕ, List, Option}
 use Rattle.std.specs.Io.KnownBytes.{Keeps}
 use Rattle.command_line.specs.declared.orders.Order.{Order}
 use Rattle.command_line.specs.declared.orders.Order.TheVariants as order
+use Rattle.command_words.specs.declared.device_orders.DeviceOrder.TheVariants as device_order
 use Rattle.command_ends.specs.declared.answer.Answer.{Answer}
 use Rattle.command_ends.specs.declared.answer.Answer.TheVariants.{Done}
 use Rattle.command_ends.specs.Input.{FileBytes}
@@ -26,7 +27,8 @@ AnswersOrder-reading answer (order.Manifest device named) input file then old ne
 AnswersOrder-reading answer (order.Show device flash) input file then old new answered = answered
 AnswersOrder-reading answer (order.Slots device flash) input file then old new answered = answered
 AnswersOrder-reading answer order.Codes input file then old new answered = answered
-AnswersOrder-reading answer (order.Device asked) input file then old new answered = absurd answered
+AnswersOrder-reading answer (order.Provision device flash images) input file then old new answered = absurd answered
+AnswersOrder-reading answer (order.Run device flash script durable) input file then old new answered = absurd answered
 AnswersOrder-reading answer (order.MakeDevice device) input file then old new answered = absurd answered
 AnswersOrder-reading answer (order.MakeImage image body values) input file then old new answered = absurd answered
 AnswersOrder-reading answer (order.MakeManifest device manifest) input file then old new answered = absurd answered
@@ -59,8 +61,10 @@ AnswersOrder-kept (order.Image image) input file then old mid new answered kept 
     AnswersReading-kept (order.Image image) input file old mid new answered kept
 AnswersOrder-kept (order.Manifest device named) input file then old mid new answered kept =
     AnswersReading-kept (order.Manifest device named) input file old mid new answered kept
-AnswersOrder-kept (order.Device asked) input file then old mid new answered kept =
-    AnswersCore-kept asked input file then old mid new answered kept
+AnswersOrder-kept (order.Provision device flash images) input file then old mid new answered kept =
+    AnswersCore-kept (device_order.Provision device flash images) input file then old mid new answered kept
+AnswersOrder-kept (order.Run device flash script durable) input file then old mid new answered kept =
+    AnswersCore-kept (device_order.Run device flash script durable) input file then old mid new answered kept
 AnswersOrder-kept (order.Show device flash) input file then old mid new answered kept =
     AnswersReading-kept (order.Show device flash) input file old mid new answered kept
 AnswersOrder-kept (order.Slots device flash) input file then old mid new answered kept =

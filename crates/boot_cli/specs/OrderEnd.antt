@@ -2,6 +2,7 @@
 use Rattle.std.specs.Prelude.{ℕ, List, Option}
 use Rattle.command_line.specs.declared.orders.Order.{Order}
 use Rattle.command_line.specs.declared.orders.Order.TheVariants as order
+use Rattle.command_words.specs.declared.device_orders.DeviceOrder.TheVariants as device_order
 use Rattle.command_ends.specs.declared.answer.Answer.{Answer}
 use Rattle.command_ends.specs.declared.source.Source.{Source}
 use Rattle.command_ends.specs.Input.{AreNamed, FileBytes, IsNamed}
@@ -31,6 +32,8 @@ AnswersOrder answer (order.Extract device flash image side out) input file then 
 AnswersOrder answer (order.Sweep device script images choices) input file then old new =
     (one other : Source) × AreNamed device.now script.now one other
     × AnswersSweep answer one other input file old new
-AnswersOrder answer (order.Device asked) input file then old new =
-    AnswersCore answer asked input file then old new
+AnswersOrder answer (order.Provision device flash images) input file then old new =
+    AnswersCore answer (device_order.Provision device flash images) input file then old new
+AnswersOrder answer (order.Run device flash script durable) input file then old new =
+    AnswersCore answer (device_order.Run device flash script durable) input file then old new
 AnswersOrder answer asked input file then old new = AnswersReading answer asked input file old new

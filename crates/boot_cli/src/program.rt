@@ -1,13 +1,15 @@
 //! The whole program: what the words ask for is done, and comes to an exit status.
-ghost use Rattle.std.specs.Prelude.{◌≡◌, IfOk};
+ghost use Rattle.std.specs.Prelude.{◌≡◌, ◌≢◌, IfOk, map};
 ghost use Rattle.boot_cli.specs.OrderEnd.{AnswersOrder};
+ghost use Rattle.boot_cli.specs.WordsEnd.{EndsProgram};
 
 use crate::sweeping;
 use crate::sweeping::Named;
 use crate::words::request_in;
 use command_ends::{Answer, Host, Refusal, Source, finish};
 use command_line::Order;
-use command_words::answer_words;
+use command_words::{DeviceOrder, answer_words};
+use core_cli::provision;
 use explaining_commands::{Remembering, ReplyNotes, UntilFailed, explain_end};
 use making_commands::extract::Copying;
 use making_commands::{extract, make_device, make_image, make_manifest};
@@ -29,7 +31,10 @@ pub fn cli<S: AsStr, H: Host, O: Write, E: Write>(
     host: &mut Remembering<H>,
     out: &mut O,
     err: &mut E,
-) -> u8 {
+) -> u8
+    ensures { EndsProgram (map S.text words.entry.now) result (H.input host.old.host)
+        (H.file host.old.host) (H.file host.new.host) (O.contents out.old) (O.contents out.new) }
+{
     match request_in(alloc, words) {
         Ok(request) if request.is_explained => {
             run_explained(alloc, request.order, host, out, err)
@@ -48,8 +53,9 @@ fn run_explained<H: Host, O: Write, E: Write>(
     out: &mut O,
     err: &mut E,
 ) -> u8
-    ensures { result ≡ 0 → AnswersOrder Answer.Done order.entry (H.input host.old.host)
+    ensures done { result ≡ 0 → AnswersOrder Answer.Done order.entry (H.input host.old.host)
         (H.file host.old.host) (H.file host.new.host) (O.contents out.old) (O.contents out.new) }
+    ensures other { result ≢ 2 }
 {
     let mut told = UntilFailed::over(err);
     host.kept.start();
@@ -68,8 +74,9 @@ pub fn run_order<H: Host, O: Write, E: Write>(
     out: &mut O,
     err: &mut E,
 ) -> u8
-    ensures { result ≡ 0 → AnswersOrder Answer.Done order.entry (H.input host.old) (H.file host.old)
-        (H.file host.new) (O.contents out.old) (O.contents out.new) }
+    ensures done { result ≡ 0 → AnswersOrder Answer.Done order.entry (H.input host.old)
+        (H.file host.old) (H.file host.new) (O.contents out.old) (O.contents out.new) }
+    ensures other { result ≢ 2 }
 {
     let outcome = perform(alloc, &order, false, host, out, err);
     finish(&outcome, out, err)
@@ -128,9 +135,25 @@ fn perform<H: Host, O: Write, E: Write>(
             };
             sweeping::perform(alloc, named, &choices, host, out, err)
         }
-        Order::Device(ref order) => {
+        Order::Provision {
+            device,
+            flash,
+            ref images,
+        } => provision::perform(alloc, Source::named(device), flash, images, host, out),
+        Order::Run {
+            device,
+            flash,
+            script,
+            durable,
+        } => {
+            let asked = DeviceOrder::Run {
+                device,
+                flash,
+                script,
+                durable,
+            };
             let mut notes = ReplyNotes::new(alloc, is_explained.then_some(err));
-            core_cli::perform(alloc, order, host, out, &mut notes)
+            core_cli::perform(alloc, &asked, host, out, &mut notes)
         }
         _ => reading_commands::perform(alloc, order, host, out),
     }

@@ -1,4 +1,7 @@
-//! What the words ask for where there are none.
+//! What the words ask for, also where there are none.
+ghost use Rattle.std.specs.Prelude.{IfErr, IfOk, map};
+ghost use Rattle.command_line.specs.Faults.{IsRefusal};
+ghost use Rattle.boot_cli.specs.WordsEnd.{AskFor};
 
 use command_ends::STANDARD_INPUT;
 use command_line::{Order, OrderError, Request, request};
@@ -14,7 +17,10 @@ const READING: &[u8] = b"note: reading a table from standard input; `bootswap --
 ///
 /// # Errors
 /// Those of [`request`].
-pub fn request_in<'a, S: AsStr>(alloc: Global, words: &'a [S]) -> Result<Request<'a>, OrderError> {
+pub fn request_in<'a, S: AsStr>(alloc: Global, words: &'a [S]) -> Result<Request<'a>, OrderError>
+    ensures order { IfOk result (λ request. AskFor (map S.text words.entry.now) request.order) }
+    ensures refused { IfErr result (IsRefusal (map S.text words.entry.now)) }
+{
     if words.len() <= 1 {
         return Ok(Request {
             order: Order::Choose {

@@ -5,9 +5,8 @@ use Rattle.command_line.specs.Orders.{AreComponents, Asks, SaysManifest, SaysSwe
 use Rattle.command_line.specs.declared.orders.NewComponent.{NewComponent}
 use Rattle.command_line.specs.declared.orders.NewManifest.{NewManifest}
 use Rattle.command_line.specs.declared.orders.SweepChoices.{SweepChoices}
-use Rattle.command_words.specs.declared.device_orders.DeviceOrder.TheVariants as device
 use Rattle.command_line.specs.declared.orders.Order.{Order}
-use Rattle.command_line.specs.declared.orders.Order.TheVariants.{Choose, Check, Image, Manifest, MakeDevice, MakeImage, MakeManifest, Device, Extract, Show, Slots, Sweep, Codes}
+use Rattle.command_line.specs.declared.orders.Order.TheVariants.{Choose, Check, Image, Manifest, MakeDevice, MakeImage, MakeManifest, Provision, Extract, Show, Slots, Run, Sweep, Codes}
 
 -- one file a word
 same_count : (kind : Bool) (words : List Text) (some others : List NewComponent)
@@ -40,11 +39,11 @@ none_asked rows none (Image file) asks = search rules
 none_asked rows none (Manifest device file) asks = search rules
 none_asked rows none (MakeDevice device) asks = search rules
 none_asked rows none (MakeImage image body values) asks = search rules
-none_asked rows none (Device (device.Provision file flash images)) asks = search rules
+none_asked rows none (Provision device flash images) asks = search rules
 none_asked rows none (Extract device flash image side out) asks = search rules
 none_asked rows none (Show device flash) asks = search rules
 none_asked rows none (Slots device flash) asks = search rules
-none_asked rows none (Device (device.Run file flash script durable)) asks = search rules
+none_asked rows none (Run device flash script durable) asks = search rules
 none_asked rows none (Sweep device script images choices) asks = search rules
 none_asked rows none Codes asks = search rules
 
@@ -59,9 +58,9 @@ no_sweep_asked rows none (Image file) asks = search rules
 no_sweep_asked rows none (Manifest device file) asks = search rules
 no_sweep_asked rows none (MakeDevice device) asks = search rules
 no_sweep_asked rows none (MakeImage image body values) asks = search rules
-no_sweep_asked rows none (Device (device.Provision file flash images)) asks = search rules
+no_sweep_asked rows none (Provision device flash images) asks = search rules
 no_sweep_asked rows none (Extract device flash image side out) asks = search rules
 no_sweep_asked rows none (Show device flash) asks = search rules
 no_sweep_asked rows none (Slots device flash) asks = search rules
-no_sweep_asked rows none (Device (device.Run file flash script durable)) asks = search rules
+no_sweep_asked rows none (Run device flash script durable) asks = search rules
 no_sweep_asked rows none Codes asks = search rules

@@ -1,8 +1,9 @@
 -- Words are refused for the order that they ask for.
-use Rattle.std.proofs.Common.{◌≡◌, List, rules}
+use Rattle.std.proofs.Common.{◌≡◌, List, [], rules}
 use Rattle.std.specs.Prelude.{Some}
-use Rattle.clap.specs.Words.{Text, kind_of}
+use Rattle.clap.specs.Words.{Text, fault_of, kind_of}
 use Rattle.clap.specs.declared.error.Error.{Error}
+use Rattle.command_words.specs.Commands.{bootswap}
 use Rattle.command_words.specs.Faults.{Says}
 use Rattle.command_line.specs.Faults.{IsRefusal}
 use Rattle.command_line.specs.Faults.IsFault.{misuse}
@@ -11,8 +12,9 @@ use Rattle.command_words.specs.declared.error.OrderError.{OrderError}
 use Rattle.command_words.specs.declared.error.OrderError.TheVariants.{Usage, NoMemory}
 use Rattle.command_line.specs.declared.orders.Order.{Order}
 
-pub misused : (words : List Text) (order : Order) (fault : Error) (error : OrderError) → IsOrder words order
+pub misused : (words : List Text) (order : Order) (fault : Error) (error : OrderError) → fault_of bootswap words ≡ []
+    → IsOrder words order
     → misuse_of order ≡ Some (kind_of fault) → Says fault error → IsRefusal words error
-misused words order fault (Usage answer) is_order is_misuse says =
-    rw says.0 (says.1, misuse order is_order is_misuse)
-misused words order fault NoMemory is_order is_misuse says = search rules
+misused words order fault (Usage answer) taken is_order is_misuse says =
+    rw says.0 (says.1, misuse order taken is_order is_misuse)
+misused words order fault NoMemory taken is_order is_misuse says = search rules

@@ -4,7 +4,7 @@ use Rattle.std.specs.Borrow.{Bor}
 use Rattle.std.specs.List.{AllZip, after_first, before_first, position_or_len, slice_split}
 use Rattle.std.specs.Option.{option_map_or}
 use Rattle.std.specs.Str.{bytes_eq}
-use Rattle.clap.specs.Words.{Row, Text, all_of, first_of, subcommand_of}
+use Rattle.clap.specs.Words.{Row, Text, all_of, fault_of, first_of, subcommand_of}
 use Rattle.clap.specs.declared.error.kind.ErrorKind.{ErrorKind}
 use Rattle.clap.specs.declared.error.kind.ErrorKind.TheVariants.{ArgumentConflict, InvalidValue}
 use Rattle.common.specs.Ascii.{number_below, number_of}
@@ -16,6 +16,8 @@ use Rattle.version_order.specs.declared.version.Version.{Version}
 use Rattle.version_order.specs.VersionText.{version_of}
 use Rattle.command_words.specs.Commands.{bootswap}
 use Rattle.command_words.specs.DeviceOrders as of_device
+use Rattle.command_words.specs.declared.device_orders.DeviceOrder.{DeviceOrder}
+use Rattle.command_words.specs.declared.device_orders.DeviceOrder.TheVariants as device_order
 use Rattle.command_words.specs.Given.{IsNamed, is_given, is_standard_input, standard_inputs}
 use Rattle.command_line.specs.Needs.{AreNeeds, IsBracketed, IsNeed}
 use Rattle.command_line.specs.declared.orders.NewDevice.{NewDevice}
@@ -24,7 +26,12 @@ use Rattle.command_line.specs.declared.orders.NewImage.{NewImage}
 use Rattle.command_line.specs.declared.orders.NewManifest.{NewManifest}
 use Rattle.command_line.specs.declared.orders.Order.{Order}
 use Rattle.command_line.specs.declared.orders.SweepChoices.{SweepChoices}
-use Rattle.command_line.specs.declared.orders.Order.TheVariants.{Choose, Check, Image, Manifest, MakeDevice, MakeImage, MakeManifest, Device, Extract, Show, Slots, Sweep, Codes}
+use Rattle.command_line.specs.declared.orders.Order.TheVariants.{Choose, Check, Image, Manifest, MakeDevice, MakeImage, MakeManifest, Provision, Extract, Show, Slots, Run, Sweep, Codes}
+
+-- An order to a device, among all the others.
+abbrev pub order_to_device : DeviceOrder → Order
+order_to_device (device_order.Provision device flash images) = Provision device flash images
+order_to_device (device_order.Run device flash script durable) = Run device flash script durable
 
 -- The subcommand of an order.
 abbrev pub command_of : Order → Text
@@ -35,10 +42,11 @@ command_of (Manifest device file) = codes "manifest"
 command_of (MakeDevice device) = codes "make-device"
 command_of (MakeImage image body values) = codes "make-image"
 command_of (MakeManifest device manifest) = codes "make-manifest"
-command_of (Device order) = of_device.command_of order
+command_of (Provision device flash images) = codes "provision"
 command_of (Extract device flash image side out) = codes "extract"
 command_of (Show device flash) = codes "show"
 command_of (Slots device flash) = codes "slots"
+command_of (Run device flash script durable) = codes "run"
 command_of (Sweep device script images choices) = codes "sweep"
 command_of Codes = codes "codes"
 
@@ -172,7 +180,8 @@ HasNames rows (MakeImage image body values) =
     × SaysImage rows values
 HasNames rows (MakeManifest device manifest) =
     IsNamed rows (codes "DEVICE") device.now × SaysManifest rows manifest
-HasNames rows (Device order) = of_device.HasNames rows order
+HasNames rows (Provision device flash images) =
+    of_device.HasNames rows (device_order.Provision device flash images)
 HasNames rows (Extract device flash image side out) =
     IsNamed rows (codes "DEVICE") device.now × IsNamed rows (codes "FLASH") flash.now
     × (image_at rows ≡ Some image) × (side_at rows ≡ Some side)
@@ -181,6 +190,8 @@ HasNames rows (Show device flash) =
     IsNamed rows (codes "DEVICE") device.now × IsNamed rows (codes "FLASH") flash.now
 HasNames rows (Slots device flash) =
     IsNamed rows (codes "DEVICE") device.now × IsNamed rows (codes "FLASH") flash.now
+HasNames rows (Run device flash script durable) =
+    of_device.HasNames rows (device_order.Run device flash script durable)
 HasNames rows (Sweep device script images choices) =
     IsNamed rows (codes "DEVICE") device.now × IsNamed rows (codes "SCRIPT") script.now
     × (all_of (codes "IMAGE") rows ≡ Some (map (λ image. image.now) images.items))
@@ -215,17 +226,19 @@ names_of (Manifest device file) = device ∷ file ∷ []
 names_of (MakeDevice device) = []
 names_of (MakeImage image body values) = image ∷ body ∷ []
 names_of (MakeManifest device manifest) = device ∷ files_of manifest
-names_of (Device order) = of_device.names_of order
+names_of (Provision device flash images) = device ∷ flash ∷ images.items
 names_of (Extract device flash image side out) = device ∷ flash ∷ out ∷ []
 names_of (Show device flash) = device ∷ flash ∷ []
 names_of (Slots device flash) = device ∷ flash ∷ []
+names_of (Run device flash script durable) = device ∷ flash ∷ script ∷ []
 names_of (Sweep device script images choices) = device ∷ script ∷ images.items
 names_of Codes = []
 
 -- The file that would be written to is standard input.
 abbrev pub writes_to_standard_input : Order → Bool
 writes_to_standard_input (MakeImage image body values) = is_standard_input image
-writes_to_standard_input (Device order) = of_device.writes_to_standard_input order
+writes_to_standard_input (Provision device flash images) = is_standard_input flash
+writes_to_standard_input (Run device flash script durable) = is_standard_input flash
 writes_to_standard_input (Extract device flash image side out) = is_standard_input out
 writes_to_standard_input (Sweep device script images choices) =
     option_map_or is_standard_input choices.picture false
@@ -236,3 +249,10 @@ abbrev pub misuse_of : Order → Option ErrorKind
 misuse_of order =
     if writes_to_standard_input order then Some InvalidValue
     else (if nat_lt 1 (standard_inputs (names_of order)) then Some ArgumentConflict else None)
+
+-- The words give this order: `clap` takes them, they ask for it, and it doesn't misuse standard
+-- input.
+pub record GiveOrder (words : List Text) (order : Order) : Type 0 where
+  pub taken : fault_of bootswap words ≡ []
+  pub asks : IsOrder words order
+  pub sound : misuse_of order ≡ None

@@ -214,10 +214,11 @@ fn subcommand_of(order: &Order<'_>) -> Subcommand {
         Order::MakeDevice { .. } => Subcommand::MakeDevice,
         Order::MakeImage { .. } => Subcommand::MakeImage,
         Order::MakeManifest { .. } => Subcommand::MakeManifest,
-        Order::Device(order) => order.subcommand(),
+        Order::Provision { .. } => Subcommand::Provision,
         Order::Extract { .. } => Subcommand::Extract,
         Order::Show { .. } => Subcommand::Show,
         Order::Slots { .. } => Subcommand::Slots,
+        Order::Run { .. } => Subcommand::Run,
         Order::Sweep { .. } => Subcommand::Sweep,
         Order::Codes => Subcommand::Codes,
     }
@@ -227,7 +228,7 @@ fn writes_to_standard_input(order: &Order<'_>) -> bool
     ensures { result ≡ writes_to_standard_input order.now }
 {
     match order {
-        Order::Device(order) => order.writes_to_standard_input(),
+        Order::Provision { flash, .. } | Order::Run { flash, .. } => is_standard_input(flash),
         Order::MakeImage { image, .. } => is_standard_input(image),
         Order::Extract { out, .. } => is_standard_input(out),
         Order::Sweep { choices, .. } => choices.picture.is_some_and(|file| is_standard_input(file)),
@@ -267,7 +268,17 @@ fn reads_standard_input_twice(order: &Order<'_>) -> bool
             device: a,
             flash: b,
         } => is_standard_input(a) && is_standard_input(b),
-        Order::Device(order) => order.reads_standard_input_twice(),
+        Order::Provision {
+            device,
+            flash,
+            images,
+        } => inputs_with(device, flash, images.as_slice()) > 1,
+        Order::Run {
+            device,
+            flash,
+            script,
+            ..
+        } => standard_inputs(&[*device, *flash, *script]) > 1,
         Order::Extract {
             device,
             flash,

@@ -17,6 +17,6 @@ mod order_reading;
 mod orders;
 mod sweep_words;
 
-pub use command_words::{DeviceOrder, OrderError, REFUSALS, fault_of, no_text};
-pub use order_reading::request;
+pub use command_words::{OrderError, REFUSALS, fault_of, no_text};
+pub use order_reading::{order, request};
 pub use orders::{NewComponent, NewDevice, NewImage, NewManifest, Order, Request, SweepChoices};

@@ -1,12 +1,12 @@
 //! From words to an order.
 
-ghost use Rattle.std.specs.Prelude.{◌≡◌, IfErr, IfOk, None, codes, map};
-ghost use Rattle.clap.specs.Words.{found_of, rows_of, subcommand_rows_of};
-ghost use Rattle.command_words.specs.Commands.{shape_for};
+ghost use Rattle.std.specs.Prelude.{◌≡◌, IfErr, IfOk, None, [], codes, map};
+ghost use Rattle.clap.specs.Words.{fault_of, found_of, rows_of, subcommand_rows_of};
+ghost use Rattle.command_words.specs.Commands.{bootswap, shape_for};
 ghost use Rattle.command_words.specs.Given.{Finds, is_explained};
 ghost use Rattle.command_line.specs.Faults.{IsRefusal};
-ghost use Rattle.command_line.specs.Orders.{Asks, IsOrder, IsOrderOf, image_at, misuse_of};
-ghost use Rattle.command_line.specs.Orders.{side_at, side_of};
+ghost use Rattle.command_line.specs.Orders.{Asks, GiveOrder, IsOrder, IsOrderOf, image_at};
+ghost use Rattle.command_line.specs.Orders.{misuse_of, order_to_device, side_at, side_of};
 
 use crate::device_words::device_in;
 use crate::faults::{misuse, no_order};
@@ -16,13 +16,28 @@ use crate::orders::{Order, Request};
 use crate::sweep_words::sweep_choices_in;
 use clap::ArgMatches;
 use command_words::{
-    OrderError, Subcommand, images_in, is_explained, matches_of, name_in, named, named_in,
-    provision_in, run_in,
+    DeviceOrder, OrderError, Subcommand, images_in, is_explained, matches_of, name_in, named,
+    named_in, provision_in, run_in,
 };
 use common::ascii::number_u8;
 use sector_map::Side;
 use std::alloc::{AllocError, Global};
 use std::convert::AsStr;
+
+/// The order that `words` give, of which the first is the program's own name: its subcommand, and
+/// the names, numbers and options that they give it. What is read of them stands in memory of
+/// `alloc`.
+///
+/// # Errors
+/// `Usage` where they give none, with what `clap` or the program answers to them, help and the
+/// version among that. `NoMemory`.
+pub fn order<'a, S: AsStr>(alloc: Global, words: &'a [S]) -> Result<Order<'a>, OrderError>
+    ensures given { IfOk result (GiveOrder (map S.text words.entry.now)) }
+    ensures refused { IfErr result (IsRefusal (map S.text words.entry.now)) }
+{
+    let asked = request(alloc, words)?;
+    Ok(asked.order)
+}
 
 /// What `words` ask for, of which the first is the program's own name.
 ///
@@ -30,10 +45,9 @@ use std::convert::AsStr;
 /// version or dependency where one has to be, or because the order names standard input for two
 /// files, or for a file that is written to.
 pub fn request<'a, S: AsStr>(alloc: Global, words: &'a [S]) -> Result<Request<'a>, OrderError>
-    ensures order { IfOk result (λ request. IsOrder (map S.text words.entry.now) request.order) }
+    ensures order { IfOk result (λ request. GiveOrder (map S.text words.entry.now) request.order) }
     ensures explained { IfOk result (λ request.
         request.is_explained ≡ is_explained (map S.text words.entry.now)) }
-    ensures sound { IfOk result (λ request. misuse_of request.order ≡ None) }
     ensures refused { IfErr result (IsRefusal (map S.text words.entry.now)) }
 {
     let matches = matches_of(alloc, words)?;
@@ -52,7 +66,8 @@ fn request_of<'a>(
     ensures given { IfOk result (λ request. (request.order ≡ order.entry)
         × (request.is_explained ≡ is_explained)) }
     ensures sound { IfOk result (λ request. misuse_of request.order ≡ None) }
-    ensures refused { (words : _) → IsOrder words order.entry → IfErr result (IsRefusal words) }
+    ensures refused { (words : _) → fault_of bootswap words ≡ [] → IsOrder words order.entry
+        → IfErr result (IsRefusal words) }
 {
     match misuse(alloc, &order)? {
         Some(fault) => Err(OrderError::from(fault)),
@@ -187,7 +202,7 @@ fn provision_order_in<'a>(
     ensures { IfOk result (Finds (Asks (codes "provision") (rows_of (found_of names.now)))) }
 {
     match provision_in(alloc, names)? {
-        Some(order) => Ok(Some(Order::Device(order))),
+        Some(order) => Ok(Some(order_to_device(order))),
         None => Ok(None),
     }
 }
@@ -195,8 +210,38 @@ fn provision_order_in<'a>(
 fn run_order_in<'a>(names: &ArgMatches<'a>) -> Option<Order<'a>>
     ensures { Finds (Asks (codes "run") (rows_of (found_of names.now))) result }
 {
-    let order = run_in(names)?;
-    Some(Order::Device(order))
+    match run_in(names) {
+        Some(order) => Some(order_to_device(order)),
+        None => None,
+    }
+}
+
+/// An order to a device, among all the others.
+fn order_to_device(order: DeviceOrder<'_>) -> Order<'_>
+    ensures { result ≡ order_to_device order.entry }
+{
+    match order {
+        DeviceOrder::Provision {
+            device,
+            flash,
+            images,
+        } => Order::Provision {
+            device,
+            flash,
+            images,
+        },
+        DeviceOrder::Run {
+            device,
+            flash,
+            script,
+            durable,
+        } => Order::Run {
+            device,
+            flash,
+            script,
+            durable,
+        },
+    }
 }
 
 fn extract_in<'a>(names: &ArgMatches<'a>) -> Option<Order<'a>>

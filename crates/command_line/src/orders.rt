@@ -1,6 +1,5 @@
 //! What a command is asked to do.
 
-use command_words::DeviceOrder;
 use sector_map::Side;
 use version_order::{Dependency, Version};
 
@@ -123,8 +122,15 @@ pub enum Order<'a> {
         /// What the manifest says.
         manifest: NewManifest<'a>,
     },
-    /// The making of a device, or the run of one.
-    Device(DeviceOrder<'a>),
+    /// The making of a flash file.
+    Provision {
+        /// The name of the device file.
+        device: &'a str,
+        /// The name of the flash file, which isn't standard input.
+        flash: &'a str,
+        /// The names of the images, in their order.
+        images: Vec<&'a str>,
+    },
     /// The copying of an image out of its slot.
     Extract {
         /// The name of the device file.
@@ -151,6 +157,17 @@ pub enum Order<'a> {
         device: &'a str,
         /// The name of the flash file.
         flash: &'a str,
+    },
+    /// The run of a device by a script.
+    Run {
+        /// The name of the device file.
+        device: &'a str,
+        /// The name of the flash file, which isn't standard input.
+        flash: &'a str,
+        /// The name of the script.
+        script: &'a str,
+        /// Whether each write is to be on the disk before the next one, of a plain file too.
+        durable: bool,
     },
     /// The runs of a device by a script, with each write of them cut.
     Sweep {

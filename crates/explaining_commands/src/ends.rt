@@ -5,7 +5,7 @@ use crate::refused::{explain_answer, explain_choice};
 use crate::remembering::Remembering;
 use certificate::Table;
 use command_ends::{Answer, Host, Refusal, Source, SourceFault, SourceRefusal};
-use command_line::{DeviceOrder, Order};
+use command_line::Order;
 use common::lines::first_line;
 use device_texts::DeviceFile;
 use explanations::{
@@ -120,7 +120,7 @@ fn explain_flash<H: Host>(
     host: &Remembering<H>,
 ) -> Result<(), AllocError> {
     match order {
-        Order::Device(DeviceOrder::Run { flash, .. } | DeviceOrder::Provision { flash, .. }) => {
+        Order::Run { flash, .. } | Order::Provision { flash, .. } => {
             explain_error(notes, Source::named(flash), host)
         }
         _ => Ok(()),

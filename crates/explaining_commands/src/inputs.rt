@@ -1,7 +1,7 @@
 //! What an order reads.
 
 use command_ends::Source;
-use command_line::{DeviceOrder, Order};
+use command_line::Order;
 
 /// The inputs of an order, as far as notes tell of them.
 #[derive(Clone, Copy, Default)]
@@ -34,22 +34,20 @@ pub fn inputs_of<'a>(order: &Order<'a>) -> Inputs<'a> {
             inputs.device = named(device);
             inputs.file = named(file);
         }
-        Order::MakeManifest { device, .. } | Order::Device(DeviceOrder::Provision { device, .. }) =>
-            inputs.device = named(device),
+        Order::MakeManifest { device, .. } | Order::Provision { device, .. } => inputs.device =
+            named(device),
         Order::Show { device, flash }
         | Order::Slots { device, flash }
         | Order::Extract { device, flash, .. } => {
             inputs.device = named(device);
             inputs.flash = named(flash);
         }
-        Order::Device(
-            DeviceOrder::Run {
-                device,
-                flash,
-                script,
-                ..
-            },
-        ) => {
+        Order::Run {
+            device,
+            flash,
+            script,
+            ..
+        } => {
             inputs.device = named(device);
             inputs.flash = named(flash);
             inputs.script = named(script);

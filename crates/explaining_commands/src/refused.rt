@@ -1,7 +1,8 @@
 //! Why an answer is a no or a refusal, and why requests are refused.
 
-ghost use Rattle.std.specs.Prelude.{◌≡◌};
-ghost use Rattle.device_texts.specs.FlashOf.{IsFlashOf};
+ghost use Rattle.std.specs.Prelude.{◌≡◌, ◌<◌};
+ghost use Rattle.device_texts.specs.FlashOf.{IsFlashOf, flash_of};
+ghost use Rattle.image_reading.specs.Slot.{slot_bytes};
 
 use crate::ends::read;
 use crate::inputs::Inputs;
@@ -10,7 +11,7 @@ use arrayvec::ArrayVec;
 use certificate::{Image, Report, Request, Table, is_valid};
 use chooser::choose;
 use command_ends::{Host, Source};
-use command_line::{DeviceOrder, Order};
+use command_line::Order;
 use decision::entry_of;
 use device_texts::{DeviceFault, DeviceFile, flash_of};
 use explanations::{
@@ -73,15 +74,13 @@ pub fn explain_answer<H: Host>(
             }
             Err(_) => Ok(()),
         },
-        Order::Device(DeviceOrder::Provision { images, .. }) | Order::Sweep { images, .. } => {
+        Order::Provision { images, .. } | Order::Sweep { images, .. } => {
             explain_images(notes, images.as_slice(), host)
         }
-        Order::Slots { .. } | Order::Device(DeviceOrder::Run { .. }) => {
-            match table_of_flash(alloc, inputs, host)? {
-                Some(table) => explain_running(notes, &table),
-                None => Ok(()),
-            }
-        }
+        Order::Slots { .. } | Order::Run { .. } => match table_of_flash(alloc, inputs, host)? {
+            Some(table) => explain_running(notes, &table),
+            None => Ok(()),
+        },
         _ => Ok(()),
     }
 }
@@ -109,16 +108,19 @@ fn explain_file(notes: &mut String, bytes: &[u8]) -> Result<(), AllocError> {
 }
 
 /// What a flash of these bytes has in a slot.
-fn slot_of<'f>(map: &SectorMap, flash: &'f [u8], image: u8, side: Side) -> &'f [u8] {
+fn slot_of<'f>(map: &SectorMap, flash: &'f [u8], image: u8, side: Side) -> &'f [u8]
+    ensures { image < map.now.images → IsFlashOf map.now flash.now
+        → result.now ≡ slot_bytes map.now (flash_of map.now flash.now) image side }
+{
     if image >= map.images {
         return &[];
     }
     let start = map.slot_start(image, side) as usize;
-    let length = map.slot_length(image) as usize;
-    match flash.get(start..) {
-        Some(rest) => rest.get(..length).unwrap_or_default(),
-        None => &[],
+    let end = start + map.slot_length(image) as usize;
+    if end > flash.len() {
+        return &[];
     }
+    &flash[start..end]
 }
 
 /// Adds why files are no images that run together.

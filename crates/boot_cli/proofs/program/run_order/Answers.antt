@@ -1,12 +1,17 @@
 use Rattle.boot_cli.proofs.program.run_order.Goals as goal
 use Rattle.boot_cli.proofs.OrderLaws.{AnswersOrder-kept}
+use Rattle.core_cli.proofs.WordsLaws.{never_usage}
 
 -- The status is 0 only after `Done`, and what stands then was written before the flush.
-pub returns : goal.returns
-returns g c = λ zero.
+pub returns-clause-done : goal.returns-clause-done
+returns-clause-done g c = λ zero.
     let done = c.finish.ensures.status zero in
     let answered = rw done at c.perform-outcome.ensures in
     AnswersOrder-kept c.args.order (g.H.Host.input c.args.host.now) (g.H.Host.file c.args.host.now)
     (g.H.Host.file c.perform-outcome.new.host)
     (g.O.Write.contents c.args.out.now) (g.O.Write.contents c.perform-outcome.new.out) (g.O.Write.contents c.finish.new.out)
     answered c.finish.ensures.kept
+
+-- No command ends as a fault in the words does.
+pub returns-clause-other : goal.returns-clause-other
+returns-clause-other g c = never_usage c.perform-outcome.result c.finish.result c.finish.ensures.ends
