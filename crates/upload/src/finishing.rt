@@ -126,11 +126,12 @@ impl Uploads {
     /// # Errors
     /// `NoSession` where no upload of the image is open: nothing changed. The first check that
     /// fails, and nothing is requested for the image: `SizeWrong` where fewer bytes came than the
-    /// manifest said, `DigestWrong` where their SHA-256 isn't the manifest's, `NotAnImage` where
-    /// they are no intact image, with the first check that fails of it. Past the check of the
-    /// length, `Flash` with `Cut` where power failed: all uploads are closed, and nothing is
-    /// requested for the image, or it is requested as asked; with `Off` where the flash was off:
-    /// all uploads are closed, and nothing is requested.
+    /// manifest said, and nothing is written; `DigestWrong` where their SHA-256 isn't the
+    /// manifest's, `NotAnImage` where they are no intact image, with the first check that fails of
+    /// it, and of the flash no more is written than the unit of the bytes that were held back. Past
+    /// the check of the length, `Flash` with `Cut` where power failed: all uploads are closed, and
+    /// nothing is requested for the image, or it is requested as asked; with `Off` where the flash
+    /// was off: all uploads are closed, and nothing is requested.
     pub fn finish<F: Flash>(
         &mut self,
         flash: &mut F,

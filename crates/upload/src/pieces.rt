@@ -23,10 +23,10 @@ impl Uploads {
     ///
     /// # Errors
     /// `NoSession` where no upload of the image is open: nothing changed. `TooMuch` where more
-    /// bytes came in all than the manifest said: the upload is closed, and nothing is requested.
-    /// Past both checks, `Flash` with `Cut` where power failed or with `Off` where the flash was
-    /// off: all uploads are closed, and nothing is requested for the image. Bytes that are only
-    /// held back don't ask the flash.
+    /// bytes came in all than the manifest said: the upload is closed and no other is, nothing is
+    /// written, and nothing is requested. Past both checks, `Flash` with `Cut` where power failed
+    /// or with `Off` where the flash was off: all uploads are closed, and nothing is requested for
+    /// the image. Bytes that are only held back don't ask the flash.
     pub fn piece<F: Flash>(
         &mut self,
         flash: &mut F,
