@@ -1,7 +1,8 @@
 -- Uploads that were kept elsewhere, and what has to be so of the flash for them to stand.
-use Rattle.std.proofs.Common.{◌≡◌, ℕ, ◌+◌, ◌<◌, ◌↔◌, Bool, IsTrue, Option, Some, List, ◌++◌, length, take, drop, replicate, arith, sym, ◌∙◌, ap, subst, length-drop}
+use Rattle.std.proofs.Common.{◌≡◌, ℕ, ◌+◌, ◌<◌, ◌↔◌, Bool, false, IsTrue, Option, Some, Ok, List, ◌++◌, length, take, drop, replicate, arith, refl, sym, ◌∙◌, ap, subst, length-drop}
 use Rattle.std.proofs.lemmas.List.{ext_get_or, get_or-drop, get_or-replicate, length-replicate, length-take-le, take-append-drop}
 use Rattle.std.proofs.Math.Seq.{take-append_seam}
+use Rattle.std.proofs.lemmas.Option.{same_Some}
 use Rattle.flash_model.specs.Chip.{Chip, IsErased}
 use Rattle.sector_map.specs.declared.layout.SectorMap.{SectorMap}
 use Rattle.sector_map.specs.declared.layout.Side.TheVariants.{Secondary}
@@ -11,9 +12,10 @@ use Rattle.sector_map.proofs.PartBytes.{length_part, part_erased_at}
 use Rattle.trailer.specs.Fields.{erased_fields, fields_at}
 use Rattle.trailer.specs.Standing.{incoming_slot}
 use Rattle.upload.specs.View.{View, view}
-use Rattle.upload.specs.Sessions.{IsOpenAt, IsUploadAt, IsWritten}
-use Rattle.upload.specs.Standing.{HasCounts}
+use Rattle.upload.specs.Sessions.{AllOpenAt, IsOpenAt, IsUploadAt, IsWritten}
+use Rattle.upload.specs.Standing.{HasCounts, IsFirstOpen, TellsOpen, TellsStand}
 use Rattle.upload.specs.declared.sessions.Upload.{Upload}
+use Rattle.upload.proofs.Ends.{decides}
 use Rattle.upload.proofs.Writing.{behind_erased}
 
 -- a slot that is erased from a place on is what it begins with, and erased behind it
@@ -126,3 +128,34 @@ tells_one w image told upload answer is tells = (
   λ said u same. subst (λ v. IsOpenAt w image v) (let e : Some upload ≡ Some u = sym is ∙ same in cc) (tells.0 said),
   λ all. tells.1 (all upload is),
 )
+
+-- an upload that was judged by a flash that is on, or whose counts don't fit
+pub open_told : (map : SectorMap) (image : ℕ) (upload : Upload) (answer : Bool) (old new : Chip) → new ≡ old
+    → (IsTrue answer ↔ IsOpenAt (view map old) image upload)
+    → (old.is_on ≡ false → (written : ℕ) → HasCounts map image written upload → ⊥)
+    → TellsOpen map image (Some upload) old new (Ok answer)
+open_told map image upload answer old new same tells asked =
+    let told = decides answer (IsOpenAt (view map old) image upload) old new same tells in
+    record {
+      same = same;
+      ok = tells_one (view map old) image (Some upload) upload answer refl tells;
+      erases = told.erases;
+      off = λ off u written is counts. absurd (asked off written
+          (subst (λ (v : Upload). HasCounts map image written v) (sym (same_Some upload u is)) counts));
+      ends = told.ends;
+    }
+
+-- a table whose uploads were judged
+pub table_told : (map : SectorMap) (sessions : List (Option Upload)) (answer : Bool) (old new : Chip) → new ≡ old
+    → (IsTrue answer ↔ AllOpenAt (view map old) sessions)
+    → (old.is_on ≡ false → (image : ℕ) (upload : Upload) → IsFirstOpen map sessions image upload → ⊥)
+    → TellsStand map sessions old new (Ok answer)
+table_told map sessions answer old new same tells asked =
+    let told = decides answer (AllOpenAt (view map old) sessions) old new same tells in
+    record {
+      same = same;
+      ok = tells;
+      erases = told.erases;
+      off = λ off image upload first. absurd (asked off image upload first);
+      ends = told.ends;
+    }

@@ -1,9 +1,15 @@
 -- What has to be so of an upload that was kept elsewhere, for it to stand on a flash.
-use Rattle.std.specs.Prelude.{◌≡◌, ℕ, ◌+◌, ◌*◌, ◌<◌, ◌≤◌, length}
+use Rattle.std.specs.Prelude.{◌≡◌, ◌↔◌, ℕ, ◌+◌, ◌*◌, ◌<◌, ◌≤◌, Bool, false, IsTrue, List, length}
+use Rattle.std.specs.Prelude.{Option, Some, None, Result, IfOk, IsErrOf, OnOk}
+use Rattle.flash_model.specs.declared.error.FlashError.{FlashError}
+use Rattle.flash_model.specs.declared.error.FlashError.TheVariants.{Off}
+use Rattle.flash_model.specs.Chip.{Chip, Ends}
 use Rattle.sector_map.specs.declared.layout.SectorMap.{SectorMap}
 use Rattle.sector_map.specs.declared.layout.Side.TheVariants.{Secondary}
 use Rattle.sector_map.specs.Part.{Slot}
 use Rattle.sector_map.specs.Map.{length_of}
+use Rattle.upload.specs.Sessions.{AllOpenAt, IsOpenAt, upload_at}
+use Rattle.upload.specs.View.{view}
 use Rattle.upload.specs.declared.sessions.Upload.{Upload}
 
 -- The counts of an upload fit each other and the slot of its image: so many bytes were written,
@@ -15,3 +21,39 @@ pub record HasCounts (map : SectorMap) (image written : ℕ) (upload : Upload) :
   pub units : (k : ℕ) × (written ≡ 8 * k)
   pub fits : upload.received ≤ upload.size
   pub room : upload.size ≤ length_of map (Slot image Secondary)
+
+-- A call tells whether an upload stands on the flash, if one is open.
+pub record TellsOpen (map : SectorMap) (image : ℕ) (upload : Option Upload) (old new : Chip)
+    (result : Result Bool FlashError) : Type 0 where
+  -- Nothing changes,
+  pub same : new ≡ old
+  -- and the answer is yes where it does, and nowhere else.
+  pub ok : IfOk result (λ answer.
+      IsTrue answer ↔ ((u : Upload) → upload ≡ Some u → IsOpenAt (view map old) image u))
+  pub erases : OnOk result (new.erases ≡ old.erases)
+  -- A flash that is off is answered where its counts fit, so that the flash is asked.
+  pub off : old.is_on ≡ false → (u : Upload) (written : ℕ) → upload ≡ Some u
+      → HasCounts map image written u → IsErrOf result Off
+  pub ends : Ends result old new
+
+-- The first upload that is open in a table, whose counts fit.
+pub record IsFirstOpen (map : SectorMap) (sessions : List (Option Upload)) (image : ℕ)
+    (upload : Upload) : Type 0 where
+  pub open_here : upload_at sessions image ≡ Some upload
+  pub first : (j : ℕ) → j < image → upload_at sessions j ≡ None
+  pub written : ℕ
+  pub counts : HasCounts map image written upload
+
+-- A call tells whether each open upload of a table stands on the flash.
+pub record TellsStand (map : SectorMap) (sessions : List (Option Upload)) (old new : Chip)
+    (result : Result Bool FlashError) : Type 0 where
+  -- Nothing changes,
+  pub same : new ≡ old
+  -- and the answer is yes where all do, and nowhere else.
+  pub ok : IfOk result (λ answer. IsTrue answer ↔ AllOpenAt (view map old) sessions)
+  pub erases : OnOk result (new.erases ≡ old.erases)
+  -- A flash that is off is answered where the counts of the first one fit, so that the flash is
+  -- asked.
+  pub off : old.is_on ≡ false → (image : ℕ) (upload : Upload)
+      → IsFirstOpen map sessions image upload → IsErrOf result Off
+  pub ends : Ends result old new

@@ -7,10 +7,8 @@ ghost use Rattle.sector_map.specs.Part.{Slot};
 ghost use Rattle.sector_map.specs.declared.layout.Side.TheVariants.{Secondary};
 ghost use Rattle.trailer.specs.Reads.{Decides};
 ghost use Rattle.trailer.specs.Standing.{incoming_slot};
-ghost use Rattle.upload.specs.Sessions.{AllOpenAt, IsOpenAt, IsWritten};
-ghost use Rattle.upload.specs.Standing.{HasCounts};
-ghost use Rattle.upload.specs.View.{view};
-ghost use Rattle.upload.specs.declared.sessions.Upload.{Upload};
+ghost use Rattle.upload.specs.Sessions.{IsWritten};
+ghost use Rattle.upload.specs.Standing.{HasCounts, TellsOpen, TellsStand};
 
 use crate::sessions::{UNIT, Upload, Uploads};
 use common::limits::MOST_IMAGES;
@@ -63,7 +61,7 @@ fn stands<F: Flash>(
     upload: &Upload,
 ) -> Result<bool, FlashError>
     requires { IsLaidOut map.now (F.chip flash.old) }
-    ensures { Decides (IsOpenAt (view map.now (F.chip flash.old)) image upload.now)
+    ensures { TellsOpen map.now image (Some upload.now)
         (F.chip flash.old) (F.chip flash.new) result }
 {
     let Some(written) = written_of(map, image, upload) else {
@@ -82,9 +80,7 @@ fn stands_if_open<F: Flash>(
     upload: &Option<Upload>,
 ) -> Result<bool, FlashError>
     requires { IsLaidOut map.now (F.chip flash.old) }
-    ensures { Decides ((u : Upload) → upload.now ≡ Some u
-        → IsOpenAt (view map.now (F.chip flash.old)) image u)
-        (F.chip flash.old) (F.chip flash.new) result }
+    ensures { TellsOpen map.now image upload.now (F.chip flash.old) (F.chip flash.new) result }
 {
     match upload {
         Some(upload) => stands(flash, map, image, upload),
@@ -100,8 +96,7 @@ fn all_stand<F: Flash>(
 ) -> Result<bool, FlashError>
     requires laid_out { IsLaidOut map.now (F.chip flash.old) }
     requires few { length sessions.now ≤ MOST_IMAGES }
-    ensures { Decides (AllOpenAt (view map.now (F.chip flash.old)) sessions.now)
-        (F.chip flash.old) (F.chip flash.new) result }
+    ensures { TellsStand map.now sessions.now (F.chip flash.old) (F.chip flash.new) result }
 {
     for image in 0..sessions.len() {
         let is_standing = stands_if_open(flash, map, image as u8, &sessions[image])?;
@@ -122,10 +117,11 @@ impl Uploads {
     /// written. Does not allocate.
     ///
     /// # Errors
-    /// `Off` where the flash was off. Nothing changes in any case.
+    /// `Off` where the flash was off, which isn't asked before an upload is open whose counts fit
+    /// each other and the slot. Nothing changes in any case.
     pub fn stand<F: Flash>(&self, flash: &mut F, map: &SectorMap) -> Result<bool, FlashError>
         requires { IsLaidOut map.now (F.chip flash.old) }
-        ensures { Decides (AllOpenAt (view map.now (F.chip flash.old)) self.now.sessions)
+        ensures { TellsStand map.now self.now.sessions
             (F.chip flash.old) (F.chip flash.new) result }
     {
         all_stand(flash, map, &self.sessions)

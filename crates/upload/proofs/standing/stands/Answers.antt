@@ -2,8 +2,8 @@ use Rattle.std.proofs.Common.{◌↔◌, false, IsTrue, refl, sym, ◌∙◌}
 use Rattle.std.proofs.lemmas.Bool.{false≢true}
 use Rattle.upload.specs.Sessions.{IsOpenAt}
 use Rattle.upload.specs.View.{view}
-use Rattle.upload.proofs.StandingLaws.{no_counts, tells_open}
-use Rattle.upload.proofs.Ends.{decides}
+use Rattle.upload.proofs.StandingLaws.{no_counts, open_told, tells_open}
+use Rattle.upload.proofs.Ends.{state_none}
 use Rattle.upload.proofs.standing.stands.Goals as goal
 
 pub returns-in_default : goal.returns-in_default
@@ -15,7 +15,7 @@ returns-in_default g c =
       λ stands. absurd (no_counts map chip c.args.image c.args.upload.now c.requires
           (c.written_of.ensures.none c.in_default.is) stands),
     ) in
-    decides _ _ _ _ refl ok
+    open_told map c.args.image c.args.upload.now _ _ _ refl ok (λ off. c.written_of.ensures.none c.in_default.is)
 
 pub returns-then-is_erased : goal.returns-then-is_erased
 returns-then-is_erased g c =
@@ -26,7 +26,8 @@ returns-then-is_erased g c =
     (rw c.is_erased_behind.ensures.same at c.in_ok-is_blank.ensures.ok) in
     let ok : IsTrue c.in_ok-is_blank.is_blank ↔ IsOpenAt (view map chip) c.args.image c.args.upload.now =
     (λ yes. both.0 c.if-is_erased.true yes, λ stands. (both.1 stands).1) in
-    decides _ _ _ _ (c.is_blank.ensures.same ∙ c.is_erased_behind.ensures.same) ok
+    open_told map c.args.image c.args.upload.now _ _ _ (c.is_blank.ensures.same ∙ c.is_erased_behind.ensures.same) ok
+    (λ off. absurd (state_none _ _ (c.in_ok-is_blank.ensures.off (c.in_ok-is_erased.ensures.ends.uncut.on ∙ off))))
 
 pub returns-else-is_erased : goal.returns-else-is_erased
 returns-else-is_erased g c =
@@ -37,4 +38,5 @@ returns-else-is_erased g c =
     (rw c.is_erased_behind.ensures.same at c.in_ok-is_blank.ensures.ok) in
     let ok : IsTrue c.in_ok-is_erased.is_erased ↔ IsOpenAt (view map chip) c.args.image c.args.upload.now =
     (λ yes. absurd (false≢true (sym c.if-is_erased.false ∙ yes)), λ stands. (both.1 stands).0) in
-    decides _ _ _ _ (c.is_blank.ensures.same ∙ c.is_erased_behind.ensures.same) ok
+    open_told map c.args.image c.args.upload.now _ _ _ (c.is_blank.ensures.same ∙ c.is_erased_behind.ensures.same) ok
+    (λ off. absurd (state_none _ _ (c.in_ok-is_blank.ensures.off (c.in_ok-is_erased.ensures.ends.uncut.on ∙ off))))
