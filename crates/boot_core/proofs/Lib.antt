@@ -17,6 +17,7 @@ pub mod Steps
 mod Afresh
 mod Resting
 mod Trials
+mod Keeping
 mod OnMap
 mod Passed
 pub mod Measured

@@ -18,7 +18,8 @@ use Rattle.machine.specs.Passing.{needs_rest, needs_up}
 use Rattle.machine.specs.Steps.{DeviceEvent}
 use Rattle.machine.specs.declared.error.Fault.{Fault}
 use Rattle.machine.specs.declared.error.Fault.TheVariants as no
-use Rattle.boot_core.specs.Answers.{IsNotBooted, IsOff, is_stop}
+use Rattle.boot_core.specs.Answers.{IsNotBooted, IsOff, is_stop, may_close}
+use Rattle.boot_core.proofs.Keeping.{all_stays, keeps_unstopped, up_stays}
 use Rattle.boot_core.specs.Device.{made, seen}
 use Rattle.boot_core.specs.Ready.{IsReadiness}
 use Rattle.boot_core.specs.Taking.{ChecksReady, Stops, TakesHere}
@@ -57,6 +58,11 @@ module _ (map : SectorMap) (old mid : Chip) (told tnew : List (Option Upload)) (
       let awake : upn ≡ up = (subst (λ f. Stops f told up tnew upn given) is after).up refl in
       cc
 
+  -- unless the flash is off nothing changes
+  pub declined_all : is_stop given ≡ false → seen mid tnew upn ≡ seen old told up
+  declined_all own = all_stays old mid mid told told tnew up upn fault given after.is
+      (stops fault given told tnew up upn after) asked.same refl own
+
   -- a call that is declined since no uploads are taken now
   pub declines : (touched : Part → Bool) (happened : DeviceEvent) → needs_up happened ≡ true
       → needs_rest happened ≡ true
@@ -74,6 +80,9 @@ module _ (map : SectorMap) (old mid : Chip) (told tnew : List (Option Upload)) (
       same = seen_same down;
     };
     refused = λ own. asked.same;
+    up = up_stays old mid mid told told tnew up upn fault given after.is (stops fault given told tnew up upn after);
+    kept = λ keeps. all_stays old mid mid told told tnew up upn fault given after.is
+        (stops fault given told tnew up upn after) asked.same refl (keeps_unstopped (may_close happened) given keeps);
     off = λ here off. record {
       is = ap (λ f. Err f) after.is ∙ asked.off here off;
       same = asked.same;
@@ -82,7 +91,7 @@ module _ (map : SectorMap) (old mid : Chip) (told tnew : List (Option Upload)) (
         (stops fault given told tnew up upn after);
   }
 
-ok_err : {T : Type 0} (done : T) (fault : Fault) → Ok done ≡ Err fault → ⊥
+pub ok_err : {T : Type 0} (done : T) (fault : Fault) → Ok done ≡ Err fault → ⊥
 ok_err done fault is = cc
 
 -- uploads are taken on a flash with power alone

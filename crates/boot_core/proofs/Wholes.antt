@@ -25,6 +25,8 @@ device_takes event touched map identity boots old new whole result is took =
       outside = took.outside;
       down = took.down;
       refused = took.refused;
+      up = took.up;
+      kept = took.kept;
       off = took.off;
       ends = took.ends;
     })

@@ -1,5 +1,6 @@
 -- What a device's calls answer, as replies of the machine, and what each answer tells.
-use Rattle.std.specs.Prelude.{◌≡◌, ◌+◌, Bool, true, false, Result, Ok, Err}
+use Rattle.std.specs.Prelude.{◌≡◌, ◌+◌, Bool, true, false, not, Result, Ok, Err}
+use Rattle.events.specs.declared.event.Event.TheVariants as event
 use Rattle.flash_model.specs.Chip.{Chip}
 use Rattle.flash_model.specs.declared.error.FlashError.TheVariants as flash
 use Rattle.upload.specs.declared.error.UploadError.{UploadError}
@@ -7,7 +8,7 @@ use Rattle.upload.specs.declared.error.UploadError.TheVariants as upload
 use Rattle.upload.specs.Ending.{is_flash}
 use Rattle.upload.specs.Sessions.{AllClosed}
 use Rattle.machine.specs.Holding.{DeviceView}
-use Rattle.machine.specs.Steps.{cut_of}
+use Rattle.machine.specs.Steps.{DeviceEvent, cut_of}
 use Rattle.machine.specs.declared.error.Fault.{Fault}
 use Rattle.machine.specs.declared.error.Fault.TheVariants as no
 use Rattle.machine.specs.declared.reply.Reply.{Reply}
@@ -57,6 +58,25 @@ abbrev pub is_stop : Fault → Bool
 is_stop (no.Flash error) = true
 is_stop (no.Upload error) = is_flash {T = Unit} (Err error)
 is_stop other = false
+
+-- Whether an event may close the upload of its image where it is refused.
+abbrev pub may_close : DeviceEvent → Bool
+may_close (event.Piece image bytes) = true
+may_close (event.Finish image) = true
+may_close other = false
+
+-- Whether an upload's refusal is that none is open.
+abbrev pub is_no_session : UploadError → Bool
+is_no_session upload.NoSession = true
+is_no_session other = false
+
+-- Whether a refusal leaves the device as it was, by whether its call may close an upload: one of the
+-- flash doesn't, and no other of an upload does where an upload may be closed, but that none is open.
+abbrev pub keeps_all : Bool → Fault → Bool
+keeps_all closing (no.Flash error) = false
+keeps_all true (no.Upload error) = is_no_session error
+keeps_all false (no.Upload error) = not (is_flash {T = Unit} (Err error))
+keeps_all closing other = true
 
 -- Whether a reply tells so.
 abbrev pub is_stopped : Reply → Bool

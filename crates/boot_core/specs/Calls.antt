@@ -6,8 +6,8 @@ use Rattle.events.specs.declared.event.Event.TheVariants as event
 use Rattle.flash_model.specs.Chip.{Chip}
 use Rattle.sector_map.specs.declared.layout.SectorMap.{SectorMap}
 use Rattle.sector_map.specs.Map.{Keeps}
-use Rattle.sector_map.specs.Part.{Part, TrailerOf, any_part, incoming_of, only}
-use Rattle.sector_map.specs.declared.layout.Side.TheVariants.{Primary}
+use Rattle.sector_map.specs.Part.{Part, Slot, TrailerOf, any_part, incoming_of, only}
+use Rattle.sector_map.specs.declared.layout.Side.TheVariants.{Primary, Secondary}
 use Rattle.manifest.specs.declared.error.ManifestError.TheVariants.{NoComponent}
 use Rattle.manifest.specs.declared.identity.Identity.{Identity}
 use Rattle.manifest.specs.declared.manifest.Manifest as given
@@ -17,7 +17,8 @@ use Rattle.set_log.specs.Log.{state_of}
 use Rattle.set_log.specs.declared.state.Kind.{Kind}
 use Rattle.set_log.specs.declared.state.State.{State}
 use Rattle.upload.specs.Device.{DeviceState, Machine}
-use Rattle.upload.specs.Sessions.{AllClosed}
+use Rattle.upload.specs.Accepted.{accepted_parts}
+use Rattle.upload.specs.Sessions.{AllClosed, upload_at}
 use Rattle.machine.specs.Boots.{IsReadSound, is_answer}
 use Rattle.machine.specs.Holding.{Holds, Stands}
 use Rattle.machine.specs.Passing.{RunsTo, StepsTo, reply_of}
@@ -29,6 +30,10 @@ use Rattle.machine.specs.declared.error.Fault.TheVariants.{NotProvisioned}
 use Rattle.machine.specs.declared.finding.Finding.{Finding}
 use Rattle.machine.specs.declared.reply.Reply.{Reply}
 use Rattle.boot_core.specs.Answers.{EndsCall, IsBootReply, IsNotBooted, IsOff, is_stop, is_stopped}
+use Rattle.boot_core.specs.Answers.{keeps_all, may_close}
+use Rattle.upload.specs.declared.error.UploadError.TheVariants.{SizeWrong}
+use Rattle.upload.specs.declared.sessions.Upload.{Upload}
+use Rattle.upload.specs.Finishing.{WritesLastUnit}
 use Rattle.boot_core.specs.Answers.{reply_of_boot, reply_of_result}
 use Rattle.boot_core.specs.Device.{StaysHeld, Whole, made}
 use Rattle.boot_core.specs.Found.{IsStopped}
@@ -120,6 +125,11 @@ pub record Takes (event : DeviceEvent) (touched : Part → Bool) (old new : Whol
   -- and nothing where a refusal is not of the flash.
   pub refused : IfErr result (λ fault. is_stop fault ≡ false
       → new.here.flash ≡ old.here.flash)
+  -- Such a refusal leaves whether the device is up,
+  pub up : IfErr result (λ fault. is_stop fault ≡ false → new.here.up ≡ old.here.up)
+  -- and the uploads, unless it closes the one of its image.
+  pub kept : IfErr result (λ fault. keeps_all (may_close event) fault ≡ true
+      → new.here ≡ old.here)
   -- Where the flash is off, that is the answer of a device that is up, and the flash is as it was.
   pub off : old.here.up ≡ true → old.here.flash.is_on ≡ false
       → IsOff result old.here.flash new.here.flash
@@ -138,8 +148,9 @@ pub record TakesManifest (manifest : given.Manifest) (old new : Whole) (result :
       → StepsTo old.setup old.here new.here (event.Accept text) (reply_of_result result)
   -- Whatever the manifest asks for, the device holds a state of the machine then if it held one.
   pub holds : old.here.flash.is_on ≡ true → StaysHeld old.setup.map old.here new.here
-  -- On any flash only parts of the map are touched:
-  pub outside : Keeps old.setup.map any_part old.here.flash new.here.flash
+  -- On any flash only what comes in for its images is touched, and the log:
+  pub outside : Keeps old.setup.map (accepted_parts manifest.components.items)
+      old.here.flash new.here.flash
   -- nothing where the device isn't up, which is the answer then,
   pub down : old.here.up ≡ false → IsNotBooted result old.here new.here
   -- nothing where it takes uploads and the manifest names an image that it lacks, which is the
@@ -151,6 +162,8 @@ pub record TakesManifest (manifest : given.Manifest) (old new : Whole) (result :
   -- and nothing where a refusal is not of the flash.
   pub refused : IfErr result (λ fault. is_stop fault ≡ false
       → new.here.flash ≡ old.here.flash)
+  -- Such a refusal leaves the uploads too, and whether the device is up.
+  pub kept : IfErr result (λ fault. is_stop fault ≡ false → new.here ≡ old.here)
   -- No other refusal is of the manifest as such.
   pub told : IfErr result (RefusesManifest old.setup.identity manifest)
   -- Where the flash is off, that is the answer of a device that is up, and the flash is as it was.
@@ -171,6 +184,22 @@ pub record FinishesUpload (image : ℕ) (old new : Whole) (result : Result Unit 
   pub outside : Keeps old.setup.map (incoming_of image) old.here.flash new.here.flash
   -- and nothing where the device isn't up, which is the answer then.
   pub down : old.here.up ≡ false → IsNotBooted result old.here new.here
+  -- A refusal that is not of the flash leaves whether the device is up,
+  pub up : IfErr result (λ fault. is_stop fault ≡ false → new.here.up ≡ old.here.up)
+  -- and all where it is not of the upload, or none is open.
+  pub kept : IfErr result (λ fault. keeps_all true fault ≡ true → new.here ≡ old.here)
+  -- Where too few bytes came the flash is as it was,
+  pub size : result ≡ Err (no.Upload SizeWrong) → new.here.flash ≡ old.here.flash
+  -- and else such a refusal writes nothing but the image's secondary slot: not its trailer,
+  pub slot : IfErr result (λ fault. is_stop fault ≡ false
+      → Keeps old.setup.map (only (Slot image Secondary)) old.here.flash new.here.flash)
+  -- of the slot no more than the last unit of the upload,
+  pub unit : IfErr result (λ fault. is_stop fault ≡ false → (u : Upload)
+      → upload_at old.here.sessions image ≡ Some u
+      → WritesLastUnit old.setup.map image u old.here.flash new.here.flash)
+  -- and no sector is erased.
+  pub erases : IfErr result (λ fault. is_stop fault ≡ false
+      → new.here.flash.erases ≡ old.here.flash.erases)
   -- Where the flash is off, that is the answer of a device that is up, and the flash is as it was.
   pub off : old.here.up ≡ true → old.here.flash.is_on ≡ false
       → IsOff result old.here.flash new.here.flash
@@ -191,6 +220,8 @@ pub record ConfirmsTried (image : ℕ) (old new : Whole) (result : Result Unit F
   -- and nothing where a refusal is not of the flash.
   pub refused : IfErr result (λ fault. is_stop fault ≡ false
       → new.here.flash ≡ old.here.flash)
+  -- Such a refusal leaves the uploads too, and whether the device is up.
+  pub kept : IfErr result (λ fault. is_stop fault ≡ false → new.here ≡ old.here)
   -- On any flash a call that ends found the image on trial by the log, and image_ok of its primary
   -- trailer is set then.
   pub ok : OnOk result

@@ -1,21 +1,22 @@
 -- What a call does that takes an event of a device: on the flash, in the table of uploads, and to
 -- whether it is up.
-use Rattle.std.specs.Prelude.{◌≡◌, ℕ, Bool, true, false, List, Option, Result, Err, IfErr, OnOk}
+use Rattle.std.specs.Prelude.{◌≡◌, ℕ, Bool, true, false, List, Option, Some, Result, Err, IfErr, OnOk}
 use Rattle.std.specs.Borrow.{Bor}
 use Rattle.events.specs.declared.event.Event.TheVariants as event
 use Rattle.flash_model.specs.Chip.{Chip}
 use Rattle.flash_model.specs.declared.error.FlashError.TheVariants.{Off}
 use Rattle.sector_map.specs.declared.layout.SectorMap.{SectorMap}
 use Rattle.sector_map.specs.Map.{IsLaidOut, Keeps}
-use Rattle.sector_map.specs.Part.{Part, TrailerOf, any_part, incoming_of, only}
-use Rattle.sector_map.specs.declared.layout.Side.TheVariants.{Primary}
+use Rattle.sector_map.specs.Part.{Part, Slot, TrailerOf, any_part, incoming_of, only}
+use Rattle.sector_map.specs.declared.layout.Side.TheVariants.{Primary, Secondary}
 use Rattle.manifest.specs.declared.error.ManifestError.TheVariants.{NoComponent}
 use Rattle.manifest.specs.declared.identity.Identity.{Identity}
 use Rattle.manifest.specs.declared.manifest.Manifest as given
 use Rattle.manifest.specs.Fault.{IsManifest}
 use Rattle.manifest.specs.Manifest.{NamesImages}
 use Rattle.set_log.specs.Log.{state_of}
-use Rattle.upload.specs.Sessions.{AllClosed, AllOpenAt}
+use Rattle.upload.specs.Accepted.{accepted_parts}
+use Rattle.upload.specs.Sessions.{AllClosed, AllOpenAt, upload_at}
 use Rattle.upload.specs.View.{view}
 use Rattle.upload.specs.declared.sessions.Upload.{Upload}
 use Rattle.machine.specs.Holding.{DeviceView}
@@ -23,7 +24,9 @@ use Rattle.machine.specs.Passing.{StepsTo}
 use Rattle.machine.specs.Steps.{DeviceEvent}
 use Rattle.machine.specs.declared.error.Fault.{Fault}
 use Rattle.machine.specs.declared.error.Fault.TheVariants as no
-use Rattle.boot_core.specs.Answers.{EndsCall, IsNotBooted, IsOff, is_stop, reply_of_result}
+use Rattle.boot_core.specs.Answers.{EndsCall, IsNotBooted, IsOff, is_stop, keeps_all, may_close, reply_of_result}
+use Rattle.upload.specs.declared.error.UploadError.TheVariants.{SizeWrong}
+use Rattle.upload.specs.Finishing.{WritesLastUnit}
 use Rattle.boot_core.specs.Confirming.{IsOkSet}
 use Rattle.boot_core.specs.Device.{StaysHeld, made}
 use Rattle.boot_core.specs.Ready.{IsReadiness, LogsNoTrial, LogsTrialOf, RefusesManifest}
@@ -68,6 +71,10 @@ pub record TakesHere (map : SectorMap) (event : DeviceEvent) (touched : Part →
   pub down : old.up ≡ false → IsNotBooted result old new
   -- and nothing of the flash where a refusal is not of the flash.
   pub refused : IfErr result (λ fault. is_stop fault ≡ false → new.flash ≡ old.flash)
+  -- Such a refusal leaves whether the device is up,
+  pub up : IfErr result (λ fault. is_stop fault ≡ false → new.up ≡ old.up)
+  -- and the uploads, unless it closes the one of its image.
+  pub kept : IfErr result (λ fault. keeps_all (may_close event) fault ≡ true → new ≡ old)
   -- Where the flash is off that is the answer of a device that is up, and nothing is written.
   pub off : old.up ≡ true → old.flash.is_on ≡ false → IsOff result old.flash new.flash
   pub ends : EndsCall (reply_of_result result) old new
@@ -88,6 +95,8 @@ pub record AcceptsHere (map : SectorMap) (identity : Identity) (text : Bor (List
   pub down : old.up ≡ false → IsNotBooted result old new
   -- and nothing of the flash where a refusal is not of the flash.
   pub refused : IfErr result (λ fault. is_stop fault ≡ false → new.flash ≡ old.flash)
+  -- Such a refusal leaves the uploads too, and whether the device is up.
+  pub kept : IfErr result (λ fault. is_stop fault ≡ false → new ≡ old)
   -- Where the flash is off that is the answer of a device that is up, and nothing is written.
   pub off : old.up ≡ true → old.flash.is_on ≡ false → IsOff result old.flash new.flash
   pub ends : EndsCall (reply_of_result result) old new
@@ -106,10 +115,12 @@ pub record OpensUploads (map : SectorMap) (identity : Identity) (manifest : give
       → StepsTo (made map identity boots) old new (event.Accept text) (reply_of_result result)
   -- Whatever the manifest asks for, a state is held then if one was.
   pub holds : old.flash.is_on ≡ true → StaysHeld map old new
-  -- Only parts of the map are touched,
-  pub outside : Keeps map any_part old.flash new.flash
+  -- Only what comes in for its images is touched, and the log,
+  pub outside : Keeps map (accepted_parts manifest.components.items) old.flash new.flash
   -- and nothing of the flash where a refusal is not of the flash.
   pub refused : IfErr result (λ fault. is_stop fault ≡ false → new.flash ≡ old.flash)
+  -- Such a refusal leaves the uploads too, and whether the device is up.
+  pub kept : IfErr result (λ fault. is_stop fault ≡ false → new ≡ old)
   -- It isn't refused as no manifest.
   pub told : IfErr result (RefusesManifest identity manifest)
   pub ends : EndsCall (reply_of_result result) old new
@@ -128,8 +139,8 @@ pub record TakesManifestHere (map : SectorMap) (identity : Identity) (manifest :
       → StepsTo (made map identity boots) old new (event.Accept text) (reply_of_result result)
   -- Whatever the manifest asks for, a state is held then if one was.
   pub holds : old.flash.is_on ≡ true → StaysHeld map old new
-  -- Only parts of the map are touched:
-  pub outside : Keeps map any_part old.flash new.flash
+  -- Only what comes in for its images is touched, and the log:
+  pub outside : Keeps map (accepted_parts manifest.components.items) old.flash new.flash
   -- nothing where the device isn't up,
   pub down : old.up ≡ false → IsNotBooted result old new
   -- nothing where uploads are taken and the manifest names an image that the device lacks, which
@@ -139,6 +150,8 @@ pub record TakesManifestHere (map : SectorMap) (identity : Identity) (manifest :
       → (result ≡ Err (no.Manifest NoComponent)) × (new ≡ old)
   -- and nothing of the flash where a refusal is not of the flash.
   pub refused : IfErr result (λ fault. is_stop fault ≡ false → new.flash ≡ old.flash)
+  -- Such a refusal leaves the uploads too, and whether the device is up.
+  pub kept : IfErr result (λ fault. is_stop fault ≡ false → new ≡ old)
   -- No other refusal is of the manifest as such.
   pub told : IfErr result (RefusesManifest identity manifest)
   -- Where the flash is off that is the answer of a device that is up, and nothing is written.
@@ -159,6 +172,21 @@ pub record FinishesHere (map : SectorMap) (image : ℕ) (old new : DeviceView)
   pub outside : Keeps map (incoming_of image) old.flash new.flash
   -- and nothing where the device isn't up.
   pub down : old.up ≡ false → IsNotBooted result old new
+  -- A refusal that is not of the flash leaves whether the device is up,
+  pub up : IfErr result (λ fault. is_stop fault ≡ false → new.up ≡ old.up)
+  -- and all where it is not of the upload, or none is open.
+  pub kept : IfErr result (λ fault. keeps_all true fault ≡ true → new ≡ old)
+  -- Where too few bytes came the flash is as it was,
+  pub size : result ≡ Err (no.Upload SizeWrong) → new.flash ≡ old.flash
+  -- and else such a refusal writes nothing but the image's secondary slot: not its trailer,
+  pub slot : IfErr result (λ fault. is_stop fault ≡ false
+      → Keeps map (only (Slot image Secondary)) old.flash new.flash)
+  -- of the slot no more than the last unit of the upload,
+  pub unit : IfErr result (λ fault. is_stop fault ≡ false → (u : Upload)
+      → upload_at old.sessions image ≡ Some u → WritesLastUnit map image u old.flash new.flash)
+  -- and no sector is erased.
+  pub erases : IfErr result (λ fault. is_stop fault ≡ false
+      → new.flash.erases ≡ old.flash.erases)
   -- Where the flash is off that is the answer of a device that is up, and nothing is written.
   pub off : old.up ≡ true → old.flash.is_on ≡ false → IsOff result old.flash new.flash
   pub ends : EndsCall (reply_of_result result) old new
@@ -179,6 +207,8 @@ pub record ConfirmsHere (map : SectorMap) (image : ℕ) (old new : DeviceView)
   pub down : old.up ≡ false → IsNotBooted result old new
   -- and nothing of the flash where a refusal is not of the flash.
   pub refused : IfErr result (λ fault. is_stop fault ≡ false → new.flash ≡ old.flash)
+  -- Such a refusal leaves the uploads too, and whether the device is up.
+  pub kept : IfErr result (λ fault. is_stop fault ≡ false → new ≡ old)
   -- Where the call ends the log says that the image is on trial, and it is confirmed then.
   pub ok : OnOk result (LogsTrialOf map.images image (state_of map old.flash)
       × IsOkSet map image new.flash)

@@ -33,6 +33,7 @@ returns-in-Ok-true g c = record {
   outside = c.confirm.ensures.outside;
   down = not_down _ _ _ c.if-not-is_up.false;
   refused = tt;
+  kept = tt;
   ok = rw c.in-Ok-true.field-0-test at c.in-Ok-true.ensures.answers;
   untried = λ up on never. absurd (never (rw c.in-Ok-true.field-0-test at c.in-Ok-true.ensures.answers).0);
   tried = λ logged is. ok_err _ _ is;
@@ -51,6 +52,8 @@ returns-in-Ok-false g c = record {
   outside = c.confirm.ensures.outside;
   down = not_down _ _ _ c.if-not-is_up.false;
   refused = λ own. c.in-Ok-false.ensures.same c.in-Ok-false.field-0-test;
+  kept = λ own. ap (λ chip. seen chip c.args.uploads.now.sessions c.args.is_up.now)
+      (c.in-Ok-false.ensures.same c.in-Ok-false.field-0-test);
   ok = tt;
   untried = λ up on never. (
     refl,
@@ -77,6 +80,7 @@ returns-in-Err g c = record {
   outside = c.confirm.ensures.outside;
   down = not_down _ _ _ c.if-not-is_up.false;
   refused = λ own. absurd (no_own c.in-Err.error c.stop.result c.stop.ensures.is own);
+  kept = λ own. absurd (no_own c.in-Err.error c.stop.result c.stop.ensures.is own);
   ok = tt;
   untried = λ up on never. absurd (stops_tried (LogsTrialOf c.args.map.now.images c.args.image (state_of c.args.map.now (g.F.Flash.chip c.args.flash.now)))
       c.args.map.now c.args.image (g.F.Flash.chip c.args.flash.now) (g.F.Flash.chip c.confirm.new.flash) c.in-Err.error

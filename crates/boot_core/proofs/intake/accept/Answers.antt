@@ -1,4 +1,4 @@
-use Rattle.std.proofs.Common.{rules, ◌≡◌, Err, refl, sym, subst}
+use Rattle.std.proofs.Common.{rules, ◌≡◌, Err, ap, refl, sym, subst}
 use Rattle.events.specs.declared.event.Event.TheVariants as event
 use Rattle.sector_map.specs.Map.{IsLaidOut}
 use Rattle.sector_map.specs.Part.{any_part}
@@ -7,7 +7,9 @@ use Rattle.upload.specs.Sessions.{AllOpenAt}
 use Rattle.upload.specs.View.{view}
 use Rattle.boot_core.specs.Device.{made, seen}
 use Rattle.boot_core.proofs.Given.{opened_after}
-use Rattle.boot_core.proofs.NotReady.{declines, kept_after, not_down, ready_on}
+use Rattle.boot_core.proofs.NotReady.{declined_all, declines, kept_after, not_down, ready_on}
+use Rattle.upload.specs.Accepted.{accepted_parts}
+use Rattle.boot_core.proofs.OnMap.{on_more}
 use Rattle.boot_core.proofs.Texts.{text_ends, text_steps}
 use Rattle.boot_core.proofs.intake.accept.Goals as goal
 
@@ -25,6 +27,9 @@ returns-in-Err g c =
       outside = declined.outside;
       down = declined.down;
       refused = declined.refused;
+      kept = declined_all c.args.map.now (g.F.Flash.chip c.args.flash.now) (g.F.Flash.chip c.check_ready.new.flash)
+          c.args.uploads.now.sessions c.stop.new.uploads.sessions c.args.is_up.now c.stop.new.is_up c.in-Err.fault
+          c.stop.result c.in-Err.ensures c.stop.ensures;
       off = declined.off;
       ends = declined.ends;
     }
@@ -46,11 +51,13 @@ returns g c =
       laid = opened.laid;
       opens = opened.opens;
       steps = λ boots on. opened.steps boots c.args.text on c.in_ok-manifest.ensures.means;
-      outside = opened.outside;
+      outside = on_more c.args.map.now (accepted_parts c.in_ok-manifest.manifest.components.items) old old
+          (g.F.Flash.chip c.open_uploads.new.flash) opened.outside (keeps_refl c.args.map.now any_part old);
       down = not_down c.open_uploads.result (seen old c.args.uploads.now.sessions c.args.is_up.now)
           (seen (g.F.Flash.chip c.open_uploads.new.flash) c.open_uploads.new.uploads.sessions c.open_uploads.new.is_up)
           c.in-Ok.ensures.ready.0;
       refused = opened.refused;
+      kept = opened.kept;
       off = ready_on c.args.map.now old mid (g.F.Flash.chip c.open_uploads.new.flash) c.args.is_up.now
           c.open_uploads.result c.in-Ok.ensures;
       ends = opened.ends;
@@ -76,6 +83,7 @@ returns-in_err-manifest g c =
       outside = kept_after map any_part old mid mid same (keeps_refl map any_part mid);
       down = not_down (Err fault) (seen old told up) (seen mid told up) ready.0;
       refused = λ own. same;
+      kept = λ own. ap (λ chip. seen chip told up) same;
       off = ready_on map old mid mid up (Err fault) c.in-Ok.ensures;
       ends = text_ends c.args.identity.now c.args.text.now old mid told up same fault c.in_err-manifest.ensures.refused;
     })

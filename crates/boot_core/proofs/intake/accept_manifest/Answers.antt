@@ -1,7 +1,7 @@
 use Rattle.std.proofs.Common.{◌≡◌, true, false, Err, ap, refl, sym, subst}
 use Rattle.events.specs.declared.event.Event.TheVariants as event
 use Rattle.sector_map.specs.Map.{IsLaidOut}
-use Rattle.sector_map.specs.Part.{any_part}
+use Rattle.upload.specs.Accepted.{accepted_parts}
 use Rattle.sector_map.proofs.Parts.{keeps_refl}
 use Rattle.manifest.specs.Manifest.{NamesImages}
 use Rattle.manifest.specs.declared.error.ManifestError.TheVariants.{NoComponent}
@@ -14,7 +14,7 @@ use Rattle.machine.specs.declared.reply.Reply.TheVariants.{Refused}
 use Rattle.boot_core.specs.Device.{made, seen}
 use Rattle.boot_core.specs.Ready.{RefusesManifest}
 use Rattle.boot_core.proofs.Given.{not_ready_told, opened_after, ready_not}
-use Rattle.boot_core.proofs.NotReady.{declines, kept_after, not_down, ready_on}
+use Rattle.boot_core.proofs.NotReady.{declined_all, declines, kept_after, not_down, ready_on}
 use Rattle.boot_core.proofs.Stopping.{IsStopped, idle_ends, not_ready}
 use Rattle.boot_core.proofs.intake.accept_manifest.Goals as goal
 
@@ -33,7 +33,8 @@ returns-in-Err g c =
     let declined =
     declines c.args.map.now (g.F.Flash.chip c.args.flash.now) (g.F.Flash.chip c.check_ready.new.flash)
     c.args.uploads.now.sessions c.stop.new.uploads.sessions c.args.is_up.now c.stop.new.is_up c.in-Err.fault
-    c.stop.result c.in-Err.ensures c.stop.ensures any_part (event.Withdraw 0) refl refl
+    c.stop.result c.in-Err.ensures c.stop.ensures
+    (accepted_parts c.args.manifest.now.components.items) (event.Withdraw 0) refl refl
     c.requires.laid_out c.requires.opens in
     record {
       laid = declined.laid;
@@ -53,6 +54,9 @@ returns-in-Err g c =
       refused = declined.refused;
       told = subst (λ fault. RefusesManifest c.args.identity.now c.args.manifest.now fault) (sym c.stop.ensures.is)
           (not_ready_told c.args.identity.now c.args.manifest.now _ _ _ c.in-Err.fault c.in-Err.ensures.ready);
+      kept = declined_all c.args.map.now (g.F.Flash.chip c.args.flash.now) (g.F.Flash.chip c.check_ready.new.flash)
+          c.args.uploads.now.sessions c.stop.new.uploads.sessions c.args.is_up.now c.stop.new.is_up c.in-Err.fault
+          c.stop.result c.in-Err.ensures c.stop.ensures;
       off = declined.off;
       ends = declined.ends;
     }
@@ -65,6 +69,7 @@ returns-then-not-names_images g c =
     let told = c.args.uploads.now.sessions in
     let up = c.args.is_up.now in
     let same = c.check_ready.ensures.same in
+    let parts = accepted_parts c.args.manifest.now.components.items in
     let lacks : NamesImages c.args.identity.now c.args.manifest.now → ⊥ =
     λ names. not_true (c.if-not-names_images.ensures.1 names) in
     record {
@@ -73,10 +78,11 @@ returns-then-not-names_images g c =
       steps = λ boots text on means. absurd {A = StepsTo (made map c.args.identity.now boots) (seen old told up)
           (seen mid told up) (event.Accept text) (Refused (no.Manifest NoComponent))} (lacks means.meaning.images);
       holds = λ on m held. (m, subst (λ chip. Holds map (seen chip told up) m) (sym same) held);
-      outside = kept_after map any_part old mid mid same (keeps_refl map any_part mid);
+      outside = kept_after map parts old mid mid same (keeps_refl map parts mid);
       down = not_down (Err (no.Manifest NoComponent)) (seen old told up) (seen mid told up) c.in-Ok.ensures.ready.0;
       lacks = λ on is_up rests more. (refl, ap (λ chip. seen chip told up) same);
       refused = λ own. same;
+      kept = λ own. ap (λ chip. seen chip told up) same;
       told = lacks;
       off = ready_on map old mid mid up (Err (no.Manifest NoComponent)) c.in-Ok.ensures;
       ends = idle_ends old mid told told up up (Refused (no.Manifest NoComponent)) refl refl same;
@@ -100,6 +106,7 @@ returns g c =
           c.open_uploads.new.is_up) c.in-Ok.ensures.ready.0;
       lacks = λ on up rests more. absurd (more names);
       refused = opened.refused;
+      kept = opened.kept;
       told = opened.told;
       off = ready_on c.args.map.now (g.F.Flash.chip c.args.flash.now) (g.F.Flash.chip c.check_ready.new.flash)
           (g.F.Flash.chip c.open_uploads.new.flash) c.args.is_up.now c.open_uploads.result c.in-Ok.ensures;

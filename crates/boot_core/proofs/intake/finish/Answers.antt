@@ -1,7 +1,12 @@
-use Rattle.std.proofs.Common.{ap, sym, subst, refl}
-use Rattle.std.proofs.Common.{Ok, Err}
+use Rattle.std.proofs.Common.{ap, sym, subst, refl, ◌∙◌}
+use Rattle.flash_model.specs.Chip.{Chip}
+use Rattle.sector_map.specs.Map.{Keeps}
+use Rattle.sector_map.proofs.Parts.{keeps_refl}
+use Rattle.sector_map.specs.declared.layout.Side.TheVariants.{Secondary}
+use Rattle.upload.specs.Finishing.{WritesLastUnit}
+use Rattle.std.proofs.Common.{◌≡◌, true, Ok, Err}
 use Rattle.events.specs.declared.event.Event.TheVariants as event
-use Rattle.sector_map.specs.Part.{incoming_of}
+use Rattle.sector_map.specs.Part.{Slot, incoming_of, only}
 use Rattle.upload.specs.Finish.{FinishRow}
 use Rattle.upload.specs.Ending.{EndsUpload}
 use Rattle.upload.specs.Sessions.{AllOpenAt}
@@ -10,7 +15,8 @@ use Rattle.machine.specs.declared.error.Fault.TheVariants as no
 use Rattle.machine.specs.declared.reply.Reply.TheVariants.{Done, Refused}
 use Rattle.machine.proofs.Uploading.{TakesRow, steps_finish, upload_refused}
 use Rattle.boot_core.specs.Device.{made, seen}
-use Rattle.boot_core.proofs.NotReady.{declines, kept_after, laid_after, not_down, ready_on, stops}
+use Rattle.boot_core.proofs.Keeping.{all_stays, given_session, given_size, keeps_unstopped, last_same, own_error, up_stays}
+use Rattle.boot_core.proofs.NotReady.{ok_err, declines, kept_after, laid_after, not_down, ready_on, stops}
 use Rattle.boot_core.proofs.Stopping.{done_ends, failed, failed_ends, opens_stopped, finish_down}
 use Rattle.boot_core.proofs.intake.finish.Goals as goal
 
@@ -26,6 +32,15 @@ returns-in-Err g c = let declined =
       steps = declined.steps;
       outside = declined.outside;
       down = declined.down;
+      up = declined.up;
+      kept = declined.kept;
+      size = λ wrong. c.check_ready.ensures.same;
+      slot = λ own. subst (λ chip. Keeps c.args.map.now (only (Slot c.args.image Secondary))
+          (g.F.Flash.chip c.args.flash.now) chip) (sym c.check_ready.ensures.same)
+          (keeps_refl c.args.map.now (only (Slot c.args.image Secondary)) (g.F.Flash.chip c.args.flash.now));
+      unit = λ own u at. last_same c.args.map.now c.args.image u (g.F.Flash.chip c.args.flash.now)
+          (g.F.Flash.chip c.check_ready.new.flash) c.check_ready.ensures.same;
+      erases = λ own. ap (λ (chip : Chip). chip.erases) c.check_ready.ensures.same;
       off = declined.off;
       ends = declined.ends;
     }
@@ -50,6 +65,12 @@ returns-in-Ok-finish g c =
       outside = kept_after map (incoming_of c.args.image) old mid new same c.finish.ensures.outside;
       down = not_down (Ok tt) (seen old c.args.uploads.now.sessions c.args.is_up.now)
           (seen new c.finish.new.self.sessions c.args.is_up.now) ready.0;
+      up = tt;
+      kept = tt;
+      size = λ wrong. absurd {A = new ≡ old} (ok_err tt _ wrong);
+      slot = tt;
+      unit = tt;
+      erases = tt;
       off = ready_on map old mid new c.args.is_up.now (Ok tt) c.in-Ok.ensures;
       ends = done_ends old mid new c.args.uploads.now.sessions c.finish.new.self.sessions c.args.is_up.now same
           c.in-Ok-finish.ensures.ends;
@@ -86,6 +107,25 @@ returns-in-Err-finish g c =
           c.stop-in-Err-finish.result c.stop-in-Err-finish.ensures.is;
       outside = kept_after map (incoming_of c.args.image) old mid new same c.finish.ensures.outside;
       down = not_down (Err c.stop-in-Err-finish.result) (seen old told up) (seen new tnew upn) ready.0;
+      up = up_stays old mid new told tmid tnew up upn (no.Upload error) c.stop-in-Err-finish.result
+          c.stop-in-Err-finish.ensures.is stopped;
+      kept = λ keeps.
+          let none = given_session error c.stop-in-Err-finish.result c.stop-in-Err-finish.ensures.is keeps in
+          all_stays old mid new told tmid tnew up upn (no.Upload error) c.stop-in-Err-finish.result
+          c.stop-in-Err-finish.ensures.is stopped
+          (c.in-Err-finish.ensures.refused.no_session none ∙ same) (c.in-Err-finish.ensures.stays none)
+          (keeps_unstopped true c.stop-in-Err-finish.result keeps);
+      size = λ wrong. c.in-Err-finish.ensures.refused.size
+          (given_size error c.stop-in-Err-finish.result _ c.stop-in-Err-finish.ensures.is refl wrong) ∙ same;
+      slot = λ own. subst (λ chip. Keeps map (only (Slot c.args.image Secondary)) chip new) same
+          (c.in-Err-finish.ensures.refused.slot
+          (own_error error c.stop-in-Err-finish.result c.stop-in-Err-finish.ensures.is own));
+      unit = λ own u at. subst (λ chip. WritesLastUnit map c.args.image u chip new) same
+          (c.in-Err-finish.ensures.refused.unit
+          (own_error error c.stop-in-Err-finish.result c.stop-in-Err-finish.ensures.is own) u at);
+      erases = λ own. c.in-Err-finish.ensures.refused.erases
+          (own_error error c.stop-in-Err-finish.result c.stop-in-Err-finish.ensures.is own)
+          ∙ ap (λ (chip : Chip). chip.erases) same;
       off = ready_on map old mid new up (Err c.stop-in-Err-finish.result) c.in-Ok.ensures;
       ends = failed_ends old mid new told tmid tnew up upn error same c.in-Err-finish.ensures.ends stopped
           c.stop-in-Err-finish.result c.stop-in-Err-finish.ensures.is;

@@ -1,8 +1,7 @@
 use Rattle.std.proofs.Common.{ap, refl, sym, subst}
 use Rattle.std.proofs.Common.{Ok, Err}
 use Rattle.events.specs.declared.event.Event.TheVariants as event
-use Rattle.sector_map.specs.Part.{any_part}
-use Rattle.sector_map.proofs.Parts.{keeps_refl, laid_out_kept}
+use Rattle.sector_map.proofs.Parts.{laid_out_kept}
 use Rattle.upload.specs.Accepted.{Accepts, accepted_parts}
 use Rattle.upload.specs.Device.{Machine}
 use Rattle.upload.specs.View.{view}
@@ -14,7 +13,7 @@ use Rattle.boot_core.specs.Device.{made, seen}
 use Rattle.boot_core.specs.Ready.{RefusesManifest}
 use Rattle.boot_core.proofs.Given.{held_down, held_failed, held_up}
 use Rattle.boot_core.proofs.NotReady.{refused_after}
-use Rattle.boot_core.proofs.OnMap.{on_more}
+use Rattle.boot_core.proofs.Keeping.{all_stays, own_error}
 use Rattle.boot_core.proofs.Stopping.{IsStopped, accept_down, done_ends, failed, failed_ends, opens_stopped}
 use Rattle.boot_core.proofs.intake.open_uploads.Goals as goal
 
@@ -35,8 +34,9 @@ returns-in-Ok g c =
           c.accept.new.self.sessions _ c.requires.up c.requires.rests
           (λ m. Accepts c.args.map.now m c.args.manifest.now.sequence c.args.manifest.now.components.items) (Ok tt)
           c.in-Ok.ensures.row;
-      outside = on_more map parts old old new c.accept.ensures.outside (keeps_refl map any_part old);
+      outside = c.accept.ensures.outside;
       refused = tt;
+      kept = tt;
       told = tt;
       ends = done_ends old old new c.args.uploads.now.sessions c.accept.new.self.sessions c.args.is_up.now refl
           c.in-Ok.ensures.ends;
@@ -81,9 +81,15 @@ returns-in-Err g c =
           c.stop.new.uploads.sessions none)
           (held_up c.args.map.now old new c.args.uploads.now.sessions c.accept.new.self.sessions
           c.args.is_up.now c.requires.up c.requires.rests row (Err error) c.in-Err.ensures.row);
-      outside = on_more map parts old old new c.accept.ensures.outside (keeps_refl map any_part old);
+      outside = c.accept.ensures.outside;
       refused = refused_after old old new error c.stop.result c.stop.ensures.is refl
           (rw c.in-Err.is at c.accept.ensures.nothing);
+      kept = λ own. all_stays old old new c.args.uploads.now.sessions c.accept.new.self.sessions
+          c.stop.new.uploads.sessions c.args.is_up.now c.stop.new.is_up (no.Upload error) c.stop.result
+          c.stop.ensures.is stopped
+          (refused_after old old new error c.stop.result c.stop.ensures.is refl
+          (rw c.in-Err.is at c.accept.ensures.nothing) own)
+          (c.in-Err.ensures.stays (own_error error c.stop.result c.stop.ensures.is own)) own;
       told = subst (λ fault. RefusesManifest c.args.identity.now c.args.manifest.now fault) (sym c.stop.ensures.is) tt;
       ends = failed_ends old old new c.args.uploads.now.sessions c.accept.new.self.sessions
           c.stop.new.uploads.sessions c.args.is_up.now c.stop.new.is_up error refl c.in-Err.ensures.ends stopped

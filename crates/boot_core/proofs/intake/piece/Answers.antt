@@ -1,5 +1,5 @@
 use Rattle.std.proofs.Common.{ap, sym, subst, refl}
-use Rattle.std.proofs.Common.{Ok, Err}
+use Rattle.std.proofs.Common.{true, Ok, Err}
 use Rattle.events.specs.declared.event.Event.TheVariants as event
 use Rattle.sector_map.specs.Part.{Slot, only}
 use Rattle.sector_map.specs.declared.layout.Side.TheVariants.{Secondary}
@@ -11,6 +11,7 @@ use Rattle.machine.specs.declared.error.Fault.TheVariants as no
 use Rattle.machine.specs.declared.reply.Reply.TheVariants.{Done, Refused}
 use Rattle.machine.proofs.Uploading.{TakesRow, steps_piece, upload_refused}
 use Rattle.boot_core.specs.Device.{made, seen}
+use Rattle.boot_core.proofs.Keeping.{all_stays, given_session, keeps_unstopped, up_stays}
 use Rattle.boot_core.proofs.NotReady.{declines, kept_after, laid_after, not_down, ready_on, refused_after, stops}
 use Rattle.boot_core.proofs.Stopping.{done_ends, failed, failed_ends, opens_stopped, piece_down}
 use Rattle.boot_core.proofs.intake.piece.Goals as goal
@@ -45,6 +46,8 @@ returns-in-Ok-piece g c =
       down = not_down (Ok tt) (seen old c.args.uploads.now.sessions c.args.is_up.now)
           (seen new c.piece.new.self.sessions c.args.is_up.now) ready.0;
       refused = tt;
+      up = tt;
+      kept = tt;
       off = ready_on map old mid new c.args.is_up.now (Ok tt) c.in-Ok.ensures;
       ends = done_ends old mid new c.args.uploads.now.sessions c.piece.new.self.sessions c.args.is_up.now same
           c.in-Ok-piece.ensures.ends;
@@ -85,6 +88,15 @@ returns-in-Err-piece g c =
       down = not_down (Err c.stop-in-Err-piece.result) (seen old told up) (seen new tnew upn) ready.0;
       refused = refused_after old mid new error c.stop-in-Err-piece.result c.stop-in-Err-piece.ensures.is same
           (rw c.in-Err-piece.is at c.piece.ensures.nothing);
+      up = up_stays old mid new told tmid tnew up upn (no.Upload error) c.stop-in-Err-piece.result
+          c.stop-in-Err-piece.ensures.is stopped;
+      kept = λ keeps. all_stays old mid new told tmid tnew up upn (no.Upload error) c.stop-in-Err-piece.result
+          c.stop-in-Err-piece.ensures.is stopped
+          (refused_after old mid new error c.stop-in-Err-piece.result c.stop-in-Err-piece.ensures.is same
+          (rw c.in-Err-piece.is at c.piece.ensures.nothing)
+          (keeps_unstopped true c.stop-in-Err-piece.result keeps))
+          (c.in-Err-piece.ensures.stays (given_session error c.stop-in-Err-piece.result c.stop-in-Err-piece.ensures.is keeps))
+          (keeps_unstopped true c.stop-in-Err-piece.result keeps);
       off = ready_on map old mid new up (Err c.stop-in-Err-piece.result) c.in-Ok.ensures;
       ends = failed_ends old mid new told tmid tnew up upn error same c.in-Err-piece.ensures.ends stopped
           c.stop-in-Err-piece.result c.stop-in-Err-piece.ensures.is;

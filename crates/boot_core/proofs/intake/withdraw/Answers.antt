@@ -1,5 +1,5 @@
 use Rattle.std.proofs.Common.{ap, sym, subst, refl}
-use Rattle.std.proofs.Common.{Ok, Err}
+use Rattle.std.proofs.Common.{false, Ok, Err}
 use Rattle.events.specs.declared.event.Event.TheVariants as event
 use Rattle.sector_map.specs.Part.{incoming_of}
 use Rattle.upload.specs.Withdrawal.{Withdraws}
@@ -10,6 +10,7 @@ use Rattle.machine.specs.declared.error.Fault.TheVariants as no
 use Rattle.machine.specs.declared.reply.Reply.TheVariants.{Done, Refused}
 use Rattle.machine.proofs.Uploading.{TakesRow, steps_withdraw, upload_refused}
 use Rattle.boot_core.specs.Device.{made, seen}
+use Rattle.boot_core.proofs.Keeping.{all_stays, keeps_unstopped, own_error, up_stays}
 use Rattle.boot_core.proofs.NotReady.{declines, kept_after, laid_after, not_down, ready_on, refused_after, stops}
 use Rattle.boot_core.proofs.Stopping.{done_ends, failed, failed_ends, opens_stopped, withdraw_down}
 use Rattle.boot_core.proofs.intake.withdraw.Goals as goal
@@ -42,6 +43,8 @@ returns-in-Ok-withdraw g c =
       down = not_down (Ok tt) (seen old c.args.uploads.now.sessions c.args.is_up.now)
           (seen new c.withdraw.new.self.sessions c.args.is_up.now) ready.0;
       refused = tt;
+      up = tt;
+      kept = tt;
       off = ready_on map old mid new c.args.is_up.now (Ok tt) c.in-Ok.ensures;
       ends = done_ends old mid new c.args.uploads.now.sessions c.withdraw.new.self.sessions c.args.is_up.now same
           c.in-Ok-withdraw.ensures.ends;
@@ -81,6 +84,16 @@ returns-in-Err-withdraw g c =
       down = not_down (Err c.stop-in-Err-withdraw.result) (seen old told up) (seen new tnew upn) ready.0;
       refused = refused_after old mid new error c.stop-in-Err-withdraw.result c.stop-in-Err-withdraw.ensures.is same
           (rw c.in-Err-withdraw.is at c.withdraw.ensures.nothing);
+      up = up_stays old mid new told tmid tnew up upn (no.Upload error) c.stop-in-Err-withdraw.result
+          c.stop-in-Err-withdraw.ensures.is stopped;
+      kept = λ keeps. all_stays old mid new told tmid tnew up upn (no.Upload error) c.stop-in-Err-withdraw.result
+          c.stop-in-Err-withdraw.ensures.is stopped
+          (refused_after old mid new error c.stop-in-Err-withdraw.result c.stop-in-Err-withdraw.ensures.is same
+          (rw c.in-Err-withdraw.is at c.withdraw.ensures.nothing)
+          (keeps_unstopped false c.stop-in-Err-withdraw.result keeps))
+          (c.in-Err-withdraw.ensures.table.same (own_error error c.stop-in-Err-withdraw.result c.stop-in-Err-withdraw.ensures.is
+          (keeps_unstopped false c.stop-in-Err-withdraw.result keeps)))
+          (keeps_unstopped false c.stop-in-Err-withdraw.result keeps);
       off = ready_on map old mid new up (Err c.stop-in-Err-withdraw.result) c.in-Ok.ensures;
       ends = failed_ends old mid new told tmid tnew up upn error same c.in-Err-withdraw.ensures.ends stopped
           c.stop-in-Err-withdraw.result c.stop-in-Err-withdraw.ensures.is;

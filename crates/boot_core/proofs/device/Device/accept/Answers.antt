@@ -1,8 +1,10 @@
-use Rattle.std.proofs.Common.{◌+◌, refl, subst}
+use Rattle.std.proofs.Common.{◌+◌, false, ap, refl, subst}
 use Rattle.events.specs.declared.event.Event.TheVariants as event
 use Rattle.sector_map.specs.Part.{any_part}
 use Rattle.boot_core.specs.Calls.{Takes}
 use Rattle.boot_core.specs.Device.{Whole, made, seen}
+use Rattle.machine.specs.Holding.{DeviceView}
+use Rattle.boot_core.proofs.Keeping.{if_err_as, keeps_unstopped}
 use Rattle.boot_core.proofs.Wholes.{whole_of}
 use Rattle.boot_core.proofs.device.Device.accept.Goals as goal
 
@@ -18,6 +20,8 @@ returns g c =
       outside = c.accept.ensures.outside;
       down = c.accept.ensures.down;
       refused = c.accept.ensures.refused;
+      up = if_err_as c.accept.result (λ fault kept own. ap (λ (d : DeviceView). d.up) (kept own)) c.accept.ensures.kept;
+      kept = if_err_as c.accept.result (λ fault kept keeps. kept (keeps_unstopped false fault keeps)) c.accept.ensures.kept;
       off = c.accept.ensures.off;
       ends = c.accept.ensures.ends;
     })

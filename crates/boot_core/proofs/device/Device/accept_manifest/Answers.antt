@@ -20,6 +20,7 @@ returns g c =
       lacks = c.accept_manifest.ensures.lacks;
       refused = c.accept_manifest.ensures.refused;
       told = c.accept_manifest.ensures.told;
+      kept = c.accept_manifest.ensures.kept;
       off = c.accept_manifest.ensures.off;
       ends = c.accept_manifest.ensures.ends;
     })

@@ -18,6 +18,7 @@ returns g c =
       ok = c.confirm_on.ensures.ok;
       untried = c.confirm_on.ensures.untried;
       tried = c.confirm_on.ensures.tried;
+      kept = c.confirm_on.ensures.kept;
       off = c.confirm_on.ensures.off;
       ends = c.confirm_on.ensures.ends;
     })

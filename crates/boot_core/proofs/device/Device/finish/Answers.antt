@@ -14,6 +14,12 @@ returns g c =
       steps = c.finish.ensures.steps c.self.inside.identity boots;
       outside = c.finish.ensures.outside;
       down = c.finish.ensures.down;
+      up = c.finish.ensures.up;
+      kept = c.finish.ensures.kept;
+      size = c.finish.ensures.size;
+      slot = c.finish.ensures.slot;
+      unit = c.finish.ensures.unit;
+      erases = c.finish.ensures.erases;
       off = c.finish.ensures.off;
       ends = c.finish.ensures.ends;
     })

@@ -1,0 +1,96 @@
+-- What a refused call of uploads leaves of a device as it was.
+use Rattle.std.proofs.Common.{◌≡◌, ◌∙◌, ℕ, Bool, true, false, not, List, Option, Result, Ok, Err, IfErr, IsErrOf, ap, refl, sym, subst}
+use Rattle.flash_model.specs.Chip.{Chip}
+use Rattle.flash_model.proofs.Frame.{same_outside_refl}
+use Rattle.sector_map.specs.declared.layout.SectorMap.{SectorMap}
+use Rattle.upload.specs.Ending.{is_flash}
+use Rattle.upload.specs.Finishing.{WritesLastUnit}
+use Rattle.upload.specs.declared.sessions.Upload.{Upload}
+use Rattle.upload.specs.declared.error.UploadError.{UploadError}
+use Rattle.upload.specs.declared.error.UploadError.TheVariants as upload
+use Rattle.machine.specs.declared.error.Fault.{Fault}
+use Rattle.machine.specs.declared.error.Fault.TheVariants as no
+use Rattle.boot_core.specs.Answers.{is_no_session, is_stop, keeps_all}
+use Rattle.boot_core.specs.Device.{seen}
+use Rattle.boot_core.proofs.Stopping.{IsStopped}
+
+true_false : true ≡ false → ⊥
+true_false e = cc
+
+pub if_err_as : {T E : Type 0} {P Q : E → Type 0} (r : Result T E) → ((e : E) → P e → Q e) → IfErr r P → IfErr r Q
+if_err_as (Ok x) more p = tt
+if_err_as (Err e) more p = more e p
+
+-- a refusal that none is open
+pub no_session : (error : UploadError) → is_no_session error ≡ true → error ≡ upload.NoSession
+no_session upload.NoSession is = refl
+no_session upload.OldSequence is = absurd (true_false (sym is))
+no_session upload.TooBig is = absurd (true_false (sym is))
+no_session upload.TooMuch is = absurd (true_false (sym is))
+no_session upload.SizeWrong is = absurd (true_false (sym is))
+no_session upload.DigestWrong is = absurd (true_false (sym is))
+no_session (upload.NotAnImage fault) is = absurd (true_false (sym is))
+no_session upload.WrongPrecursor is = absurd (true_false (sym is))
+no_session upload.NothingRequested is = absurd (true_false (sym is))
+no_session (upload.Flash error) is = absurd (true_false (sym is))
+no_session upload.NoMemory is = absurd (true_false (sym is))
+
+not_true : (b : Bool) → not b ≡ true → b ≡ false
+not_true true is = cc
+not_true false is = refl
+
+-- .. and one that leaves all is not of the flash
+pub keeps_unstopped : (closing : Bool) (fault : Fault) → keeps_all closing fault ≡ true → is_stop fault ≡ false
+keeps_unstopped closing no.NotBooted is = refl
+keeps_unstopped closing no.OnTrial is = refl
+keeps_unstopped closing no.NotOnTrial is = refl
+keeps_unstopped closing no.NotProvisioned is = refl
+keeps_unstopped closing (no.RunningDamaged image) is = refl
+keeps_unstopped closing no.InvalidSet is = refl
+keeps_unstopped closing (no.Flash error) is = absurd (true_false (sym is))
+keeps_unstopped closing no.NoMemory is = refl
+keeps_unstopped closing (no.Manifest error) is = refl
+keeps_unstopped true (no.Upload error) is = ap (λ e. is_stop (no.Upload e)) (no_session error is)
+keeps_unstopped false (no.Upload error) is = not_true (is_flash {T = Unit} (Err error)) is
+
+-- what passing a refusal on leaves, after a call that left this
+module _ (old mid new : Chip) (told tmid tnew : List (Option Upload)) (up upn : Bool) (fault given : Fault)
+    (passed : given ≡ fault) (stopped : IsStopped fault tmid tnew up upn) where
+  pub up_stays : is_stop given ≡ false → upn ≡ up
+  up_stays own = stopped.stays (sym (ap is_stop passed) ∙ own)
+
+  pub all_stays : new ≡ old → tmid ≡ told → is_stop given ≡ false → seen new tnew upn ≡ seen old told up
+  all_stays same table own =
+      let kept : tnew ≡ tmid = stopped.kept (sym (ap is_stop passed) ∙ own) in
+      let awake : upn ≡ up = up_stays own in
+      cc
+
+-- a refusal of an upload, as passed on
+pub own_error : (error : UploadError) (given : Fault) → given ≡ no.Upload error → is_stop given ≡ false
+    → is_flash {T = Unit} (Err error) ≡ false
+own_error error given passed own = sym (ap is_stop passed) ∙ own
+
+pub given_session : (error : UploadError) (given : Fault) → given ≡ no.Upload error → keeps_all true given ≡ true
+    → IsErrOf {T = Unit} (Err error) upload.NoSession
+given_session error given passed keeps =
+    ap (λ e. Err e) (no_session error (sym (ap (λ f. keeps_all true f) passed) ∙ keeps))
+
+upload_same : (one other : UploadError) → no.Upload one ≡ no.Upload other → one ≡ other
+upload_same one other is = cc
+
+err_same : {T : Type 0} (one other : Fault) (a b : Result T Fault) → a ≡ Err one → b ≡ Err other → a ≡ b → one ≡ other
+err_same one other a b first second same = cc
+
+pub given_size : (error : UploadError) (given : Fault) (result : Result Unit Fault) → given ≡ no.Upload error
+    → result ≡ Err given → result ≡ Err (no.Upload upload.SizeWrong) → IsErrOf {T = Unit} (Err error) upload.SizeWrong
+given_size error given result passed is wrong =
+    ap (λ e. Err e) (upload_same error upload.SizeWrong
+    (sym passed ∙ err_same given (no.Upload upload.SizeWrong) result result is wrong refl))
+
+-- nothing is written
+pub last_same : (map : SectorMap) (image : ℕ) (u : Upload) (old mid : Chip) → mid ≡ old
+    → WritesLastUnit map image u old mid
+last_same map image u old mid same = subst (λ chip. WritesLastUnit map image u old chip) (sym same) (record {
+  unit = same_outside_refl _ _ old;
+  none = λ none. refl;
+})
