@@ -1,0 +1,6 @@
+//! What the program leaves for its words, files and standard input.
+mod decisions;
+mod devices;
+mod host;
+mod running;
+mod samples;

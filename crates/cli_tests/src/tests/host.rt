@@ -1,0 +1,179 @@
+//! Files and standard input in memory.
+
+use boot_cli::{Access, FlashFault, Host};
+use std::alloc::{AllocError, Global};
+use std::cell::Cell;
+use std::io::ErrorKind;
+use std::{io, mem};
+
+/// A file.
+#[derive(Drop)]
+pub(super) struct File {
+    /// Its name.
+    pub name: String,
+    /// What it holds.
+    pub bytes: Vec<u8>,
+}
+
+/// A host with its files and its standard input in memory.
+#[derive(Drop)]
+pub(super) struct MemoryHost {
+    /// The files.
+    pub files: Vec<File>,
+    /// What is left of standard input.
+    pub input: Vec<u8>,
+    /// The place of the file that is open as a flash.
+    pub open: usize,
+    /// What that file holds, while it is open.
+    pub flash: Cell<Option<Vec<u8>>>,
+}
+
+impl MemoryHost {
+    /// No files, and an empty standard input.
+    pub(super) fn new(alloc: Global) -> Self {
+        MemoryHost {
+            files: Vec::new(alloc),
+            input: Vec::new(alloc),
+            open: 0,
+            flash: Cell::new(None),
+        }
+    }
+
+    /// Puts a file into the place of that of its name, or beside the others.
+    pub(super) fn put(
+        &mut self,
+        alloc: Global,
+        name: &str,
+        bytes: Vec<u8>,
+    ) -> Result<(), AllocError> {
+        let place = self.place_of(name).unwrap_or(self.files.len());
+        if let Some(file) = self.files.get_mut(place) {
+            file.bytes = bytes;
+            return Ok(());
+        }
+        let name = String::from_str(alloc, name)?;
+        self.files.push(File { name, bytes })?;
+        Ok(())
+    }
+
+    fn place_of(&self, name: &str) -> Option<usize> {
+        self.files
+            .iter()
+            .position(|file| file.name.as_str() == name)
+    }
+
+    /// What the file of this name holds.
+    fn bytes_of(&self, name: &str) -> io::Result<&[u8]> {
+        match self.files.iter().find(|file| file.name.as_str() == name) {
+            Some(file) => Ok(&file.bytes),
+            None => Err(io::Error::from(ErrorKind::NotFound)),
+        }
+    }
+
+    /// Closes the file that is open as a flash.
+    pub(super) fn close(&mut self) {
+        if let Some(bytes) = self.flash.take()
+            && let Some(file) = self.files.get_mut(self.open)
+        {
+            file.bytes = bytes;
+        }
+    }
+}
+
+/// These bytes where they are at most `most`, and else one more than that.
+fn start_of(alloc: Global, bytes: &[u8], most: u32) -> io::Result<Vec<u8>> {
+    let count = bytes.len().min((most as usize).saturating_add(1));
+    Ok(Vec::from_slice(alloc, &bytes[..count])?)
+}
+
+impl Host for MemoryHost {
+    fn read_file(&mut self, alloc: Global, name: &str, most: u32) -> io::Result<Vec<u8>> {
+        start_of(alloc, self.bytes_of(name)?, most)
+    }
+
+    fn read_input(&mut self, alloc: Global, most: u32) -> io::Result<Vec<u8>> {
+        let input = mem::replace(&mut self.input, Vec::new(alloc));
+        start_of(alloc, &input, most)
+    }
+
+    fn read_again(&self, alloc: Global, name: &str, most: u32) -> io::Result<Vec<u8>> {
+        start_of(alloc, self.bytes_of(name)?, most)
+    }
+
+    fn read_part(
+        &self,
+        alloc: Global,
+        name: &str,
+        from: usize,
+        count: usize,
+    ) -> io::Result<Option<Vec<u8>>> {
+        let bytes = self.bytes_of(name)?;
+        if from > bytes.len() || count > bytes.len() - from {
+            return Ok(None);
+        }
+        Ok(Some(Vec::from_slice(alloc, &bytes[from..from + count])?))
+    }
+
+    fn is_plain(&self, _name: &str) -> io::Result<bool> {
+        Ok(true)
+    }
+
+    fn is_same_file(&self, one: &str, other: &str) -> io::Result<bool> {
+        Ok(one == other && self.place_of(one).is_some())
+    }
+
+    fn open_flash(
+        &mut self,
+        alloc: Global,
+        name: &str,
+        length: u64,
+        _access: Access,
+    ) -> Result<Vec<u8>, FlashFault> {
+        let place = self.place_of(name).unwrap_or(self.files.len());
+        let Some(file) = self.files.get(place) else {
+            return Err(FlashFault::Failed(io::Error::from(ErrorKind::NotFound)));
+        };
+        let bytes = &file.bytes;
+        if bytes.len() as u64 != length {
+            return Err(FlashFault::WrongLength);
+        }
+        let (Ok(held), Ok(read)) = (Vec::from_slice(alloc, bytes), Vec::from_slice(alloc, bytes))
+        else {
+            return Err(FlashFault::NoMemory);
+        };
+        self.open = place;
+        self.flash.set(Some(held));
+        Ok(read)
+    }
+
+    fn write_flash(&self, at: u64, bytes: &[u8]) -> io::Result<()> {
+        let Some(mut held) = self.flash.take() else {
+            return Err(io::Error::from(ErrorKind::NotFound));
+        };
+        let at = at as usize;
+        if at > held.len() || bytes.len() > held.len() - at {
+            return Err(io::Error::from(ErrorKind::UnexpectedEof));
+        }
+        held[at..at + bytes.len()].copy_from_slice(bytes);
+        self.flash.set(Some(held));
+        Ok(())
+    }
+
+    fn sync_flash(&self) -> io::Result<()> {
+        Ok(())
+    }
+
+    fn replace_file(&mut self, alloc: Global, name: &str, bytes: &[u8]) -> Result<(), FlashFault> {
+        let Ok(bytes) = Vec::from_slice(alloc, bytes) else {
+            return Err(FlashFault::NoMemory);
+        };
+        match self.put(alloc, name, bytes) {
+            Ok(()) => Ok(()),
+            Err(_) => Err(FlashFault::NoMemory),
+        }
+    }
+
+    fn watched_seconds(&self) -> Option<u64> {
+        None
+    }
+}
