@@ -12,9 +12,9 @@ use Rattle.command_line.specs.declared.orders.Order.{Order}
 use Rattle.command_ends.specs.declared.answer.Answer.TheVariants.{Done}
 use Rattle.command_ends.specs.Input.{FileBytes}
 use Rattle.command_ends.proofs.InputLaws.{KeepsFiles-itself}
-use Rattle.core_cli.proofs.WordsLaws.{misuse_helps_none, status_by, status_faults, status_helps}
+use Rattle.core_cli.proofs.WordsLaws.{misuse_helps_none, status_by, status_faults, status_helps, status_uncut}
 use Rattle.boot_cli.specs.OrderEnd.{AnswersOrder}
-use Rattle.boot_cli.specs.WordsEnd.{AnswersWords, AskFor, AskNothing, EndsProgram, HaveFault}
+use Rattle.boot_cli.specs.WordsEnd.{AskFor, AskNothing, EndsByCut, EndsProgram}
 
 -- a fault that the program itself finds is no request for help
 no_order_helps_none : (kind other : ErrorKind) → is_help other ≡ false → kind ≡ other → is_help kind ≡ true → ⊥
@@ -40,12 +40,14 @@ pub EndsProgram-error : (words : List Text) (error : OrderError) (status : ℕ) 
 EndsProgram-error words error status input file old new refusal (inr one) = record {
   done = λ zero. absurd (omega (arith, zero, one));
   usage = λ two. absurd (omega (arith, two, one));
+  cut = λ three. absurd (omega (arith, three, one));
   wrong = λ nothing. inr one;
   kept = λ nothing. KeepsFiles-itself file;
 }
 EndsProgram-error words NoMemory status input file old new refusal (inl one) = record {
   done = λ zero. absurd (omega (arith, zero, one));
   usage = λ two. absurd (omega (arith, two, one));
+  cut = λ three. absurd (omega (arith, three, one));
   wrong = λ nothing. inr one;
   kept = λ nothing. KeepsFiles-itself file;
 }
@@ -57,6 +59,7 @@ EndsProgram-error words (Usage answer) status input file old new refusal (inl en
     fault = refusal.1;
     no_help = status_faults (is_help (kind_of answer)) (sym ends ∙ two);
   };
+  cut = λ three. absurd (status_uncut (is_help (kind_of answer)) (sym ends ∙ three));
   wrong = λ nothing.
       wrong_status words (kind_of answer) (is_help (kind_of answer)) status refl refusal.1 ends nothing;
   kept = λ nothing. KeepsFiles-itself file;
@@ -66,10 +69,12 @@ EndsProgram-error words (Usage answer) status input file old new refusal (inl en
 pub EndsProgram-order : (words : List Text) (asked : Order) (status : ℕ) (input : Option (List ℕ))
     (file after : FileBytes) (old new : Option (List ℕ)) → AskFor words asked
     → (status ≡ 0 → AnswersOrder Done asked input file after old new) → status ≢ 2
+    → (status ≡ 3 → EndsByCut asked input file after old new)
     → EndsProgram words status input file after old new
-EndsProgram-order words asked status input file after old new asks answered other = record {
+EndsProgram-order words asked status input file after old new asks answered other ends = record {
   done = λ zero. inr (record { asked = asked; asks = asks; answered = answered zero });
   usage = λ two. absurd (other two);
+  cut = λ three. record { asked = asked; asks = asks; ends = ends three };
   wrong = λ nothing. absurd (nothing.no_order asked asks);
   kept = λ nothing. absurd (nothing.no_order asked asks);
 }

@@ -7,7 +7,8 @@ use Rattle.command_line.specs.Faults.{IsFault}
 use Rattle.command_line.specs.Orders.{GiveOrder}
 use Rattle.command_line.specs.declared.orders.Order.{Order}
 use Rattle.command_line.specs.declared.orders.Order.TheVariants as order
-use Rattle.command_ends.specs.declared.answer.Answer.TheVariants.{Done}
+use Rattle.std.specs.Io.KnownBytes.{Keeps}
+use Rattle.command_ends.specs.declared.answer.Answer.TheVariants.{Cut, Done}
 use Rattle.command_ends.specs.Input.{FileBytes, KeepsFiles}
 use Rattle.boot_cli.specs.OrderEnd.{AnswersOrder}
 
@@ -29,6 +30,21 @@ pub record AnswersWords (words : List Text) (input : Option (List ℕ)) (file th
   pub asks : AskFor words asked
   pub answered : AnswersOrder Done asked input file then old new
 
+-- The answer to an order is that of a run whose last reply says that the power failed, and what was
+-- written of it stands.
+pub record EndsByCut (asked : Order) (input : Option (List ℕ)) (file then : FileBytes)
+    (old new : Option (List ℕ)) : Type 0 where
+  pub written : Option (List ℕ)
+  pub answered : AnswersOrder Cut asked input file then old written
+  pub kept : Keeps written new
+
+-- The words ask for such an order.
+pub record CutWords (words : List Text) (input : Option (List ℕ)) (file then : FileBytes)
+    (old new : Option (List ℕ)) : Type 0 where
+  pub asked : Order
+  pub asks : AskFor words asked
+  pub ends : EndsByCut asked input file then old new
+
 -- The words ask for nothing: neither for help or the version nor for an order.
 pub record AskNothing (words : List Text) : Type 0 where
   pub no_help : AskHelp words → ⊥
@@ -47,6 +63,8 @@ pub record EndsProgram (words : List Text) (status : ℕ) (input : Option (List 
   pub done : status ≡ 0 → AskHelp words ⊎ AnswersWords words input file then old new
   -- 2 comes only after a fault in them
   pub usage : status ≡ 2 → HaveFault words
+  -- 3 comes only where they ask for a run, and its last reply is that the power failed
+  pub cut : status ≡ 3 → CutWords words input file then old new
   -- where they ask for nothing it is 2; or 1, where a write failed or memory ran out ..
   pub wrong : AskNothing words → (status ≡ 2) ⊎ (status ≡ 1)
   -- .. and no file is changed

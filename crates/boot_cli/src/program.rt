@@ -1,7 +1,7 @@
 //! The whole program: what the words ask for is done, and comes to an exit status.
 ghost use Rattle.std.specs.Prelude.{◌≡◌, ◌≢◌, IfOk, map};
 ghost use Rattle.boot_cli.specs.OrderEnd.{AnswersOrder};
-ghost use Rattle.boot_cli.specs.WordsEnd.{EndsProgram};
+ghost use Rattle.boot_cli.specs.WordsEnd.{EndsByCut, EndsProgram};
 
 use crate::sweeping;
 use crate::sweeping::Named;
@@ -55,6 +55,8 @@ fn run_explained<H: Host, O: Write, E: Write>(
 ) -> u8
     ensures done { result ≡ 0 → AnswersOrder Answer.Done order.entry (H.input host.old.host)
         (H.file host.old.host) (H.file host.new.host) (O.contents out.old) (O.contents out.new) }
+    ensures cut { result ≡ 3 → EndsByCut order.entry (H.input host.old.host)
+        (H.file host.old.host) (H.file host.new.host) (O.contents out.old) (O.contents out.new) }
     ensures other { result ≢ 2 }
 {
     let mut told = UntilFailed::over(err);
@@ -76,6 +78,8 @@ pub fn run_order<H: Host, O: Write, E: Write>(
 ) -> u8
     ensures done { result ≡ 0 → AnswersOrder Answer.Done order.entry (H.input host.old)
         (H.file host.old) (H.file host.new) (O.contents out.old) (O.contents out.new) }
+    ensures cut { result ≡ 3 → EndsByCut order.entry (H.input host.old) (H.file host.old)
+        (H.file host.new) (O.contents out.old) (O.contents out.new) }
     ensures other { result ≢ 2 }
 {
     let outcome = perform(alloc, &order, false, host, out, err);

@@ -19,7 +19,7 @@ use Rattle.command_ends.specs.Input.{FileBytes}
 use Rattle.command_ends.specs.Status.{Ends, status_of}
 use Rattle.command_ends.proofs.InputLaws.{KeepsFiles-itself}
 use Rattle.core_cli.specs.CoreEnd.{AnswersCore}
-use Rattle.core_cli.specs.WordsEnd.{AskNothing, EndsCore}
+use Rattle.core_cli.specs.WordsEnd.{AskNothing, EndsByCut, EndsCore}
 
 -- the status of no command is that of a fault in the words
 no_usage : (outcome : Result Answer Refusal) → status_of outcome ≢ 2
@@ -52,6 +52,37 @@ pub never_usage : (outcome : Result Answer Refusal) (status : ℕ) → Ends outc
 never_usage outcome status (inl same) two = no_usage outcome (sym same ∙ two)
 never_usage outcome status (inr one) two = absurd (omega (arith, one, two))
 
+-- the status of a run that ends by a power cut is that of no other answer
+cut_status : (outcome : Result Answer Refusal) → status_of outcome ≡ 3 → outcome ≡ Ok Cut
+cut_status (Ok Done) three = absurd (omega (arith, three))
+cut_status (Ok Refused) three = absurd (omega (arith, three))
+cut_status (Ok Cut) three = refl
+cut_status (Err (no.TableLine line)) three = absurd (omega (arith, three))
+cut_status (Err (no.ReportLine line)) three = absurd (omega (arith, three))
+cut_status (Err no.NotValid) three = absurd (omega (arith, three))
+cut_status (Err no.DeviceFile) three = absurd (omega (arith, three))
+cut_status (Err no.Manifest) three = absurd (omega (arith, three))
+cut_status (Err no.FlashSize) three = absurd (omega (arith, three))
+cut_status (Err no.FlashInUse) three = absurd (omega (arith, three))
+cut_status (Err no.FlashIsInput) three = absurd (omega (arith, three))
+cut_status (Err no.ImageIsInput) three = absurd (omega (arith, three))
+cut_status (Err no.PictureIsInput) three = absurd (omega (arith, three))
+cut_status (Err no.ImageInUse) three = absurd (omega (arith, three))
+cut_status (Err no.ImageCount) three = absurd (omega (arith, three))
+cut_status (Err (no.NoImage image)) three = absurd (omega (arith, three))
+cut_status (Err (no.ImageTooBig image)) three = absurd (omega (arith, three))
+cut_status (Err (no.ScriptLine line)) three = absurd (omega (arith, three))
+cut_status (Err (no.OfSource refusal)) three = absurd (omega (arith, three))
+cut_status (Err no.NotOfCore) three = absurd (omega (arith, three))
+cut_status (Err no.NoMemory) three = absurd (omega (arith, three))
+cut_status (Err no.FlashFile) three = absurd (omega (arith, three))
+cut_status (Err no.CannotWrite) three = absurd (omega (arith, three))
+
+-- A command that ends by 3 was answered so.
+pub only_cut : (outcome : Result Answer Refusal) (status : ℕ) → Ends outcome status → status ≡ 3 → outcome ≡ Ok Cut
+only_cut outcome status (inl same) three = cut_status outcome (sym same ∙ three)
+only_cut outcome status (inr one) three = absurd (omega (arith, one, three))
+
 -- The misuse of standard input is no request for help.
 pub misuse_helps_none : (is_written is_twice : Bool) (kind : ErrorKind)
     → (if is_written then Some InvalidValue else (if is_twice then Some ArgumentConflict else None)) ≡ Some kind
@@ -75,6 +106,10 @@ pub status_faults : (helps : Bool) → status_by helps ≡ 2 → helps ≡ false
 status_faults true two = absurd (omega (arith, two))
 status_faults false two = refl
 
+pub status_uncut : (helps : Bool) → status_by helps ≢ 3
+status_uncut true three = absurd (omega (arith, three))
+status_uncut false three = absurd (omega (arith, three))
+
 helped : (words : List Text) (kind : ErrorKind) → is_help kind ≡ true → IsDeviceFault words kind → AskHelp words
 helped words kind helps (of_clap among) = record { kind = kind; among = among; helps = helps }
 helped words kind helps (misuse order taken asks is_misuse) =
@@ -93,12 +128,14 @@ pub EndsCore-error : (words : List Text) (error : OrderError) (status : ℕ) (in
 EndsCore-error words error status input file old new refusal (inr one) = record {
   done = λ zero. absurd (omega (arith, zero, one));
   usage = λ two. absurd (omega (arith, two, one));
+  cut = λ three. absurd (omega (arith, three, one));
   wrong = λ nothing. inr one;
   kept = λ nothing. KeepsFiles-itself file;
 }
 EndsCore-error words NoMemory status input file old new refusal (inl one) = record {
   done = λ zero. absurd (omega (arith, zero, one));
   usage = λ two. absurd (omega (arith, two, one));
+  cut = λ three. absurd (omega (arith, three, one));
   wrong = λ nothing. inr one;
   kept = λ nothing. KeepsFiles-itself file;
 }
@@ -110,6 +147,7 @@ EndsCore-error words (Usage answer) status input file old new refusal (inl ends)
     fault = refusal.1;
     no_help = status_faults (is_help (kind_of answer)) (sym ends ∙ two);
   };
+  cut = λ three. absurd (status_uncut (is_help (kind_of answer)) (sym ends ∙ three));
   wrong = λ nothing.
       wrong_status words (kind_of answer) (is_help (kind_of answer)) status refl refusal.1 ends nothing;
   kept = λ nothing. KeepsFiles-itself file;
@@ -122,6 +160,7 @@ EndsCore-other words status input file old new ends =
     let one : status ≡ 1 = elim ends [ inl same ↦ same | inr same ↦ same ] in record {
       done = λ zero. absurd (omega (arith, zero, one));
       usage = λ two. absurd (omega (arith, two, one));
+      cut = λ three. absurd (omega (arith, three, one));
       wrong = λ nothing. inr one;
       kept = λ nothing. KeepsFiles-itself file;
     }
@@ -130,10 +169,12 @@ EndsCore-other words status input file old new ends =
 pub EndsCore-order : (words : List Text) (order : DeviceOrder) (status : ℕ) (input : Option (List ℕ))
     (file after : FileBytes) (old new : Option (List ℕ)) → GiveOrder words order → is_explained words ≡ false
     → (status ≡ 0 → AnswersCore Done order input file after old new) → status ≢ 2
+    → (status ≡ 3 → EndsByCut order input file after old new)
     → EndsCore words status input file after old new
-EndsCore-order words order status input file after old new given plain answered other = record {
+EndsCore-order words order status input file after old new given plain answered other ends = record {
   done = λ zero. inr (record { order = order; given = given; plain = plain; answered = answered zero });
   usage = λ two. absurd (other two);
+  cut = λ three. record { order = order; given = given; plain = plain; ends = ends three };
   wrong = λ nothing. absurd (nothing.no_order order given);
   kept = λ nothing. absurd (nothing.no_order order given);
 }

@@ -1,7 +1,7 @@
 //! The core of the program: the orders that make a flash a device's, and run a device on one.
 ghost use Rattle.std.specs.Prelude.{◌≡◌, ◌≢◌, IfOk, map};
 ghost use Rattle.core_cli.specs.CoreEnd.{AnswersCore};
-ghost use Rattle.core_cli.specs.WordsEnd.{EndsCore};
+ghost use Rattle.core_cli.specs.WordsEnd.{EndsByCut, EndsCore};
 
 use crate::{provision, run};
 use command_ends::{Access, Answer, Host, Refusal, Source, finish};
@@ -49,6 +49,8 @@ pub fn run_core_order<H: Host, O: Write, E: Write>(
 ) -> u8
     ensures done { result ≡ 0 → AnswersCore Answer.Done order.now (H.input host.old)
         (H.file host.old) (H.file host.new) (O.contents out.old) (O.contents out.new) }
+    ensures cut { result ≡ 3 → EndsByCut order.now (H.input host.old) (H.file host.old)
+        (H.file host.new) (O.contents out.old) (O.contents out.new) }
     ensures other { result ≢ 2 }
 {
     let outcome = perform(alloc, order, host, out, &mut NoNotes);

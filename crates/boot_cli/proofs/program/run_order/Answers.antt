@@ -1,6 +1,6 @@
 use Rattle.boot_cli.proofs.program.run_order.Goals as goal
 use Rattle.boot_cli.proofs.OrderLaws.{AnswersOrder-kept}
-use Rattle.core_cli.proofs.WordsLaws.{never_usage}
+use Rattle.core_cli.proofs.WordsLaws.{never_usage, only_cut}
 
 -- The status is 0 only after `Done`, and what stands then was written before the flush.
 pub returns-clause-done : goal.returns-clause-done
@@ -11,6 +11,16 @@ returns-clause-done g c = λ zero.
     (g.H.Host.file c.perform-outcome.new.host)
     (g.O.Write.contents c.args.out.now) (g.O.Write.contents c.perform-outcome.new.out) (g.O.Write.contents c.finish.new.out)
     answered c.finish.ensures.kept
+
+-- The status is 3 only after `Cut`.
+pub returns-clause-cut : goal.returns-clause-cut
+returns-clause-cut g c = λ three.
+    let is_cut = only_cut c.perform-outcome.result c.finish.result c.finish.ensures.ends three in
+    record {
+      written = g.O.Write.contents c.perform-outcome.new.out;
+      answered = rw is_cut at c.perform-outcome.ensures;
+      kept = c.finish.ensures.kept;
+    }
 
 -- No command ends as a fault in the words does.
 pub returns-clause-other : goal.returns-clause-other
