@@ -1,5 +1,5 @@
 -- What reading a script leaves, line by line: for the private contracts of its readers.
-use Rattle.std.specs.Prelude.{◌≡◌, ◌≢◌, ◌⊎◌, ◌↔◌, ℕ, ◌+◌, List, [], ◌∷◌, ◌++◌, false, Bool, IfSome, IsTrue, Option, Some, Vec, length, map, slice_get, take}
+use Rattle.std.specs.Prelude.{◌≡◌, ◌≢◌, ◌⊎◌, ◌↔◌, ℕ, ◌+◌, List, [], ◌∷◌, ◌++◌, false, Bool, IfSome, IsTrue, None, Option, Some, Vec, length, map, slice_get, take}
 use Rattle.std.specs.Borrow.{Bor}
 use Rattle.std.specs.Io.KnownBytes.{Keeps}
 use Rattle.std.specs.List.{AllZip}
@@ -132,6 +132,12 @@ abbrev pub KeptOrAgain : (List ℕ → Bool) → (List ℕ → List ℕ → Bool
 KeptOrAgain plain apart flash file old new =
     ((item : Kept) × (item.file ≡ file) × (new ≡ old ++ item ∷ []))
     ⊎ (CanBeReadAgain plain apart file.name.now flash × (new ≡ old))
+
+-- What an event names of a file, if it names one.
+abbrev pub file_in : SaidEvent → Option SaidFile
+file_in (event.Accept file) = Some file
+file_in (event.Piece image file) = Some file
+file_in other = None
 
 -- Bytes are those of the item that was kept next, which is of what a line names, and one item more
 -- was used; so nothing that was read once comes twice.

@@ -1,9 +1,10 @@
 //! A script before anything is run: whether each of its lines can be done.
 ghost use Rattle.std.specs.Prelude.{◌≡◌, ◌++◌, ◌∷◌, [], IfOk, OnOk, false, true};
 ghost use Rattle.std.specs.Option.{option_map};
-ghost use Rattle.script.specs.Said.{part_words, said, said_torn};
+ghost use Rattle.events.specs.Event.{event_map};
+ghost use Rattle.script.specs.Said.{part_words, said, said_file, said_torn};
 ghost use Rattle.command_ends.specs.Input.{KeepsFiles};
-ghost use Rattle.reading_inputs.specs.Loading.{AddsCut, AreCutsOf, AreKept, CanBeReadAgain, IsInputPiece, KeepsKept, KeptOrAgain, armed_in, armed_of};
+ghost use Rattle.reading_inputs.specs.Loading.{AddsCut, AreCutsOf, AreKept, CanBeReadAgain, IsInputPiece, KeepsKept, KeptOrAgain, armed_in, armed_of, file_in};
 ghost use Rattle.reading_inputs.specs.Script.{IsCutBy};
 
 use crate::bringing::{part_of, piece_of};
@@ -130,7 +131,9 @@ fn take_cut(cuts: &mut Vec<Cut>, cut: Cut) -> Result<(), Refusal>
 }
 
 /// What an event names of a file, if it names one.
-fn file_of(event: Event<FileText<'_>>) -> Option<FileText<'_>> {
+fn file_of(event: Event<FileText<'_>>) -> Option<FileText<'_>>
+    ensures { option_map said_file result ≡ file_in (event_map said_file event.entry) }
+{
     match event {
         Event::Accept(file) | Event::Piece(_, file) => Some(file),
         _ => None,
