@@ -10,7 +10,8 @@ use Rattle.sector_map.specs.declared.layout.SectorMap.{SectorMap}
 use Rattle.sector_map.specs.declared.layout.Side.{Side}
 use Rattle.sector_map.specs.Part.{TrailerOf}
 use Rattle.sector_map.specs.Map.{part_of, slot_sectors, start_of}
-use Rattle.trailer.specs.Places.{COPY_DONE, IMAGE_OK, MAGIC_PLACE, SWAP_SIZE, WITHDRAWN}
+use Rattle.trailer.specs.Places.{copy_done_place, image_ok_place, magic_place}
+use Rattle.trailer.specs.Places.{swap_size_place, withdrawn_place}
 use Rattle.trailer.specs.declared.kinds.Magic.{Magic}
 use Rattle.trailer.specs.declared.kinds.Magic.TheVariants.{Good, Unset, Bad}
 use Rattle.trailer.specs.declared.kinds.Trailer.{Trailer}
@@ -63,11 +64,11 @@ bytes_in e bytes from_end n = slice_range bytes (e - from_end) (e - from_end + n
 -- The fields in a trailer of e bytes, of an image of n sectors.
 unfoldable pub fields_in : ℕ → ℕ → List ℕ → Fields
 fields_in n e bytes = record {
-  magic = magic_in (bytes_in e bytes MAGIC_PLACE 16);
-  copy_done = is_set (bytes_in e bytes COPY_DONE 8);
-  image_ok = is_set (bytes_in e bytes IMAGE_OK 8);
-  withdrawn = is_set (bytes_in e bytes WITHDRAWN 8);
-  size = size_in (n * e) (bytes_in e bytes SWAP_SIZE 8);
+  magic = magic_in (bytes_in e bytes magic_place 16);
+  copy_done = is_set (bytes_in e bytes copy_done_place 8);
+  image_ok = is_set (bytes_in e bytes image_ok_place 8);
+  withdrawn = is_set (bytes_in e bytes withdrawn_place 8);
+  size = size_in (n * e) (bytes_in e bytes swap_size_place 8);
   is_fresh = are_erased (slice_range bytes 0 (24 * n));
 }
 

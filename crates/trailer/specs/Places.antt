@@ -3,21 +3,21 @@
 use Rattle.std.specs.Prelude.{ℕ}
 
 -- The withdrawn unit, which is bootswap's own.
-abbrev pub WITHDRAWN : ℕ
-WITHDRAWN = 56
+abbrev pub withdrawn_place : ℕ
+withdrawn_place = 56
 
 -- swap_size
-abbrev pub SWAP_SIZE : ℕ
-SWAP_SIZE = 48
+abbrev pub swap_size_place : ℕ
+swap_size_place = 48
 
 -- copy_done
-abbrev pub COPY_DONE : ℕ
-COPY_DONE = 32
+abbrev pub copy_done_place : ℕ
+copy_done_place = 32
 
 -- image_ok
-abbrev pub IMAGE_OK : ℕ
-IMAGE_OK = 24
+abbrev pub image_ok_place : ℕ
+image_ok_place = 24
 
 -- The magic, up to the sector's end.
-abbrev pub MAGIC_PLACE : ℕ
-MAGIC_PLACE = 16
+abbrev pub magic_place : ℕ
+magic_place = 16

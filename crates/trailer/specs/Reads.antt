@@ -8,7 +8,7 @@ use Rattle.sector_map.specs.declared.layout.SectorMap.{SectorMap}
 use Rattle.sector_map.specs.Map.{IsLaidOut, slot_sectors}
 use Rattle.sector_map.specs.declared.layout.Side.{Side}
 use Rattle.trailer.specs.Fields.{erased_fields, fields_at}
-use Rattle.trailer.specs.Places.{WITHDRAWN}
+use Rattle.trailer.specs.Places.{withdrawn_place}
 
 -- The map is laid out on the flash, has the image, and its trailers have n bytes that begin so many
 -- bytes before their end, at the withdrawn unit or behind it.
@@ -16,7 +16,7 @@ pub record HasPlace (map : SectorMap) (image from_end n : ℕ) (chip : Chip) : T
   pub laid_out : IsLaidOut map chip
   pub there : image < map.images
   pub room : n ≤ from_end
-  pub within : from_end ≤ WITHDRAWN
+  pub within : from_end ≤ withdrawn_place
 
 -- The map is laid out on the flash, has the image, and its trailers have that status unit: there
 -- are three for each sector of the slot.

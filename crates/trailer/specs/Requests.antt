@@ -7,7 +7,7 @@ use Rattle.sector_map.specs.declared.layout.SectorMap.{SectorMap}
 use Rattle.sector_map.specs.declared.layout.Side.TheVariants.{Primary, Secondary}
 use Rattle.sector_map.specs.Map.{Keeps}
 use Rattle.sector_map.specs.Part.{TrailerOf, only}
-use Rattle.trailer.specs.Places.{IMAGE_OK}
+use Rattle.trailer.specs.Places.{image_ok_place}
 use Rattle.trailer.specs.declared.kinds.Kind.{Kind}
 use Rattle.trailer.specs.declared.kinds.Kind.TheVariants.{Permanent}
 use Rattle.trailer.specs.Fields.{bytes_at, erased_fields, fields_at, flag, place_of}
@@ -19,12 +19,13 @@ pub record MarksKind (map : SectorMap) (image : ℕ) (kind : Kind) (old new : Ch
   -- No other part is written,
   pub outside : Keeps map (only (TrailerOf image Secondary)) old new
   -- no other unit,
-  pub unit : SameOutside (place_of map image Secondary IMAGE_OK) 8 old new
+  pub unit : SameOutside (place_of map image Secondary image_ok_place) 8 old new
   -- and no other field than image_ok;
   pub own : fields_at map new image Secondary
       ≡ record erased_fields { image_ok = (fields_at map new image Secondary).image_ok }
   -- where the call ends that holds the flag for an image that is to stay, and says the kind.
-  pub flag : OnOk result (kind ≡ Permanent → bytes_at map new image Secondary IMAGE_OK 8 ≡ flag)
+  pub flag : OnOk result (kind ≡ Permanent
+      → bytes_at map new image Secondary image_ok_place 8 ≡ flag)
   pub ok : OnOk result (fields_at map new image Secondary
       ≡ record erased_fields { image_ok = is_permanent kind })
   pub erases : OnOk result (new.erases ≡ old.erases)
@@ -36,7 +37,7 @@ pub record Requests (map : SectorMap) (image : ℕ) (kind : Kind) (old new : Chi
   -- No other part is written,
   pub outside : Keeps map (only (TrailerOf image Secondary)) old new
   -- and of the trailer its last three units, and no others: so swap info stays as it was.
-  pub units : SameOutside (place_of map image Secondary IMAGE_OK) 24 old new
+  pub units : SameOutside (place_of map image Secondary image_ok_place) 24 old new
   -- Whatever happened, the request is whole, or the magic isn't good ..
   pub either : (fields_at map new image Secondary ≡ requested_fields kind)
       ⊎ (is_good (fields_at map new image Secondary).magic ≡ false)
@@ -45,7 +46,8 @@ pub record Requests (map : SectorMap) (image : ℕ) (kind : Kind) (old new : Chi
   -- It is whole where the call ends,
   pub ok : OnOk result (fields_at map new image Secondary ≡ requested_fields kind)
   -- and image_ok holds the flag where the image is to stay.
-  pub flag : OnOk result (kind ≡ Permanent → bytes_at map new image Secondary IMAGE_OK 8 ≡ flag)
+  pub flag : OnOk result (kind ≡ Permanent
+      → bytes_at map new image Secondary image_ok_place 8 ≡ flag)
   pub erases : OnOk result (new.erases ≡ old.erases)
   -- A flash without power is answered so.
   pub off : old.is_on ≡ false → IsErrOf result Off
@@ -57,7 +59,7 @@ pub record Confirms (map : SectorMap) (image : ℕ) (old new : Chip)
   -- No other part is written,
   pub outside : Keeps map (only (TrailerOf image Primary)) old new
   -- no other unit of it than image_ok,
-  pub unit : SameOutside (place_of map image Primary IMAGE_OK) 8 old new
+  pub unit : SameOutside (place_of map image Primary image_ok_place) 8 old new
   -- and nothing where that is set.
   pub idle : (fields_at map old image Primary).image_ok ≡ true → new ≡ old
   -- Whatever happened, the fields are as they were, or image_ok is set too,
@@ -69,7 +71,7 @@ pub record Confirms (map : SectorMap) (image : ℕ) (old new : Chip)
       ≡ record (fields_at map old image Primary) { image_ok = true })
   -- Where it was erased it then holds the flag.
   pub flag : OnOk result ((fields_at map old image Primary).image_ok ≡ false
-      → bytes_at map new image Primary IMAGE_OK 8 ≡ flag)
+      → bytes_at map new image Primary image_ok_place 8 ≡ flag)
   pub erases : OnOk result (new.erases ≡ old.erases)
   -- A flash without power is answered so.
   pub off : old.is_on ≡ false → IsErrOf result Off

@@ -3,7 +3,7 @@ use Rattle.std.specs.Prelude.{◌≡◌, ◌⊎◌, ℕ, ◌-◌, Bool, true, fa
 use Rattle.flash_model.specs.Chip.{Chip}
 use Rattle.sector_map.specs.declared.layout.SectorMap.{SectorMap}
 use Rattle.sector_map.specs.declared.layout.Side.{Side}
-use Rattle.trailer.specs.Places.{COPY_DONE, IMAGE_OK, MAGIC_PLACE}
+use Rattle.trailer.specs.Places.{copy_done_place, image_ok_place, magic_place}
 use Rattle.trailer.specs.declared.kinds.Magic.{Magic}
 use Rattle.trailer.specs.declared.kinds.Magic.TheVariants.{Good, Unset, Bad}
 use Rattle.trailer.specs.declared.kinds.Settling.{Settling}
@@ -31,7 +31,7 @@ IsFree units bytes = (are_erased units ≡ true) ⊎ (units ≡ bytes)
 
 -- The magic of a trailer isn't torn.
 abbrev pub IsMagicFree : SectorMap → Chip → ℕ → Side → Type 0
-IsMagicFree map chip image side = IsFree (bytes_at map chip image side MAGIC_PLACE 16) good_magic
+IsMagicFree map chip image side = IsFree (bytes_at map chip image side magic_place 16) good_magic
 
 -- image_ok isn't torn; of an image that isn't confirmed it is erased.
 pub record IsOkFree (confirmed : Bool) (unit : List ℕ) : Type 0 where
@@ -47,8 +47,8 @@ is_whole_magic Bad = false
 -- None of copy_done, image_ok and the magic is torn.
 pub record IsWhole (map : SectorMap) (chip : Chip) (image : ℕ) (side : Side) (confirmed : Bool)
     : Type 0 where
-  pub copy_done : IsFree (bytes_at map chip image side COPY_DONE 8) flag
-  pub image_ok : IsOkFree confirmed (bytes_at map chip image side IMAGE_OK 8)
+  pub copy_done : IsFree (bytes_at map chip image side copy_done_place 8) flag
+  pub image_ok : IsOkFree confirmed (bytes_at map chip image side image_ok_place 8)
   pub magic : IsMagicFree map chip image side
 
 -- A primary trailer that needn't be erased for its units to be written: none of them is torn, and
@@ -60,12 +60,12 @@ pub record IsSpared (map : SectorMap) (chip : Chip) (image : ℕ) (side : Side) 
 
 -- The bytes of a trailer before copy_done, image_ok and the magic.
 abbrev pub before_marks : SectorMap → List ℕ → List ℕ
-before_marks map bytes = slice_range bytes 0 (map.sector_size - COPY_DONE)
+before_marks map bytes = slice_range bytes 0 (map.sector_size - copy_done_place)
 
 -- copy_done, image_ok and the magic hold their values, byte for byte.
 pub record HasMarks (map : SectorMap) (chip : Chip) (image : ℕ) (side : Side) (confirmed : Bool)
     : Type 0 where
-  pub copy_done : bytes_at map chip image side COPY_DONE 8 ≡ flag
-  pub image_ok : confirmed ≡ true → bytes_at map chip image side IMAGE_OK 8 ≡ flag
-  pub tried : confirmed ≡ false → are_erased (bytes_at map chip image side IMAGE_OK 8) ≡ true
-  pub magic : bytes_at map chip image side MAGIC_PLACE 16 ≡ good_magic
+  pub copy_done : bytes_at map chip image side copy_done_place 8 ≡ flag
+  pub image_ok : confirmed ≡ true → bytes_at map chip image side image_ok_place 8 ≡ flag
+  pub tried : confirmed ≡ false → are_erased (bytes_at map chip image side image_ok_place 8) ≡ true
+  pub magic : bytes_at map chip image side magic_place 16 ≡ good_magic

@@ -8,7 +8,7 @@ use Rattle.sector_map.specs.declared.layout.Side.{Side}
 use Rattle.sector_map.specs.declared.layout.Side.TheVariants.{Primary, Secondary}
 use Rattle.sector_map.specs.Map.{Keeps}
 use Rattle.sector_map.specs.Part.{TrailerOf, only, trailers_of}
-use Rattle.trailer.specs.Places.{COPY_DONE, IMAGE_OK}
+use Rattle.trailer.specs.Places.{copy_done_place, image_ok_place}
 use Rattle.trailer.specs.declared.kinds.Settling.{Settling}
 use Rattle.trailer.specs.declared.kinds.Settling.TheVariants.{Back}
 use Rattle.flash_model.specs.Units.{are_erased}
@@ -19,9 +19,9 @@ use Rattle.trailer.specs.Settled.{HasMarks, IsSettled, IsSpared, IsWhole, before
 pub record MarksOk (map : SectorMap) (image : ℕ) (side : Side) (confirmed : Bool)
     (old new : Chip) {T : Type 0} (result : Result T FlashError) : Type 0 where
   -- No other unit is written;
-  pub outside : SameOutside (place_of map image side IMAGE_OK) 8 old new
+  pub outside : SameOutside (place_of map image side image_ok_place) 8 old new
   -- where the call ends it holds the flag,
-  pub ok : OnOk result (confirmed ≡ true → bytes_at map new image side IMAGE_OK 8 ≡ flag)
+  pub ok : OnOk result (confirmed ≡ true → bytes_at map new image side image_ok_place 8 ≡ flag)
   -- and nothing is written where the image isn't to be confirmed.
   pub tried : confirmed ≡ false → new ≡ old
   pub erases : OnOk result (new.erases ≡ old.erases)
@@ -33,7 +33,7 @@ pub record MarksTrailer (map : SectorMap) (image : ℕ) (side : Side) (confirmed
   -- No other part is written,
   pub outside : Keeps map (only (TrailerOf image side)) old new
   -- and of the trailer its last four units;
-  pub units : SameOutside (place_of map image side COPY_DONE) 32 old new
+  pub units : SameOutside (place_of map image side copy_done_place) 32 old new
   -- where the call ends these hold their values.
   pub ok : OnOk result (HasMarks map new image side confirmed)
   pub erases : OnOk result (new.erases ≡ old.erases)

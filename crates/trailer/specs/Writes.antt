@@ -8,7 +8,7 @@ use Rattle.sector_map.specs.declared.layout.SectorMap.{SectorMap}
 use Rattle.sector_map.specs.declared.layout.Side.{Side}
 use Rattle.sector_map.specs.Map.{IsLaidOut, Keeps, slot_sectors, start_of}
 use Rattle.sector_map.specs.Part.{TrailerOf, only}
-use Rattle.trailer.specs.Places.{IMAGE_OK, MAGIC_PLACE, SWAP_SIZE, WITHDRAWN}
+use Rattle.trailer.specs.Places.{image_ok_place, magic_place, swap_size_place, withdrawn_place}
 use Rattle.trailer.specs.declared.kinds.Magic.TheVariants.{Good}
 use Rattle.trailer.specs.Fields.{Fields, bytes_at, fields_at, flag, good_magic, place_of, size_bytes}
 use Rattle.trailer.specs.Status.{status_count_of}
@@ -22,7 +22,7 @@ pub record HasUnits (map : SectorMap) (image from_end n : ℕ) (chip : Chip) : T
   pub whole : n % 8 ≡ 0
   pub place : from_end % 8 ≡ 0
   pub room : n ≤ from_end
-  pub within : from_end ≤ WITHDRAWN
+  pub within : from_end ≤ withdrawn_place
 
 -- A call writes units that begin so many bytes before the end of a trailer.
 pub record WritesUnits (map : SectorMap) (image : ℕ) (side : Side) (from_end : ℕ)
@@ -62,21 +62,21 @@ pub record WritesField (map : SectorMap) (image : ℕ) (side : Side) (from_end :
 abbrev pub SetsImageOk : SectorMap → ℕ → Side → Chip → Chip → {T : Type 0} → Result T FlashError
     → Type 0
 SetsImageOk map image side old new result =
-    WritesField map image side IMAGE_OK flag (λ fields. fields.image_ok ≡ true)
+    WritesField map image side image_ok_place flag (λ fields. fields.image_ok ≡ true)
     (λ was now. record was { image_ok = now.image_ok }) old new result
 
 -- or that a request is withdrawn,
 abbrev pub SetsWithdrawn : SectorMap → ℕ → Side → Chip → Chip → {T : Type 0} → Result T FlashError
     → Type 0
 SetsWithdrawn map image side old new result =
-    WritesField map image side WITHDRAWN flag (λ fields. fields.withdrawn ≡ true)
+    WritesField map image side withdrawn_place flag (λ fields. fields.withdrawn ≡ true)
     (λ was now. record was { withdrawn = now.withdrawn }) old new result
 
 -- or writes the magic.
 abbrev pub WritesMagic : SectorMap → ℕ → Side → Chip → Chip → {T : Type 0} → Result T FlashError
     → Type 0
 WritesMagic map image side old new result =
-    WritesField map image side MAGIC_PLACE good_magic (λ fields. fields.magic ≡ Good)
+    WritesField map image side magic_place good_magic (λ fields. fields.magic ≡ Good)
     (λ was now. record was { magic = now.magic }) old new result
 
 -- A call writes the unit of swap_size.
@@ -85,12 +85,12 @@ pub record WritesSize (map : SectorMap) (image : ℕ) (side : Side) (swap_size :
   -- No other part is written,
   pub outside : Keeps map (only (TrailerOf image side)) old new
   -- no other unit,
-  pub unit : SameOutside (place_of map image side SWAP_SIZE) 8 old new
+  pub unit : SameOutside (place_of map image side swap_size_place) 8 old new
   -- and no other field;
   pub own : fields_at map new image side
       ≡ record (fields_at map old image side) { size = (fields_at map new image side).size }
   -- where the call ends the unit is there,
-  pub bytes : OnOk result (bytes_at map new image side SWAP_SIZE 8 ≡ size_bytes swap_size)
+  pub bytes : OnOk result (bytes_at map new image side swap_size_place 8 ≡ size_bytes swap_size)
   -- and is a size, if the number is from 1 to the slot's length.
   pub ok : OnOk result (0 < swap_size → swap_size ≤ slot_sectors map image * map.sector_size
       → (fields_at map new image side).size ≡ Some swap_size)

@@ -3,7 +3,7 @@
 ghost use Rattle.std.specs.Prelude.{length};
 ghost use Rattle.sector_map.specs.Map.{HasImage};
 ghost use Rattle.trailer.specs.Fields.{bytes_at};
-ghost use Rattle.trailer.specs.Places.{IMAGE_OK};
+ghost use Rattle.trailer.specs.Places.{image_ok_place};
 ghost use Rattle.trailer.specs.Settled.{IsFree, IsOkFree, IsWhole};
 ghost use Rattle.trailer.specs.Writes.{HasUnits, WritesUnits};
 ghost use Rattle.trailer.specs.Settles.{MarksOk, MarksTrailer};
@@ -45,7 +45,8 @@ fn mark_ok<F: Flash>(
     confirmed: bool,
 ) -> Result<(), FlashError>
     requires image { HasImage map.now image (F.chip flash.old) }
-    requires free { IsOkFree confirmed (bytes_at map.now (F.chip flash.old) image side IMAGE_OK 8) }
+    requires free { IsOkFree confirmed
+        (bytes_at map.now (F.chip flash.old) image side image_ok_place 8) }
     ensures { MarksOk map.now image side confirmed (F.chip flash.old) (F.chip flash.new) result }
 {
     if !confirmed {

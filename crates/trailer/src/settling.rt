@@ -5,7 +5,7 @@ ghost use Rattle.std.specs.Str.{bytes_eq};
 ghost use Rattle.sector_map.specs.Map.{HasImage};
 ghost use Rattle.flash_model.specs.Units.{are_erased};
 ghost use Rattle.trailer.specs.Fields.{bytes_at, flag};
-ghost use Rattle.trailer.specs.Places.{IMAGE_OK};
+ghost use Rattle.trailer.specs.Places.{image_ok_place};
 ghost use Rattle.trailer.specs.Settled.{IsFree, IsMagicFree, IsOkFree, IsWhole, is_confirmed};
 ghost use Rattle.trailer.specs.Settled.{is_whole_magic};
 ghost use Rattle.trailer.specs.Reads.{Decides, HasPlace};
@@ -83,7 +83,7 @@ fn is_ok_free<F: Flash>(
 ) -> Result<bool, FlashError>
     requires { HasImage map.now image (F.chip flash.old) }
     ensures { Decides
-        (IsOkFree confirmed (bytes_at map.now (F.chip flash.old) image side IMAGE_OK 8))
+        (IsOkFree confirmed (bytes_at map.now (F.chip flash.old) image side image_ok_place 8))
         (F.chip flash.old) (F.chip flash.new) result }
 {
     if confirmed {

@@ -4,7 +4,7 @@ ghost use Rattle.std.specs.Prelude.{◌≡◌, true};
 ghost use Rattle.sector_map.specs.Map.{HasImage};
 ghost use Rattle.flash_model.specs.Units.{are_erased};
 ghost use Rattle.trailer.specs.Fields.{bytes_at, fields_at, size_bytes, size_in};
-ghost use Rattle.trailer.specs.Places.{SWAP_SIZE};
+ghost use Rattle.trailer.specs.Places.{swap_size_place};
 ghost use Rattle.trailer.specs.Reads.{Tells};
 ghost use Rattle.trailer.specs.Writes.{WritesSize};
 
@@ -52,7 +52,7 @@ pub fn write_size<F: Flash>(
 ) -> Result<(), FlashError>
     requires image { HasImage map.now image (F.chip flash.old) }
     requires erased { are_erased
-        (bytes_at map.now (F.chip flash.old) image side SWAP_SIZE 8) ≡ true }
+        (bytes_at map.now (F.chip flash.old) image side swap_size_place 8) ≡ true }
     ensures { WritesSize map.now image side size (F.chip flash.old) (F.chip flash.new) result }
 {
     write_units(flash, map, image, side, SWAP_SIZE, &size_unit(size))

@@ -2,7 +2,7 @@
 
 ghost use Rattle.std.specs.Prelude.{◌≡◌, ◌+◌, ◌*◌, ◌<◌, ◌≤◌};
 ghost use Rattle.sector_map.specs.Map.{HasImage, slot_sectors};
-ghost use Rattle.trailer.specs.Places.{WITHDRAWN};
+ghost use Rattle.trailer.specs.Places.{withdrawn_place};
 ghost use Rattle.flash_model.specs.Units.{are_erased};
 ghost use Rattle.trailer.specs.Fields.{trailer_bytes};
 ghost use Rattle.trailer.specs.Status.{status_count_of, status_unit};
@@ -17,7 +17,7 @@ use sector_map::{SectorMap, Side};
 pub(crate) fn status_units(map: &SectorMap, image: u8) -> u32
     requires { image < map.now.images }
     ensures count { result ≡ 3 * slot_sectors map.now image }
-    ensures fit { 8 * result + WITHDRAWN ≤ map.now.sector_size }
+    ensures fit { 8 * result + withdrawn_place ≤ map.now.sector_size }
 {
     3 * map.slot_sectors(image)
 }

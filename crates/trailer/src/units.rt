@@ -4,7 +4,7 @@ ghost use Rattle.std.specs.Prelude.{◌≡◌, ◌<◌, ◌≤◌, true, length}
 ghost use Rattle.sector_map.specs.Map.{HasImage};
 ghost use Rattle.flash_model.specs.Units.{are_erased};
 ghost use Rattle.trailer.specs.Fields.{bytes_at, is_set, magic_in, place_of};
-ghost use Rattle.trailer.specs.Places.{MAGIC_PLACE};
+ghost use Rattle.trailer.specs.Places.{magic_place};
 ghost use Rattle.trailer.specs.Reads.{HasPlace, Tells};
 ghost use Rattle.trailer.specs.Writes.{HasUnits, WritesUnits};
 
@@ -78,7 +78,7 @@ pub(crate) fn read_magic<F: Flash>(
     side: Side,
 ) -> Result<Magic, FlashError>
     requires { HasImage map.now image (F.chip flash.old) }
-    ensures { Tells (magic_in (bytes_at map.now (F.chip flash.old) image side MAGIC_PLACE 16))
+    ensures { Tells (magic_in (bytes_at map.now (F.chip flash.old) image side magic_place 16))
         (F.chip flash.old) (F.chip flash.new) result }
 {
     let mut magic = [0u8; 16];
