@@ -84,7 +84,7 @@ pub record TakesManifest (map : SectorMap) (manifest : Manifest) (told tnew : Li
   pub nothing : IfErr result (λ error. is_flash {T = Unit} (Err error) ≡ false → new ≡ old)
   -- nor does the table.
   pub stays : IfErr result (λ error. is_flash {T = Unit} (Err error) ≡ false → tnew ≡ told)
-  -- A flash that is off is answered.
+  -- If the flash is off, that is the answer.
   pub off : old.is_on ≡ false → IsErrOf result (Flash Off)
   -- An equal sequence number takes no record.
   pub equal : (state : State) → state_of map old ≡ Some state
@@ -114,7 +114,7 @@ pub record AcceptsManifest (map : SectorMap) (manifest : Manifest)
   pub nothing : IfErr result (λ error. is_flash {T = Unit} (Err error) ≡ false → new ≡ old)
   -- nor does the table.
   pub stays : IfErr result (λ error. is_flash {T = Unit} (Err error) ≡ false → tnew ≡ told)
-  -- A flash that is off is answered, whatever the manifest says.
+  -- If the flash is off, that is the answer, whatever the manifest says.
   pub off : old.is_on ≡ false → IsErrOf result (Flash Off)
   -- An equal sequence number takes no record.
   pub equal : (state : State) → state_of map old ≡ Some state

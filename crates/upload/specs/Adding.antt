@@ -1,13 +1,13 @@
 -- What a call does that adds bytes to an open upload: each record is one call.
-use Rattle.std.specs.Prelude.{◌≡◌, ◌≢◌, ◌+◌, ◌≤◌, ◌<◌, ℕ, true, false, List, ◌++◌, length, Option}
-use Rattle.std.specs.Prelude.{Some, None, Result, Ok, Err, IfErr, IsErrOf, IsOk, OnOk}
+use Rattle.std.specs.Prelude.{◌≡◌, ◌≢◌, ◌+◌, ◌-◌, ◌≤◌, ◌<◌, ℕ, true, false, List, ◌++◌, length}
+use Rattle.std.specs.Prelude.{Option, Some, None, Result, Ok, Err, IfErr, IsErrOf, IsOk, OnOk}
 use Rattle.flash_model.specs.declared.error.FlashError.{FlashError}
 use Rattle.flash_model.specs.declared.error.FlashError.TheVariants.{Off}
-use Rattle.flash_model.specs.Chip.{Chip, Ends}
+use Rattle.flash_model.specs.Chip.{Chip, Ends, SameOutside}
 use Rattle.sector_map.specs.declared.layout.SectorMap.{SectorMap}
 use Rattle.sector_map.specs.declared.layout.Side.TheVariants.{Secondary}
 use Rattle.sector_map.specs.Part.{Slot, only}
-use Rattle.sector_map.specs.Map.{IsLaidOut, Keeps}
+use Rattle.sector_map.specs.Map.{IsLaidOut, Keeps, start_of}
 use Rattle.upload.specs.declared.error.UploadError.{UploadError}
 use Rattle.upload.specs.declared.error.UploadError.TheVariants.{Flash, NoSession, TooMuch}
 use Rattle.upload.specs.declared.sessions.Upload.{Upload}
@@ -29,13 +29,17 @@ pub record AddsBytes (map : SectorMap) (image : ℕ) (before after : Upload) (by
     (old new : Chip) {T : Type 0} (result : Result T FlashError) : Type 0 where
   -- No other part is written than the image's secondary slot,
   pub outside : Keeps map (only (Slot image Secondary)) old new
+  -- of it no more than the place of these bytes and of those that were held back,
+  pub range : SameOutside (start_of map (Slot image Secondary)
+      + (before.received - length before.held.items))
+      (length before.held.items + length bytes) old new
   -- the upload has taken them where the call ends,
   pub ok : OnOk result (TakesMore (view map old) (view map new) image before after bytes)
   -- and no sector is erased.
   pub erases : OnOk result (new.erases ≡ old.erases)
   -- Bytes that complete no unit are held back, whether the flash is on or off,
   pub held : length before.held.items + length bytes < 8 → IsOk result × (new ≡ old)
-  -- and others ask one that is on.
+  -- and others are taken only if it is on.
   pub on : OnOk result (8 ≤ length before.held.items + length bytes → old.is_on ≡ true)
   pub ends : Ends result old new
 
@@ -45,6 +49,11 @@ pub record TakesPiece (map : SectorMap) (image : ℕ) (bytes : List ℕ)
     : Type 0 where
   -- No other part is written than the image's secondary slot,
   pub outside : Keeps map (only (Slot image Secondary)) old new
+  -- and of it, whatever happened, no more than the place of these bytes and of those that were held
+  -- back,
+  pub range : (u : Upload) → upload_at told image ≡ Some u
+      → SameOutside (start_of map (Slot image Secondary) + (u.received - length u.held.items))
+      (length u.held.items + length bytes) old new
   -- so that the uploads of the table stand on the flash, if they did.
   pub all_open : AllOpenAt (view map old) told → AllOpenAt (view map new) tnew
   -- On any flash: what is answered, and what is left then. The upload has taken the bytes where the
@@ -62,7 +71,7 @@ pub record TakesPiece (map : SectorMap) (image : ℕ) (bytes : List ℕ)
   -- Bytes that complete no unit are held back, whether the flash is on or off.
   pub held : (u : Upload) → upload_at told image ≡ Some u → u.received + length bytes ≤ u.size
       → length u.held.items + length bytes < 8 → (result ≡ Ok tt) × (new ≡ old)
-  -- Of others it is answered that the flash is off.
+  -- For others the answer is that the flash is off, if it is.
   pub off : old.is_on ≡ false → (u : Upload) → upload_at told image ≡ Some u
       → u.received + length bytes ≤ u.size → 8 ≤ length u.held.items + length bytes
       → IsErrOf result (Flash Off)

@@ -34,7 +34,7 @@ pub record JudgesSlot (map : SectorMap) (image size : ℕ) (digest : List ℕ) (
     (result : Result Unit UploadError) : Type 0 where
   pub same : new ≡ old
   pub judges : Judges (take size (incoming_slot map old image)) digest result
-  -- That is how a flash that is off answers.
+  -- If the flash is off, that is the answer.
   pub off : old.is_on ≡ false → IsErrOf result (Flash Off)
   pub ends : EndsUpload result old new
 
@@ -77,7 +77,7 @@ pub record FinishesTaken (map : SectorMap) (image : ℕ) (upload : Upload) (old 
   pub erases : OnOk result (new.erases ≡ old.erases)
   -- A refusal writes no more than the last unit.
   pub refused : RefusesFinish map image (Some upload) old new result
-  -- Past the check of the length, a flash that is off is answered.
+  -- If the flash is off, that is the answer where all bytes came.
   pub off : old.is_on ≡ false → upload.received ≡ upload.size → IsErrOf result (Flash Off)
   pub ends : EndsUpload result old new
 
@@ -96,7 +96,7 @@ pub record FinishesUpload (map : SectorMap) (image : ℕ) (told tnew : List (Opt
   pub none : upload_at told image ≡ None → (result ≡ Err NoSession) × (new ≡ old)
   -- A refusal writes no more than the last unit of the image's own upload, and never its trailer.
   pub refused : RefusesFinish map image (upload_at told image) old new result
-  -- A flash that is off is answered where an upload is open to which all bytes came.
+  -- If the flash is off, that is the answer where an upload is open to which all bytes came.
   pub off : old.is_on ≡ false → (u : Upload) → upload_at told image ≡ Some u
       → u.received ≡ u.size → IsErrOf result (Flash Off)
   -- The upload is closed,

@@ -43,7 +43,7 @@ pub record ReadsState (map : SectorMap) (old new : Chip) (result : Result State 
   -- A state that the log has keeps the table of records.
   pub fits : (state : State) → state_of map old ≡ Some state
       → format.fits map.images state ≡ true
-  -- A flash that is off has none.
+  -- If the flash is off, that is the answer.
   pub off : old.is_on ≡ false → IsErrOf result Off
   pub ends : Ends result old new
 
@@ -66,6 +66,6 @@ pub record JudgesManifest (map : SectorMap) (manifest : Manifest) (old new : Chi
   -- Where it may not, the first check that fails is answered.
   pub refused : IfErr result (Refuses map (view map old)
       manifest.sequence manifest.components.items)
-  -- Of a flash that is off that is answered.
+  -- If the flash is off, that is the answer.
   pub off : old.is_on ≡ false → IsErrOf result (Flash Off)
   pub ends : EndsUpload result old new

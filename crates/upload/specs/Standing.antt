@@ -31,7 +31,7 @@ pub record TellsOpen (map : SectorMap) (image : ℕ) (upload : Option Upload) (o
   pub ok : IfOk result (λ answer.
       IsTrue answer ↔ ((u : Upload) → upload ≡ Some u → IsOpenAt (view map old) image u))
   pub erases : OnOk result (new.erases ≡ old.erases)
-  -- A flash that is off is answered where its counts fit, so that the flash is asked.
+  -- If the flash is off, that is the answer where its counts fit, so that the flash is asked.
   pub off : old.is_on ≡ false → (u : Upload) (written : ℕ) → upload ≡ Some u
       → HasCounts map image written u → IsErrOf result Off
   pub ends : Ends result old new
@@ -52,8 +52,8 @@ pub record TellsStand (map : SectorMap) (sessions : List (Option Upload)) (old n
   -- and the answer is yes where all do, and nowhere else.
   pub ok : IfOk result (λ answer. IsTrue answer ↔ AllOpenAt (view map old) sessions)
   pub erases : OnOk result (new.erases ≡ old.erases)
-  -- A flash that is off is answered where the counts of the first one fit, so that the flash is
-  -- asked.
+  -- If the flash is off, that is the answer where the counts of the first one fit, so that the
+  -- flash is asked.
   pub off : old.is_on ≡ false → (image : ℕ) (upload : Upload)
       → IsFirstOpen map sessions image upload → IsErrOf result Off
   pub ends : Ends result old new

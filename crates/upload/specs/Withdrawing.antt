@@ -26,7 +26,7 @@ pub record WithdrawsStanding (map : SectorMap) (image : ℕ) (old new : Chip)
   pub nothing : IfErr result (λ error. is_flash {T = Unit} (Err error) ≡ false → new ≡ old)
   -- and the slot's first sector and its trailer are erased once each where one does.
   pub erases : OnOk result (new.erases ≡ old.erases + 2)
-  -- A flash that is off is answered.
+  -- If the flash is off, that is the answer.
   pub off : old.is_on ≡ false → IsErrOf result (Flash Off)
   pub ends : EndsUpload result old new
 
@@ -41,7 +41,7 @@ pub record WithdrawsRequest (map : SectorMap) (image : ℕ) (told tnew : List (O
   pub withdraws : image < map.images → EndsWithdraw (view map old) (view map new) image result
   -- and for any other number.
   pub unknown : map.images ≤ image → result ≡ Err NothingRequested
-  -- Of an image of the map a flash that is off is answered.
+  -- If the flash is off, that is the answer for an image of the map.
   pub off : old.is_on ≡ false → image < map.images → IsErrOf result (Flash Off)
   -- Nothing changes where nothing is requested.
   pub nothing : IfErr result (λ error. is_flash {T = Unit} (Err error) ≡ false → new ≡ old)

@@ -1,4 +1,5 @@
 use Rattle.std.proofs.Common.{arith, ap, refl}
+use Rattle.flash_model.proofs.Frame.{same_outside_refl}
 use Rattle.sector_map.proofs.Parts.{keeps_refl}
 use Rattle.upload.specs.declared.sessions.Upload.{Upload}
 use Rattle.upload.proofs.Added.{held_back}
@@ -10,6 +11,7 @@ returns-then-len-bytes-lt-UNIT g c =
     let rest = c.hold.ensures.rest in
     record {
       outside = keeps_refl _ _ _;
+      range = same_outside_refl _ _ _;
       ok = held_back c.args.image _ c.args.upload.now c.hold.new.upload c.args.bytes.now (record {
         size = ap (λ (v : Upload). v.size) rest;
         digest = ap (λ (v : Upload). v.digest) rest;

@@ -1,6 +1,9 @@
-use Rattle.std.proofs.Common.{◌≡◌, ◌+◌, ◌-◌, ◌++◌, ℕ, length, List, arith, refl, sym, ◌∙◌, ap, subst, take, drop, length-append}
+use Rattle.std.proofs.Common.{◌≡◌, ◌+◌, ◌-◌, ◌++◌, ◌≤◌, ℕ, length, List, arith, refl, sym, ◌∙◌, ap, subst, take, drop, length-append}
 use Rattle.std.proofs.lemmas.List.{take-append-drop}
 use Rattle.sector_map.specs.declared.layout.Side.TheVariants.{Secondary}
+use Rattle.flash_model.specs.Chip.{Chip, SameOutside}
+use Rattle.flash_model.proofs.Frame.{same_outside_trans, same_outside_wider}
+use Rattle.sector_map.specs.Map.{start_of}
 use Rattle.sector_map.specs.Part.{Slot, only}
 use Rattle.sector_map.proofs.Parts.{keeps_trans, laid_out_kept}
 use Rattle.sector_map.proofs.PartBytes.{length_part}
@@ -16,6 +19,13 @@ use Rattle.upload.proofs.adding.write_units.Goals as goal
 whole : (l a b : List ℕ) (n : ℕ) → a ≡ take n l → b ≡ drop n l → l ≡ a ++ b
 whole l a b n first second =
     sym (take-append-drop n l) ∙ ap (λ x. x ++ drop n l) (sym first) ∙ ap (λ x. a ++ x) (sym second)
+
+units_range : (base start a b total : ℕ) (old mid new : Chip) → SameOutside (base + start) a old mid
+    → SameOutside (base + (start + 8)) b mid new → a ≡ 8 → 8 + b ≤ total → SameOutside (base + start) total old new
+units_range base start a b total old mid new first second eight fits =
+    same_outside_trans (base + start) total old mid new
+    (same_outside_wider (base + start) a (base + start) total old mid first (omega arith) (omega (arith, eight, fits)))
+    (same_outside_wider (base + (start + 8)) b (base + start) total mid new second (omega arith) (omega (arith, fits)))
 
 pub write_slot-requires-clause-units : goal.write_slot-requires-clause-units
 write_slot-requires-clause-units g c =
@@ -93,12 +103,56 @@ write_slot-requires-2-clause-behind g c =
       );
     }
 
+pub returns-in_err-write_slot : goal.returns-in_err-write_slot
+returns-in_err-write_slot g c =
+    let was = c.requires.room.stands.1 in
+    let n = c.len.ensures.value in
+    let m = ap length (c.as_slice.ensures.value ∙ c.extend.ensures)
+    ∙ length-append c.take-unit.result.items c.split_at.result.0.now in
+    let h = ap (λ v. length v.items) c.take-unit.ensures.value in
+    rw (err_passed _ _ c.from_residual.ensures.1) (record {
+      outside = c.write_slot.ensures.outside;
+      range = subst (λ k. SameOutside (start_of c.args.map.now (Slot c.args.image Secondary)
+          + (c.args.upload.now.received - k)) (length c.args.upload.now.held.items + length c.args.bytes.now)
+          (g.F.Flash.chip c.args.flash.now) (g.F.Flash.chip c.write_slot.new.flash)) n
+          (same_outside_wider _ _ _ _ _ _ c.write_slot.ensures.range (omega arith)
+          (omega (arith, m, h, n, c.split_at.ensures.front_len, was.few, c.requires.enough)));
+      ok = tt;
+      erases = tt;
+      held = λ few. absurd (let enough = c.requires.enough in omega (arith, few, enough));
+      on = tt;
+      ends = c.in_err-write_slot.ensures.ends;
+    })
+
 pub returns-in_err-write_slot-2 : goal.returns-in_err-write_slot-2
 returns-in_err-write_slot-2 g c =
     let first = c.in_ok-write_slot.ensures.ends in
+    let was = c.requires.room.stands.1 in
+    let n = c.len.ensures.value in
+    let n2 = c.len-2.ensures.value in
+    let m = ap length (c.as_slice.ensures.value ∙ c.extend.ensures)
+    ∙ length-append c.take-unit.result.items c.split_at.result.0.now in
+    let h = ap (λ v. length v.items) c.take-unit.ensures.value in
     rw (err_passed _ _ c.from_residual-in_err-write_slot-2.ensures.1) (record {
       outside = keeps_trans c.args.map.now (only (Slot c.args.image Secondary)) _ _ _ c.write_slot.ensures.outside
           c.write_slot-2.ensures.outside;
+      range = subst (λ k. SameOutside (start_of c.args.map.now (Slot c.args.image Secondary)
+          + (c.args.upload.now.received - k)) (length c.args.upload.now.held.items + length c.args.bytes.now)
+          (g.F.Flash.chip c.args.flash.now) (g.F.Flash.chip c.write_slot-2.new.flash)) n
+          (units_range _ _ _ _ _ _ _ _ c.write_slot.ensures.range c.write_slot-2.ensures.range
+          (omega (arith, m, h, n, n2, c.split_at.ensures.front_len, was.few))
+          (omega (
+            arith,
+            n,
+            n2,
+            was.few,
+            c.requires.enough,
+            c.split_at.ensures.front_len,
+            c.split_at.ensures.back_len,
+            c.split_at-2.ensures.front_len,
+            c.split_at-2.ensures.back_len,
+            c.whole_units.ensures.least,
+          )));
       ok = tt;
       erases = tt;
       held = λ few. absurd (let enough = c.requires.enough in omega (arith, few, enough));
@@ -142,6 +196,32 @@ returns g c =
     } in
     record {
       outside = keeps_trans map (only (Slot c.args.image Secondary)) _ _ _ first second;
+      range = subst (λ k. SameOutside (start_of map (Slot c.args.image Secondary)
+          + (c.args.upload.now.received - k)) (length c.args.upload.now.held.items + length c.args.bytes.now)
+          (g.F.Flash.chip c.args.flash.now) (g.F.Flash.chip c.write_slot-2.new.flash)) n
+          (units_range _ _ _ _ _ _ _ _ c.write_slot.ensures.range c.write_slot-2.ensures.range
+          (omega (
+            arith,
+            ap length (c.as_slice.ensures.value ∙ c.extend.ensures)
+                ∙ length-append c.take-unit.result.items c.split_at.result.0.now,
+            ap length h,
+            n,
+            n2,
+            c.split_at.ensures.front_len,
+            was.few,
+          ))
+          (omega (
+            arith,
+            n,
+            n2,
+            was.few,
+            c.requires.enough,
+            c.split_at.ensures.front_len,
+            c.split_at.ensures.back_len,
+            c.split_at-2.ensures.front_len,
+            c.split_at-2.ensures.back_len,
+            c.whole_units.ensures.least,
+          )));
       ok = added c.args.image _ _ _ c.args.upload.now c.hold.new.upload c.args.bytes.now _ _ _ held parts
           (omega (arith, n, n2, was.few, c.split_at.ensures.front_len))
           (c.whole_units.ensures.units.0, c.split_at-2.ensures.front_len ∙ c.whole_units.ensures.units.1)

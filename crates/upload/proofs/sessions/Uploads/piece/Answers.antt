@@ -7,6 +7,7 @@ use Rattle.upload.specs.declared.sessions.Upload.{Upload}
 use Rattle.upload.specs.declared.error.UploadError.TheVariants as no
 use Rattle.upload.proofs.Frames.{others_slot, with_others, with_with}
 use Rattle.flash_model.proofs.Ending.{uncut_refl}
+use Rattle.flash_model.proofs.Frame.{same_outside_refl}
 use Rattle.sector_map.proofs.Parts.{keeps_refl}
 use Rattle.upload.proofs.Ends.{done_none, ends_flash, ends_unstopped, ends_well, not_no_session, not_too_much, off_stops, too_much_none, true_false}
 use Rattle.upload.proofs.OpenOnes.{none_some, open_more, open_none, open_nothing, open_to}
@@ -16,6 +17,7 @@ use Rattle.upload.proofs.sessions.Uploads.piece.Goals as goal
 pub returns-then-room-bytes : goal.returns-then-room-bytes
 returns-then-room-bytes g c = record {
   outside = keeps_refl _ _ _;
+  range = λ u is. same_outside_refl _ _ _;
   all_open = open_to c.args.image _ _ c.args.self.now.sessions _ None
       (others_slot c.args.image _ _ (view_kept c.args.map.now _ _ _ (keeps_refl _ _ _))) c.take.ensures.rest
       (open_nothing c.args.image _);
@@ -43,6 +45,7 @@ returns-in-Ok g c =
     let at = c.requires.open c.in-Some.upload (sym c.in-Some.ensures.value) in
     record {
       outside = c.add_bytes.ensures.outside;
+      range = λ u is. rw (← same_Some _ _ (c.in-Some.ensures.value ∙ is)) c.add_bytes.ensures.range;
       all_open = λ opens.
           let more = c.in-Ok.ensures.ok at.0 at.1 in
           open_to c.args.image _ (view c.args.map.now (g.F.Flash.chip c.add_bytes.new.flash)) told _ (Some _)
@@ -79,6 +82,7 @@ returns-in-Err g c =
     let at = c.requires.open c.in-Some.upload (sym c.in-Some.ensures.value) in
     record {
       outside = c.add_bytes.ensures.outside;
+      range = λ u is. rw (← same_Some _ _ (c.in-Some.ensures.value ∙ is)) c.add_bytes.ensures.range;
       all_open = λ opens. open_none _ _ c.close.ensures;
       takes = tt;
       none = λ none. absurd (none_some _ (sym (c.in-Some.ensures.value ∙ none)));
