@@ -70,8 +70,8 @@ abbrev pub is_no_session : UploadError → Bool
 is_no_session upload.NoSession = true
 is_no_session other = false
 
--- Whether a refusal leaves the device as it was, by whether its call may close an upload: one of the
--- flash doesn't, and no other of an upload does where an upload may be closed, but that none is open.
+-- Whether a refusal leaves the device as it was, by whether its call may close an upload. One of
+-- the flash doesn't. Where an upload may be closed, of those of uploads only that none is open does.
 abbrev pub keeps_all : Bool → Fault → Bool
 keeps_all closing (no.Flash error) = false
 keeps_all true (no.Upload error) = is_no_session error

@@ -41,7 +41,7 @@ pub record CarriesBack (map : SectorMap) (mask : ℕ) (old new : Chip)
       ≡ old.erases + steps_in_all map old Secondary mask)
   pub ends : Ends result old new
 
--- From Back to BackSettle: a call records that the set is swapped back.
+-- At the end of the swap back: a call records that the set is swapped back.
 pub record RecordsBackSettle (map : SectorMap) (state : State) (old new : Chip)
     (result : Result State FlashError) : Type 0 where
   -- Nothing is written but the log.
@@ -59,7 +59,30 @@ pub record RecordsBackSettle (map : SectorMap) (state : State) (old new : Chip)
   pub erases : OnOk result (new.erases ≤ old.erases + 1)
   pub ends : Ends result old new
 
--- From BackSettle to Steady: a call records that the old images run.
+-- From Back to BackSettle: a call swaps the set of a record back, and records it.
+pub record SwapsBack (map : SectorMap) (state : State) (old new : Chip)
+    (result : Result State FlashError) : Type 0 where
+  -- The map stays laid out on the flash, and what lies behind it is what it was before.
+  pub laid : IsLaidOut map new
+  pub on_map : (start : Chip) → Keeps map any_part start old → Keeps map any_part start new
+  -- Whatever happened, the device is on its way back,
+  pub stands : (s : DeviceState) (trial : Trial) → state.mask ≡ trial.set
+      → IsSwappingBackSome map old s trial → IsGoingBack map new s trial
+  -- and the swap back is recorded as done where the call ends.
+  pub ok : OnOk result ((s : DeviceState) (trial : Trial) → state.mask ≡ trial.set
+      → IsSwappingBackSome map old s trial
+      → IsSwappedBack (view map new) s trial log.BackSettle)
+  -- The log says so then, in the record that is returned.
+  pub recorded : IfOk result (λ now. state_of map new ≡ Some now)
+  pub is : IfOk result (λ now. now ≡ record state { kind = log.BackSettle })
+  -- A sector is erased for each step that was left, and one more at most.
+  pub erases : OnOk result ((s : DeviceState) (trial : Trial) → state.mask ≡ trial.set
+      → IsSwappingBackSome map old s trial
+      → new.erases + steps_done map old Secondary state.mask
+      ≤ old.erases + steps_in_all map old Secondary state.mask + 1)
+  pub ends : Ends result old new
+
+-- At the end of settling: a call records that the old images run.
 pub record RecordsReturned (map : SectorMap) (old new : Chip) (result : Result Unit FlashError)
     : Type 0 where
   -- Nothing is written but the log.
@@ -78,7 +101,7 @@ pub record RecordsReturned (map : SectorMap) (old new : Chip) (result : Result U
   pub erases : OnOk result (new.erases ≤ old.erases + 1)
   pub ends : Ends result old new
 
--- From BackSettle on: a call settles the set of a record, and the old images run.
+-- From BackSettle to Steady: a call settles the set of a record, and the old images run.
 pub record SettlesAndReturns (map : SectorMap) (state : State) (old new : Chip)
     (result : Result Unit FlashError) : Type 0 where
   -- The map stays laid out on the flash, and what lies behind it is what it was before.

@@ -127,8 +127,9 @@ pub record BeginsBack (map : SectorMap) (state : State) (old new : Chip)
 abbrev pub HasTrial : (DeviceState → Trial → Type 0) → SectorMap → Chip → DeviceState → Type 0
 HasTrial such map chip s = (trial : Trial) × such s trial × IsOpenOrAt (view map chip) s trial
 
--- A trial that is wholly confirmed is over, and the decision is made. Where nothing is taken, or the
--- boot is refused, nothing is written but the record that the trial is over: so it is on any flash.
+-- A trial that is wholly confirmed is over, and the decision is made. Where nothing is taken, or
+-- the boot is refused, nothing is written but the record that the trial is over: so it is on any
+-- flash.
 pub record BootsConfirmed (map : SectorMap) (state : State) (left : ℕ) (old new : Chip)
     (result : Result Reply FlashError) : Type 0 where
   pub boot : BootEnds map (left + 1) (HasTrial IsConfirmed map old)

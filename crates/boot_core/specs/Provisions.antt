@@ -48,8 +48,8 @@ pub record Leaves (map : SectorMap) (touched : Part → Bool) (says : Chip → T
   pub ok : OnOk result (says new)
   pub ends : Ends result old new
 
--- The log isn't written before all trailers are erased: nothing but trailers was written, or each is
--- erased.
+-- The log isn't written before all trailers are erased: nothing but trailers was written, or each
+-- is erased.
 abbrev pub IsInOrder : SectorMap → Chip → Chip → Type 0
 IsInOrder map old new = Keeps map any_trailer old new ⊎ AreClearedIn map new
 

@@ -2,7 +2,7 @@
 //!
 //! It comes from `trial` or from a cut.
 
-ghost use Rattle.boot_core.specs.FromBack.{BootsFromBack, BootsFromBackSettle, CarriesBack, FinishesBack, RecordsBackSettle, RecordsReturned, SettlesAndReturns};
+ghost use Rattle.boot_core.specs.FromBack.{BootsFromBack, BootsFromBackSettle, CarriesBack, FinishesBack, RecordsBackSettle, RecordsReturned, SettlesAndReturns, SwapsBack};
 ghost use Rattle.boot_core.specs.Recorded.{HasRecord, HasRecordOf};
 ghost use Rattle.sector_map.specs.Map.{HasImages};
 ghost use Rattle.set_log.specs.declared.state.Kind.{Kind};
@@ -23,7 +23,7 @@ fn carry_back<F: Flash>(flash: &mut F, map: &SectorMap, mask: u8) -> Result<(), 
     swap_set(flash, map, mask, Side::Secondary)
 }
 
-/// From Back to BackSettle: the set is swapped back, and this is recorded.
+/// At the end of the swap back: it is recorded as done.
 fn record_back_settle<F: Flash>(
     flash: &mut F,
     map: &SectorMap,
@@ -40,7 +40,16 @@ fn record_back_settle<F: Flash>(
     Ok(settle)
 }
 
-/// From BackSettle to Steady: the old images run.
+/// From Back to BackSettle: the set is swapped back, and this is recorded.
+fn swap_back<F: Flash>(flash: &mut F, map: &SectorMap, state: &State) -> Result<State, FlashError>
+    requires { HasRecordOf map.now Kind.Back state.now (F.chip flash.old) }
+    ensures { SwapsBack map.now state.now (F.chip flash.old) (F.chip flash.new) result }
+{
+    carry_back(flash, map, state.mask)?;
+    record_back_settle(flash, map, state)
+}
+
+/// At the end of settling: the old images run.
 fn record_returned<F: Flash>(
     flash: &mut F,
     map: &SectorMap,
@@ -59,7 +68,7 @@ fn record_returned<F: Flash>(
     append(flash, map, &steady)
 }
 
-/// From BackSettle on: the trailers are settled, and the old images run.
+/// From BackSettle to Steady: the trailers are settled, and the old images run.
 fn settle_and_return<F: Flash>(
     flash: &mut F,
     map: &SectorMap,
@@ -77,8 +86,7 @@ fn finish_back<F: Flash>(flash: &mut F, map: &SectorMap, state: &State) -> Resul
     requires { HasRecordOf map.now Kind.Back state.now (F.chip flash.old) }
     ensures { FinishesBack map.now state.now (F.chip flash.old) (F.chip flash.new) result }
 {
-    carry_back(flash, map, state.mask)?;
-    let settle = record_back_settle(flash, map, state)?;
+    let settle = swap_back(flash, map, state)?;
     settle_and_return(flash, map, &settle)
 }
 

@@ -101,11 +101,12 @@ impl<F: Flash> Device<F> {
     /// # Errors
     /// The device isn't up. `NotProvisioned` where the log has no state: nothing changed.
     /// `RunningDamaged` and `InvalidSet` where the images that run are damaged or don't meet their
-    /// dependencies, which comes of no state that a device was provisioned to; in the midst of an
-    /// upgrade `RunningDamaged` names the lowest image of which what ran, or what is of the set, is
+    /// dependencies, which comes of no state that a device was provisioned to: nothing changed, but
+    /// that a trial which was wholly confirmed is recorded as over. In the midst of an upgrade
+    /// `RunningDamaged` names the lowest image of which what ran, or what is of the set, is
     /// damaged, and nothing is written once the swap is done. `Flash` with `Cut` where power
     /// failed: the state is the one before the boot, that state as it is read, or the one after it;
-    /// with `Off` where the flash was off.
+    /// with `Off` where the flash was off, and nowhere else.
     pub fn boot(&mut self) -> Result<Reply, Fault>
         ensures { BootsDevice self.old self.new result }
     {
