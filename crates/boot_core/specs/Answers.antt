@@ -71,7 +71,7 @@ is_no_session upload.NoSession = true
 is_no_session other = false
 
 -- Whether a refusal leaves the device as it was, by whether its call may close an upload. One of
--- the flash doesn't. Where an upload may be closed, of those of uploads only that none is open does.
+-- the flash doesn't. Where an upload may be closed, one of uploads does only if none is open.
 abbrev pub keeps_all : Bool → Fault → Bool
 keeps_all closing (no.Flash error) = false
 keeps_all true (no.Upload error) = is_no_session error

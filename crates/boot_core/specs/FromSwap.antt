@@ -15,9 +15,12 @@ use Rattle.upload.specs.Device.{DeviceState}
 use Rattle.upload.specs.View.{view}
 use Rattle.machine.specs.Holding.{IsSwapped, Stands}
 use Rattle.machine.specs.Passing.{IsSwappingSome, IsUpgraded, IsUpgrading, reply_of}
-use Rattle.machine.specs.Reading.{IsFoundAgain}
+use Rattle.machine.specs.Boots.{IsDecision}
+use Rattle.machine.specs.Reading.{CanRead, IsFoundAgain}
 use Rattle.machine.specs.Wear.{IsResumed, IsSetFound, IsSetOf}
 use Rattle.machine.specs.declared.finding.Finding.{Finding}
+use Rattle.machine.specs.declared.finding.Finding.TheVariants.{Damaged, Decided, Invalid}
+use Rattle.decision.specs.Found.{HasTable}
 use Rattle.machine.specs.declared.reply.Reply.{Reply}
 use Rattle.boot_core.specs.BootEnds.{BootEnds}
 use Rattle.boot_core.specs.Found.{IsSwapAloneFor, IsToldAgain}
@@ -44,7 +47,7 @@ pub record CarriesSwap (map : SectorMap) (mask : ℕ) (old new : Chip)
       ≡ old.erases + steps_in_all map old Primary mask)
   pub ends : Ends result old new
 
--- From Swap to Settle: a call records that the set is swapped.
+-- At the end of the swap: a call records that the set is swapped.
 pub record RecordsSettle (map : SectorMap) (state : State) (old new : Chip)
     (result : Result State FlashError) : Type 0 where
   -- Nothing is written but the log.
@@ -63,6 +66,48 @@ pub record RecordsSettle (map : SectorMap) (state : State) (old new : Chip)
   pub recorded : IfOk result (λ now. state_of map new ≡ Some now)
   pub is : IfOk result (λ now. now ≡ record state { kind = log.Settle })
   pub erases : OnOk result (new.erases ≤ old.erases + 1)
+  pub ends : Ends result old new
+
+-- Where the decision is found again, the log says that its set is swapped.
+abbrev pub IsSettleRecorded : SectorMap → State → Chip → Finding → Type 0
+IsSettleRecorded map state chip (Decided table report) =
+    state_of map chip ≡ Some (record state { kind = log.Settle })
+IsSettleRecorded map state chip (Damaged i) = Unit {0}
+IsSettleRecorded map state chip Invalid = Unit {0}
+
+-- From Swap to Settle: a call ends the swap of the set of a record, finds the decision again, and
+-- records it.
+pub record SwapsForth (map : SectorMap) (state : State) (old new : Chip)
+    (result : Result Finding FlashError) : Type 0 where
+  -- The map stays laid out on the flash, and what lies behind it is what it was before.
+  pub laid : IsLaidOut map new
+  pub on_map : (start : Chip) → Keeps map any_part start old → Keeps map any_part start new
+  -- Whatever happened, the upgrade goes on from where it stood,
+  pub stands : (s : DeviceState) (table : Table)
+      → IsSwappingSome map old s table state.mask state.permanent
+      → IsUpgrading map new s table state.mask state.permanent
+  -- and its set is swapped, by what is found, where the call ends.
+  pub ok : IfOk result (λ finding. (s : DeviceState) (table : Table)
+      → IsSwappingSome map old s table state.mask state.permanent
+      → IsFoundAgain s state.mask finding
+      × IsSwapped (view map new) s table log.Settle state.mask state.permanent)
+  -- The log says so then.
+  pub recorded : IfOk result (IsSettleRecorded map state new)
+  -- What is found is the decision that a device's state had, with a row for each image,
+  pub found : IfOk result (λ finding. (s : DeviceState) (table : Table) (permanent : Bool)
+      → CanRead (view map new) s state.mask state.floors
+      → IsDecision s table state.mask permanent → IsFoundAgain s state.mask finding)
+  pub rows : IfOk result (HasTable map.images)
+  -- of the set of the record, or tells why no decision is found. Then nothing but the swap is
+  -- written.
+  pub set : IfOk result (IsSetFound state.mask)
+  pub told : IfOk result (IsToldAgain (view map new) state.mask state.floors)
+  pub alone : IfOk result (IsSwapAloneFor map state.mask old new)
+  -- A sector is erased for each step that was left, and one more at most.
+  pub erases : OnOk result ((s : DeviceState) (table : Table) (permanent : Bool)
+      → IsSwappingSome map old s table state.mask permanent
+      → new.erases + steps_done map old Primary state.mask
+      ≤ old.erases + steps_in_all map old Primary state.mask + 1)
   pub ends : Ends result old new
 
 -- From Swap on: a call ends the swap, finds the decision again, and takes its set, on trial or for

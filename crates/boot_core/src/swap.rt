@@ -4,7 +4,7 @@
 
 ghost use Rattle.std.specs.Prelude.{◌≤◌};
 ghost use Rattle.common.specs.Limits.{MOST_BOOTS_LEFT};
-ghost use Rattle.boot_core.specs.FromSwap.{BootsFromSwap, CarriesSwap, FinishesSwap, RecordsSettle};
+ghost use Rattle.boot_core.specs.FromSwap.{BootsFromSwap, CarriesSwap, FinishesSwap, RecordsSettle, SwapsForth};
 ghost use Rattle.boot_core.specs.Recorded.{HasRecordOf};
 ghost use Rattle.sector_map.specs.Map.{HasImages};
 ghost use Rattle.set_log.specs.declared.state.Kind.{Kind};
@@ -25,7 +25,7 @@ fn carry_swap<F: Flash>(flash: &mut F, map: &SectorMap, mask: u8) -> Result<(), 
     swap_set(flash, map, mask, Side::Primary)
 }
 
-/// From Swap to Settle: the set is swapped, and this is recorded.
+/// At the end of the swap: it is recorded as done.
 fn record_settle<F: Flash>(
     flash: &mut F,
     map: &SectorMap,
@@ -42,6 +42,28 @@ fn record_settle<F: Flash>(
     Ok(settle)
 }
 
+/// From Swap to Settle: the swap is done, from wherever it stands, the decision is found again, and
+/// this is recorded. Where it isn't found nothing but the swap is written.
+fn swap_forth<F: Flash>(
+    flash: &mut F,
+    map: &SectorMap,
+    state: &State,
+) -> Result<Finding, FlashError>
+    requires { HasRecordOf map.now Kind.Swap state.now (F.chip flash.old) }
+    ensures { SwapsForth map.now state.now (F.chip flash.old) (F.chip flash.new) result }
+{
+    let mask = state.mask;
+    carry_swap(flash, map, mask)?;
+    match find_again(flash, map, mask, &state.floors)? {
+        Finding::Decided { table, report } => {
+            record_settle(flash, map, state)?;
+            Ok(Finding::Decided { table, report })
+        }
+        Finding::Damaged(image) => Ok(Finding::Damaged(image)),
+        Finding::Invalid => Ok(Finding::Invalid),
+    }
+}
+
 /// From Swap on: the swap is done, from wherever it stands, the decision is found again, and the
 /// set is on trial, of so many boots more, or taken for good. Where it isn't found nothing but the
 /// swap is written.
@@ -55,11 +77,12 @@ pub(crate) fn finish_swap<F: Flash>(
     requires few { left ≤ MOST_BOOTS_LEFT }
     ensures { FinishesSwap map.now state.now left (F.chip flash.old) (F.chip flash.new) result }
 {
-    let mask = state.mask;
-    carry_swap(flash, map, mask)?;
-    match find_again(flash, map, mask, &state.floors)? {
+    match swap_forth(flash, map, state)? {
         Finding::Decided { table, report } => {
-            let settle = record_settle(flash, map, state)?;
+            let settle = State {
+                kind: Kind::Settle,
+                ..*state
+            };
             settle_found(
                 flash,
                 map,

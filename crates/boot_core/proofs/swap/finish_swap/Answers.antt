@@ -1,107 +1,57 @@
-use Rattle.std.proofs.Common.{rules, arith, ◌≡◌, ◌∙◌, Err, ap, inl, subst, sym}
+use Rattle.std.proofs.Common.{rules, arith, ◌≡◌, Err, inl, refl, subst, sym, ◌∙◌}
 use Rattle.std.proofs.lemmas.Result.{IfOk-weaker, on_ok_weaker}
-use Rattle.flash_model.specs.Chip.{Chip}
-use Rattle.sector_map.specs.declared.layout.Side.TheVariants.{Primary}
-use Rattle.sector_map.specs.Map.{IsLaidOut, Keeps}
-use Rattle.sector_map.specs.Part.{swap_of}
-use Rattle.sector_map.proofs.Parts.{laid_out_kept}
-use Rattle.set_log.specs.Log.{state_of}
-use Rattle.set_log.specs.declared.state.State.{State}
 use Rattle.upload.specs.View.{view}
-use Rattle.upload.proofs.Ends.{err_passed}
-use Rattle.machine.specs.Reading.{CanRead, IsFoundAgain}
+use Rattle.machine.specs.Reading.{IsFoundAgain}
 use Rattle.machine.specs.Wear.{IsSetFound}
 use Rattle.decision.specs.Found.{HasTable}
-use Rattle.boot_core.proofs.Readable.{can_read_before, decided_alone, decided_told, told_here}
-use Rattle.machine.proofs.Resuming.{never_swapped, swap_finishes, swap_records, swap_settles}
-use Rattle.boot_core.proofs.Records.{stands_within}
-use Rattle.boot_core.proofs.OnMap.{on_more}
-use Rattle.boot_core.proofs.Passed.{err_ends, then_ends, then_err, then_ok}
+use Rattle.boot_core.specs.Found.{IsSwapAloneFor, IsToldAgain}
+use Rattle.boot_core.specs.FromSwap.{IsSettleRecorded}
+use Rattle.boot_core.proofs.Readable.{decided_alone, decided_told}
+use Rattle.machine.proofs.Resuming.{swap_finishes}
+use Rattle.boot_core.proofs.Passed.{err_ends, ok_ends, then_ends}
 use Rattle.boot_core.proofs.swap.finish_swap.Goals as goal
 
-pub carry_swap-requires : goal.carry_swap-requires
-carry_swap-requires g c = record {
-  laid_out = c.requires.recorded.laid_out;
-  within = stands_within c.args.map.now _ c.args.state.now c.requires.recorded.read;
-}
-
-pub record_settle-requires : goal.record_settle-requires
-record_settle-requires g c = record {
-  laid_out = subst (λ chip. IsLaidOut c.args.map.now chip) (sym c.find_again.ensures.same)
-      (laid_out_kept c.args.map.now _ _ _ c.requires.recorded.laid_out c.carry_swap.ensures.outside);
-  read = ap (λ chip. state_of c.args.map.now chip) c.find_again.ensures.same
-      ∙ c.carry_swap.ensures.recorded ∙ c.requires.recorded.read;
-  kind = c.requires.recorded.kind;
-}
-
-pub find_again-requires : goal.find_again-requires
-find_again-requires g c = record {
-  laid_out = laid_out_kept c.args.map.now _ _ _ c.requires.recorded.laid_out c.carry_swap.ensures.outside;
+pub settle_found-requires : goal.settle_found-requires
+settle_found-requires g c = record {
+  laid_out = c.swap_forth.ensures.laid;
+  read = subst (λ found. IsSettleRecorded c.args.map.now c.args.state.now (g.F.Flash.chip c.swap_forth.new.flash) found)
+      c.in-Decided.is c.in_ok-table.ensures.recorded;
+  kind = refl;
+  few = c.requires.few;
+  found = λ s table permanent can decision.
+      subst (λ found. IsFoundAgain s c.args.state.now.mask found) c.in-Decided.is
+      (c.in_ok-table.ensures.found s table permanent can decision);
+  rows = subst (λ found. HasTable c.args.map.now.images found) c.in-Decided.is c.in_ok-table.ensures.rows;
 }
 
 pub returns-in_err-table : goal.returns-in_err-table
 returns-in_err-table g c =
-    rw (err_passed c.from_residual-in_err-table.result c.in_err-table.field-0.0 c.from_residual-in_err-table.ensures.1)
-    (record {
-      laid = subst (λ chip. IsLaidOut c.args.map.now chip) (sym c.find_again.ensures.same)
-          (laid_out_kept c.args.map.now _ _ _ c.requires.recorded.laid_out c.carry_swap.ensures.outside);
-      on_map = λ start was.
-          rw c.find_again.ensures.same (on_more _ _ start _ _ c.carry_swap.ensures.outside was);
-      stands = λ s table was.
-          rw c.find_again.ensures.same (inl (inl (c.carry_swap.ensures.stands s table _ was)));
-      ok = tt;
-      erases = tt;
-      set = tt;
-      told = tt;
-      alone = tt;
-      ends = then_err c.in_ok-carry_swap.ensures.ends c.in_err-table.ensures.ends;
-    })
-
-pub returns-in_err-settle-in-Decided : goal.returns-in_err-settle-in-Decided
-returns-in_err-settle-in-Decided g c =
-    let passed : c.from_residual-in_err-settle-in-Decided.result ≡ Err
-    c.in_err-settle-in-Decided.field-0.0 = search rules in
+    let passed : c.from_residual.result ≡ Err c.in_err-table.field-0.0 = search rules in
     rw passed (record {
-      laid = laid_out_kept c.args.map.now _ _ _ (subst (λ chip. IsLaidOut c.args.map.now chip)
-          (sym c.find_again.ensures.same)
-          (laid_out_kept c.args.map.now _ _ _ c.requires.recorded.laid_out c.carry_swap.ensures.outside))
-          c.record_settle.ensures.outside;
-      on_map = λ start was.
-          on_more _ _ start _ _ c.record_settle.ensures.outside
-          (rw c.find_again.ensures.same (on_more _ _ start _ _ c.carry_swap.ensures.outside was));
-      stands = λ s table was. inl
-          (swap_records c.args.map.now _ _ _ _ c.args.state.now c.find_again.ensures.same c.carry_swap.ensures.stands
-          c.in_ok-carry_swap.ensures.ok c.record_settle.ensures.stands s table was);
+      laid = c.swap_forth.ensures.laid;
+      on_map = c.swap_forth.ensures.on_map;
+      stands = λ s table was. inl (c.swap_forth.ensures.stands s table was);
       ok = tt;
       erases = tt;
       set = tt;
       told = tt;
       alone = tt;
-      ends = then_err (then_ends c.in_ok-carry_swap.ensures.ends c.in_ok-table.ensures.ends)
-          c.in_err-settle-in-Decided.ensures.ends;
+      ends = err_ends c.in_err-table.ensures.ends;
     })
 
-pub returns-in_ok-settle-in-Decided : goal.returns-in_ok-settle-in-Decided
-returns-in_ok-settle-in-Decided g c = record {
+pub returns-in-Decided : goal.returns-in-Decided
+returns-in-Decided g c = record {
   laid = c.settle_found.ensures.laid;
-  on_map = λ start was.
-      c.settle_found.ensures.on_map start (on_more _ _ start _ _ c.record_settle.ensures.outside (rw c.find_again.ensures.same (on_more _ _ start _ _ c.carry_swap.ensures.outside was)));
+  on_map = λ start was. c.settle_found.ensures.on_map start (c.swap_forth.ensures.on_map start was);
   stands = swap_finishes c.args.map.now _ _ _ c.args.state.now c.args.left
-      (swap_settles c.args.map.now _ _ _ _ c.args.state.now c.find_again.ensures.same c.in_ok-carry_swap.ensures.ok
-      c.in_ok-settle-in-Decided.ensures.ok) (rw c.in_ok-settle-in-Decided.ensures.is at c.settle_found.ensures.stands);
+      (λ s table was. (c.in_ok-table.ensures.ok s table was).1) c.settle_found.ensures.stands;
   ok = IfOk-weaker c.settle_found.result _ _
-      (λ finding holds. λ s table was. holds s table
-      (swap_settles c.args.map.now _ _ _ _ c.args.state.now c.find_again.ensures.same c.in_ok-carry_swap.ensures.ok
-      c.in_ok-settle-in-Decided.ensures.ok s table was)) (rw c.in_ok-settle-in-Decided.ensures.is at c.settle_found.ensures.ok);
+      (λ finding holds. λ s table was. holds s table (c.in_ok-table.ensures.ok s table was).1)
+      c.settle_found.ensures.ok;
   erases = on_ok_weaker c.settle_found.result
-      (λ settled. λ s table permanent was. omega (
-        arith,
-        c.in_ok-carry_swap.ensures.erases s table permanent was,
-        ap (λ (chip : Chip). chip.erases) c.find_again.ensures.same,
-        c.in_ok-settle-in-Decided.ensures.erases,
-        settled,
-      ))
-      (rw c.in_ok-settle-in-Decided.ensures.is at c.settle_found.ensures.erases);
+      (λ settled. λ s table permanent was.
+      omega (arith, c.in_ok-table.ensures.erases s table permanent was, settled))
+      c.settle_found.ensures.erases;
   set = IfOk-weaker c.settle_found.result _ _
       (λ answer is. subst (λ found. IsSetFound c.args.state.now.mask found) (c.in-Decided.is ∙ sym is)
       c.in_ok-table.ensures.set) c.settle_found.ensures.same;
@@ -109,92 +59,35 @@ returns-in_ok-settle-in-Decided g c = record {
       (λ answer is. decided_told c.args.map.now _ c.args.state.now answer _ _ is) c.settle_found.ensures.same;
   alone = IfOk-weaker c.settle_found.result _ _
       (λ answer is. decided_alone c.args.map.now _ _ c.args.state.now answer _ _ is) c.settle_found.ensures.same;
-  ends = then_ends (then_ends (then_ends c.in_ok-carry_swap.ensures.ends c.in_ok-table.ensures.ends)
-      c.in_ok-settle-in-Decided.ensures.ends) c.settle_found.ensures.ends;
+  ends = then_ends c.in_ok-table.ensures.ends c.settle_found.ensures.ends;
 }
 
 pub returns-in-Damaged : goal.returns-in-Damaged
 returns-in-Damaged g c = record {
-  laid = subst (λ chip. IsLaidOut c.args.map.now chip) (sym c.find_again.ensures.same)
-      (laid_out_kept c.args.map.now _ _ _ c.requires.recorded.laid_out c.carry_swap.ensures.outside);
-  on_map = λ start was.
-      rw c.find_again.ensures.same (on_more _ _ start _ _ c.carry_swap.ensures.outside was);
-  stands = λ s table was.
-      absurd (never_swapped c.args.map.now _ _ _ _ _ c.requires.recorded.read c.carry_swap.ensures.recorded
-      c.in_ok-carry_swap.ensures.ok c.in_ok-table.ensures.ok c.in-Damaged.is s table was);
-  ok = λ s table was.
-      absurd (never_swapped c.args.map.now _ _ _ _ _ c.requires.recorded.read c.carry_swap.ensures.recorded
-      c.in_ok-carry_swap.ensures.ok c.in_ok-table.ensures.ok c.in-Damaged.is s table was);
-  erases = λ s table permanent was. omega (
-    arith,
-    c.in_ok-carry_swap.ensures.erases s table permanent was,
-    ap (λ (chip : Chip). chip.erases) c.find_again.ensures.same,
-  );
+  laid = c.swap_forth.ensures.laid;
+  on_map = c.swap_forth.ensures.on_map;
+  stands = λ s table was. absurd (rw c.in-Damaged.is at (c.in_ok-table.ensures.ok s table was).0);
+  ok = λ s table was. absurd (rw c.in-Damaged.is at (c.in_ok-table.ensures.ok s table was).0);
+  erases = λ s table permanent was. omega (arith, c.in_ok-table.ensures.erases s table permanent was);
   set = subst (λ found. IsSetFound c.args.state.now.mask found) c.in-Damaged.is c.in_ok-table.ensures.set;
-  told = told_here c.args.map.now _ _ c.args.state.now _ _ c.find_again.ensures.same
-      c.in_ok-table.ensures.told c.in-Damaged.is;
-  alone = subst
-      (λ chip. Keeps c.args.map.now (swap_of c.args.state.now.mask Primary) (g.F.Flash.chip c.args.flash.now) chip)
-      (sym c.find_again.ensures.same) c.carry_swap.ensures.outside;
-  ends = then_ok c.in_ok-carry_swap.ensures.ends c.in_ok-table.ensures.ends;
+  told = subst (λ found. IsToldAgain (view c.args.map.now (g.F.Flash.chip c.swap_forth.new.flash))
+      c.args.state.now.mask c.args.state.now.floors found) c.in-Damaged.is c.in_ok-table.ensures.told;
+  alone = subst (λ found. IsSwapAloneFor c.args.map.now c.args.state.now.mask (g.F.Flash.chip c.args.flash.now)
+      (g.F.Flash.chip c.swap_forth.new.flash) found) c.in-Damaged.is c.in_ok-table.ensures.alone;
+  ends = ok_ends c.in_ok-table.ensures.ends;
 }
 
 pub returns-in-Invalid : goal.returns-in-Invalid
 returns-in-Invalid g c = record {
-  laid = subst (λ chip. IsLaidOut c.args.map.now chip) (sym c.find_again.ensures.same)
-      (laid_out_kept c.args.map.now _ _ _ c.requires.recorded.laid_out c.carry_swap.ensures.outside);
-  on_map = λ start was.
-      rw c.find_again.ensures.same (on_more _ _ start _ _ c.carry_swap.ensures.outside was);
-  stands = λ s table was.
-      absurd (never_swapped c.args.map.now _ _ _ _ _ c.requires.recorded.read c.carry_swap.ensures.recorded
-      c.in_ok-carry_swap.ensures.ok c.in_ok-table.ensures.ok c.in-Invalid.is s table was);
-  ok = λ s table was.
-      absurd (never_swapped c.args.map.now _ _ _ _ _ c.requires.recorded.read c.carry_swap.ensures.recorded
-      c.in_ok-carry_swap.ensures.ok c.in_ok-table.ensures.ok c.in-Invalid.is s table was);
-  erases = λ s table permanent was. omega (
-    arith,
-    c.in_ok-carry_swap.ensures.erases s table permanent was,
-    ap (λ (chip : Chip). chip.erases) c.find_again.ensures.same,
-  );
+  laid = c.swap_forth.ensures.laid;
+  on_map = c.swap_forth.ensures.on_map;
+  stands = λ s table was. absurd (rw c.in-Invalid.is at (c.in_ok-table.ensures.ok s table was).0);
+  ok = λ s table was. absurd (rw c.in-Invalid.is at (c.in_ok-table.ensures.ok s table was).0);
+  erases = λ s table permanent was. omega (arith, c.in_ok-table.ensures.erases s table permanent was);
   set = subst (λ found. IsSetFound c.args.state.now.mask found) c.in-Invalid.is c.in_ok-table.ensures.set;
-  told = told_here c.args.map.now _ _ c.args.state.now _ _ c.find_again.ensures.same
-      c.in_ok-table.ensures.told c.in-Invalid.is;
-  alone = subst
-      (λ chip. Keeps c.args.map.now (swap_of c.args.state.now.mask Primary) (g.F.Flash.chip c.args.flash.now) chip)
-      (sym c.find_again.ensures.same) c.carry_swap.ensures.outside;
-  ends = then_ok c.in_ok-carry_swap.ensures.ends c.in_ok-table.ensures.ends;
+  told = subst (λ found. IsToldAgain (view c.args.map.now (g.F.Flash.chip c.swap_forth.new.flash))
+      c.args.state.now.mask c.args.state.now.floors found) c.in-Invalid.is c.in_ok-table.ensures.told;
+  alone = subst (λ found. IsSwapAloneFor c.args.map.now c.args.state.now.mask (g.F.Flash.chip c.args.flash.now)
+      (g.F.Flash.chip c.swap_forth.new.flash) found) c.in-Invalid.is c.in_ok-table.ensures.alone;
+  ends = ok_ends c.in_ok-table.ensures.ends;
 }
-
-pub settle_found-requires : goal.settle_found-requires
-settle_found-requires g c = record {
-  laid_out = laid_out_kept c.args.map.now _ _ _ (subst (λ chip. IsLaidOut c.args.map.now chip)
-      (sym c.find_again.ensures.same)
-      (laid_out_kept c.args.map.now _ _ _ c.requires.recorded.laid_out c.carry_swap.ensures.outside))
-      c.record_settle.ensures.outside;
-  read = c.in_ok-settle-in-Decided.ensures.recorded;
-  kind = ap (λ (state : State). state.kind) c.in_ok-settle-in-Decided.ensures.is;
-  few = c.requires.few;
-  found = rw c.in_ok-settle-in-Decided.ensures.is (λ s table permanent can decision.
-      subst (λ found. IsFoundAgain s c.args.state.now.mask found) c.in-Decided.is
-      (c.in_ok-table.ensures.ok s table permanent
-      (subst (λ chip. CanRead (view c.args.map.now chip) s c.args.state.now.mask c.args.state.now.floors)
-      c.find_again.ensures.same
-      (can_read_before c.args.map.now _ _ s c.args.state.now.mask _ c.record_settle.ensures.outside can)) decision));
-  rows = subst (λ found. HasTable c.args.map.now.images found) c.in-Decided.is c.in_ok-table.ensures.rows;
-}
-
-pub returns-in_err-carry_swap : goal.returns-in_err-carry_swap
-returns-in_err-carry_swap g c =
-    let passed : c.from_residual.result ≡ Err c.in_err-carry_swap.field-0.0 = search rules in
-    rw passed (record {
-      laid = laid_out_kept c.args.map.now _ _ _ c.requires.recorded.laid_out c.carry_swap.ensures.outside;
-      on_map = λ start was.
-          on_more _ _ start _ _ c.carry_swap.ensures.outside was;
-      stands = λ s table was. inl (inl (c.carry_swap.ensures.stands s table _ was));
-      ok = tt;
-      erases = tt;
-      set = tt;
-      told = tt;
-      alone = tt;
-      ends = err_ends c.in_err-carry_swap.ensures.ends;
-    })
