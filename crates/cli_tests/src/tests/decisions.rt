@@ -227,6 +227,20 @@ pub(super) const DECISIONS: &str = "\
     $ image a-flags\n\
     > refused 4 UnsupportedFlags\n\
     = 1\n\
+    $ image sixteen\n\
+    > version 1.0.0+0 / length 336 / counter 0 / \
+    digest 81a62bfc4a716d9248cad1f848eafbe5b551cb372f06b4db7212a252ec8b1048 / \
+    needs 0 1.0.0+0 / needs 1 1.0.0+0 / needs 2 1.0.0+0 / needs 3 1.0.0+0 / needs 4 1.0.0+0 / \
+    needs 5 1.0.0+0 / needs 6 1.0.0+0 / needs 7 1.0.0+0 / needs 8 1.0.0+0 / needs 9 1.0.0+0 / \
+    needs 10 1.0.0+0 / needs 11 1.0.0+0 / needs 12 1.0.0+0 / needs 13 1.0.0+0 / \
+    needs 14 1.0.0+0 / needs 15 1.0.0+0\n\
+    = 0\n\
+    $ image seventeen\n\
+    > refused 12 TooManyDependencies\n\
+    = 1\n\
+    $ image group-25\n\
+    > refused 11 BadDependency\n\
+    = 1\n\
     $ image none\n\
     ! error: cannot read none\n\
     = 1\n\
@@ -330,5 +344,45 @@ pub(super) const DECISIONS: &str = "\
     \"kind\":\"test\",\"payload-digest\":\"ba7816bf8f01cfea414140de5dae2223b00361a396177a9cb41\
     0ff61f20015ad\",\"size\":4294967296}]}\n\
     > refused 3 BadValue\n\
+    = 1\n\
+    $ manifest device text\n\
+    : [[[[[[[[[[[[[[[[[[[[[[[[[[[[[[[[[[[[[[[[[[[[[[[[[[[[[[[[[[[[[[[[[[[[[[[[[[[[[[[[[[[[[[[[\
+    [[[[[[[[[[[[[[[[[[[[[[[[[[[[[[[[[[[[[[[[[[[[[[[[[[[[[[[[[[[[[[[[[[[[[[[[[[[[[[[[[[[[[[[[[[\
+    [[[[[[[[[[[[[[[[[[[[[[]]]]]]]]]]]]]]]]]]]]]]]]]]]]]]]]]]]]]]]]]]]]]]]]]]]]]]]]]]]]]]]]]]]]\
+    ]]]]]]]]]]]]]]]]]]]]]]]]]]]]]]]]]]]]]]]]]]]]]]]]]]]]]]]]]]]]]]]]]]]]]]]]]]]]]]]]]]]]]]]]]]\
+    ]]]]]]]]]]]]]]]]]]]]]]]]]]]]]]]]]]]]]]]]]]\n\
+    > refused 1 NotJson\n\
+    = 1\n\
+    $ manifest device text\n\
+    : {\"manifest-version\":1,\"sequence-number\":1,\
+    \"vendor-id\":\"886313e1-3b8a-5372-9b90-0c9aee199e5d\",\
+    \"class-id\":\"11111111-2222-5333-8444-555555555555\",\"components\":[{\"component-id\":0,\
+    \"kind\":\"test\",\"payload-digest\":\"ba7816bf8f01cfea414140de5dae2223b00361a396177a9cb41\
+    0ff61f20015a\",\"size\":3}]}\n\
+    > refused 3 BadValue\n\
+    = 1\n\
+    $ manifest device text\n\
+    : {\"manifest-version\":1,\"sequence-number\":1,\
+    \"vendor-id\":\"886313e1-3b8a-5372-9b90-0c9aee199e5\",\
+    \"class-id\":\"11111111-2222-5333-8444-555555555555\",\"components\":[{\"component-id\":0,\
+    \"kind\":\"test\",\"payload-digest\":\"ba7816bf8f01cfea414140de5dae2223b00361a396177a9cb41\
+    0ff61f20015ad\",\"size\":3}]}\n\
+    > refused 3 BadValue\n\
+    = 1\n\
+    $ manifest device text\n\
+    : {\"manifest-version\":1,\"sequence-number\":1,\
+    \"vendor-id\":\"886313e1-3b8a-5372-9b90-0c9aee199e5\",\
+    \"class-id\":\"11111111-2222-5333-8444-555555555556\",\"components\":[{\"component-id\":0,\
+    \"kind\":\"test\",\"payload-digest\":\"ba7816bf8f01cfea414140de5dae2223b00361a396177a9cb41\
+    0ff61f20015ad\",\"size\":3}]}\n\
+    > refused 3 BadValue\n\
+    = 1\n\
+    $ manifest device text\n\
+    : {\"manifest-version\":1,\"sequence-number\":1,\
+    \"vendor-id\":\"886313e1-3b8a-5372-9b90-0c9aee199e5d\",\
+    \"class-id\":\"11111111-2222-5333-8444-555555555556\",\"components\":[{\"component-id\":0,\
+    \"kind\":\"test\",\"payload-digest\":\"ba7816bf8f01cfea414140de5dae2223b00361a396177a9cb41\
+    0ff61f20015ad\",\"size\":3}]}\n\
+    > refused 5 WrongClass\n\
     = 1\n\
     ";
