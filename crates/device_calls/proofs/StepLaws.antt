@@ -182,7 +182,7 @@ kept_after map bytes chip sessions true kept laid is opens keeps = record {
 }
 kept_after map bytes chip sessions false kept laid is opens keeps = record {
   flash = flash_powered map bytes chip laid is;
-  kept = Down refl none_open (λ others was. zero_one kept.is_up (keeps.down refl) was.up);
+  kept = Down refl none_open (λ others was. zero_one kept.is_up (ap (λ (k : Kept). k.is_up) (keeps.down refl)) was.up);
 }
 
 holds_after : (map : SectorMap) (chip : Chip) (sessions : List (Option Upload)) (is_up : Bool) → IsLaidOut map chip

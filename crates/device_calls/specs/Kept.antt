@@ -1,5 +1,5 @@
 -- What a device keeps between two calls, and which device it is.
-use Rattle.std.specs.Prelude.{◌≡◌, ℕ, ◌≤◌, ◌==◌, Bool, true, false, List, [], take, slice_index_or}
+use Rattle.std.specs.Prelude.{◌≡◌, ℕ, ◌≤◌, ◌==◌, Bool, true, false, List, replicate, take, slice_index_or}
 use Rattle.std.specs.Prelude.{Option, Some, None, if◌then◌else◌}
 use Rattle.flash_model.specs.Chip.{Chip}
 use Rattle.sector_map.specs.declared.layout.SectorMap.{SectorMap}
@@ -33,7 +33,7 @@ abbrev pub KeepsUpload : KeptUpload → Option Upload → Type 0
 KeepsUpload row None = row.is_open ≡ 0
 KeepsUpload row (Some upload) = IsKeptIn row upload
 
--- No row.
+-- A row of no upload: all zero.
 abbrev pub no_row : KeptUpload
 no_row = record {
   size = 0;
@@ -42,8 +42,8 @@ no_row = record {
   kind = 0;
   held_length = 0;
   unused = 0;
-  held = [];
-  digest = [];
+  held = replicate 8 0;
+  digest = replicate 32 0;
 }
 
 -- Rows keep a table of uploads.
@@ -79,15 +79,19 @@ pub record IsDeviceOf (map : SectorMap) (bytes : List ℕ) (beside : Kept) (devi
   pub flash : IsFlashOf map bytes device.flash
   pub kept : IsKept map beside device
 
+-- What is kept of a device that isn't up: all zero.
+abbrev pub no_device : Kept
+no_device = record { is_up = 0; unused = replicate 3 0; uploads = replicate 8 no_row }
+
 -- What is kept of a device with these uploads.
 pub record KeepsDevice (kept : Kept) (sessions : List (Option Upload)) (is_up : Bool) : Type 0 where
   pub up : is_up ≡ true → kept.is_up ≡ 1
   pub each : is_up ≡ true → KeepsUploads kept.uploads sessions
-  pub down : is_up ≡ false → kept.is_up ≡ 0
+  pub down : is_up ≡ false → kept ≡ no_device
 
 -- Nothing is kept but that the device isn't up.
 abbrev pub IsDown : Kept → Type 0
-IsDown kept = kept.is_up ≡ 0
+IsDown kept = kept ≡ no_device
 
 -- A device that a call left is in these bytes, and in what is kept beside them. Its flash may be
 -- off.
