@@ -107,7 +107,7 @@ pub record StepsOn (made_of : Made) (call : Call) (old : List ℕ) (was : Kept) 
   -- It is made on a device that the bytes are, whose flash has power,
   pub before : DeviceView
   pub is_before : IsDeviceOf made_of.map old was before
-  -- and leaves one that they are then, whose flash is off after a cut.
+  -- and leaves one that they are then, whose flash may be off: a write of it may have been cut.
   pub left : DeviceView
   pub is_left : IsLeftIn made_of.map new is left
   -- Between these it does all that is promised of it.
