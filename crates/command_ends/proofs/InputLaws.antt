@@ -1,13 +1,11 @@
 -- What sources give that are read one after the other.
-use Rattle.std.proofs.Common.{◌≡◌, ◌≢◌, ℕ, zero, suc, ◌<◌, List, [], ◌∷◌, Option, None, Some, IfSome, arith, Bool, codes, length, refl, ◌∙◌}
-use Rattle.std.specs.Borrow.{Bor}
-use Rattle.std.specs.List.{slice_get}
+use Rattle.std.proofs.Common.{ℕ, List, [], ◌∷◌, Bool, Option, None, Some, refl, ◌∙◌}
 use Rattle.std.specs.Io.KnownBytes.{Keeps}
 use Rattle.command_ends.specs.declared.source.Source.{Source}
 use Rattle.command_ends.specs.declared.source.Source.TheVariants.{StandardInput, File}
-use Rattle.command_ends.specs.Input.{FileBytes, GiveBoth, Gives, IsKnownAs, IsNamed, KeepsFiles, KeepsOthers}
+use Rattle.command_ends.specs.Input.{FileBytes, GiveBoth, Gives, IsKnownAs, KeepsFiles, KeepsOthers}
 use Rattle.command_ends.specs.Doings.{IsApartFrom, KeepsApart, KeepsSource}
-use Rattle.command_ends.specs.Inputs.{GiveEach, LeavesFiles, NameFiles, names_of}
+use Rattle.command_ends.specs.Inputs.{GiveEach}
 
 -- known bytes that were kept are those that were known before
 pub IsKnownAs-kept : (old new : Option (List ℕ)) (bytes : List ℕ)
@@ -82,33 +80,6 @@ pub KeepsFiles-twice : (old mid new : FileBytes) → KeepsFiles old mid → Keep
     → KeepsFiles old new
 KeepsFiles-twice old mid new first second =
     λ name. kept_twice (old name) (mid name) (new name) (first name) (second name)
-
--- a word that isn't `-` names a file, and to read that keeps all files
-file_kept : (name : List ℕ) (source : Source) (input new_input : Option (List ℕ))
-    (files new_files : FileBytes) → name ≢ codes "-" → IsNamed name source
-    → KeepsOthers source input files new_input new_files → KeepsFiles files new_files
-file_kept name StandardInput input new_input files new_files other named kept = absurd (other named)
-file_kept name (File word) input new_input files new_files other named kept = kept.1
-
--- so does each of such words
-pub KeepsFiles-read : (names : List (Bor (List ℕ))) (place : ℕ) (source : Source)
-    (input new_input : Option (List ℕ)) (files new_files : FileBytes) → place < length names
-    → NameFiles (names_of names) → IfSome (slice_get names place) (λ name. IsNamed name.now source)
-    → KeepsOthers source input files new_input new_files → KeepsFiles files new_files
-KeepsFiles-read [] place source input new_input files new_files within all named kept =
-    absurd (omega (arith, within))
-KeepsFiles-read (name ∷ rest) zero source input new_input files new_files within all named kept =
-    file_kept name.now source input new_input files new_files all.0 named kept
-KeepsFiles-read (name ∷ rest) (suc place) source input new_input files new_files within all named kept =
-    KeepsFiles-read rest place source input new_input files new_files (omega (arith, within)) all.1 named kept
-
--- a source was read, and then others were
-pub LeavesFiles-read : (source : Source) (names : List (List ℕ)) (input new_input : Option (List ℕ))
-    (old mid new : FileBytes) → KeepsOthers source input old new_input mid
-    → (NameFiles names → KeepsFiles mid new) → LeavesFiles source names old new
-LeavesFiles-read StandardInput names input new_input old mid new kept after = tt
-LeavesFiles-read (File name) names input new_input old mid new kept after =
-    λ all. KeepsFiles-twice old mid new kept.1 (after all)
 
 -- where all files were kept, each was that is read, and that isn't the one of a name
 pub KeepsSource-kept : (source : Source) (old new : FileBytes) → KeepsFiles old new
