@@ -266,6 +266,8 @@ pub record Replies (event : DeviceEvent) (old new : Whole) (reply : Reply) : Typ
   pub cuts : new.here.flash.cuts ≡ old.here.flash.cuts + cut_of reply
   -- and else the flash has power.
   pub power : cut_of reply ≡ 0 → new.here.flash.is_on ≡ true
+  -- What is fixed of the flash stays, so also which writes of it are to be cut.
+  pub fixed : new.here.flash.fixed ≡ old.here.flash.fixed
 
 -- A device takes a step: it replies to an event, and is reset after a cut.
 pub record Steps (event : DeviceEvent) (old new : Whole) (reply : Reply) : Type 0 where
@@ -277,6 +279,8 @@ pub record Steps (event : DeviceEvent) (old new : Whole) (reply : Reply) : Type 
   pub cuts : new.here.flash.cuts ≡ old.here.flash.cuts + cut_of reply
   -- and the flash has power.
   pub on : new.here.flash.is_on ≡ true
+  -- What is fixed of the flash stays, so also which writes of it are to be cut.
+  pub fixed : new.here.flash.fixed ≡ old.here.flash.fixed
 
 -- A device replies to these events, in order.
 pub record Runs (events : List DeviceEvent) (old new : Whole) {A E : Type 0}

@@ -1,22 +1,24 @@
 -- The flash of a run that was just made.
-use Rattle.std.proofs.Common.{◌≡◌, ◌++◌, List, ℕ, ap, ◌∙◌}
+use Rattle.std.proofs.Common.{◌≡◌, ◌++◌, ◌∷◌, [], List, ℕ, ap, append_assoc, sym, ◌∙◌}
+use Rattle.std.proofs.lemmas.List.{map-append}
 use Rattle.flash_model.specs.declared.torn.Armed.{Armed}
 use Rattle.flash_model.specs.Chip.{Chip}
-use Rattle.flash_model.specs.Memory.{Memory, with_armed}
+use Rattle.flash_model.specs.Memory.{with_armed}
 use Rattle.sector_map.specs.declared.layout.SectorMap.{SectorMap}
 use Rattle.device_texts.specs.FlashOf.{flash_of}
-use Rattle.core_cli.specs.RunEnd.{armed_chip, armed_flash}
+use Rattle.reading_inputs.specs.declared.judging.Cut.{Cut}
+use Rattle.reading_inputs.specs.Loading.{armed_in, armed_of}
+use Rattle.core_cli.specs.RunEnd.{armed_chip}
 
--- a flash in memory, by what contracts see of it
-abbrev memory_with : Chip → ℕ → Memory
-memory_with chip writes = record { chip = chip; writes = writes }
-
--- the flash in memory that has these bytes, took no write, and of whose writes these are to be cut
-pub armed-flash : (memory : Memory) (map : SectorMap) (bytes : List ℕ) (cuts : List Armed)
-    → memory.chip ≡ armed_chip map bytes cuts → memory.writes ≡ 0 → memory ≡ armed_flash map bytes cuts
-armed-flash memory map bytes cuts held unwritten =
-    ap (λ chip. memory_with chip memory.writes) held
-    ∙ ap (λ writes. memory_with (armed_chip map bytes cuts) writes) unwritten
+-- a cut of a script more is armed
+pub armed-more : (old mid new : List Armed) (before : List Cut) (cut : Cut) (at : ℕ) → at ≡ cut.write
+    → new ≡ mid ++ record { at = at; torn = cut.torn } ∷ [] → mid ≡ old ++ armed_in before
+    → new ≡ old ++ armed_in (before ++ cut ∷ [])
+armed-more old mid new before cut at number is known =
+    let one : List Armed = armed_of cut ∷ [] in
+    is ∙ ap (λ k. mid ++ record { at = k; torn = cut.torn } ∷ []) number
+    ∙ ap (λ all. all ++ one) known ∙ append_assoc old (armed_in before) one
+    ∙ ap (λ all. old ++ all) (sym (map-append armed_of before (cut ∷ [])))
 
 -- the flash that has these bytes, once these writes were armed and no other was before
 pub armed-chip : (old new : Chip) (map : SectorMap) (bytes : List ℕ) (cuts : List Armed)

@@ -60,6 +60,7 @@ AnswersRun-kept device flash script input file old mid new answered kept = recor
     replies = answered.plays.replies;
     come = answered.plays.come;
     played = answered.plays.played;
+    cut = answered.plays.cut;
     answered = answered.plays.answered;
     written = Appends-kept old mid new _ answered.plays.written kept;
   };

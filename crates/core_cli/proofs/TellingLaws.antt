@@ -8,11 +8,12 @@ use Rattle.std.proofs.lemmas.List.{length-map, map-append}
 use Rattle.std.proofs.lemmas.Option.{slice_get-get_or}
 use Rattle.events.specs.declared.event.Event.{Event}
 use Rattle.flash_model.specs.declared.torn.Armed.{Armed}
+use Rattle.flash_model.specs.Chip.{Chip, IsCutAsArmed, numbers_of, reached}
 use Rattle.script.specs.declared.line_order.Reading.{Reading}
 use Rattle.machine.specs.Holding.{DeviceView}
 use Rattle.machine.specs.Intake.{Setup}
 use Rattle.machine.specs.Passing.{RunsTo, StepsTo}
-use Rattle.machine.specs.Steps.{DeviceEvent}
+use Rattle.machine.specs.Steps.{DeviceEvent, cut_of, cuts_in}
 use Rattle.machine.specs.declared.reply.Reply.{Reply}
 use Rattle.machine.proofs.Runs.{runs_more, runs_none}
 use Rattle.boot_core.specs.Device.{seen}
@@ -27,7 +28,7 @@ use Rattle.device_texts.proofs.ReplyLaws.{replies_text-push}
 use Rattle.common.specs.Lines.{lines_of}
 use Rattle.command_ends.specs.Input.{FileBytes}
 use Rattle.reading_inputs.specs.declared.judging.Kept.{Kept}
-use Rattle.core_cli.specs.RunEnd.{IsMadeOf, answer_after, answer_of, armed_chip, came_by}
+use Rattle.core_cli.specs.RunEnd.{AreCutAsArmed, IsMadeOf, answer_after, answer_of, armed_chip, came_by}
 use Rattle.device_texts.specs.DeviceFile.{setup_of}
 use Rattle.core_cli.specs.Telling.{BreaksEvent, BreaksText, PlaysText, TellsAll, TellsEvent, TellsFirst, TellsSome, TellsText}
 use Rattle.reading_inputs.proofs.ScriptLaws.{AreTaken, BringsFirst-none, BringsFirst-taken}
@@ -46,6 +47,25 @@ replied : (events : List DeviceEvent) (replies : List Reply) (came : List (Event
     → map came_by events ≡ came → length replies ≡ length events → length replies ≡ length came
 replied events replies came come each = each ∙ sym (length-map events came_by) ∙ ap length come
 
+-- a reply more
+cuts_in-push : (replies : List Reply) (reply : Reply)
+    → cuts_in (replies ++ reply ∷ []) ≡ cuts_in replies + cut_of reply
+cuts_in-push [] reply = omega arith
+cuts_in-push (first ∷ replies) reply = let rest = cuts_in-push replies reply in omega (arith, rest)
+
+-- replies of a device that was just made are cut as the flash was armed
+cut_as_armed : (device : DeviceFile) (bytes : List ℕ) (cuts : List Armed) (old new : DeviceView)
+    (replies : List Reply) → IsMadeOf device.map bytes cuts old → new.flash.cuts ≡ old.flash.cuts + cuts_in replies
+    → new.flash.fixed ≡ old.flash.fixed → IsCutAsArmed new.flash → new.flash.faults ≡ 0
+    → AreCutAsArmed replies cuts new.flash
+cut_as_armed device bytes cuts old new replies made counted fixed law faults =
+    let none : old.flash.cuts ≡ 0 = ap (λ (chip : Chip). chip.cuts) made.flash in
+    let numbers : new.flash.fixed.numbers ≡ numbers_of cuts =
+    ap (λ f. f.numbers) fixed ∙ ap (λ (chip : Chip). chip.fixed.numbers) made.flash in
+    let same : reached new.flash.fixed.numbers new.flash.writes ≡ reached (numbers_of cuts) new.flash.writes =
+    ap (λ all. reached all new.flash.writes) numbers in
+    omega (arith, none, counted, law, faults, same)
+
 -- before the first event
 pub TellsAll-none : (setup : Setup) (here : DeviceView) (written : Option (List ℕ))
     → TellsAll Done setup here here [] written written
@@ -55,6 +75,8 @@ TellsAll-none setup here written = record {
   come = refl;
   runs = runs_none setup here;
   each = refl;
+  cuts = omega arith;
+  fixed = refl;
   answered = refl;
   written = Appends-nil written;
 }
@@ -77,6 +99,8 @@ TellsAll-more setup here old mid new came one number answer next before between 
           (subst (λ s. StepsTo s mid new told.event told.reply) same told.steps);
       each = length-append before_it.replies (told.reply ∷ []) ∙ ap (λ k. k + 1) before_it.each
           ∙ sym (length-append before_it.events (told.event ∷ []));
+      cuts = omega (arith, told.cuts, before_it.cuts, cuts_in-push before_it.replies told.reply);
+      fixed = told.fixed ∙ before_it.fixed;
       answered = told.answered ∙ sym (answer_of-push before_it.replies told.reply);
       written = subst (Appends before after) (sym (replies_text-push 1 before_it.replies told.reply))
           (Appends-trans before between after _ _ before_it.written
@@ -154,8 +178,9 @@ pub PlaysText-told : (device : DeviceFile) (bytes : List ℕ) (cuts : List Armed
     (kept : List Kept) (files : FileBytes) (old new : DeviceView) (answer : Answer)
     (before after : Option (List ℕ)) → IsMadeOf device.map bytes cuts old
     → TellsText answer (setup_of device) old new text kept files before after
+    → IsCutAsArmed new.flash → new.flash.faults ≡ 0
     → PlaysText answer device bytes cuts text kept files before after
-PlaysText-told device bytes cuts text kept files old new answer before after made all =
+PlaysText-told device bytes cuts text kept files old new answer before after made all law faults =
     let told = all.tells in
     record {
       came = all.came;
@@ -165,6 +190,7 @@ PlaysText-told device bytes cuts text kept files old new answer before after mad
         replies = told.replies;
         come = told.come;
         played = record { old = old; new = new; made = made; runs = told.runs; each = told.each };
+        cut = cut_as_armed device bytes cuts old new told.replies made told.cuts told.fixed law faults;
         answered = told.answered;
         written = told.written;
       };

@@ -4,13 +4,13 @@ use Rattle.std.specs.Io.KnownBytes.{Appends}
 use Rattle.events.specs.declared.event.Event.{Event}
 use Rattle.events.specs.Event.{event_map}
 use Rattle.flash_model.specs.declared.torn.Armed.{Armed}
-use Rattle.flash_model.specs.Chip.{Chip}
-use Rattle.flash_model.specs.Memory.{Memory, with_armed}
+use Rattle.flash_model.specs.Chip.{Chip, numbers_of, reached}
+use Rattle.flash_model.specs.Memory.{with_armed}
 use Rattle.sector_map.specs.declared.layout.SectorMap.{SectorMap}
 use Rattle.upload.specs.Sessions.{AllClosed}
 use Rattle.machine.specs.Holding.{DeviceView}
 use Rattle.machine.specs.Passing.{RunsTo}
-use Rattle.machine.specs.Steps.{DeviceEvent}
+use Rattle.machine.specs.Steps.{DeviceEvent, cuts_in}
 use Rattle.machine.specs.declared.reply.Reply.{Reply}
 use Rattle.machine.specs.declared.reply.Reply.TheVariants as reply
 use Rattle.command_ends.specs.declared.answer.Answer.{Answer}
@@ -28,10 +28,6 @@ use Rattle.reading_inputs.specs.Script.{IsScript, known_after_each}
 -- The flash that has these bytes, of whose writes these are to be cut, as counted from now.
 abbrev pub armed_chip : SectorMap → List ℕ → List Armed → Chip
 armed_chip map bytes cuts = with_armed (flash_of map bytes) cuts
-
--- That flash in memory. It took no write yet.
-abbrev pub armed_flash : SectorMap → List ℕ → List Armed → Memory
-armed_flash map bytes cuts = record { chip = armed_chip map bytes cuts; writes = 0 }
 
 -- A device that was just made, over a flash with these bytes of whose writes these are to be cut,
 -- and no others. It isn't up, and no upload is open.
@@ -69,6 +65,11 @@ answer_of replies = answer_after (slice_get replies (length replies - 1))
 abbrev pub came_by : DeviceEvent → Event (List ℕ)
 came_by lent = event_map (λ bytes. bytes.now) lent
 
+-- Of these replies as many are Cut as the flash took writes that were to be cut: it was cut in each
+-- of those, and in no other.
+abbrev pub AreCutAsArmed : List Reply → List Armed → Chip → Type 0
+AreCutAsArmed replies cuts flash = cuts_in replies ≡ reached (numbers_of cuts) flash.writes
+
 -- What is answered of a device of this file with these bytes on its flash, of whose writes these
 -- are to be cut, and to which this comes; and what a writer took: the replies.
 pub record Plays (answer : Answer) (device : DeviceFile) (bytes : List ℕ) (cuts : List Armed)
@@ -77,6 +78,7 @@ pub record Plays (answer : Answer) (device : DeviceFile) (bytes : List ℕ) (cut
   pub replies : List Reply
   pub come : map came_by events ≡ came
   pub played : IsPlayed device bytes cuts events replies
+  pub cut : AreCutAsArmed replies cuts played.new.flash
   pub answered : answer ≡ answer_of replies
   pub written : Appends old new (replies_text 1 replies)
 

@@ -7,7 +7,7 @@ use Rattle.flash_model.specs.declared.torn.Armed.{Armed}
 use Rattle.machine.specs.Holding.{DeviceView}
 use Rattle.machine.specs.Intake.{Setup}
 use Rattle.machine.specs.Passing.{RunsTo, StepsTo}
-use Rattle.machine.specs.Steps.{DeviceEvent}
+use Rattle.machine.specs.Steps.{DeviceEvent, cut_of, cuts_in}
 use Rattle.machine.specs.declared.reply.Reply.{Reply}
 use Rattle.command_ends.specs.declared.answer.Answer.{Answer}
 use Rattle.command_ends.specs.declared.error.Refusal.{Refusal}
@@ -35,6 +35,9 @@ pub record TellsEvent (answer : Answer) (number : ℕ) (setup : Setup) (old new 
   pub reply : Reply
   pub comes : came_by event ≡ came
   pub steps : StepsTo setup old new event reply
+  -- The reply is Cut where a write was cut and nowhere else, and what is fixed of the flash stays.
+  pub cuts : new.flash.cuts ≡ old.flash.cuts + cut_of reply
+  pub fixed : new.flash.fixed ≡ old.flash.fixed
   pub written : Appends before after (reply_text number reply)
   pub answered : answer ≡ answer_after (Some reply)
 
@@ -56,6 +59,9 @@ pub record TellsAll (answer : Answer) (setup : Setup) (old new : DeviceView)
   pub come : map came_by events ≡ came
   pub runs : RunsTo setup old new events replies
   pub each : length replies ≡ length events
+  -- As many replies are Cut as writes were cut, and what is fixed of the flash stays.
+  pub cuts : new.flash.cuts ≡ old.flash.cuts + cuts_in replies
+  pub fixed : new.flash.fixed ≡ old.flash.fixed
   pub answered : answer ≡ answer_of replies
   pub written : Appends before after (replies_text 1 replies)
 

@@ -3,13 +3,13 @@ ghost use Rattle.std.specs.Prelude.{◌≡◌, ◌++◌, IfErr, IfOk, OnOk, Some
 ghost use Rattle.std.specs.Io.KnownBytes.{Appends};
 ghost use Rattle.std.specs.Option.{ForSome};
 ghost use Rattle.file_flash.specs.FileFlash.{chip_of as over_chip, new_over, over_file};
-ghost use Rattle.flash_model.specs.Memory.{chip_of, memory_of, with_armed};
+ghost use Rattle.flash_model.specs.Memory.{chip_of, with_armed};
 ghost use Rattle.sector_map.specs.Map.{IsLaidOut};
 ghost use Rattle.device_texts.specs.DeviceFile.{IsOfFile};
 ghost use Rattle.device_texts.specs.FlashOf.{IsFlashOf};
 ghost use Rattle.device_texts.specs.ReplyText.{reply_text};
 ghost use Rattle.reading_inputs.specs.Loading.{armed_in, came_of};
-ghost use Rattle.core_cli.specs.RunEnd.{AnswersRun, answer_after, armed_flash};
+ghost use Rattle.core_cli.specs.RunEnd.{AnswersRun, answer_after, armed_chip};
 ghost use Rattle.core_cli.specs.Telling.{BreaksEvent, BreaksOff, BreaksText, PlaysText, TellsEvent, TellsFirst, TellsText};
 ghost use Rattle.command_ends.specs.declared.source.Source.TheVariants as source;
 
@@ -176,7 +176,7 @@ fn armed_flash<L: Ledger, M: Ledger, F: FlashFile + Drop>(
     requires whole { IsFlashOf map.now bytes.items }
     requires held { ForSome (F.contents file) (λ all. all ≡ bytes.items) }
     ensures armed { IfOk result (λ flash. over_file flash
-        ≡ new_over (armed_flash map.now bytes.items (armed_in cuts.items))) }
+        ≡ new_over (armed_chip map.now bytes.items (armed_in cuts.items))) }
     ensures laid_out { IfOk result (λ flash. IsLaidOut map.now (over_chip flash)) }
 {
     let mut memory = flash_of::<M>(alloc, memory_blank, map, bytes);
@@ -184,11 +184,11 @@ fn armed_flash<L: Ledger, M: Ledger, F: FlashFile + Drop>(
     Ok(FileFlash::over(memory, blank, file))
 }
 
-/// Has these writes of a flash cut too, behind those that are to be cut already.
+/// Has these writes of a flash cut too, behind those that are to be cut already. It took none yet.
 fn arm_all<M: Ledger>(memory: &mut MemFlash<M>, cuts: Vec<Cut>) -> Result<(), AllocError>
+    requires { (chip_of memory.old).writes ≡ 0 }
     ensures chip { chip_of memory.new
         ≡ with_armed (chip_of memory.old) (chip_of memory.new).fixed.armed }
-    ensures writes { (memory_of memory.new).writes ≡ (memory_of memory.old).writes }
     ensures armed { OnOk result ((chip_of memory.new).fixed.armed
         ≡ (chip_of memory.old).fixed.armed ++ armed_in cuts.items) }
 {

@@ -3,7 +3,7 @@
 ghost use Rattle.std.specs.Prelude.{◌≡◌, ◌+◌, ◌<◌, ◌≤◌, ◌⊎◌, length, false, true, slice_range, option_map, IfSome, IsErrOf, OnOk};
 ghost use Rattle.std.specs.Bool.{OnFalse};
 ghost use Rattle.std.specs.Option.{ForSome};
-ghost use Rattle.flash_model.specs.Chip.{size_of};
+ghost use Rattle.flash_model.specs.Chip.{size_of, IsCutAsArmed};
 ghost use Rattle.flash_model.specs.Calls.{CanProgram, Erases, Programs, ReadsBytes};
 ghost use Rattle.flash_model.specs.Memory.{chip_of as memory_of};
 ghost use Rattle.flash_model.specs.Torn.{replaced};
@@ -132,6 +132,7 @@ impl<F: FlashFile, L: Ledger, M: Ledger> FileFlash<F, L, M> {
     pub fn has_failed(&self) -> bool
         ensures answer { result ≡ (over_file self.now).has_failed }
         ensures faults { OnFalse result ((chip_of self.now).faults ≡ 0) }
+        ensures armed { IsCutAsArmed (chip_of self.now) }
         ensures written { OnFalse result
             (IfSome (F.contents (file_of self.now)) (λ all. all ≡ (chip_of self.now).bytes)) }
     {

@@ -1,1 +1,2 @@
+mod CutRuns
 mod LivingLaws

@@ -9,38 +9,20 @@ use Rattle.events.specs.declared.event.Event.TheVariants as event
 use Rattle.events.specs.Event.{event_map}
 use Rattle.flash_model.specs.declared.torn.Armed.{Armed}
 use Rattle.flash_model.specs.declared.torn.Torn.{Torn}
-use Rattle.flash_model.specs.Chip.{Chip}
-use Rattle.flash_model.specs.Memory.{with_armed}
+use Rattle.flash_model.specs.Chip.{Chip, Fixed}
+use Rattle.flash_model.specs.Memory.{armed_with, with_armed}
 use Rattle.sector_map.specs.declared.layout.SectorMap.{SectorMap}
 use Rattle.version_order.specs.declared.version.Version.{Version}
 use Rattle.machine.specs.Holding.{DeviceView}
 use Rattle.machine.specs.Intake.{Setup}
-use Rattle.machine.specs.Passing.{RunsTo, StepsTo}
 use Rattle.machine.specs.Steps.{DeviceEvent}
 use Rattle.machine.specs.declared.reply.Reply.{Reply}
-use Rattle.machine.proofs.Runs.{run_joins, runs_more, runs_none}
 use Rattle.device_texts.specs.FlashOf.{flash_of}
 use Rattle.device_texts.proofs.TextLaws.{range-more}
 use Rattle.sweep.specs.Cuts.{AreArmedFor, ArmsAll, IsArmedFor, IsTorn}
 use Rattle.sweep.specs.declared.cuts.Cut.{Cut}
-use Rattle.sweep.specs.Living.{HasVersion, Lives, LivesOne, Reboots, held_in, lent_in, with_boots}
-
--- ---- runs
-
--- a run goes on by a run
-runs_join : (setup : Setup) (old mid new : DeviceView) (events more : List DeviceEvent) (replies answered : List Reply)
-    → RunsTo setup old mid events replies → RunsTo setup mid new more answered
-    → RunsTo setup old new (events ++ more) (replies ++ answered)
-runs_join setup old mid new events more replies answered runs rest = λ m holds.
-    let before = runs m holds in
-    let after = rest before.0 before.2 in
-    (after.0, run_joins setup m before.0 after.0 events more replies answered before.1 after.1, after.2)
-
--- a run of one step
-runs_one : (setup : Setup) (old new : DeviceView) (happened : DeviceEvent) (reply : Reply)
-    → StepsTo setup old new happened reply → RunsTo setup old new (happened ∷ []) (reply ∷ [])
-runs_one setup old new happened reply steps =
-    runs_more setup old old new [] [] happened reply (runs_none setup old) steps
+use Rattle.sweep.proofs.CutRuns.{StepsCut, runs_join, runs_more, runs_none, runs_one}
+use Rattle.sweep.specs.Living.{HasVersion, Lives, LivesOne, Reboots, RunsCut, held_in, lent_in, with_boots}
 
 -- ---- boots
 
@@ -48,23 +30,23 @@ pub reboots_none : (setup : Setup) (here : DeviceView) → Reboots setup here he
 reboots_none setup here = record { count = 0; replies = []; runs = runs_none setup here }
 
 pub reboots_more : (setup same : Setup) (old mid new : DeviceView) (reply : Reply) → Reboots setup old mid
-    → same ≡ setup → StepsTo same mid new event.Boot reply → Reboots setup old new
+    → same ≡ setup → StepsCut same mid new event.Boot reply → Reboots setup old new
 reboots_more setup same old mid new reply before is steps =
     let boot : DeviceEvent = event.Boot in
     record {
       count = before.count + 1;
       replies = before.replies ++ reply ∷ [];
-      runs = subst (λ boots. RunsTo setup old new boots (before.replies ++ reply ∷ []))
+      runs = subst (λ boots. RunsCut setup old new boots (before.replies ++ reply ∷ []))
           (replicate-append-replicate before.count 1 boot)
           (runs_more setup old mid new (replicate before.count boot) before.replies boot reply before.runs
-          (subst (λ s. StepsTo s mid new boot reply) is steps));
+          (subst (λ s. StepsCut s mid new boot reply) is steps));
     }
 
 -- ---- one event
 
 -- an event without a cut
 pub lives_one : (setup : Setup) (old new : DeviceView) (happened : DeviceEvent) (reply : Reply)
-    → StepsTo setup old new happened reply → LivesOne setup old new happened
+    → StepsCut setup old new happened reply → LivesOne setup old new happened
 lives_one setup old new happened reply steps = record {
   count = 0;
   replies = reply ∷ [];
@@ -73,13 +55,13 @@ lives_one setup old new happened reply steps = record {
 
 -- an event with boots behind it
 pub lives_and_reboots : (setup same : Setup) (old mid new : DeviceView) (happened : DeviceEvent) (reply : Reply)
-    → StepsTo setup old mid happened reply → same ≡ setup → Reboots same mid new → LivesOne setup old new happened
+    → StepsCut setup old mid happened reply → same ≡ setup → Reboots same mid new → LivesOne setup old new happened
 lives_and_reboots setup same old mid new happened reply steps is reboots = record {
   count = reboots.count;
   replies = reply ∷ reboots.replies;
   runs = runs_join setup old mid new (happened ∷ []) (replicate reboots.count event.Boot) (reply ∷ []) reboots.replies
       (runs_one setup old mid happened reply steps)
-      (subst (λ s. RunsTo s mid new (replicate reboots.count event.Boot) reboots.replies) is reboots.runs);
+      (subst (λ s. RunsCut s mid new (replicate reboots.count event.Boot) reboots.replies) is reboots.runs);
 }
 
 -- ---- many events
@@ -120,7 +102,7 @@ lives_join setup same old mid new came more before is after = record {
       ∙ ap (λ l. with_boots came before.counts ++ l) after.come
       ∙ sym (with_boots-append came more before.counts after.counts before.each);
   runs = runs_join setup old mid new before.events after.events before.replies after.replies before.runs
-      (subst (λ s. RunsTo s mid new after.events after.replies) is after.runs);
+      (subst (λ s. RunsCut s mid new after.events after.replies) is after.runs);
 }
 
 lives_of_one : (setup : Setup) (old new : DeviceView) (happened : DeviceEvent) (came : Event (List ℕ))
@@ -159,11 +141,14 @@ lives_more setup same old mid new all i read happened before below is lent stays
 
 -- ---- cuts
 
-pub arms_none : (chip : Chip) → ArmsAll [] chip chip
-arms_none chip = record {
+abbrev with_fixed : Chip → Fixed → Chip
+with_fixed chip fixed = record chip { fixed = fixed }
+
+pub arms_none : (chip : Chip) → chip.fixed ≡ armed_with chip.fixed.armed chip.fixed → ArmsAll [] chip chip
+arms_none chip known = record {
   armed = [];
   are_armed = tt;
-  chip = ap (λ all. with_armed chip all) (sym (append-nil chip.fixed.armed));
+  chip = ap (λ fixed. with_fixed chip fixed) known ∙ ap (λ all. with_armed chip all) (sym (append-nil chip.fixed.armed));
 }
 
 pub arms_more : (all : List Cut) (i : ℕ) (cut : Cut) (at : ℕ) (torn : Torn) (old mid new : Chip) → i < length all

@@ -1,11 +1,11 @@
 -- What a device goes through in a run of a sweep, and how that ends.
-use Rattle.std.specs.Prelude.{◌≡◌, ℕ, false, List, [], ◌∷◌, ◌++◌, length, map, replicate, Option, None, Some, option_map, Vec}
+use Rattle.std.specs.Prelude.{◌≡◌, ℕ, ◌+◌, false, List, [], ◌∷◌, ◌++◌, length, map, replicate, Option, None, Some, option_map, Vec}
 use Rattle.std.specs.List.{AllZip, range_with_len}
 use Rattle.events.specs.declared.event.Event.{Event}
 use Rattle.events.specs.declared.event.Event.TheVariants as event
 use Rattle.events.specs.Event.{event_map}
 use Rattle.flash_model.specs.declared.torn.Armed.{Armed}
-use Rattle.flash_model.specs.Chip.{Chip}
+use Rattle.flash_model.specs.Chip.{Chip, numbers_of, reached}
 use Rattle.flash_model.specs.Memory.{with_armed}
 use Rattle.sector_map.specs.declared.layout.SectorMap.{SectorMap}
 use Rattle.sector_map.specs.declared.layout.Side.TheVariants.{Primary}
@@ -18,7 +18,7 @@ use Rattle.machine.specs.Holding.{DeviceView}
 use Rattle.machine.specs.Intake.{Setup}
 use Rattle.machine.specs.Passing.{RunsTo}
 use Rattle.machine.specs.Reading.{IsReadOf}
-use Rattle.machine.specs.Steps.{DeviceEvent}
+use Rattle.machine.specs.Steps.{DeviceEvent, cuts_in}
 use Rattle.machine.specs.declared.reply.Reply.{Reply}
 use Rattle.device_texts.specs.declared.device.DeviceFile.{DeviceFile}
 use Rattle.device_texts.specs.DeviceFile.{setup_of}
@@ -43,17 +43,25 @@ with_boots (came ∷ rest) [] = came ∷ rest
 with_boots (came ∷ rest) (count ∷ counts) =
     came ∷ (replicate count event.Boot ++ with_boots rest counts)
 
+-- Replies to events are a run of the machine, as many of them are Cut as writes of the flash were
+-- cut, and the writes that are to be cut stay the same.
+pub record RunsCut (setup : Setup) (old new : DeviceView) (events : List DeviceEvent)
+    (replies : List Reply) : Type 0 where
+  pub runs : RunsTo setup old new events replies
+  pub cuts : new.flash.cuts ≡ old.flash.cuts + cuts_in replies
+  pub fixed : new.flash.fixed ≡ old.flash.fixed
+
 -- A device boots again and again: that is a run of the machine.
 pub record Reboots (setup : Setup) (old new : DeviceView) : Type 0 where
   pub count : ℕ
   pub replies : List Reply
-  pub runs : RunsTo setup old new (replicate count event.Boot) replies
+  pub runs : RunsCut setup old new (replicate count event.Boot) replies
 
 -- An event comes to a device, and it boots again and again: that is a run of the machine.
 pub record LivesOne (setup : Setup) (old new : DeviceView) (happened : DeviceEvent) : Type 0 where
   pub count : ℕ
   pub replies : List Reply
-  pub runs : RunsTo setup old new (happened ∷ replicate count event.Boot) replies
+  pub runs : RunsCut setup old new (happened ∷ replicate count event.Boot) replies
 
 -- A device goes through what comes, with boots put in: that is a run of the machine.
 pub record Lives (setup : Setup) (old new : DeviceView) (came : List (Event (List ℕ)))
@@ -63,7 +71,7 @@ pub record Lives (setup : Setup) (old new : DeviceView) (came : List (Event (Lis
   pub replies : List Reply
   pub each : length counts ≡ length came
   pub come : lent_in events ≡ with_boots came counts
-  pub runs : RunsTo setup old new events replies
+  pub runs : RunsCut setup old new events replies
 
 -- An image runs in this version: whatever intact image its primary slot begins with has it.
 pub record HasVersion (map : SectorMap) (chip : Chip) (image : ℕ) (version : Version)
@@ -84,8 +92,8 @@ abbrev pub all_of : Life → List (Event (List ℕ))
 all_of life = held_in life.events.now ++ held_in life.between.now ++ held_in life.more.now
 
 -- A life that was lived with these cuts, and how it ended: a device that was just made over the
--- flash, with those writes armed and no others, went through all that comes, and these images run
--- then.
+-- flash, with those writes armed and no others, went through all that comes, was cut in each of
+-- those writes that the flash took and in no other, and these images run then.
 pub record IsLived (life : Life) (cuts : List Cut) (end : LifeEnd) : Type 0 where
   pub armed : List Armed
   pub old : DeviceView
@@ -95,5 +103,6 @@ pub record IsLived (life : Life) (cuts : List Cut) (end : LifeEnd) : Type 0 wher
   pub down : old.up ≡ false
   pub closed : AllClosed old.sessions
   pub lives : Lives (setup_of life.device.now) old new (all_of life)
+  pub cut : cuts_in lives.replies ≡ reached (numbers_of armed) new.flash.writes
   pub running : HaveVersions life.device.now.map new.flash
       (option_map (λ versions. versions.items) end.versions)

@@ -76,12 +76,13 @@ fn live_on<L: Ledger>(
     })
 }
 
-/// Has these writes of a flash cut, of which none is to be cut yet.
+/// Has these writes of a flash cut, of which none is to be cut yet. It took none yet.
 fn arm_all<L: Ledger>(
     alloc: Global,
     flash: &mut MemFlash<L>,
     cuts: &[Cut],
 ) -> Result<(), AllocError>
+    requires { (chip_of flash.old).writes ≡ 0 }
     ensures { IfOk result (λ _. ArmsAll cuts.now (chip_of flash.old) (chip_of flash.new)) }
 {
     for cut in cuts {

@@ -9,4 +9,5 @@ returns-in-Cut g c = record {
       c.in-Cut.ensures.steps c.reset.ensures.holds;
   cuts = search rules;
   on = search rules;
+  fixed = search rules;
 }

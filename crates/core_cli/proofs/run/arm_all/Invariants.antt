@@ -1,12 +1,10 @@
 use Rattle.std.proofs.Common.{◌≡◌, ◌++◌}
-use Rattle.flash_model.specs.Memory.{chip_of, memory_of, with_armed}
+use Rattle.flash_model.specs.Memory.{chip_of, with_armed}
 use Rattle.reading_inputs.specs.Loading.{armed_in}
 use Rattle.core_cli.proofs.run.arm_all.Given as goal
 
--- all else of the flash is as it was, no write was counted, and the cuts so far stand behind those
--- before
+-- all else of the flash is as it was, and the cuts so far stand behind those before
 abbrev pub invariant-loop-cut : goal.invariant-loop-cut
 invariant-loop-cut g l =
     (chip_of l.memory ≡ with_armed (chip_of l.fn.memory) (chip_of l.memory).fixed.armed)
-    × ((memory_of l.memory).writes ≡ (memory_of l.fn.memory).writes)
     × ((chip_of l.memory).fixed.armed ≡ (chip_of l.fn.memory).fixed.armed ++ armed_in l.yielded)

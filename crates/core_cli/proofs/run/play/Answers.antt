@@ -1,4 +1,5 @@
-use Rattle.std.proofs.Common.{◌∙◌, ap}
+use Rattle.std.proofs.Common.{◌≡◌, ◌∙◌, ap, subst}
+use Rattle.flash_model.specs.Chip.{Chip, IsCutAsArmed}
 use Rattle.common.proofs.Results.{IfErr-passed}
 use Rattle.reading_inputs.specs.Loading.{armed_in}
 use Rattle.core_cli.proofs.TellingLaws.{PlaysText-told, TellsFirst-all, TellsFirst-none, TellsFirst-some}
@@ -52,3 +53,5 @@ returns-clause-plays g c =
       closed = device.closed;
     })
     (rw device.setup at c.in_ok-answer.ensures.all)
+    (subst IsCutAsArmed c.flash.ensures c.has_failed.ensures.armed)
+    (subst (λ (chip : Chip). chip.faults ≡ 0) c.flash.ensures (rw c.if-has_failed.false at c.has_failed.ensures.faults))

@@ -1,4 +1,5 @@
 use Rattle.std.proofs.Common.{rules}
+use Rattle.sweep.proofs.CutRuns.{step_cut}
 use Rattle.sweep.proofs.LivingLaws.{reboots_more}
 use Rattle.sweep.proofs.living.boot_again.Goals as goal
 
@@ -6,7 +7,7 @@ use Rattle.sweep.proofs.living.boot_again.Goals as goal
 pub returns-then-not-is_cut-clause-reboots : goal.returns-then-not-is_cut-clause-reboots
 returns-then-not-is_cut-clause-reboots g c =
     reboots_more c.args.device.now.setup c.loop.device.setup _ _ _ c.step-reply.result c.loop.invariant.reboots
-    c.loop.invariant.setup c.step-reply.ensures.steps
+    c.loop.invariant.setup (step_cut c.step-reply.ensures)
 
 -- It was, and the device boots again.
 pub loop-preserved : goal.loop-preserved
@@ -14,11 +15,11 @@ loop-preserved g c = record {
   setup = search rules;
   on = search rules;
   reboots = reboots_more c.args.device.now.setup c.loop.device.setup _ _ _ c.step-reply.result
-      c.loop.invariant.reboots c.loop.invariant.setup c.step-reply.ensures.steps;
+      c.loop.invariant.reboots c.loop.invariant.setup (step_cut c.step-reply.ensures);
 }
 
 -- The last boot.
 pub returns-clause-reboots : goal.returns-clause-reboots
 returns-clause-reboots g c =
     reboots_more c.args.device.now.setup c.loop.device.setup _ _ _ c.step.result c.loop.invariant.reboots
-    c.loop.invariant.setup c.step.ensures.steps
+    c.loop.invariant.setup (step_cut c.step.ensures)

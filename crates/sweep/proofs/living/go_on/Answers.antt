@@ -1,4 +1,5 @@
 use Rattle.std.proofs.Common.{rules}
+use Rattle.sweep.proofs.CutRuns.{step_cut}
 use Rattle.sweep.proofs.LivingLaws.{lives_and_reboots, lives_one}
 use Rattle.sweep.proofs.living.go_on.Goals as goal
 
@@ -6,12 +7,12 @@ use Rattle.sweep.proofs.living.go_on.Goals as goal
 pub returns-in-Cut-clause-lives : goal.returns-in-Cut-clause-lives
 returns-in-Cut-clause-lives g c =
     lives_and_reboots c.args.device.now.setup c.step-reply.new.device.setup _ _ _ c.args.event.now
-    c.step-reply.result c.step-reply.ensures.steps c.step-reply.ensures.setup c.boot_again-reply.ensures.reboots
+    c.step-reply.result (step_cut c.step-reply.ensures) c.step-reply.ensures.setup c.boot_again-reply.ensures.reboots
 
 -- No write was cut.
 pub returns : goal.returns
 returns g c = record {
   setup = search rules;
   on = search rules;
-  lives = lives_one c.args.device.now.setup _ _ c.args.event.now c.step-reply.result c.step-reply.ensures.steps;
+  lives = lives_one c.args.device.now.setup _ _ c.args.event.now c.step-reply.result (step_cut c.step-reply.ensures);
 }
