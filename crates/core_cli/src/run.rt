@@ -1,5 +1,6 @@
 //! `bootswap run`: what a device answers to the events of a script.
-ghost use Rattle.std.specs.Prelude.{◌≡◌, ◌++◌, IfErr, IfOk, OnOk, Some, length, true};
+ghost use Rattle.command_ends.specs.Doings.{IsOpenedFor};
+ghost use Rattle.std.specs.Prelude.{◌≡◌, ◌++◌, IfErr, IfOk, IsTrue, OnOk, Some, length, true};
 ghost use Rattle.std.specs.Io.KnownBytes.{Appends};
 ghost use Rattle.std.specs.Option.{ForSome};
 ghost use Rattle.file_flash.specs.FileFlash.{chip_of as over_chip, new_over, over_file};
@@ -36,6 +37,8 @@ use std::sync::ledger::{Blank, Ledger};
 /// written through to its file at once, which is opened for `access`, one that writes. `notes` is
 /// told of each reply.
 ///
+/// The answer is `Done` only where a sync at the end said that all writes are on the medium.
+///
 /// All stands in memory of `alloc`. All files are judged before anything is run, and the flash's is
 /// held from then on. What a line names is read as its event comes, so that of the script only its
 /// text stands in memory, and what can't be read twice.
@@ -49,9 +52,12 @@ pub fn perform<H: Host, O: Write, N: RunNotes>(
     out: &mut O,
     notes: &mut N,
 ) -> Result<Answer, Refusal>
-    ensures { IfOk result (λ answer.
+    ensures answers { IfOk result (λ answer.
         AnswersRun answer device.entry (source.File flash.entry) script.entry
         (H.input host.old) (H.file host.old) (O.contents out.old) (O.contents out.new)) }
+    ensures synced { IfOk result (λ answer. answer ≡ Answer.Done → IsTrue (H.synced host.new)) }
+    ensures opened { IfOk result (λ answer. answer ≡ Answer.Done
+        → IsOpenedFor access (H.opened host.old) (H.opened host.new)) }
 {
     let is_input_read = device.is_standard_input() || script.is_standard_input();
     let Some(device) = read_device(alloc, device, host, out)? else {

@@ -12,8 +12,8 @@ play_text-requires-clause-device g c =
     IsOfFile-read read.0.0 c.in-Some.device read.0.2
 
 -- All three were read in turn, what the script's lines bring came, and the replies were written.
-pub returns-in-Ok : goal.returns-in-Ok
-returns-in-Ok g c =
+pub returns-in-Ok-clause-answers : goal.returns-in-Ok-clause-answers
+returns-in-Ok-clause-answers g c =
     let read = rw c.in-Some.is at c.in_ok-device.ensures.read in
     let input = g.H.Host.input c.read_script.new.host in
     let before = g.H.Host.file c.read_script.new.host in
