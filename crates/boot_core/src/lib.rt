@@ -6,7 +6,7 @@
 //! for every list of events the replies of a run are the machine's, the flash holds the machine's
 //! state at its end, and a boot that answers a report starts exactly the greatest valid set of
 //! images. Nothing but `accept`, `run` and the making of a table of replies allocates. Programs and
-//! bootloaders may call it.
+//! bootloaders may call it. Events, replies and faults are those of `events` and `machine`.
 #![tactic(auto)]
 
 pub mod apart;
@@ -25,5 +25,7 @@ mod swap;
 mod trial;
 
 pub use device::Device;
+pub use events::Event;
+pub use machine::{Fault, Reply};
 pub use provisioning::provision;
 pub use running::{run, step};
