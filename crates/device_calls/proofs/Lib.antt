@@ -3,3 +3,4 @@ mod Leaving
 mod StepLaws
 mod Provisioned
 mod Telling
+mod Counting

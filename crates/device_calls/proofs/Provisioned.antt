@@ -11,6 +11,7 @@ use Rattle.machine.specs.declared.reply.Reply.{Reply}
 use Rattle.boot_core.specs.Answers.{reply_of_result}
 use Rattle.boot_core.specs.Provisioned.{IsFirstState, IsProvisioned}
 use Rattle.boot_core.specs.Provisions.{Provisions}
+use Rattle.device_calls.specs.Cuts.{IsCutAsAsked}
 use Rattle.device_calls.specs.Kept.{IsFlashOf}
 use Rattle.device_calls.specs.Provisioning.{ProvisionsOn}
 use Rattle.device_calls.proofs.SameBytes.{same_stands}
@@ -29,8 +30,10 @@ stands_new map new before after laid is (state, first, steady, sound, all) = (
 
 pub provisions_on : (map : SectorMap) (old new : List ℕ) (before after : Chip) (result : Result Unit Fault)
     (reply : Reply) → IsFlashOf map old before → after.bytes ≡ new → Provisions map before after result
-    → reply ≡ reply_of_result result → ProvisionsOn map old new reply
-provisions_on map old new before after result reply flash is provisions replies = record {
+    → reply ≡ reply_of_result result → (numbers : List ℕ) (writes : ℕ)
+    → IsCutAsAsked numbers before after reply writes → ProvisionsOn map numbers old new reply writes
+provisions_on map old new before after result reply flash is provisions replies numbers writes cut = record {
+  cut_as_asked = cut;
   before = before;
   after = after;
   result = result;

@@ -20,10 +20,11 @@ use Rattle.device_calls.specs.Texts.{IsPut}
 use Rattle.device_calls.specs.Told.{TellsReply, nothing, number_of}
 
 -- What a call returns: the number of the device's reply to it, where it is made on the device that
--- the bytes hold; or why no call was made, where nothing changed and nothing is told.
+-- the bytes hold, and in what is told how many writes it made; or why no call was made, where
+-- nothing changed and nothing is told.
 pub data Answers (setup : Setup) (cuts : List CutRow) (call : Call) (old : List ℕ) (was : Kept)
     (new : List ℕ) (is : Kept) (told : Told) (says : Reply → Type 0) (number : ℕ) : Type 0 where
-  Replied : (reply : Reply) → CallsOn setup cuts call old was new is reply
+  Replied : (reply : Reply) → CallsOn setup cuts call old was new is reply told.writes
       → TellsReply reply told → says reply → number ≡ number_of reply
       → Answers setup cuts call old was new is told says number
   Unmade : IsRefusedBefore setup cuts old number → new ≡ old → is ≡ was → told ≡ nothing

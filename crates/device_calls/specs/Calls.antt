@@ -26,6 +26,7 @@ use Rattle.device_calls.specs.declared.cuts.CutRow.{CutRow}
 use Rattle.device_calls.specs.declared.kept.Kept.{Kept}
 use Rattle.device_calls.specs.declared.setup.Made.{Made}
 use Rattle.device_calls.specs.declared.setup.Setup.{Setup}
+use Rattle.device_calls.specs.Cuts.{IsCutAsAsked, numbers_of}
 use Rattle.device_calls.specs.Kept.{IsDeviceOf, IsLeftIn}
 use Rattle.device_calls.specs.Numbers.{MOST_CUTS, TOO_MANY}
 use Rattle.device_calls.specs.Setup.{IsMade, IsUnmade}
@@ -101,9 +102,10 @@ pub record LeavesBytes (map : SectorMap) (call : Call) (old new : List ℕ) (rep
   pub behind : (k : ℕ) → end_of_map map ≤ k → slice_index new k ≡ slice_index old k
   pub refused : RefusesUnchanged call old new reply
 
--- A call is made on the device that the caller's bytes hold.
-pub record StepsOn (made_of : Made) (call : Call) (old : List ℕ) (was : Kept) (new : List ℕ)
-    (is : Kept) (reply : Reply) : Type 0 where
+-- A call is made on the device that the caller's bytes hold, where these of its writes are to be
+-- cut; it makes so many writes.
+pub record StepsOn (made_of : Made) (numbers : List ℕ) (call : Call) (old : List ℕ) (was : Kept)
+    (new : List ℕ) (is : Kept) (reply : Reply) (writes : ℕ) : Type 0 where
   -- It is made on a device that the bytes are, whose flash has power,
   pub before : DeviceView
   pub is_before : IsDeviceOf made_of.map old was before
@@ -113,19 +115,21 @@ pub record StepsOn (made_of : Made) (call : Call) (old : List ℕ) (was : Kept) 
   -- Between these it does all that is promised of it.
   pub makes : MakesCall made_of.map made_of.identity made_of.boots call before left reply
   pub leaves : LeavesBytes made_of.map call old new reply
+  -- It is cut where the caller asks for it, and nowhere else.
+  pub cut_as_asked : IsCutAsAsked numbers before.flash left.flash reply writes
   -- From each device that the bytes are it is a step to one that they are then: the flash of this
   -- one has power again, after a cut too.
   pub each : (device : DeviceView) → IsDeviceOf made_of.map old was device
       → (next : DeviceView) × IsDeviceOf made_of.map new is next
       × IsStepOf (made made_of.map made_of.identity made_of.boots) call device next reply
 
--- A call is made on what a setup makes, with no more cuts than it takes.
+-- A call is made on what a setup makes, with no more cuts than it takes; it makes so many writes.
 pub record CallsOn (setup : Setup) (cuts : List CutRow) (call : Call) (old : List ℕ) (was : Kept)
-    (new : List ℕ) (is : Kept) (reply : Reply) : Type 0 where
+    (new : List ℕ) (is : Kept) (reply : Reply) (writes : ℕ) : Type 0 where
   pub made_of : Made
   pub made : IsMade setup old made_of
   pub few : length cuts ≤ MOST_CUTS
-  pub steps : StepsOn made_of call old was new is reply
+  pub steps : StepsOn made_of (numbers_of cuts) call old was new is reply writes
 
 -- More cuts are asked for than a call takes, of what a setup makes.
 pub record AsksTooMuch (setup : Setup) (cuts : List CutRow) (bytes : List ℕ) (number : ℕ)

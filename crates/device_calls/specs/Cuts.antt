@@ -1,5 +1,8 @@
 -- The writes that are to be cut in a call.
-use Rattle.std.specs.Prelude.{◌≡◌, ℕ, ◌≤◌, List, length, min, slice_get, take, Some}
+use Rattle.std.specs.Prelude.{◌≡◌, ℕ, ◌≤◌, List, length, map, min, slice_get, take, Some}
+use Rattle.flash_model.specs.Chip.{Chip, reached}
+use Rattle.machine.specs.Steps.{cut_of}
+use Rattle.machine.specs.declared.reply.Reply.{Reply}
 use Rattle.slice_flash.specs.declared.table.Cut.{Cut}
 use Rattle.slice_flash.specs.declared.table.Left.{Left}
 use Rattle.slice_flash.specs.declared.table.Left.TheVariants.{Keep, Done, Bytes}
@@ -25,3 +28,21 @@ pub record AreCutsOf (rows : List CutRow) (table : List Cut) : Type 0 where
       → (cut : Cut) × (slice_get table k ≡ Some cut) × IsCutOf row cut
   pub rest : (k : ℕ) (cut : Cut) → length rows ≤ k → slice_get table k ≡ Some cut
       → cut.write ≡ 0
+
+-- The numbers of the writes that are to be cut.
+abbrev pub numbers_of : List CutRow → List ℕ
+numbers_of rows = map (λ row. row.write) rows
+
+-- A call is cut in these of its writes, in no others, and makes so many writes.
+pub record IsCutAsAsked (numbers : List ℕ) (before left : Chip) (reply : Reply) (writes : ℕ)
+    : Type 0 where
+  -- Its flash is made for the call: no write was counted before, and none was cut.
+  pub unwritten : before.writes ≡ 0
+  pub uncut : before.cuts ≡ 0
+  -- Exactly these of its writes are to be cut, and still are after the call.
+  pub armed : before.fixed.numbers ≡ numbers
+  pub still : left.fixed.numbers ≡ numbers
+  -- It takes so many programs and erases in the call.
+  pub counted : left.writes ≡ writes
+  -- The reply is a cut if one of these was to be cut, and only then.
+  pub cut : cut_of reply ≡ reached numbers writes

@@ -14,13 +14,15 @@ use Rattle.device_calls.specs.declared.setup.Made.{Made}
 use Rattle.device_calls.specs.declared.setup.Setup.{Setup}
 use Rattle.device_calls.specs.declared.told.Told.{Told}
 use Rattle.device_calls.specs.Calls.{IsRefusedBefore}
+use Rattle.device_calls.specs.Cuts.{IsCutAsAsked, numbers_of}
 use Rattle.device_calls.specs.Kept.{IsFlashOf}
 use Rattle.device_calls.specs.Numbers.{MOST_CUTS}
 use Rattle.device_calls.specs.Setup.{IsMade}
 use Rattle.device_calls.specs.Told.{TellsReply, nothing, number_of}
 
--- Bytes are made a device's.
-pub record ProvisionsOn (map : SectorMap) (old new : List ℕ) (reply : Reply) : Type 0 where
+-- Bytes are made a device's, of which these writes are to be cut.
+pub record ProvisionsOn (map : SectorMap) (numbers old new : List ℕ) (reply : Reply) (writes : ℕ)
+    : Type 0 where
   -- It is so of the flash that they are,
   pub before : Chip
   pub after : Chip
@@ -29,6 +31,8 @@ pub record ProvisionsOn (map : SectorMap) (old new : List ℕ) (reply : Reply) :
   pub is_after : after.bytes ≡ new
   pub provisions : Provisions map before after result
   pub replies : reply ≡ reply_of_result result
+  -- it is cut where the caller asks for it, and nowhere else,
+  pub cut_as_asked : IsCutAsAsked numbers before after reply writes
   -- and where that is done, the first state of a device stands on each flash of the new bytes.
   pub stands : OnOk result ((state : DeviceState) × IsFirstState map before state
       × ((chip : Chip) → IsFlashOf map new chip → Stands map chip state))
@@ -37,7 +41,8 @@ pub record ProvisionsOn (map : SectorMap) (old new : List ℕ) (reply : Reply) :
 pub data AnswersProvision (setup : Setup) (cuts : List CutRow) (old new : List ℕ) (told : Told)
     (number : ℕ) : Type 0 where
   Replied : (made : Made) (reply : Reply) → IsMade setup old made → length cuts ≤ MOST_CUTS
-      → ProvisionsOn made.map old new reply → TellsReply reply told
-      → number ≡ number_of reply → AnswersProvision setup cuts old new told number
+      → ProvisionsOn made.map (numbers_of cuts) old new reply told.writes
+      → TellsReply reply told → number ≡ number_of reply
+      → AnswersProvision setup cuts old new told number
   Unmade : IsRefusedBefore setup cuts old number → new ≡ old → told ≡ nothing
       → AnswersProvision setup cuts old new told number

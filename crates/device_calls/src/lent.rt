@@ -1,10 +1,13 @@
 //! A call on a device that the caller's memory holds.
 
-ghost use Rattle.std.specs.Prelude.{◌≡◌, IfErr, IfOk, IfSome, List, None, Option, true};
+ghost use Rattle.std.specs.Prelude.{◌≡◌, ℕ, ◌+◌, IfErr, IfOk, IfSome, List, None, Option, true};
 ghost use Rattle.sector_map.specs.Map.{IsLaidOut};
+ghost use Rattle.machine.specs.Steps.{cut_of};
 ghost use Rattle.boot_core.specs.Device.{seen};
+ghost use Rattle.slice_flash.specs.Rows.{numbers_in};
 ghost use Rattle.upload.specs.declared.sessions.Upload.{Upload};
 ghost use Rattle.device_calls.specs.Calls.{CallsOn, IsRefusedBefore, StepsOn};
+ghost use Rattle.device_calls.specs.Cuts.{IsCutAsAsked};
 ghost use Rattle.device_calls.specs.Kept.{IsKept, IsUpKept, KeepsDevice};
 ghost use Rattle.device_calls.specs.Setup.{HasRoom, IsTrial};
 
@@ -97,8 +100,11 @@ fn call_on<F: Flash>(flash: &mut F, made: &Made, kept: &mut Kept, call: &Call<'_
     requires images { made.now.identity.images ≡ made.now.map.images }
     requires trial { IsTrial made.now.boots }
     ensures fixed { (F.chip flash.new).fixed ≡ (F.chip flash.old).fixed }
-    ensures steps { StepsOn made.now call.now (F.chip flash.old).bytes kept.old
-        (F.chip flash.new).bytes kept.new result }
+    ensures cuts { (F.chip flash.new).cuts ≡ (F.chip flash.old).cuts + cut_of result }
+    ensures steps { (numbers : List ℕ) (writes : ℕ)
+        → IsCutAsAsked numbers (F.chip flash.old) (F.chip flash.new) result writes
+        → StepsOn made.now numbers call.now (F.chip flash.old).bytes kept.old
+        (F.chip flash.new).bytes kept.new result writes }
 {
     let mut held = hold(flash, &made.map, kept);
     let reply = make_call(
@@ -129,7 +135,8 @@ fn call_over<L: Ledger>(
     requires room { HasRoom made.now.map bytes.old }
     requires images { made.now.identity.images ≡ made.now.map.images }
     requires trial { IsTrial made.now.boots }
-    ensures { StepsOn made.now call.now bytes.old kept.old bytes.new kept.new result.reply }
+    ensures { StepsOn made.now (numbers_in table.now) call.now bytes.old kept.old bytes.new kept.new
+        result.reply result.writes }
 {
     let mut flash = SliceFlash::<L>::new(blank, bytes, made.map.sector_size, table);
     let reply = call_on(&mut flash, made, kept, call);
@@ -149,7 +156,7 @@ pub(crate) fn call(
     call: &Call<'_>,
 ) -> Result<Ended, u32>
     ensures ended { IfOk result (λ ended. CallsOn setup.now cuts.now call.now bytes.old kept.old
-        bytes.new kept.new ended.reply) }
+        bytes.new kept.new ended.reply ended.writes) }
     ensures refused { IfErr result (λ number. IsRefusedBefore setup.now cuts.now bytes.old number
         × (bytes.new ≡ bytes.old) × (kept.new ≡ kept.old)) }
 {
@@ -161,5 +168,6 @@ pub(crate) fn call(
         return Err(TOO_MANY);
     }
     let table = table_of(cuts);
-    Ok(call_over::<Brand>(Blank::new(2), &made, bytes, &table, kept, call))
+    let rows = &table[..cuts.len()];
+    Ok(call_over::<Brand>(Blank::new(2), &made, bytes, rows, kept, call))
 }

@@ -4,7 +4,9 @@
 //! Promises: each call of a device is one step of the machine of whole images (`machine`), from
 //! what the caller's bytes hold to what they hold then, so that the calls in a row are a run of it;
 //! and what a call of `boot_core` promises of the bytes that it touches, of refusals and of cuts,
-//! the call of C promises of the caller's bytes. What a returned number doesn't speak of is 0.
+//! the call of C promises of the caller's bytes. It returns that it was cut if one of the writes
+//! that it tells is on the caller's list, and only then. What a returned number doesn't speak of
+//! is 0.
 //! What a device keeps between two calls stands in the caller's memory too: what a call wrote there
 //! is what the next one reads, and any other bytes are a device that isn't up. Each call returns,
 //! on any contents, and none allocates. The caller answers for the lengths, and that nothing that

@@ -1,6 +1,7 @@
 //! Making the bytes of a flash a device's.
 
 ghost use Rattle.std.specs.Prelude.{◌≡◌};
+ghost use Rattle.slice_flash.specs.Rows.{numbers_in};
 ghost use Rattle.device_calls.specs.Provisioning.{AnswersProvision, ProvisionsOn};
 ghost use Rattle.device_calls.specs.Setup.{HasRoom};
 
@@ -29,7 +30,7 @@ fn provision_on<L: Ledger>(
     requires parts { blank.parts ≡ L.parts }
     requires two { L.parts ≡ 2 }
     requires room { HasRoom map.now bytes.old }
-    ensures { ProvisionsOn map.now bytes.old bytes.new result }
+    ensures { ProvisionsOn map.now (numbers_in table.now) bytes.old bytes.new result writes.new }
 {
     let mut flash = SliceFlash::<L>::new(blank, bytes, map.sector_size, table);
     let reply = answer(provision(&mut flash, map));
@@ -66,7 +67,8 @@ pub extern "C" fn bootswap_provision(
     }
     let table = table_of(cuts);
     let mut writes = 0;
-    let reply = provision_on::<Brand>(Blank::new(2), &made.map, flash, &table, &mut writes);
+    let rows = &table[..cuts.len()];
+    let reply = provision_on::<Brand>(Blank::new(2), &made.map, flash, rows, &mut writes);
     *told = told_of(&reply, writes, NO_TEXTS);
     number_of(&reply)
 }

@@ -1,9 +1,13 @@
-use Rattle.std.proofs.Common.{refl}
+use Rattle.std.proofs.Common.{refl, sym, subst}
 use Rattle.device_calls.specs.Answers.{Replied, Unmade}
+use Rattle.device_calls.specs.Calls.{CallsOn}
 use Rattle.device_calls.proofs.exports.make_and_tell.Goals as goal
 
 pub returns-in-Ok : goal.returns-in-Ok
-returns-in-Ok c = Replied c.in-Ok.ended.reply c.in-Ok.ensures.ended c.told_of.ensures.tells tt c.number_of.ensures
+returns-in-Ok c = Replied c.in-Ok.ended.reply
+    (subst (λ n. CallsOn c.args.setup.now c.args.cuts.now c.args.asked.now c.args.flash.now c.args.kept.now
+    c.call.new.bytes c.call.new.kept c.in-Ok.ended.reply n) (sym c.told_of.ensures.writes) c.in-Ok.ensures.ended)
+    c.told_of.ensures.tells tt c.number_of.ensures
 
 pub returns-in-Err : goal.returns-in-Err
 returns-in-Err c = let none = c.in-Err.ensures.refused in Unmade none.0 none.1 none.2 refl
