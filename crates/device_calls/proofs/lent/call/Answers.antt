@@ -25,5 +25,6 @@ returns-clause-ended c = record {
   few = omega (arith, c.if-cuts-gt-MOST_CUTS.false);
   steps = subst (λ (numbers : List ℕ). StepsOn c.in-Ok.made numbers c.args.call.now c.args.bytes.now c.args.kept.now
       c.call_over.new.bytes c.call_over.new.kept c.call_over.result.reply c.call_over.result.writes)
-      (same_numbers c.args.cuts.now c.table_of-table.result c.table_of-table.ensures (omega (arith, c.if-cuts-gt-MOST_CUTS.false, c.table_of-table.type_inv))) c.call_over.ensures;
+      (same_numbers c.args.cuts.now c.table_of-table.result c.table_of-table.ensures
+      (omega (arith, c.if-cuts-gt-MOST_CUTS.false, c.table_of-table.type_inv))) c.call_over.ensures;
 }
