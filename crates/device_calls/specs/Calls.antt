@@ -3,9 +3,9 @@ use Rattle.std.specs.Prelude.{◌≡◌, ◌⊎◌, ℕ, ◌+◌, ◌<◌, ◌�
 use Rattle.std.specs.Borrow.{Bor}
 use Rattle.events.specs.declared.event.Event.TheVariants as event
 use Rattle.sector_map.specs.declared.layout.SectorMap.{SectorMap}
-use Rattle.sector_map.specs.declared.layout.Side.TheVariants.{Primary, Secondary}
+use Rattle.sector_map.specs.declared.layout.Side.TheVariants.{Secondary}
 use Rattle.sector_map.specs.Map.{IsLaidOut, end_of_map}
-use Rattle.sector_map.specs.Part.{Slot, TrailerOf, incoming_of, only}
+use Rattle.sector_map.specs.Part.{Slot, incoming_of, only}
 use Rattle.manifest.specs.declared.identity.Identity.{Identity}
 use Rattle.manifest.specs.Fault.{IsManifest}
 use Rattle.upload.specs.View.{view}
@@ -19,7 +19,7 @@ use Rattle.machine.specs.declared.reply.Reply.TheVariants.{Refused}
 use Rattle.boot_core.specs.Answers.{reply_of_boot, reply_of_result}
 use Rattle.boot_core.specs.Booting.{EndsUploadsAndBoots}
 use Rattle.boot_core.specs.Device.{StaysHeld, made}
-use Rattle.boot_core.specs.Taking.{FinishesHere, TakesHere, TakesManifestHere}
+use Rattle.boot_core.specs.Taking.{ConfirmsHere, FinishesHere, TakesHere, TakesManifestHere}
 use Rattle.device_calls.specs.declared.calls.Call.{Call}
 use Rattle.device_calls.specs.declared.calls.Call.TheVariants.{Accept, Piece, Finish, Withdraw, Confirm, Boot}
 use Rattle.device_calls.specs.declared.cuts.CutRow.{CutRow}
@@ -68,8 +68,7 @@ IsCallOf map identity boots (Finish image) old new reply =
 IsCallOf map identity boots (Withdraw image) old new reply =
     HasResult reply (TakesHere map (event.Withdraw image) (incoming_of image) old new)
 IsCallOf map identity boots (Confirm image) old new reply =
-    HasResult reply
-    (TakesHere map (event.Confirm image) (only (TrailerOf image Primary)) old new)
+    HasResult reply (ConfirmsHere map image old new)
 IsCallOf map identity boots Boot old new reply =
     HasBootResult reply boots (λ left. EndsUploadsAndBoots map left old new)
 
