@@ -159,7 +159,7 @@ impl Host for MemoryHost {
         Ok(())
     }
 
-    fn sync_flash(&self) -> io::Result<()> {
+    fn sync_flash(&mut self) -> io::Result<()> {
         Ok(())
     }
 
