@@ -264,9 +264,10 @@ impl<F: Flash> Device<F> {
         &self.flash
     }
 
-    /// The flash, of which the device lets go.
+    /// The flash, of which the device lets go, with its map laid out on it.
     pub fn into_flash(self) -> F
-        ensures { F.chip result ≡ self.here.flash }
+        ensures flash { F.chip result ≡ self.here.flash }
+        ensures laid_out { IsLaidOut self.setup.map (F.chip result) }
     {
         let Device {
             flash,
