@@ -1,5 +1,5 @@
 -- What a device goes through in a run of a sweep, and how that ends.
-use Rattle.std.specs.Prelude.{◌≡◌, ℕ, ◌+◌, false, List, [], ◌∷◌, ◌++◌, length, map, replicate, Option, None, Some, option_map, Vec}
+use Rattle.std.specs.Prelude.{◌≡◌, ℕ, ◌+◌, ◌<◌, false, List, [], ◌∷◌, ◌++◌, length, map, replicate, Option, None, Some, option_map, Vec}
 use Rattle.std.specs.List.{AllZip, range_with_len}
 use Rattle.events.specs.declared.event.Event.{Event}
 use Rattle.events.specs.declared.event.Event.TheVariants as event
@@ -81,9 +81,15 @@ pub record HasVersion (map : SectorMap) (chip : Chip) (image : ℕ) (version : V
   pub read : (held : Option (List ℕ)) → IsFront (slot_bytes map chip image Primary) held
       → IsReadOf held (Some entry)
 
--- The images of a device run in these versions, where each is intact.
+-- Some image is damaged: its primary slot begins with no intact image.
+pub record HasDamagedSlot (map : SectorMap) (chip : Chip) : Type 0 where
+  pub image : ℕ
+  pub there : image < map.images
+  pub damaged : IsFront (slot_bytes map chip image Primary) None
+
+-- The images of a device run in these versions, or one is damaged and there are none.
 abbrev pub HaveVersions : SectorMap → Chip → Option (List Version) → Type 0
-HaveVersions map chip None = Unit {0}
+HaveVersions map chip None = HasDamagedSlot map chip
 HaveVersions map chip (Some versions) =
     AllZip (HasVersion map chip) (range_with_len 0 map.images) versions
 
@@ -93,7 +99,8 @@ all_of life = held_in life.events.now ++ held_in life.between.now ++ held_in lif
 
 -- A life that was lived with these cuts, and how it ended: a device that was just made over the
 -- flash, with those writes armed and no others, went through all that comes, was cut in each of
--- those writes that the flash took and in no other, and these images run then.
+-- those writes that the flash took and in no other, and its images run in these versions then, or
+-- one of them is damaged and no versions are reported.
 pub record IsLived (life : Life) (cuts : List Cut) (end : LifeEnd) : Type 0 where
   pub armed : List Armed
   pub old : DeviceView

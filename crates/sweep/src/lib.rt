@@ -4,8 +4,9 @@
 //! Promises: each run of a sweep is a run of the machine of whole images (`machine`), from the
 //! flash that is given, with those writes of it cut that are asked for and no others, to what comes
 //! with boots put in behind what was cut; and the versions that are told of its end are those of
-//! what the primary slots hold then. What is counted of the runs, and what is printed and drawn of
-//! that, is tested. Programs that have provisioned a flash in memory may call it.
+//! what the primary slots hold then, and none where one of them begins with no intact image, and
+//! there alone. What is counted of the runs, and what is printed and drawn of that, is tested.
+//! Programs that have provisioned a flash in memory may call it.
 #![tactic(auto)]
 
 mod cuts;

@@ -101,7 +101,9 @@ fn go_through_all<L: Ledger>(
     most: usize,
 ) -> Result<Notes, AllocError>
     requires { device.old.here.flash.is_on ≡ true }
-    ensures { IfOk result (λ _. Lives device.old.setup device.old.here device.new.here
+    ensures setup { device.new.setup ≡ device.old.setup }
+    ensures on { device.new.here.flash.is_on ≡ true }
+    ensures lives { IfOk result (λ _. Lives device.old.setup device.old.here device.new.here
         (all_of life.now)) }
 {
     let mut notes = Notes::default();

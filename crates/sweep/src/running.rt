@@ -1,6 +1,7 @@
 //! What runs at the end of a run.
 
-ghost use Rattle.std.specs.Prelude.{option_map};
+ghost use Rattle.std.specs.Prelude.{◌≡◌, option_map, true};
+ghost use Rattle.sector_map.specs.Map.{IsLaidOut};
 ghost use Rattle.sweep.specs.Living.{HaveVersions};
 
 use arrayvec::ArrayVec;
@@ -11,23 +12,25 @@ use sector_map::{SectorMap, Side};
 use version_order::Version;
 
 /// The versions of the images that run on a flash, in their order. There are none where one of them
-/// is damaged, or where the flash can't be read.
+/// is damaged.
+///
+/// The map is laid out on the flash, which has power.
 pub(crate) fn running_versions<F: Flash>(
     flash: &mut F,
     map: &SectorMap,
 ) -> Option<ArrayVec<Version, MOST_IMAGES>>
+    requires laid_out { IsLaidOut map.now (F.chip flash.old) }
+    requires on { (F.chip flash.old).is_on ≡ true }
     ensures { HaveVersions map.now (F.chip flash.old)
         (option_map (λ versions. versions.items) result) }
 {
-    if !map.fits(flash) {
-        return None;
-    }
     let mut versions = ArrayVec::new();
     for image in 0..map.images {
-        let Ok(Some(entry)) = read_slot(flash, map, image, Side::Primary) else {
-            return None;
-        };
-        versions.push(entry.version);
+        match read_slot(flash, map, image, Side::Primary) {
+            Ok(Some(entry)) => versions.push(entry.version),
+            Ok(None) => return None,
+            Err(_) => unreachable!(),
+        }
     }
     Some(versions)
 }

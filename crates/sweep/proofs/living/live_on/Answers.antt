@@ -15,7 +15,7 @@ returns g c =
     let made = c.device_over-device.ensures in
     let over = made.flash ∙ armed_flash _ _ c.args.life.now.device.now.map c.args.life.now.bytes.now c.args.cuts.now
     (rw c.in_ok-bytes.ensures.items at c.flash_of-flash.ensures.chip) arms in
-    let lived = rw made.setup at c.in_ok-notes.ensures in
+    let lived = rw made.setup at c.in_ok-notes.ensures.lives in
     record {
       armed = arms.armed;
       old = c.device_over-device.result.here;
@@ -27,7 +27,7 @@ returns g c =
       lives = lived;
       cut = cut_as_armed _ _ _ c.args.life.now.device.now.map c.args.life.now.bytes.now arms.armed lived.events
           lived.replies over lived.runs
-          (subst (λ (chip : Chip). chip.cuts ≡ reached chip.fixed.numbers chip.writes) c.into_flash-flash.ensures
+          (subst (λ (chip : Chip). chip.cuts ≡ reached chip.fixed.numbers chip.writes) c.into_flash-flash.ensures.flash
           c.into_flash-flash.result.cut_as_armed);
-      running = rw c.into_flash-flash.ensures at c.running_versions-versions.ensures;
+      running = rw c.into_flash-flash.ensures.flash at c.running_versions-versions.ensures;
     }

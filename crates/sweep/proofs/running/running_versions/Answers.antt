@@ -11,6 +11,8 @@ loop-image-preserved g c =
       few = search rules;
       same = c.read_slot.ensures.same ∙ before.same;
       laid_out = search rules;
+      on = search rules;
+      images = search rules;
       count = search rules;
       found = rw c.push.ensures.items (versions_more c.args.map.now _ c.loop-image.image c.loop-image.versions.items _
           before.found (record { entry = c.in-Ok-Some.entry; same = refl; read = rw before.same at ok }));
