@@ -6,7 +6,7 @@ use Rattle.flash_model.specs.declared.torn.Torn.{Torn}
 use Rattle.flash_model.specs.declared.torn.Torn.TheVariants as torn
 use Rattle.flash_model.specs.Chip.{Chip}
 use Rattle.flash_model.specs.Memory.{with_armed}
-use Rattle.trailer.specs.declared.format.TheConstants.{MAGIC}
+use Rattle.trailer.specs.Fields.{good_magic}
 use Rattle.sweep.specs.declared.cuts.Cut.{Cut}
 use Rattle.sweep.specs.declared.cuts.Tear.{Tear}
 use Rattle.sweep.specs.declared.cuts.Tear.TheVariants as tear
@@ -24,7 +24,7 @@ IsTorn tear.Keep left = left ≡ torn.Keep
 IsTorn tear.Done left = left ≡ torn.Done
 IsTorn tear.Ones left = IsCopies (0xff ∷ []) left
 IsTorn tear.Zeros left = IsCopies (0x00 ∷ []) left
-IsTorn tear.Magic left = IsCopies MAGIC left
+IsTorn tear.Magic left = IsCopies good_magic left
 IsTorn tear.Half left = left ≡ torn.Half
 
 -- A write of a flash is armed for a cut.
