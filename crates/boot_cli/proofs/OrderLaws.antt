@@ -52,7 +52,7 @@ AnswersOrder-kept (order.Extract device flash image side out) input file then ol
   AnswersCopy-kept answered.0 answered.1 image side input file (then out.now) old mid new answered.3 kept,
 )
 AnswersOrder-kept (order.Sweep device script images choices) input file then old mid new answered kept =
-    (answered.0, answered.1, answered.2, answered.3)
+    (answered.0, answered.1, answered.2, answered.3, answered.4)
 AnswersOrder-kept (order.Choose table) input file then old mid new answered kept =
     AnswersReading-kept (order.Choose table) input file old mid new answered kept
 AnswersOrder-kept (order.Check table report) input file then old mid new answered kept =

@@ -1,16 +1,20 @@
--- What a sweep came to, by what was read in turn.
-use Rattle.std.proofs.Common.{◌≤◌, ℕ, List, [], ◌∷◌, Option, arith, inl}
+-- What a sweep came to, by what was read in turn, and the files that it keeps.
+use Rattle.std.proofs.Common.{◌≤◌, ℕ, Bool, List, [], ◌∷◌, None, Option, Some, arith, inl}
+use Rattle.std.specs.Prelude.{IfSome}
+use Rattle.std.specs.Borrow.{Bor}
 use Rattle.command_ends.specs.declared.answer.Answer.{Answer}
 use Rattle.command_ends.specs.declared.answer.Answer.TheVariants.{Done, Refused, Cut}
 use Rattle.events.specs.declared.event.Event.{Event}
 use Rattle.device_texts.specs.declared.device.DeviceFile.{DeviceFile}
 use Rattle.command_ends.specs.declared.source.Source.{Source}
 use Rattle.reading_inputs.specs.DeviceInput.{GivesDevice}
-use Rattle.command_ends.specs.Input.{FileBytes, Gives, KeepsOthers}
-use Rattle.boot_cli.specs.SweepEnd.{AnswersSweep, SweepsDevice}
+use Rattle.command_ends.specs.declared.source.Source.TheVariants.{StandardInput, File}
+use Rattle.command_ends.specs.Doings.{KeepsSource}
+use Rattle.command_ends.specs.Input.{FileBytes, Gives, KeepsFiles, KeepsOthers}
+use Rattle.boot_cli.specs.SweepEnd.{AnswersSweep, IsNoInput, KeepsBesides, KeepsInputs, SweepsDevice}
 use Rattle.reading_inputs.specs.Script.{IsScript, Known, StaysKnown, known_after}
 use Rattle.command_ends.specs.Status.{status_of_answer}
-use Rattle.command_ends.proofs.InputLaws.{GiveEach-one, GiveEach-read}
+use Rattle.command_ends.proofs.InputLaws.{GiveEach-one, GiveEach-read, KeepsFiles-twice, KeepsSource-apart, KeepsSource-kept, kept_twice}
 use Rattle.reading_inputs.proofs.ScriptLaws.{StaysKnown-itself, StaysKnown-read}
 
 AnswersSweep-swept : (answer : Answer) (device script : Source) (input : Option (List ℕ)) (file : FileBytes)
@@ -44,3 +48,46 @@ AnswersSweep-read answer device script input second_input third_input file secon
       says = says (known_after script second)
           (StaysKnown-read script second second_input third_input second_file third_file stays script_kept);
     })
+
+-- The files that a sweep reads stay where all files were kept ..
+pub inputs_kept : (device script : Source) (images : List (Bor (List ℕ))) (picture : Option (Bor (List ℕ)))
+    (old new : FileBytes) → KeepsFiles old new → KeepsInputs device script images picture old new
+inputs_kept device script images picture old new kept = record {
+  device_kept = KeepsSource-kept device old new kept;
+  script_kept = KeepsSource-kept script old new kept;
+  images_kept = λ place word at differs. kept word.now;
+  all_kept = λ none. kept;
+}
+
+-- .. or then that of the picture was replaced, which is none of them ..
+pub inputs_besides : (device script : Source) (images : List (Bor (List ℕ))) (picture : Option (Bor (List ℕ)))
+    (apart : List ℕ → List ℕ → Bool) (old mid new : FileBytes) → KeepsFiles old mid
+    → IfSome picture (λ name. IsNoInput apart name.now device script images)
+    → KeepsBesides picture apart mid new → KeepsInputs device script images picture old new
+inputs_besides device script images None apart old mid new kept others after =
+    inputs_kept device script images None old new (KeepsFiles-twice old mid new kept after)
+inputs_besides device script images (Some name) apart old mid new kept others after = record {
+  device_kept = KeepsSource-apart device name.now apart old mid new kept others.not_device after;
+  script_kept = KeepsSource-apart script name.now apart old mid new kept others.not_script after;
+  images_kept = λ place word at differs. kept_twice (old word.now) (mid word.now) (new word.now) (kept word.now)
+      (after word.now (others.no_image place word at differs));
+  all_kept = λ none. absurd (cc none);
+}
+
+source_later : (source : Source) (old mid new : FileBytes) → KeepsFiles old mid → KeepsSource source mid new
+    → KeepsSource source old new
+source_later StandardInput old mid new kept later = tt
+source_later (File name) old mid new kept later =
+    kept_twice (old name.now) (mid name.now) (new name.now) (kept name.now) later
+
+-- .. also where all files were kept before that.
+pub inputs_later : (device script : Source) (images : List (Bor (List ℕ))) (picture : Option (Bor (List ℕ)))
+    (old mid new : FileBytes) → KeepsFiles old mid → KeepsInputs device script images picture mid new
+    → KeepsInputs device script images picture old new
+inputs_later device script images picture old mid new kept later = record {
+  device_kept = source_later device old mid new kept later.device_kept;
+  script_kept = source_later script old mid new kept later.script_kept;
+  images_kept = λ place word at differs. kept_twice (old word.now) (mid word.now) (new word.now) (kept word.now)
+      (later.images_kept place word at differs);
+  all_kept = λ none. KeepsFiles-twice old mid new kept (later.all_kept none);
+}

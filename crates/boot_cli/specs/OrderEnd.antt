@@ -12,7 +12,7 @@ use Rattle.making_commands.specs.NewImageEnd.{AnswersNewImage}
 use Rattle.making_commands.specs.NewManifestEnd.{AnswersNewManifest}
 use Rattle.reading_commands.specs.ReadingEnd.{AnswersReading}
 use Rattle.core_cli.specs.CoreEnd.{AnswersCore}
-use Rattle.boot_cli.specs.SweepEnd.{AnswersSweep}
+use Rattle.boot_cli.specs.SweepEnd.{AnswersSweep, KeepsInputs}
 
 -- What stands for the answer to an order, by the command that it asks for, and what the files hold
 -- then.
@@ -32,6 +32,7 @@ AnswersOrder answer (order.Extract device flash image side out) input file then 
 AnswersOrder answer (order.Sweep device script images choices) input file then old new =
     (one other : Source) × AreNamed device.now script.now one other
     × AnswersSweep answer one other input file old new
+    × KeepsInputs one other images.items choices.picture file then
 AnswersOrder answer (order.Provision device flash images) input file then old new =
     AnswersCore answer (device_order.Provision device flash images) input file then old new
 AnswersOrder answer (order.Run device flash script durable) input file then old new =

@@ -1,16 +1,19 @@
--- What a sweep comes to.
-use Rattle.std.specs.Prelude.{◌⊎◌, ℕ, List, [], ◌∷◌, Option}
+-- What a sweep comes to, and what it leaves of files.
+use Rattle.std.specs.Prelude.{◌≡◌, ◌⊎◌, ℕ, Bool, List, [], ◌∷◌, None, Option, Some}
+use Rattle.std.specs.Borrow.{Bor}
 use Rattle.events.specs.declared.event.Event.{Event}
 use Rattle.sector_map.specs.declared.layout.SectorMap.{SectorMap}
 use Rattle.command_ends.specs.declared.answer.Answer.{Answer}
 use Rattle.command_ends.specs.declared.answer.Answer.TheVariants.{Done, Refused, Cut}
 use Rattle.command_ends.specs.declared.source.Source.{Source}
 use Rattle.reading_inputs.specs.DeviceInput.{RefusesMap}
-use Rattle.command_ends.specs.Input.{FileBytes}
+use Rattle.command_ends.specs.Doings.{IsApartFrom, KeepsApart, KeepsSource}
+use Rattle.command_ends.specs.Input.{FileBytes, KeepsFiles}
 use Rattle.command_ends.specs.Inputs.{GiveEach}
 use Rattle.device_texts.specs.declared.device.DeviceFile.{DeviceFile}
 use Rattle.device_texts.specs.DeviceFile.{IsDeviceFile}
 use Rattle.device_texts.specs.FlashOf.{IsFlashOf}
+use Rattle.core_cli.specs.ProvisionEnd.{AreOthers, KeepsWords}
 use Rattle.boot_cli.specs.declared.sweeping.Provisioned.{Provisioned}
 use Rattle.boot_cli.specs.declared.sweeping.Provisioned.TheVariants as made
 use Rattle.reading_inputs.specs.Script.{IsScript, known_after_each}
@@ -40,3 +43,26 @@ AnswersSweep Done device script input files old new = SweepsDevice device script
 AnswersSweep Refused device script input files old new =
     SweepsDevice device script input files ⊎ RefusesMap device input files old new
 AnswersSweep Cut device script input files old new = ⊥
+
+-- The file of this name isn't the device file, the script nor an image of a sweep, by whatever name
+-- these are read.
+pub record IsNoInput (apart : List ℕ → List ℕ → Bool) (name : List ℕ) (device script : Source)
+    (images : List (Bor (List ℕ))) : Type 0 where
+  pub not_device : IsApartFrom apart name device
+  pub not_script : IsApartFrom apart name script
+  pub no_image : AreOthers (apart name) images
+
+-- Each file keeps what it is known to hold, but for that of the picture, where one is asked for.
+abbrev pub KeepsBesides : Option (Bor (List ℕ)) → (List ℕ → List ℕ → Bool)
+    → FileBytes → FileBytes → Type 0
+KeepsBesides None apart old new = KeepsFiles old new
+KeepsBesides (Some picture) apart old new = KeepsApart (apart picture.now) old new
+
+-- What a sweep leaves of files, whatever comes of it: the device file, the script and each image
+-- keep what they are known to hold, and where no picture is asked for each file does.
+pub record KeepsInputs (device script : Source) (images : List (Bor (List ℕ)))
+    (picture : Option (Bor (List ℕ))) (old new : FileBytes) : Type 0 where
+  pub device_kept : KeepsSource device old new
+  pub script_kept : KeepsSource script old new
+  pub images_kept : KeepsWords images old new
+  pub all_kept : picture ≡ None → KeepsFiles old new

@@ -136,8 +136,9 @@ fn perform<H: Host, O: Write, E: Write>(
                 device: Source::named(device),
                 script: Source::named(script),
                 images,
+                choices,
             };
-            sweeping::perform(alloc, named, &choices, host, out, err)
+            sweeping::perform(alloc, named, host, out, err)
         }
         Order::Provision {
             device,

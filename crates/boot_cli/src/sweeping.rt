@@ -1,9 +1,11 @@
 //! `bootswap sweep`: what comes of a script, with each write of the flash cut.
-ghost use Rattle.std.specs.Prelude.{◌≡◌, ◌≤◌, IfOk};
+ghost use Rattle.std.specs.Prelude.{◌≡◌, ◌≤◌, IfErr, IfOk, IfSome, OnOk};
 ghost use Rattle.device_texts.specs.DeviceFile.{IsOfFile};
 ghost use Rattle.device_texts.specs.FlashOf.{IsFlashOf};
+ghost use Rattle.command_ends.specs.Doings.{IsApartFrom, KeepsApart};
+ghost use Rattle.command_ends.specs.Input.{IsKnownAs, KeepsFiles};
 ghost use Rattle.command_ends.specs.Status.{status_of_answer};
-ghost use Rattle.boot_cli.specs.SweepEnd.{AnswersSweep, IsWhole};
+ghost use Rattle.boot_cli.specs.SweepEnd.{AnswersSweep, IsNoInput, IsWhole, KeepsBesides, KeepsInputs};
 
 use command_ends::{Answer, FlashFault, Host, Refusal, Source, SourceFault};
 use command_line::SweepChoices;
@@ -17,9 +19,9 @@ use std::alloc::{AllocError, Global};
 use std::io::Write;
 use std::marker::Brand;
 use std::sync::ledger::{Blank, Ledger};
-use sweep::{Life, Plan, Watch, found_text, picture_of, sweep};
+use sweep::{Found, Life, Plan, Watch, found_text, picture_of, sweep};
 
-/// The files that a sweep reads.
+/// What the words of a sweep name: the files that it reads, and what it tries and makes.
 #[derive(Clone, Copy)]
 pub struct Named<'a, 'w> {
     /// The device file.
@@ -28,6 +30,8 @@ pub struct Named<'a, 'w> {
     pub script: Source<'a>,
     /// The names of the images that run first, as the words have them.
     pub images: &'w [&'a str],
+    /// What is tried and made.
+    pub choices: SweepChoices<'a>,
 }
 
 /// A flash that was made a device's, or why it wasn't.
@@ -51,21 +55,24 @@ struct Progress<'a, H, E> {
 }
 
 /// Reads a device file, a script and images from `host`, makes a flash in memory a device's, runs
-/// the script on it with the writes cut that `choices` ask for, and writes to `out` what came of
-/// it. All stands in memory of `alloc`. Where somebody watches, `err` is told how far it is.
+/// the script on it with the writes cut that `named` asks for, and writes to `out` what came of it.
+/// All stands in memory of `alloc`. Where somebody watches, `err` is told how far it is.
 ///
 /// All files are judged before anything is run, and none is changed but the picture, where one is
-/// asked for, which is made or replaced once all is run.
+/// asked for, which is made or replaced once all is run. The device file, the script and the images
+/// keep their bytes, whatever comes of it: none of them may be the picture.
 pub fn perform<H: Host, O: Write, E: Write>(
     alloc: Global,
     named: Named<'_, '_>,
-    choices: &SweepChoices<'_>,
     host: &mut H,
     out: &mut O,
     err: &mut E,
 ) -> Result<Answer, Refusal>
-    ensures { IfOk result (λ answer. AnswersSweep answer named.entry.device named.entry.script
+    ensures answers { IfOk result (λ answer.
+        AnswersSweep answer named.entry.device named.entry.script
         (H.input host.old) (H.file host.old) (O.contents out.old) (O.contents out.new)) }
+    ensures inputs { KeepsInputs named.entry.device named.entry.script named.entry.images.now
+        named.entry.choices.picture (H.file host.old) (H.file host.new) }
 {
     let is_input_read = reads_standard_input(&named);
     let Some(device) = read_device(alloc, named.device, host, out)? else {
@@ -73,17 +80,7 @@ pub fn perform<H: Host, O: Write, E: Write>(
     };
     let text = read_script(alloc, named.script, host)?;
     let events = load(alloc, &text, is_input_read, host)?;
-    refuse_inputs(alloc, host, choices.picture, &named)?;
-    sweep_images(
-        alloc,
-        &device,
-        &events,
-        named.images,
-        choices,
-        host,
-        out,
-        err,
-    )
+    sweep_images(alloc, &device, &events, &named, host, out, err)
 }
 
 /// Whether one of these files is standard input.
@@ -96,14 +93,13 @@ fn reads_standard_input(named: &Named<'_, '_>) -> bool {
             .any(|image| Source::named(image).is_standard_input())
 }
 
-/// Refuses a picture whose file is one of those that are named.
-fn refuse_inputs<H: Host>(
-    alloc: Global,
-    host: &H,
-    picture: Option<&str>,
-    named: &Named<'_, '_>,
-) -> Result<(), Refusal> {
-    let Some(picture) = picture else {
+/// Refuses a picture whose file is one of those that are read.
+fn refuse_inputs<H: Host>(alloc: Global, host: &H, named: &Named<'_, '_>) -> Result<(), Refusal>
+    ensures { OnOk result (IfSome named.now.choices.picture (λ picture.
+        IsNoInput (H.apart host.now) picture.now
+        named.now.device named.now.script named.now.images.now)) }
+{
+    let Some(picture) = named.choices.picture else {
         return Ok(());
     };
     refuse_input(alloc, host, picture, named.device)?;
@@ -120,35 +116,34 @@ fn refuse_input<H: Host>(
     host: &H,
     picture: &str,
     source: Source<'_>,
-) -> Result<(), Refusal> {
-    let Source::File(name) = source else {
-        return Ok(());
-    };
-    if name == picture {
-        return Err(Refusal::PictureIsInput);
-    }
-    match host.is_same_file(name, picture) {
+) -> Result<(), Refusal>
+    ensures { OnOk result (IsApartFrom (H.apart host.now) picture.now source.entry) }
+{
+    match source.is_file(host, picture) {
         Ok(false) => Ok(()),
         Ok(true) => Err(Refusal::PictureIsInput),
         Err(_) => Err(Source::File(picture).refused(alloc, SourceFault::CannotReplace)),
     }
 }
 
-/// Makes a flash with these images a device's, and sweeps these events on it.
+/// Reads the images, makes a flash with them a device's, and sweeps these events on it.
 fn sweep_images<H: Host, O: Write, E: Write>(
     alloc: Global,
     device: &DeviceFile,
     events: &[Event<Vec<u8>>],
-    images: &[&str],
-    choices: &SweepChoices<'_>,
+    named: &Named<'_, '_>,
     host: &mut H,
     out: &mut O,
     err: &mut E,
 ) -> Result<Answer, Refusal>
     requires device { IsOfFile device.now }
-    ensures { IfOk result (λ answer. status_of_answer answer ≤ 1) }
+    ensures answers { IfOk result (λ answer. status_of_answer answer ≤ 1) }
+    ensures inputs { KeepsInputs named.now.device named.now.script named.now.images.now
+        named.now.choices.picture (H.file host.old) (H.file host.new) }
 {
-    let bytes = read_images(alloc, &device.map, images, host)?;
+    let bytes = read_images(alloc, &device.map, named.images, host)?;
+    // The picture is judged once all files are read, next to the call that replaces it.
+    refuse_inputs(alloc, host, named)?;
     let Ok(made) = provision_in_memory::<Brand>(alloc, Blank::new(2), &device.map, bytes) else {
         return Err(Refusal::NoMemory);
     };
@@ -162,7 +157,7 @@ fn sweep_images<H: Host, O: Write, E: Write>(
                 between: &[],
                 more: &[],
             };
-            tell_sweep(alloc, &life, choices, host, out, err)
+            tell_sweep(alloc, &life, &named.choices, host, out, err)
         }
     }
 }
@@ -198,18 +193,15 @@ fn tell_sweep<H: Host, O: Write, E: Write>(
 ) -> Result<Answer, Refusal>
     requires device { IsOfFile life.now.device.now }
     requires whole { IsFlashOf life.now.device.now.map life.now.bytes.now }
-    ensures { IfOk result (λ answer. status_of_answer answer ≤ 1) }
+    ensures answers { IfOk result (λ answer. status_of_answer answer ≤ 1) }
+    ensures others { KeepsBesides choices.now.picture (H.apart host.old)
+        (H.file host.old) (H.file host.new) }
 {
     let mut progress = Progress::new(host, err);
     let Ok(found) = sweep(alloc, life, plan_of(choices), &mut progress) else {
         return Err(Refusal::NoMemory);
     };
-    if let Some(name) = choices.picture {
-        let Ok(picture) = picture_of(alloc, life, &found) else {
-            return Err(Refusal::NoMemory);
-        };
-        replace(alloc, name, picture.as_bytes(), host)?;
-    }
+    make_picture(alloc, life, &found, choices.picture, host)?;
     let Ok(text) = found_text(alloc, life, &found) else {
         return Err(Refusal::NoMemory);
     };
@@ -239,8 +231,32 @@ fn answer_of(is_good: bool) -> Answer
     }
 }
 
+/// Makes the picture of a sweep, where one is asked for.
+fn make_picture<H: Host>(
+    alloc: Global,
+    life: &Life<'_>,
+    found: &Found,
+    picture: Option<&str>,
+    host: &mut H,
+) -> Result<(), Refusal>
+    ensures { KeepsBesides picture.entry (H.apart host.old) (H.file host.old) (H.file host.new) }
+{
+    let Some(name) = picture else {
+        return Ok(());
+    };
+    let Ok(picture) = picture_of(alloc, life, found) else {
+        return Err(Refusal::NoMemory);
+    };
+    replace(alloc, name, picture.as_bytes(), host)
+}
+
 /// Makes or replaces the file of the picture.
-fn replace<H: Host>(alloc: Global, name: &str, bytes: &[u8], host: &mut H) -> Result<(), Refusal> {
+fn replace<H: Host>(alloc: Global, name: &str, bytes: &[u8], host: &mut H) -> Result<(), Refusal>
+    ensures done { OnOk result (IsKnownAs (H.file host.new name.now) bytes.now) }
+    ensures others { KeepsApart (H.apart host.old name.now) (H.file host.old) (H.file host.new) }
+    ensures failed { IfErr result (λ _. KeepsFiles (H.file host.old) (H.file host.new)) }
+    ensures opened { H.opened host.new ≡ H.opened host.old }
+{
     match host.replace_file(alloc, name, bytes) {
         Ok(()) => Ok(()),
         Err(FlashFault::NoMemory) => Err(Refusal::NoMemory),
