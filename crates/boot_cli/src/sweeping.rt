@@ -142,7 +142,7 @@ fn sweep_images<H: Host, O: Write, E: Write>(
         named.now.choices.picture (H.file host.old) (H.file host.new) }
 {
     let bytes = read_images(alloc, &device.map, named.images, host)?;
-    // The picture is judged once all files are read, next to the call that replaces it.
+    // Only now: while the host reads, names may become those of another file.
     refuse_inputs(alloc, host, named)?;
     let Ok(made) = provision_in_memory::<Brand>(alloc, Blank::new(2), &device.map, bytes) else {
         return Err(Refusal::NoMemory);

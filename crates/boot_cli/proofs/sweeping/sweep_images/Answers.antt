@@ -1,4 +1,4 @@
-use Rattle.boot_cli.proofs.SweepLaws.{inputs_besides, inputs_kept}
+use Rattle.boot_cli.proofs.SweepLaws.{inputs_kept}
 use Rattle.boot_cli.proofs.sweeping.sweep_images.Goals as goal
 
 -- The images could not be read, and nothing was written yet.
