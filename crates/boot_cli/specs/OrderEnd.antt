@@ -1,4 +1,4 @@
--- What an order was answered with.
+-- What an order was answered with, and what a sweep leaves of files.
 use Rattle.std.specs.Prelude.{ℕ, List, Option}
 use Rattle.command_line.specs.declared.orders.Order.{Order}
 use Rattle.command_line.specs.declared.orders.Order.TheVariants as order
@@ -38,3 +38,10 @@ AnswersOrder answer (order.Provision device flash images) input file then old ne
 AnswersOrder answer (order.Run device flash script durable) input file then old new =
     AnswersCore answer (device_order.Run device flash script durable) input file then old new
 AnswersOrder answer asked input file then old new = AnswersReading answer asked input file old new
+
+-- `sweep` keeps what it reads, whatever comes of it. Of other orders nothing is said here.
+abbrev pub KeepsSwept : Order → FileBytes → FileBytes → Type 0
+KeepsSwept (order.Sweep device script images choices) file then =
+    (one other : Source) × AreNamed device.now script.now one other
+    × KeepsInputs one other images.items choices.picture file then
+KeepsSwept asked file then = Unit {0}

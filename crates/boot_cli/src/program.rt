@@ -1,6 +1,6 @@
 //! The whole program: what the words ask for is done, and comes to an exit status.
 ghost use Rattle.std.specs.Prelude.{◌≡◌, ◌≢◌, IfOk, map};
-ghost use Rattle.boot_cli.specs.OrderEnd.{AnswersOrder};
+ghost use Rattle.boot_cli.specs.OrderEnd.{AnswersOrder, KeepsSwept};
 ghost use Rattle.boot_cli.specs.WordsEnd.{EndsByCut, EndsProgram};
 
 use crate::sweeping;
@@ -81,6 +81,7 @@ pub fn run_order<H: Host, O: Write, E: Write>(
     ensures cut { result ≡ 3 → EndsByCut order.entry (H.input host.old) (H.file host.old)
         (H.file host.new) (O.contents out.old) (O.contents out.new) }
     ensures other { result ≢ 2 }
+    ensures swept { KeepsSwept order.entry (H.file host.old) (H.file host.new) }
 {
     let outcome = perform(alloc, &order, false, host, out, err);
     finish(&outcome, out, err)
@@ -96,9 +97,10 @@ fn perform<H: Host, O: Write, E: Write>(
     out: &mut O,
     err: &mut E,
 ) -> Result<Answer, Refusal>
-    ensures { IfOk result (λ answer. AnswersOrder answer order.now
+    ensures answers { IfOk result (λ answer. AnswersOrder answer order.now
         (H.input host.old) (H.file host.old) (H.file host.new)
         (O.contents out.old) (O.contents out.new)) }
+    ensures swept { KeepsSwept order.now (H.file host.old) (H.file host.new) }
 {
     match *order {
         Order::MakeDevice { ref device } => make_device::perform(alloc, device, out, err),

@@ -7,7 +7,7 @@ use Rattle.core_cli.proofs.WordsLaws.{never_usage, only_cut}
 pub returns-clause-done : goal.returns-clause-done
 returns-clause-done g c = λ zero.
     let done = c.finish-status.ensures.status zero in
-    let answered = rw done at c.perform-outcome.ensures in
+    let answered = rw done at c.perform-outcome.ensures.answers in
     AnswersOrder-kept c.args.order (g.H.Host.input c.args.host.now.host) (g.H.Host.file c.args.host.now.host)
     (g.H.Host.file c.perform-outcome.new.host.host)
     (g.O.Write.contents c.args.out.now) (g.O.Write.contents c.perform-outcome.new.out) (g.O.Write.contents c.finish-status.new.out)
@@ -19,7 +19,7 @@ returns-clause-cut g c = λ three.
     let is_cut = only_cut c.perform-outcome.result c.finish-status.result c.finish-status.ensures.ends three in
     record {
       written = g.O.Write.contents c.perform-outcome.new.out;
-      answered = rw is_cut at c.perform-outcome.ensures;
+      answered = rw is_cut at c.perform-outcome.ensures.answers;
       kept = c.finish-status.ensures.kept;
     }
 
