@@ -23,6 +23,8 @@ impl<F: Flash> Flash for Counted<F> {
 
     ghost armed = { λ counted. F.armed counted.flash };
 
+    ghost written = { λ counted. F.written counted.flash };
+
     fn sector_size(&self) -> u32 {
         self.flash.sector_size()
     }

@@ -180,6 +180,8 @@ impl<F: FlashFile, L: Ledger, M: Ledger> Flash for FileFlash<F, L, M> {
 
     ghost armed = { λ f. ap (λ n. n + f.faults.amount) f.memory.cut_as_armed };
 
+    ghost written = { λ f. f.memory.written };
+
     fn sector_size(&self) -> u32 {
         self.memory.sector_size()
     }

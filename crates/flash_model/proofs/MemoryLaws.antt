@@ -48,8 +48,8 @@ torn_for_next armed writes next below is = ⊎_elim
     (cases_lt (writes + 1) (2 ^ 64 - 1))
 
 -- A flash in memory, put together.
-abbrev memory : ℕ → ℕ → Bool → List Armed → List ℕ → ℕ → ℕ → ℕ → Chip
-memory size sectors on armed bytes cuts erases writes = record {
+abbrev memory : ℕ → ℕ → Bool → List Armed → List ℕ → List ℕ → ℕ → ℕ → ℕ → Chip
+memory size sectors on armed first bytes cuts erases writes = record {
   sector_size = size;
   sectors = sectors;
   bytes = bytes;
@@ -58,20 +58,20 @@ memory size sectors on armed bytes cuts erases writes = record {
   erases = erases;
   writes = writes;
   faults = 0;
-  fixed = armed_with armed unarmed;
+  fixed = armed_with armed (record unarmed { first = first });
 }
 
 -- It is the same where its parts are.
-pub same_memory : (size sectors : ℕ) (on : Bool) (armed : List Armed) (bytes bytes' : List ℕ)
+pub same_memory : (size sectors : ℕ) (on : Bool) (armed : List Armed) (first bytes bytes' : List ℕ)
     (cuts cuts' erases erases' writes writes' : ℕ)
     → bytes ≡ bytes' → cuts ≡ cuts' → erases ≡ erases' → writes ≡ writes'
-    → memory size sectors on armed bytes cuts erases writes
-    ≡ memory size sectors on armed bytes' cuts' erases' writes'
-same_memory size sectors on armed bytes bytes' cuts cuts' erases erases' writes writes' b c e w =
-    ap (λ x. memory size sectors on armed x cuts erases writes) b
-    ∙ ap (λ x. memory size sectors on armed bytes' x erases writes) c
-    ∙ ap (λ x. memory size sectors on armed bytes' cuts' x writes) e
-    ∙ ap (λ x. memory size sectors on armed bytes' cuts' erases' x) w
+    → memory size sectors on armed first bytes cuts erases writes
+    ≡ memory size sectors on armed first bytes' cuts' erases' writes'
+same_memory size sectors on armed first bytes bytes' cuts cuts' erases erases' writes writes' b c e w =
+    ap (λ x. memory size sectors on armed first x cuts erases writes) b
+    ∙ ap (λ x. memory size sectors on armed first bytes' x erases writes) c
+    ∙ ap (λ x. memory size sectors on armed first bytes' cuts' x writes) e
+    ∙ ap (λ x. memory size sectors on armed first bytes' cuts' erases' x) w
 
 -- A write that isn't armed is done.
 pub writes_done : (at : ℕ) (range : List ℕ) (done old new : Chip) → old.is_on ≡ true

@@ -6,6 +6,7 @@ use Rattle.std.specs.List.{list_any}
 use Rattle.flash_model.specs.declared.error.FlashError.{FlashError}
 use Rattle.flash_model.specs.declared.error.FlashError.TheVariants.{Cut, Off}
 use Rattle.flash_model.specs.declared.torn.Armed.{Armed}
+use Rattle.flash_model.specs.Torn.{Cutting, cutting_of}
 
 -- What no call of a driver changes of a flash, beyond its sectors.
 pub record Fixed : Type 0 where
@@ -13,16 +14,28 @@ pub record Fixed : Type 0 where
   pub armed : List Armed
   -- The numbers of those writes, counted from 1.
   pub numbers : List ℕ
+  -- What the cut of each such write leaves of its range.
+  pub cuttings : List Cutting
+  -- The bytes that the flash had when it was made.
+  pub first : List ℕ
   -- The name of the borrow of its bytes, where they are somebody else's, and else 0.
   pub name : ℕ
 
--- A flash of which no write is to be cut, with bytes of its own.
+-- A flash of which no write is to be cut, made of no bytes, with bytes of its own.
 abbrev pub unarmed : Fixed
-unarmed = record { armed = []; numbers = []; name = 0 }
+unarmed = record { armed = []; numbers = []; cuttings = []; first = []; name = 0 }
 
 -- The numbers of armed writes.
 abbrev pub numbers_of : List Armed → List ℕ
 numbers_of armed = map (λ write. write.at) armed
+
+-- What is fixed, of a flash of whose writes these are to be cut.
+abbrev pub armed_with : List Armed → Fixed → Fixed
+armed_with armed fixed = record fixed {
+  armed = armed;
+  numbers = numbers_of armed;
+  cuttings = map cutting_of armed;
+}
 
 -- A flash: so many sectors of so many bytes each, the bytes in the order of their addresses,
 -- whether it has power, how often a write of it was cut, how many erases it completed, how many

@@ -3,4 +3,5 @@ pub mod Codes
 pub mod Memory
 pub mod Torn
 pub mod Units
+pub mod Written
 pub mod Calls

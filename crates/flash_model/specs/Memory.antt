@@ -7,12 +7,9 @@ use Rattle.flash_model.specs.declared.error.FlashError.TheVariants.{Cut, Off}
 use Rattle.flash_model.specs.declared.memory.MemFlash.{MemFlash}
 use Rattle.flash_model.specs.declared.torn.Armed.{Armed}
 use Rattle.flash_model.specs.declared.torn.Torn.{Torn}
-use Rattle.flash_model.specs.Chip.{Chip, Fixed, numbers_of, unarmed}
+use Rattle.flash_model.specs.Chip.{Chip, unarmed}
+pub use Rattle.flash_model.specs.Chip.{armed_with}
 use Rattle.flash_model.specs.Torn.{replaced, torn_at, torn_for}
-
--- What is fixed, of a flash of whose writes these are to be cut.
-abbrev pub armed_with : List Armed → Fixed → Fixed
-armed_with armed fixed = record fixed { armed = armed; numbers = numbers_of armed }
 
 -- The flash itself. The writes that are to be cut stand in the order in which they were armed; each
 -- cut is one of them.
@@ -26,7 +23,7 @@ chip_of flash = record {
   erases = flash.erases.amount;
   writes = flash.writes;
   faults = 0;
-  fixed = armed_with flash.armed.items unarmed;
+  fixed = armed_with flash.armed.items (record unarmed { first = flash.origin.first });
 }
 
 -- A flash that was just made: it has power, no write, no cut and no erase was counted, and no write
@@ -41,7 +38,7 @@ new_chip size count all = record {
   erases = 0;
   writes = 0;
   faults = 0;
-  fixed = unarmed;
+  fixed = record unarmed { first = all };
 }
 
 -- A flash of whose writes these are to be cut, and no others.

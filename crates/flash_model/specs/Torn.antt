@@ -1,6 +1,6 @@
 -- What a cut leaves of a range that was being written, and which writes are to be cut.
 use Rattle.std.specs.Prelude.{ℕ, ◌+◌, ◌/◌, ◌%◌, ◌==◌, List, [], ◌∷◌, ◌++◌, length, take, drop, map}
-use Rattle.std.specs.Prelude.{Option, option_map, slice_index, slice_range, find}
+use Rattle.std.specs.Prelude.{if◌then◌else◌, Option, None, Some, option_map, slice_index, slice_range, find}
 use Rattle.std.specs.List.{range_with_len}
 use Rattle.flash_model.specs.declared.torn.Armed.{Armed}
 use Rattle.flash_model.specs.declared.torn.Torn.{Torn}
@@ -41,3 +41,50 @@ torn_at at done torn bytes =
 -- counts.
 abbrev pub torn_for : ℕ → List Armed → Option Torn
 torn_for number armed = option_map (λ write. write.torn) (find (λ write. write.at == number) armed)
+
+-- What a write leaves of its range, that may be cut so: one that isn't cut leaves what it was to.
+abbrev pub left_of : Option Torn → List ℕ → List ℕ → List ℕ
+left_of None old done = done
+left_of (Some torn) old done = torn_bytes torn old done
+
+-- The cut of a write, in a form that flashes of any kind have.
+pub record Cutting : Type 0 where
+  -- The number of the write, from 1.
+  pub number : ℕ
+  -- What is left in its range: 0 what it had, 1 what it was to have, 2 half of that over what it
+  -- had, any other number the pattern over the range.
+  pub kind : ℕ
+  pub pattern : List ℕ
+
+-- What it leaves in its range, of the bytes that it had and those that it was to have.
+abbrev pub left_by : Cutting → List ℕ → List ℕ → List ℕ
+left_by cutting old done = if cutting.kind == 0 then old else if cutting.kind == 1 then done
+    else if cutting.kind == 2 then half_done old done else with_pattern cutting.pattern old
+
+-- What a write leaves that may be cut so.
+abbrev pub left_if : Option Cutting → List ℕ → List ℕ → List ℕ
+left_if None old done = done
+left_if (Some cutting) old done = left_by cutting old done
+
+-- What the write of a number leaves: the first of its cuts counts.
+abbrev pub left_at : List Cutting → ℕ → List ℕ → List ℕ → List ℕ
+left_at cuttings number old done =
+    left_if (find (λ cutting. cutting.number == number) cuttings) old done
+
+-- The cut of an armed write.
+abbrev pub kind_of : Torn → ℕ
+kind_of Keep = 0
+kind_of Done = 1
+kind_of Half = 2
+kind_of (Bytes pattern) = 3
+
+abbrev pub pattern_of : Torn → List ℕ
+pattern_of (Bytes pattern) = pattern.items
+pattern_of other = []
+
+abbrev pub cutting_of : Armed → Cutting
+cutting_of write = record {
+  number = write.at;
+  kind = kind_of write.torn;
+  pattern = pattern_of write.torn;
+}

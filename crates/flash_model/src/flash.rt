@@ -3,6 +3,7 @@
 ghost use Rattle.std.specs.Prelude.{◌≡◌, ◌^◌, ◌+◌, ◌*◌, ◌%◌, ◌<◌, ◌≤◌, ℕ, length, slice_index};
 ghost use Rattle.std.specs.Prelude.{true};
 ghost use Rattle.flash_model.specs.Chip.{Chip, size_of, IsCutAsArmed, IsErased};
+ghost use Rattle.flash_model.specs.Written.{IsWritten};
 ghost use Rattle.flash_model.specs.Calls.{Erases, Programs, ReadsBytes};
 
 use crate::error::FlashError;
@@ -26,6 +27,11 @@ use crate::error::FlashError;
 ///
 /// The counts of cuts, erases, writes and faults are for contracts alone: a driver keeps no number
 /// for them. Of a real part each cut is a fault, that is one that wasn't armed.
+///
+/// The laws below tie these counts to what the driver did. `written` is the one on bytes. To keep
+/// it, a driver has a field of the type `Origin`, which takes no memory and never changes, and a
+/// ghost field with the fact itself, `IsWrittenBy` of `specs/Written.antt`. It proves the fact anew
+/// where it writes, as `slice_flash` does; no number is kept for it at run time.
 pub trait Flash {
     ghost chip: { Self → Chip };
 
@@ -84,4 +90,9 @@ pub trait Flash {
 
     /// Each armed write that the flash took was cut, and no other one, but for the faults.
     ghost armed: { (f : Self) → IsCutAsArmed (chip f) };
+
+    /// The flash's bytes are what exactly the writes that it counts made of the bytes that it had
+    /// first. Each of these writes is one that a driver takes. The armed ones are torn as they were
+    /// armed, and all others are done.
+    ghost written: { (f : Self) → ∥ IsWritten (chip f) ∥₁ };
 }

@@ -3,8 +3,10 @@
 //!
 //! All layers above write to the device's flash through the trait `Flash` alone, and each of them
 //! proves what it promises from that trait's contracts, for every flash that keeps them. Contracts
-//! see a flash as a `Chip`: its bytes by address, whether it has power, how many writes were cut
-//! and how many erases were completed.
+//! see a flash as a `Chip`: its bytes by address, whether it has power, how many writes it took, how
+//! many of them were cut and how many erases were completed. Two laws of the trait tie these counts
+//! to what happened: there was one cut for each armed write, and the bytes are what exactly the
+//! counted writes made of those that the flash had first (`specs/Written.antt`).
 //!
 //! What the layer promises to those above, on any flash and with any bytes on it:
 //! - `is_erased` and `is_unit_erased` answer exactly whether a range, or a unit, is erased, and
@@ -23,6 +25,7 @@ mod erased_ranges;
 mod error;
 mod flash;
 mod memory;
+mod origin;
 mod tearing;
 mod torn;
 mod unit;
@@ -31,5 +34,6 @@ pub use erased_ranges::{are_erased, is_erased};
 pub use error::FlashError;
 pub use flash::Flash;
 pub use memory::MemFlash;
+pub use origin::Origin;
 pub use torn::{Armed, Torn};
 pub use unit::{FLAG, UNIT, is_unit_erased, set_unit};

@@ -2,10 +2,12 @@
 
 ghost use Rattle.std.specs.Prelude.{◌≡◌, ◌+◌, ◌-◌, ◌*◌, ◌/◌, ◌%◌, ◌^◌, ◌<◌, [], ℕ, All, length};
 ghost use Rattle.std.specs.Prelude.{min, replicate, slice_index, vec_len, IfOk};
-ghost use Rattle.flash_model.specs.Chip.{numbers_of, reached};
+ghost use Rattle.flash_model.specs.Chip.{armed_with, numbers_of, reached, unarmed};
+ghost use Rattle.flash_model.specs.Written.{IsWrittenBy};
 
 use crate::error::FlashError;
 use crate::flash::Flash;
+use crate::origin::Origin;
 use crate::tearing::{blank, put, tear_erase, tear_program};
 use crate::torn::{Armed, Torn, torn_for};
 use std::alloc::{AllocError, Global};
@@ -23,10 +25,10 @@ use std::sync::ledger::{Blank, Book, Ledger, Share};
 /// that cuts leave from `arm`.
 ///
 /// Contracts see it as a `Chip` (`chip_of`), which has the armed writes in the order of their
-/// arming. Whoever calls the flash, it counts exactly one cut for each armed write that it took. The
-/// counts of cuts and of completed erases have no bound and take no bytes: they are tokens of the
-/// ledger `L`. So a flash is made in a function that is generic in `L`, whose caller picks the
-/// ledger:
+/// arming. Whoever calls the flash, it counts exactly one cut for each armed write that it took,
+/// and its bytes are what exactly the counted writes made of the first ones. The counts of cuts and
+/// of completed erases have no bound and take no bytes: they are tokens of the ledger `L`. So a
+/// flash is made in a function that is generic in `L`, whose caller picks the ledger:
 ///
 /// ```text
 /// fn helper<L: Ledger>(alloc: Global, blank: Blank) -> Result<(), AllocError>
@@ -61,6 +63,7 @@ pub struct MemFlash<L: Ledger> {
     // The amount of `erases`, as far as 64 bits hold it.
     completed: u64,
     armed: Vec<Armed>,
+    origin: Origin,
     book: Book<L>,
     cuts: Share<L>,
     erases: Share<L>,
@@ -73,6 +76,8 @@ pub struct MemFlash<L: Ledger> {
     ghost fits: { writes < 2 ^ 64 },
     ghost armed_below: { All (λ write. write.at < 2 ^ 64 - 1) armed.items },
     ghost cut_as_armed: { cuts.amount ≡ reached (numbers_of armed.items) writes },
+    ghost written: { ∥ IsWrittenBy sector_size
+        (armed_with armed.items (record unarmed { first = origin.first })) bytes.items writes ∥₁ },
 }
 
 impl<L: Ledger> MemFlash<L> {
@@ -139,6 +144,7 @@ impl<L: Ledger> MemFlash<L> {
     {
         let (book, mut cuts) = blank.open::<L>();
         let erases = cuts.split_off(1, 0);
+        let origin = Origin::of(&bytes);
         MemFlash {
             sector_size,
             sectors,
@@ -147,6 +153,7 @@ impl<L: Ledger> MemFlash<L> {
             writes: 0,
             completed: 0,
             armed: Vec::new(alloc),
+            origin,
             book,
             cuts,
             erases,
@@ -211,6 +218,8 @@ impl<L: Ledger> Flash for MemFlash<L> {
     ghost bytes = { λ f. f.are_bytes };
 
     ghost armed = { λ f. f.cut_as_armed ∙ sym (add-zero _) };
+
+    ghost written = { λ f. f.written };
 
     fn sector_size(&self) -> u32 {
         self.sector_size

@@ -1,2 +1,3 @@
-mod Told
+pub mod Told
+mod Journal
 mod Writes

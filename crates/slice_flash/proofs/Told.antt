@@ -2,8 +2,8 @@
 use Rattle.std.proofs.Common.{◌≡◌, ℕ, suc, ◌+◌, ◌-◌, ◌^◌, ◌<◌, ◌≤◌, ◌==◌, true, false, List, [], ◌∷◌}
 use Rattle.std.proofs.Common.{Option, Some, None, refl, sym, ◌∙◌, ap, arith, ⊎_elim}
 use Rattle.std.specs.List.{list_any}
-use Rattle.std.specs.Option.{is_none, is_some}
-use Rattle.std.proofs.lemmas.Bool.{cases_Bool, cases_lt, false≢true, le-ltb, lt-ltb}
+use Rattle.std.specs.Option.{is_some}
+use Rattle.std.proofs.lemmas.Bool.{cases_Bool, cases_lt, le-ltb, lt-ltb}
 use Rattle.std.proofs.lemmas.Option.{none-some}
 use Rattle.flash_model.specs.Chip.{reached}
 use Rattle.flash_model.specs.Memory.{one_more}
@@ -13,7 +13,7 @@ use Rattle.slice_flash.specs.declared.table.Left.{Left}
 use Rattle.slice_flash.specs.Rows.{left_after, left_for, numbers_in}
 
 -- A number is among those of the table where a cut of that write leaves something.
-any_number : (number : ℕ) (table : List row.Cut)
+pub any_number : (number : ℕ) (table : List row.Cut)
     → list_any (λ n. n == number) (numbers_in table) ≡ is_some (left_for number table)
 any_number number [] = refl
 any_number number (cut ∷ table) = ⊎_elim
@@ -46,16 +46,3 @@ reached_told table writes next left is some = ⊎_elim
     (λ (stopped : 2 ^ 64 - 1 ≤ writes).
     absurd (none-some left (rw (le-ltb writes (2 ^ 64 - 1) stopped) at some)))
     (cases_lt writes (2 ^ 64 - 1))
-
--- So it is told by whether there is such a row.
-pub told_none : (table : List row.Cut) (writes next : ℕ) (left : Option Left) → writes < 2 ^ 64
-    → next ≡ one_more writes → left ≡ left_after writes table → is_none left ≡ true
-    → reached (numbers_in table) next ≡ reached (numbers_in table) writes
-told_none table writes next None below is left none = reached_untold table writes next below is (sym left)
-told_none table writes next (Some row) below is left none = absurd (false≢true none)
-
-pub told_some : (table : List row.Cut) (writes next : ℕ) (left : Option Left)
-    → next ≡ one_more writes → left ≡ left_after writes table → is_none left ≡ false
-    → reached (numbers_in table) next ≡ reached (numbers_in table) writes + 1
-told_some table writes next None is left some = absurd (false≢true (sym some))
-told_some table writes next (Some row) is left some = reached_told table writes next row is (sym left)

@@ -1,17 +1,21 @@
 -- Ranges that a pattern fills, and erases by way of the writes that they are.
-use Rattle.std.proofs.Common.{◌≡◌, ℕ, ◌+◌, ◌-◌, ◌*◌, ◌%◌, ◌<◌, List, [], ◌∷◌, length, replicate, slice_index, slice_range}
+use Rattle.std.proofs.Common.{◌≡◌, ℕ, zero, suc, ◌+◌, ◌++◌, drop, take, ◌-◌, ◌*◌, ◌%◌, ◌<◌, List, [], ◌∷◌, length, replicate, slice_index, slice_range}
 use Rattle.std.proofs.Common.{Ok, Err, refl, sym, ◌∙◌, ap, subst, arith}
 use Rattle.std.specs.Result.{is_ok}
+use borrow.Rule.Slice.PartMut.{Post-is}
 use Rattle.std.proofs.Math.Nat.{mod-eq_of_lt}
 use Rattle.std.proofs.lemmas.Bool.{false≢true}
 use Rattle.std.proofs.lemmas.List.{get_or-replicate, length-replicate}
 use Rattle.flash_model.specs.declared.error.FlashError.{FlashError}
 use Rattle.flash_model.specs.Chip.{Chip, SameOutside}
 use Rattle.flash_model.specs.Calls.{Erases, Programs}
-use Rattle.flash_model.specs.Torn.{with_pattern}
+use Rattle.flash_model.specs.Torn.{replaced, with_pattern}
 use Rattle.flash_model.proofs.Frame.{product_le}
 use Rattle.flash_model.proofs.Ranges.{length_range}
-use Rattle.flash_model.proofs.TornBytes.{with_pattern_each}
+use Rattle.flash_model.proofs.TornBytes.{length-with_pattern, with_pattern_each}
+use Rattle.slice_flash.specs.declared.table.Left.{Left}
+use Rattle.slice_flash.specs.declared.table.Left.TheVariants.{Keep, Done, Bytes}
+use Rattle.slice_flash.specs.Rows.{torn_bytes}
 use Rattle.slice_flash.specs.SliceFlash.{Slice, Writes, done, erased}
 
 -- A pattern as long as the range.
@@ -105,3 +109,46 @@ told_failed at range error old new write = record {
   on = λ on none. absurd (false≢true (write.on on none).0);
   cut = write.cut;
 }
+
+-- ---- a range that was lent and is put back
+
+-- Where a range was lent, all bytes are those with what it has now.
+pub put_back : (at n : ℕ) (bytes new range : List ℕ) → new ≡ range → length range ≡ n
+    → take at bytes ++ (new ++ drop (at + n - at) (drop at bytes)) ≡ replaced at range bytes
+put_back at n bytes new range is long =
+    let end : at + n ≡ at + length range = ap (λ m. at + m) (sym long) in
+    ap (λ (r : List ℕ). take at bytes ++ (r ++ drop (at + n - at) (drop at bytes))) is
+    ∙ ap (λ (rest : List ℕ). take at bytes ++ (range ++ rest))
+    (Post-is at (at + n) bytes (omega arith) ∙ ap (λ m. drop m bytes) end)
+
+bytes_dropped : (n : ℕ) (all : List ℕ) → ((k : ℕ) → slice_index all k < 256) → (k : ℕ) → slice_index (drop n all) k < 256
+bytes_dropped zero all below k = below k
+bytes_dropped (suc n) [] below k = below k
+bytes_dropped (suc n) (b ∷ bs) below k = bytes_dropped n bs (λ j. below (suc j)) k
+
+bytes_taken : (n : ℕ) (all : List ℕ) → ((k : ℕ) → slice_index all k < 256) → (k : ℕ) → slice_index (take n all) k < 256
+bytes_taken zero all below k = omega arith
+bytes_taken (suc n) [] below k = below k
+bytes_taken (suc n) (b ∷ bs) below zero = below zero
+bytes_taken (suc n) (b ∷ bs) below (suc k) = bytes_taken n bs (λ j. below (suc j)) k
+
+bytes_joined : (xs ys : List ℕ) → ((k : ℕ) → slice_index xs k < 256) → ((k : ℕ) → slice_index ys k < 256)
+    → (k : ℕ) → slice_index (xs ++ ys) k < 256
+bytes_joined [] ys first second k = second k
+bytes_joined (x ∷ xs) ys first second zero = first zero
+bytes_joined (x ∷ xs) ys first second (suc k) = bytes_joined xs ys (λ j. first (suc j)) second k
+
+-- They are bytes still.
+pub bytes_back : (at n : ℕ) (bytes new : List ℕ) → ((k : ℕ) → slice_index bytes k < 256)
+    → ((k : ℕ) → slice_index new k < 256) → (k : ℕ)
+    → slice_index (take at bytes ++ (new ++ drop n (drop at bytes))) k < 256
+bytes_back at n bytes new below also =
+    bytes_joined (take at bytes) (new ++ drop n (drop at bytes)) (bytes_taken at bytes below)
+    (bytes_joined new (drop n (drop at bytes)) also (bytes_dropped n (drop at bytes) (bytes_dropped at bytes below)))
+
+-- What a cut leaves is as long as the range.
+pub length-torn : (left : Left) (old done : List ℕ) {n : ℕ} → length old ≡ n → length done ≡ n
+    → length (torn_bytes left old done) ≡ n
+length-torn Keep old done first second = first
+length-torn Done old done first second = second
+length-torn (Bytes pattern) old done first second = length-with_pattern pattern.now old ∙ first

@@ -1,7 +1,8 @@
 -- Which writes are to be cut, by the rows of a table.
-use Rattle.std.specs.Prelude.{ℕ, ◌+◌, ◌-◌, ◌^◌, ◌==◌, List, map, find, nat_lt, if◌then◌else◌}
-use Rattle.std.specs.Prelude.{Option, None, option_map}
-use Rattle.flash_model.specs.Torn.{with_pattern}
+use Rattle.std.specs.Prelude.{ℕ, ◌+◌, ◌-◌, ◌^◌, ◌==◌, List, [], map, find, nat_lt, if◌then◌else◌}
+use Rattle.std.specs.Prelude.{Option, None, Some, option_map}
+use Rattle.flash_model.specs.Chip.{Fixed, unarmed}
+use Rattle.flash_model.specs.Torn.{Cutting, with_pattern}
 use Rattle.slice_flash.specs.declared.table.Cut as row
 use Rattle.slice_flash.specs.declared.table.Left.{Left}
 use Rattle.slice_flash.specs.declared.table.Left.TheVariants.{Keep, Done, Bytes}
@@ -25,3 +26,35 @@ abbrev pub torn_bytes : Left → List ℕ → List ℕ → List ℕ
 torn_bytes Keep old done = old
 torn_bytes Done old done = done
 torn_bytes (Bytes pattern) old done = with_pattern pattern.now old
+
+-- What a write leaves of its range, that may be cut so: one that isn't cut leaves what it was to.
+abbrev pub left_of : Option Left → List ℕ → List ℕ → List ℕ
+left_of None old done = done
+left_of (Some left) old done = torn_bytes left old done
+
+-- The cut of a row.
+abbrev pub kind_of : Left → ℕ
+kind_of Keep = 0
+kind_of Done = 1
+kind_of (Bytes pattern) = 3
+
+abbrev pub pattern_of : Left → List ℕ
+pattern_of (Bytes pattern) = pattern.now
+pattern_of other = []
+
+abbrev pub cutting_of : row.Cut → Cutting
+cutting_of cut = record {
+  number = cut.write;
+  kind = kind_of cut.left;
+  pattern = pattern_of cut.left;
+}
+
+-- What no call changes of a flash of this table, that was made of these bytes. They are lent, by a
+-- borrow of this name.
+abbrev pub fixed_by : List row.Cut → List ℕ → ℕ → Fixed
+fixed_by table first name = record unarmed {
+  numbers = numbers_in table;
+  cuttings = map cutting_of table;
+  first = first;
+  name = name;
+}

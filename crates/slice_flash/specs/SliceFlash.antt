@@ -5,10 +5,11 @@ use Rattle.std.specs.Borrow.{MutBor}
 use Rattle.flash_model.specs.declared.error.FlashError.{FlashError}
 use Rattle.flash_model.specs.declared.error.FlashError.TheVariants.{Cut, Off}
 use Rattle.flash_model.specs.Calls.{Programs}
-use Rattle.flash_model.specs.Chip.{Chip, unarmed}
+use Rattle.flash_model.specs.Chip.{Chip}
 use Rattle.flash_model.specs.Memory.{new_chip, one_more}
 use Rattle.flash_model.specs.Torn.{replaced, with_pattern}
-use Rattle.slice_flash.specs.Rows.{left_after, numbers_in, torn_bytes}
+use Rattle.flash_model.specs.Written.{IsWrite}
+use Rattle.slice_flash.specs.Rows.{fixed_by, left_after, torn_bytes}
 use Rattle.slice_flash.specs.declared.flash.SliceFlash.{SliceFlash}
 use Rattle.slice_flash.specs.declared.table.Cut as row
 use Rattle.slice_flash.specs.declared.table.Left.{Left}
@@ -30,10 +31,7 @@ chip_of flash = record {
   erases = flash.erases.amount;
   writes = flash.writes;
   faults = 0;
-  fixed = record unarmed {
-    numbers = numbers_in flash.table.now;
-    name = flash.bytes.ghost_name;
-  };
+  fixed = fixed_by flash.table.now flash.origin.first flash.bytes.ghost_name;
 }
 
 -- The flash with its table.
@@ -44,7 +42,7 @@ slice_of flash = record { chip = chip_of flash; table = flash.table.now }
 abbrev pub new_slice : ℕ → MutBor (List ℕ) → List row.Cut → Slice
 new_slice size lent table = record {
   chip = record (new_chip size (length lent.now / size) lent.now) {
-    fixed = record unarmed { numbers = numbers_in table; name = lent.ghost_name };
+    fixed = fixed_by table lent.now lent.ghost_name;
   };
   table = table;
 }
@@ -52,17 +50,6 @@ new_slice size lent table = record {
 -- What the cut of the next write leaves, where it is to be cut.
 abbrev pub next_left : Slice → Option Left
 next_left slice = left_after slice.chip.writes slice.table
-
--- With one write more, that is done or cut.
-abbrev pub counted : Option Left → Slice → Slice
-counted None old = record old { chip = record (old.chip) { writes = one_more old.chip.writes } }
-counted (Some left) old = record old {
-  chip = record (old.chip) {
-    is_on = false;
-    cuts = old.chip.cuts + 1;
-    writes = one_more old.chip.writes;
-  };
-}
 
 -- After a write of these bytes that was done, ..
 abbrev pub done : ℕ → List ℕ → Slice → Slice
@@ -111,6 +98,13 @@ ErasesAsTold sector old new result =
     let at = sector * old.chip.sector_size in
     let blank = replicate old.chip.sector_size 0xff in
     Writes result at blank (erased at blank old) old new
+
+-- So many bytes that a pattern gives can be written from an address on, by a write that a driver
+-- takes.
+abbrev pub CanPut : ℕ → ℕ → List ℕ → Chip → Type 0
+CanPut at n pattern chip = (range : List ℕ) → length range ≡ n
+    → range ≡ with_pattern pattern (slice_range chip.bytes at (at + n))
+    → IsWrite chip.sector_size (record { at = at; done = range }) chip.bytes
 
 -- A call puts a pattern over so many bytes, as a write of the bytes that it gives there.
 pub record Puts (at n : ℕ) (pattern : List ℕ) (old new : Slice) (result : Result Unit FlashError)

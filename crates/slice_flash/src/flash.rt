@@ -1,11 +1,14 @@
 //! A flash over bytes that somebody else lends.
 
-ghost use Rattle.std.specs.Prelude.{◌≡◌, ◌+◌, ◌*◌, ◌%◌, ◌^◌, ◌<◌, ◌≤◌, ℕ, length, slice_index, slice_range};
+ghost use Rattle.std.specs.Prelude.{◌≡◌, ◌==◌, ◌+◌, ◌*◌, ◌%◌, ◌^◌, ◌<◌, ◌≤◌, ℕ, false, true};
+ghost use Rattle.std.specs.Prelude.{length, slice_index, slice_range};
+ghost use Rattle.std.specs.List.{list_any};
 ghost use Rattle.flash_model.specs.Chip.{reached};
-ghost use Rattle.slice_flash.specs.Rows.{numbers_in};
+ghost use Rattle.flash_model.specs.Written.{IsWrittenBy};
+ghost use Rattle.slice_flash.specs.Rows.{fixed_by, numbers_in};
 
 use crate::table::{Cut, Left, left_after, repeat, tear};
-use flash_model::{Flash, FlashError};
+use flash_model::{Flash, FlashError, Origin};
 use std::sync::ledger::{Blank, Book, Ledger, Share};
 
 /// A flash over bytes that somebody else lends, of which any write can be cut.
@@ -19,9 +22,12 @@ use std::sync::ledger::{Blank, Book, Ledger, Share};
 /// knows that where calls borrowed the flash; where it was moved into another struct it knows the
 /// length alone.
 ///
-/// Contracts see it as a `Slice` (`slice_of`): the chip and the table. It is made in a function that
-/// is generic in the ledger, as a `MemFlash` is, whose page says what the caller of that function
-/// writes:
+/// Contracts see it as a `Slice` (`slice_of`): the chip and the table. Whoever calls the flash, its
+/// bytes are what exactly the counted writes made of those that were lent, torn where the table
+/// says and as it says. A flash that is off was cut in the last of these writes.
+///
+/// It is made in a function that is generic in the ledger, as a `MemFlash` is, whose page says what
+/// the caller of that function writes:
 ///
 /// ```text
 /// fn helper<L: Ledger>(blank: Blank, bytes: &mut [u8])
@@ -44,6 +50,7 @@ pub struct SliceFlash<'a, L: Ledger> {
     is_on: bool,
     writes: u64,
     table: &'a [Cut<'a>],
+    origin: Origin,
     book: Book<L>,
     cuts: Share<L>,
     erases: Share<L>,
@@ -54,6 +61,10 @@ pub struct SliceFlash<'a, L: Ledger> {
     ghost counts_erases: { 0 < erases.parts },
     ghost fits: { writes < 2 ^ 64 },
     ghost cut_as_told: { cuts.amount ≡ reached (numbers_in table.now) writes },
+    ghost off_as_told: { is_on ≡ false
+        → list_any (λ number. number == writes) (numbers_in table.now) ≡ true },
+    ghost written: { ∥ IsWrittenBy sector_size
+        (fixed_by table.now origin.first bytes.ghost_name) bytes.now writes ∥₁ },
 }
 
 // Written out for its clause, by which the lender knows the bytes again: a derived `drop` of a
@@ -71,6 +82,7 @@ impl<'a, L: Ledger> Drop for SliceFlash<'a, L> {
             is_on,
             writes,
             table,
+            origin,
             book,
             cuts,
             erases,
@@ -89,7 +101,7 @@ fn read_from(bytes: &mut [u8], at: usize, out: &mut [u8])
 }
 
 impl<'a, L: Ledger> SliceFlash<'a, L> {
-    ghost use Rattle.slice_flash.specs.SliceFlash.{chip_of, counted, new_slice, next_left, slice_of, Puts};
+    ghost use Rattle.slice_flash.specs.SliceFlash.{chip_of, new_slice, slice_of, CanPut, Puts};
 
     /// A flash that holds the bytes lent, whole sectors of `sector_size` bytes each, and is on.
     ///
@@ -105,6 +117,7 @@ impl<'a, L: Ledger> SliceFlash<'a, L> {
         ensures { slice_of result ≡ new_slice sector_size bytes.entry table.now }
     {
         let sectors = bytes.len() as u32 / sector_size;
+        let origin = Origin::of(bytes);
         let (book, mut cuts) = blank.open::<L>();
         let erases = cuts.split_off(1, 0);
         SliceFlash {
@@ -114,6 +127,7 @@ impl<'a, L: Ledger> SliceFlash<'a, L> {
             is_on: true,
             writes: 0,
             table,
+            origin,
             book,
             cuts,
             erases,
@@ -127,38 +141,27 @@ impl<'a, L: Ledger> SliceFlash<'a, L> {
         self.writes
     }
 
-    /// Counts a write, and tells what its cut leaves, where it is to be cut: then the flash is off.
-    fn count_write(&mut self) -> Option<Left<'a>>
-        ensures left { result ≡ next_left (slice_of self.old) }
-        ensures counted { slice_of self.new ≡ counted result (slice_of self.old) }
-    {
-        let left = left_after(self.table, self.writes);
-        self.writes = self.writes.saturating_add(1);
-        if left.is_none() {
-            return None;
-        }
-        self.is_on = false;
-        self.book.add(&mut self.cuts, 1);
-        left
-    }
-
-    /// A write: puts a pattern over `n` bytes from `at` on, or cuts that.
+    /// A write: puts a pattern over `n` bytes from `at` on, or cuts that. It is counted while its
+    /// range is borrowed, so that count and bytes change together for what is known of the struct.
     fn write(&mut self, at: usize, n: usize, pattern: &[u8]) -> Result<(), FlashError>
-        requires { at + n ≤ length (chip_of self.old).bytes }
+        requires inside { at + n ≤ length (chip_of self.old).bytes }
+        requires taken { CanPut at n pattern.now (chip_of self.old) }
         ensures { Puts at n pattern.now (slice_of self.old) (slice_of self.new) result }
     {
         if !self.is_on {
             return Err(FlashError::Off);
         }
-        let left = self.count_write();
-        let bytes = &mut *self.bytes;
-        let range = &mut bytes[at..at + n];
+        let left = left_after(self.table, self.writes);
+        let range = &mut self.bytes[at..at + n];
+        self.writes = self.writes.saturating_add(1);
         match left {
             None => {
                 repeat(range, pattern);
                 Ok(())
             }
             Some(left) => {
+                self.is_on = false;
+                self.book.add(&mut self.cuts, 1);
                 tear(range, pattern, left);
                 Err(FlashError::Cut)
             }
@@ -183,6 +186,8 @@ impl<'a, L: Ledger> Flash for SliceFlash<'a, L> {
     ghost bytes = { λ f. f.are_bytes };
 
     ghost armed = { λ f. f.cut_as_told ∙ sym (add-zero _) };
+
+    ghost written = { λ f. f.written };
 
     fn sector_size(&self) -> u32 {
         self.sector_size

@@ -7,7 +7,9 @@
 //! between. A program without a heap may call it, and a test that has bytes of its own.
 //!
 //! What a driver is made of, by the example of this one:
-//! - a `Chip` for contracts, `chip_of`, and the laws of `Flash`: three ghost fields of the struct;
+//! - a `Chip` for contracts, `chip_of`, and the laws of `Flash`: ghost fields of the struct;
+//! - an `Origin`, which takes no bytes: what the flash held first. With it the law `written` says
+//!   that the bytes are what exactly the counted writes made of those;
 //! - a name in the chip's `fixed`, where the bytes are lent. The trait's calls and all code above
 //!   keep what is fixed, so that the driver holds the same borrow after them as before;
 //! - two tokens of a ledger, which count cuts and completed erases for contracts and take no bytes;

@@ -1,6 +1,6 @@
 //! Which writes are to be cut, and the bytes that are put over a range.
 
-ghost use Rattle.std.specs.Prelude.{◌≡◌};
+ghost use Rattle.std.specs.Prelude.{◌≡◌, ◌<◌, ℕ, slice_index};
 ghost use Rattle.flash_model.specs.Torn.{with_pattern};
 ghost use Rattle.slice_flash.specs.Rows.{left_after, left_for, torn_bytes};
 
@@ -49,7 +49,8 @@ pub(crate) fn left_after<'a>(table: &[Cut<'a>], writes: u64) -> Option<Left<'a>>
 /// Puts a pattern over a range, again and again from its first byte on.
 #[tactic(auto, using(flash_model::proofs::TornBytes::with_pattern_none, flash_model::proofs::TornBytes::with_pattern_each))]
 pub(crate) fn repeat(range: &mut [u8], pattern: &[u8])
-    ensures { range.new ≡ with_pattern pattern.now range.old }
+    ensures bytes { range.new ≡ with_pattern pattern.now range.old }
+    ensures are_bytes { (k : ℕ) → slice_index range.new k < 256 }
 {
     if pattern.is_empty() {
         return;
@@ -61,7 +62,9 @@ pub(crate) fn repeat(range: &mut [u8], pattern: &[u8])
 
 /// Leaves of a range what a cut leaves, of a write that was to put a pattern over it.
 pub(crate) fn tear(range: &mut [u8], pattern: &[u8], left: Left<'_>)
-    ensures { range.new ≡ torn_bytes left.entry range.old (with_pattern pattern.now range.old) }
+    ensures bytes { range.new
+        ≡ torn_bytes left.entry range.old (with_pattern pattern.now range.old) }
+    ensures are_bytes { (k : ℕ) → slice_index range.new k < 256 }
 {
     match left {
         Left::Keep => {}

@@ -31,6 +31,8 @@ impl<F: Flash> Flash for Counting<F> {
 
     ghost armed = { λ counting. F.armed counting.flash };
 
+    ghost written = { λ counting. F.written counting.flash };
+
     fn sector_size(&self) -> u32 {
         self.flash.sector_size()
     }

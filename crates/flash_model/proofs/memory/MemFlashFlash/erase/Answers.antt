@@ -1,10 +1,12 @@
-use Rattle.std.proofs.Common.{ℕ, ◌^◌, ◌-◌, ◌+◌, ◌*◌, ◌≤◌, length, arith, refl, sym, ap, ◌∙◌}
+use Rattle.std.proofs.Common.{None, Some, replicate, ℕ, ◌^◌, ◌-◌, ◌+◌, ◌*◌, ◌≤◌, length, arith, refl, sym, ap, ◌∙◌}
 use Rattle.std.proofs.lemmas.List.{length-replicate, take_at}
 use Rattle.std.proofs.lemmas.Bool.{false≢true}
 use Rattle.flash_model.proofs.Ending.{ends_cut, ends_well}
 use Rattle.flash_model.proofs.MemoryLaws.{none_behind, same_memory, torn_for_next, writes_done, writes_cut}
 use Rattle.flash_model.proofs.Reached.{reached_armed, reached_unarmed}
 use Rattle.flash_model.proofs.TornBytes.{blank_inside, items_after, erased_of_replaced, items_after_torn_blank, length-replaced, outside_of_replaced, outside_of_torn}
+use Rattle.flash_model.specs.Chip.{unarmed}
+use Rattle.flash_model.proofs.WrittenLaws.{erase_taken, written_armed}
 use Rattle.flash_model.proofs.memory.MemFlashFlash.erase.Goals as goal
 
 pub returns-in-None-clause-chip : goal.returns-in-None-clause-chip
@@ -36,7 +38,7 @@ returns-in-None-clause-memory g c =
     (sym (torn_for_next flash.armed.items flash.writes c.saturating_add-self.result flash.armed_below
     c.saturating_add-self.ensures)
     ∙ sym (rw c.deref.ensures.value at c.in-None.ensures))
-    (same_memory _ _ _ _ _ _ _ _ _ _ _ _
+    (same_memory _ _ _ _ _ _ _ _ _ _ _ _ _
     (items_after _ _ _ _ (rw c.deref_mut.ensures.value at c.blank.ensures.bytes) (length-replaced _ _ _ inside) (sym flash.bytes.ok.0))
     refl c.add.ensures.amount c.saturating_add-self.ensures)
 
@@ -63,7 +65,7 @@ returns-in-Some-clause-memory g c =
     writes_cut _ _ c.in-Some.torn.now _ _ _ c.if-not-self.false
     (sym (torn_for_next flash.armed.items flash.writes c.saturating_add-self.result flash.armed_below
     c.saturating_add-self.ensures) ∙ sym (rw c.deref.ensures.value at c.in-Some.ensures))
-    (same_memory _ _ _ _ _ _ _ _ _ _ _ _
+    (same_memory _ _ _ _ _ _ _ _ _ _ _ _ _
     (items_after_torn_blank c.in-Some.torn.now _ _ _ _ _
     (rw c.deref_mut-in-Some.ensures.value at c.tear_erase.ensures.bytes) inside (sym flash.bytes.ok.0))
     c.add-in-Some.ensures.amount refl c.saturating_add-self.ensures)
@@ -102,3 +104,25 @@ invariant_of-self-in-Some-clause-cut_as_armed g c =
     ∙ sym (reached_armed flash.armed.items flash.writes _ c.in-Some.torn.now c.saturating_add-self.ensures
     (λ past. none_behind flash.armed.items (2 ^ 64 - 1) _ flash.armed_below past)
     (sym (rw c.deref.ensures.value at c.in-Some.ensures)))
+
+pub invariant_of-self-clause-written : goal.invariant_of-self-clause-written
+invariant_of-self-clause-written g c =
+    let flash = c.args.self.now in
+    let inside = blank_inside c.args.sector flash.sectors flash.sector_size flash.bytes.items c.requires flash.whole in
+    written_armed flash.armed.items (record unarmed { first = flash.origin.first }) _ _ (replicate flash.sector_size 255)
+    flash.bytes.items _ flash.writes _ None
+    (erase_taken c.args.sector flash.sectors flash.sector_size flash.bytes.items c.requires flash.whole) flash.armed_below
+    c.saturating_add-self.ensures (sym (rw c.deref.ensures.value at c.in-None.ensures))
+    (items_after _ _ _ _ (rw c.deref_mut.ensures.value at c.blank.ensures.bytes) (length-replaced _ _ _ inside)
+    (sym flash.bytes.ok.0)) flash.written
+
+pub invariant_of-self-in-Some-clause-written : goal.invariant_of-self-in-Some-clause-written
+invariant_of-self-in-Some-clause-written g c =
+    let flash = c.args.self.now in
+    let inside = blank_inside c.args.sector flash.sectors flash.sector_size flash.bytes.items c.requires flash.whole in
+    written_armed flash.armed.items (record unarmed { first = flash.origin.first }) _ _ (replicate flash.sector_size 255)
+    flash.bytes.items _ flash.writes _ (Some c.in-Some.torn.now)
+    (erase_taken c.args.sector flash.sectors flash.sector_size flash.bytes.items c.requires flash.whole) flash.armed_below
+    c.saturating_add-self.ensures (sym (rw c.deref.ensures.value at c.in-Some.ensures))
+    (items_after_torn_blank c.in-Some.torn.now _ _ _ _ _
+    (rw c.deref_mut-in-Some.ensures.value at c.tear_erase.ensures.bytes) inside (sym flash.bytes.ok.0)) flash.written

@@ -1,10 +1,13 @@
-use Rattle.std.proofs.Common.{refl, sym, ap, ◌∙◌, ◌≤◌, ◌+◌, ◌-◌, ◌^◌, length}
+use Rattle.std.proofs.Common.{None, Some, refl, sym, ap, ◌∙◌, ◌≤◌, ◌+◌, ◌-◌, ◌^◌, length}
 use Rattle.std.proofs.lemmas.List.{take_at}
 use Rattle.std.proofs.lemmas.Bool.{false≢true}
 use Rattle.flash_model.proofs.MemoryLaws.{none_behind, same_memory, torn_for_next, writes_done, writes_cut}
 use Rattle.flash_model.proofs.Ending.{ends_cut, ends_well}
 use Rattle.flash_model.proofs.Reached.{reached_armed, reached_unarmed}
 use Rattle.flash_model.proofs.TornBytes.{items_after, length-replaced, length-torn_at, outside_of_replaced, outside_of_torn, reads_of_replaced}
+use Rattle.flash_model.specs.Chip.{unarmed}
+use Rattle.flash_model.specs.Memory.{chip_of}
+use Rattle.flash_model.proofs.WrittenLaws.{program_taken, written_armed}
 use Rattle.flash_model.proofs.memory.MemFlashFlash.program.Goals as goal
 
 pub returns-in-None-clause-chip : goal.returns-in-None-clause-chip
@@ -31,7 +34,7 @@ returns-in-None-clause-memory g c =
     writes_done _ _ _ _ _ c.if-not-self.false
     (sym (torn_for_next _ _ _ c.args.self.now.armed_below c.saturating_add-self.ensures)
     ∙ sym (rw c.deref.ensures.value at c.in-None.ensures))
-    (same_memory _ _ _ _ _ _ _ _ _ _ _ _
+    (same_memory _ _ _ _ _ _ _ _ _ _ _ _ _
     (items_after _ _ _ _ (rw c.deref_mut.ensures.value at c.put.ensures.bytes) (length-replaced _ _ _ inside) (sym c.args.self.now.bytes.ok.0))
     refl refl c.saturating_add-self.ensures)
 
@@ -57,7 +60,7 @@ returns-in-Some-clause-memory g c =
     writes_cut _ _ c.in-Some.torn.now _ _ _ c.if-not-self.false
     (sym (torn_for_next flash.armed.items flash.writes c.saturating_add-self.result flash.armed_below
     c.saturating_add-self.ensures) ∙ sym (rw c.deref.ensures.value at c.in-Some.ensures))
-    (same_memory flash.sector_size flash.sectors _ flash.armed.items _ _ _ _ _ _ _ _
+    (same_memory flash.sector_size flash.sectors _ flash.armed.items _ _ _ _ _ _ _ _ _
     (items_after _ _ _ _ (rw c.deref_mut-in-Some.ensures.value at c.tear_program.ensures.bytes)
     (length-torn_at c.in-Some.torn.now _ _ _ inside) (sym c.args.self.now.bytes.ok.0))
     c.add.ensures.amount refl c.saturating_add-self.ensures)
@@ -96,3 +99,24 @@ invariant_of-self-in-Some-clause-cut_as_armed g c =
     ∙ sym (reached_armed flash.armed.items flash.writes _ c.in-Some.torn.now c.saturating_add-self.ensures
     (λ past. none_behind flash.armed.items (2 ^ 64 - 1) _ flash.armed_below past)
     (sym (rw c.deref.ensures.value at c.in-Some.ensures)))
+
+pub invariant_of-self-clause-written : goal.invariant_of-self-clause-written
+invariant_of-self-clause-written g c =
+    let flash = c.args.self.now in
+    let inside : c.args.at + length c.args.bytes.now ≤ length flash.bytes.items = rw flash.whole c.requires.inside in
+    written_armed flash.armed.items (record unarmed { first = flash.origin.first }) _ _ c.args.bytes.now
+    flash.bytes.items _ flash.writes _ None (program_taken _ _ (chip_of flash) _ flash.whole c.requires) flash.armed_below
+    c.saturating_add-self.ensures (sym (rw c.deref.ensures.value at c.in-None.ensures))
+    (items_after _ _ _ _ (rw c.deref_mut.ensures.value at c.put.ensures.bytes) (length-replaced _ _ _ inside)
+    (sym flash.bytes.ok.0)) flash.written
+
+pub invariant_of-self-in-Some-clause-written : goal.invariant_of-self-in-Some-clause-written
+invariant_of-self-in-Some-clause-written g c =
+    let flash = c.args.self.now in
+    let inside : c.args.at + length c.args.bytes.now ≤ length flash.bytes.items = rw flash.whole c.requires.inside in
+    written_armed flash.armed.items (record unarmed { first = flash.origin.first }) _ _ c.args.bytes.now
+    flash.bytes.items _ flash.writes _ (Some c.in-Some.torn.now)
+    (program_taken _ _ (chip_of flash) _ flash.whole c.requires) flash.armed_below
+    c.saturating_add-self.ensures (sym (rw c.deref.ensures.value at c.in-Some.ensures))
+    (items_after _ _ _ _ (rw c.deref_mut-in-Some.ensures.value at c.tear_program.ensures.bytes)
+    (length-torn_at c.in-Some.torn.now _ _ _ inside) (sym flash.bytes.ok.0)) flash.written

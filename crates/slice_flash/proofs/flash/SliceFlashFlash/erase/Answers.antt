@@ -1,5 +1,7 @@
-use Rattle.std.proofs.Common.{rules, ◌≡◌, ℕ, Err}
+use Rattle.std.proofs.Common.{rules, ◌≡◌, ◌*◌, ℕ, List, Err, sym, ◌∙◌, subst}
 use Rattle.std.proofs.lemmas.List.{length-replicate}
+use Rattle.flash_model.specs.Written.{IsWrite}
+use Rattle.flash_model.proofs.WrittenLaws.{erase_taken}
 use Rattle.slice_flash.proofs.Writes.{blank_pattern, erase_done, erase_failed, told_done, told_failed}
 use Rattle.slice_flash.proofs.flash.SliceFlashFlash.erase.Goals as goal
 
@@ -28,3 +30,10 @@ returns-clause-slice g c =
     let flash = c.args.self.now in
     told_done _ _ _ _ _ (c.in_ok-write.ensures.slice _ (length-replicate {A = ℕ} flash.sector_size 255)
     (blank_pattern _ _ _ _ c.requires flash.whole)) (search rules)
+
+pub write-requires-clause-taken : goal.write-requires-clause-taken
+write-requires-clause-taken g c = λ range long is.
+    let flash = c.args.self.now in
+    subst (λ (r : List ℕ). IsWrite flash.sector_size (record { at = c.args.sector * flash.sector_size; done = r }) flash.bytes.now)
+    (blank_pattern c.args.sector flash.sectors flash.sector_size flash.bytes.now c.requires flash.whole ∙ sym is)
+    (erase_taken c.args.sector flash.sectors flash.sector_size flash.bytes.now c.requires flash.whole)

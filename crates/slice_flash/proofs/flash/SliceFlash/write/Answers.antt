@@ -1,0 +1,58 @@
+use Rattle.std.proofs.Common.{◌≡◌, ◌+◌, ℕ, List, length, slice_range, None, Some, refl, sym, ◌∙◌, ap, arith}
+use Rattle.flash_model.specs.Torn.{with_pattern}
+use Rattle.flash_model.proofs.Ranges.{length_range}
+use Rattle.flash_model.proofs.TornBytes.{length-with_pattern}
+use Rattle.slice_flash.proofs.Journal.{number_told, written_told}
+use Rattle.slice_flash.proofs.Told.{reached_told, reached_untold}
+use Rattle.slice_flash.specs.Rows.{torn_bytes}
+use Rattle.slice_flash.proofs.Writes.{bytes_back, length-torn, put_back}
+use Rattle.slice_flash.proofs.flash.SliceFlash.write.Goals as goal
+
+pub invariant_of-self-clause-cut_as_told : goal.invariant_of-self-clause-cut_as_told
+invariant_of-self-clause-cut_as_told g c =
+    let flash = c.args.self.now in
+    flash.cut_as_told ∙ sym (reached_untold flash.table.now flash.writes _ flash.fits c.saturating_add-self.ensures
+    (sym c.left_after-left.ensures ∙ c.in-None.is))
+
+pub invariant_of-self-clause-written : goal.invariant_of-self-clause-written
+invariant_of-self-clause-written g c =
+    let flash = c.args.self.now in
+    let old = slice_range flash.bytes.now c.args.at (c.args.at + c.args.n) in
+    let long : length (with_pattern c.args.pattern.now old) ≡ c.args.n =
+    length-with_pattern c.args.pattern.now old ∙ length_range flash.bytes.now c.args.at _ ∙ omega (arith, c.requires.inside) in
+    written_told flash.table.now _ _ _ c.args.at c.args.n (with_pattern c.args.pattern.now old) flash.bytes.now _ flash.writes _ None
+    (c.requires.taken _ long refl) c.saturating_add-self.ensures (sym c.left_after-left.ensures ∙ c.in-None.is) long
+    (put_back c.args.at c.args.n flash.bytes.now _ _ c.repeat.ensures.bytes long) flash.written
+
+pub invariant_of-self-in-Some-clause-cut_as_told : goal.invariant_of-self-in-Some-clause-cut_as_told
+invariant_of-self-in-Some-clause-cut_as_told g c =
+    let flash = c.args.self.now in
+    c.add.ensures.amount ∙ ap (λ n. n + 1) flash.cut_as_told
+    ∙ sym (reached_told flash.table.now flash.writes _ c.in-Some.left c.saturating_add-self.ensures
+    (sym c.left_after-left.ensures ∙ c.in-Some.is))
+
+pub invariant_of-self-in-Some-clause-off_as_told : goal.invariant_of-self-in-Some-clause-off_as_told
+invariant_of-self-in-Some-clause-off_as_told g c off =
+    let flash = c.args.self.now in
+    number_told flash.table.now flash.writes _ c.in-Some.left c.saturating_add-self.ensures
+    (sym c.left_after-left.ensures ∙ c.in-Some.is)
+
+pub invariant_of-self-in-Some-clause-written : goal.invariant_of-self-in-Some-clause-written
+invariant_of-self-in-Some-clause-written g c =
+    let flash = c.args.self.now in
+    let old = slice_range flash.bytes.now c.args.at (c.args.at + c.args.n) in
+    let long : length (with_pattern c.args.pattern.now old) ≡ c.args.n =
+    length-with_pattern c.args.pattern.now old ∙ length_range flash.bytes.now c.args.at _ ∙ omega (arith, c.requires.inside) in
+    let torn : length (torn_bytes c.in-Some.left old (with_pattern c.args.pattern.now old)) ≡ c.args.n =
+    length-torn c.in-Some.left old _ (length_range flash.bytes.now c.args.at _ ∙ omega (arith, c.requires.inside)) long in
+    written_told flash.table.now _ _ _ c.args.at c.args.n (with_pattern c.args.pattern.now old) flash.bytes.now _ flash.writes _
+    (Some c.in-Some.left) (c.requires.taken _ long refl) c.saturating_add-self.ensures
+    (sym c.left_after-left.ensures ∙ c.in-Some.is) long (put_back c.args.at c.args.n flash.bytes.now _ _ c.tear.ensures.bytes torn) flash.written
+
+pub invariant_of-self-clause-are_bytes : goal.invariant_of-self-clause-are_bytes
+invariant_of-self-clause-are_bytes g c =
+    bytes_back c.args.at _ c.args.self.now.bytes.now _ c.args.self.now.are_bytes c.repeat.ensures.are_bytes
+
+pub invariant_of-self-in-Some-clause-are_bytes : goal.invariant_of-self-in-Some-clause-are_bytes
+invariant_of-self-in-Some-clause-are_bytes g c =
+    bytes_back c.args.at _ c.args.self.now.bytes.now _ c.args.self.now.are_bytes c.tear.ensures.are_bytes
