@@ -18,6 +18,7 @@ pub mod ReportTextLaws
 pub mod Requests
 pub mod RightFits
 pub mod RunningSet
+pub mod Sinks
 pub mod TableLaws
 pub mod TableLimits
 pub mod TableRuns

@@ -23,6 +23,7 @@ mod printing;
 mod report;
 mod report_line;
 mod report_reading;
+mod sink;
 mod table;
 mod table_line;
 mod table_placing;
@@ -38,5 +39,6 @@ pub use laws::{
 };
 pub use needs::{Needs, NeedsOne};
 pub use report::{MOST_REFUSALS, Reason, Refusal, Report, ReportedImage};
+pub use sink::Sink;
 pub use table::{Entry, Image, Request, Table};
 pub use validity::is_valid;

@@ -1,10 +1,10 @@
 //! How a dependency and a group are printed: in tables, in reports, and in what is said of an
 //! image.
 
-ghost use Rattle.std.specs.Fmt.{WritesOnOk};
-ghost use Rattle.std.specs.Prelude.{◌≡◌, Some};
+ghost use Rattle.std.specs.Prelude.{◌≡◌, IfOk, Some};
 ghost use Rattle.certificate.specs.DependencyText.{alternatives_text, needs_one_text, needs_text};
 
+use crate::sink::{Sink, write_image_and_version};
 use std::fmt;
 use version_order::{Dependency, Group};
 
@@ -17,8 +17,7 @@ impl fmt::Display for Needs {
     ghost output = { λ needs. Some (needs_text needs.0) };
 
     fn fmt<W: fmt::Write>(&self, f: &mut fmt::Formatter<W>) -> fmt::Result {
-        let Dependency { image, minimum } = self.0;
-        write!(f, "needs {image} {minimum}")
+        write_dependency(f, &self.0)
     }
 }
 
@@ -31,22 +30,34 @@ impl<'a> fmt::Display for NeedsOne<'a> {
     ghost output = { λ needs. Some (needs_one_text needs.0.now) };
 
     fn fmt<W: fmt::Write>(&self, f: &mut fmt::Formatter<W>) -> fmt::Result {
-        f.write_str("needs-one")?;
-        write_alternatives(f, &self.0.alternatives)
+        write_group(f, self.0)
     }
 }
 
+/// A dependency as it is printed, without a line feed.
+pub(crate) fn write_dependency<S: Sink>(
+    sink: &mut S,
+    dependency: &Dependency,
+) -> Result<(), S::Error>
+    ensures { IfOk result (λ done. S.takes sink.old (needs_text dependency.now) sink.new) }
+{
+    write_image_and_version(sink, "needs ", dependency.image, &dependency.minimum)
+}
+
+/// A group as it is printed, without a line feed.
+pub(crate) fn write_group<S: Sink>(sink: &mut S, group: &Group) -> Result<(), S::Error>
+    ensures { IfOk result (λ done. S.takes sink.old (needs_one_text group.now) sink.new) }
+{
+    sink.put("needs-one")?;
+    write_alternatives(sink, group.alternatives.as_slice())
+}
+
 // For each alternative a space, the number of its image, a space, and its version.
-#[tactic(auto, using(crate::proofs::AlternativeLaws::alternatives_text_each))]
-fn write_alternatives<W: fmt::Write>(
-    f: &mut fmt::Formatter<W>,
-    alternatives: &[Dependency],
-) -> fmt::Result
-    ensures { WritesOnOk W.write_str_gives f.old result (alternatives_text alternatives.now) f.new }
+fn write_alternatives<S: Sink>(sink: &mut S, alternatives: &[Dependency]) -> Result<(), S::Error>
+    ensures { IfOk result (λ done. S.takes sink.old (alternatives_text alternatives.now) sink.new) }
 {
     for alternative in alternatives {
-        let Dependency { image, minimum } = alternative;
-        write!(f, " {image} {minimum}")?;
+        write_image_and_version(sink, " ", alternative.image, &alternative.minimum)?;
     }
     Ok(())
 }

@@ -1,25 +1,44 @@
 //! How tables and reports are printed: a line for each thing they say, each ended by a line feed.
 
-ghost use Rattle.std.specs.Fmt.{WritesOnOk};
-ghost use Rattle.std.specs.Prelude.{◌≡◌, ◌≤◌, ◌++◌, ◌∷◌, [], length, Some};
+ghost use Rattle.std.specs.Prelude.{◌≤◌, ◌++◌, ◌∷◌, [], IfOk, Some, length};
 ghost use Rattle.common.specs.Lines.{printed_lines};
 ghost use Rattle.certificate.specs.ReportText.{reason_text, refuse_lines, report_line_text, report_text, reported_line, reported_lines};
+ghost use Rattle.certificate.specs.declared.report_line.ReportLine.TheVariants as line;
 ghost use Rattle.certificate.specs.TableText.{group_lines, image_lines, needs_lines, request_lines, table_line_text, table_lines, table_text};
 
-use crate::needs::{Needs, NeedsOne};
+use crate::needs::{write_dependency, write_group};
 use crate::report::{Reason, Refusal, Report, ReportedImage};
-use crate::report_line::ReportLine;
+use crate::sink::{Sink, write_image_and_version, write_number, write_version};
 use crate::table::{Entry, Image, Request, Table};
 use crate::table_line::TableLine;
 use common::limits::MOST_IMAGES;
-use std::fmt::{self, Display};
-use version_order::{Dependency, Group};
+use std::fmt;
+use version_order::Group;
+
+impl Table {
+    /// Writes the text of the table, as it is printed, to a sink.
+    pub fn write_to<S: Sink>(&self, sink: &mut S) -> Result<(), S::Error>
+        ensures { IfOk result (λ done. S.takes sink.old (table_text self.now) sink.new) }
+    {
+        write_images(sink, self.images.as_slice())
+    }
+}
+
+impl Report {
+    /// Writes the text of the report, as it is printed, to a sink.
+    pub fn write_to<S: Sink>(&self, sink: &mut S) -> Result<(), S::Error>
+        ensures { IfOk result (λ done. S.takes sink.old (report_text self.now) sink.new) }
+    {
+        write_reported_images(sink, self.images.as_slice())?;
+        write_refusals(sink, self.refusals.as_slice())
+    }
+}
 
 impl fmt::Display for Table {
     ghost output = { λ table. Some (table_text table) };
 
     fn fmt<W: fmt::Write>(&self, f: &mut fmt::Formatter<W>) -> fmt::Result {
-        write_images(f, self.images.as_slice())
+        self.write_to(f)
     }
 }
 
@@ -27,39 +46,7 @@ impl fmt::Display for Report {
     ghost output = { λ report. Some (report_text report) };
 
     fn fmt<W: fmt::Write>(&self, f: &mut fmt::Formatter<W>) -> fmt::Result {
-        write_reported_images(f, self.images.as_slice())?;
-        write_refusals(f, self.refusals.as_slice())
-    }
-}
-
-impl fmt::Display for TableLine {
-    ghost output = { λ said. Some (table_line_text said) };
-
-    fn fmt<W: fmt::Write>(&self, f: &mut fmt::Formatter<W>) -> fmt::Result {
-        match self {
-            TableLine::Image {
-                number,
-                version,
-                counter,
-                floor,
-            } => write!(f, "image {number} {version} {counter} {floor}"),
-            TableLine::Needs(dependency) => Needs(*dependency).fmt(f),
-            TableLine::NeedsOne(group) => NeedsOne(group).fmt(f),
-            TableLine::Request { version, counter } => write!(f, "request {version} {counter}"),
-            TableLine::Damaged => f.write_str("damaged"),
-        }
-    }
-}
-
-impl fmt::Display for ReportLine {
-    ghost output = { λ said. Some (report_line_text said) };
-
-    fn fmt<W: fmt::Write>(&self, f: &mut fmt::Formatter<W>) -> fmt::Result {
-        match self {
-            ReportLine::Run { number, version } => write!(f, "run {number} {version}"),
-            ReportLine::Take { number, version } => write!(f, "take {number} {version}"),
-            ReportLine::Refuse(Refusal { image, reason }) => write!(f, "refuse {image} {reason}"),
-        }
+        self.write_to(f)
     }
 }
 
@@ -67,39 +54,26 @@ impl fmt::Display for Reason {
     ghost output = { λ reason. Some (reason_text reason) };
 
     fn fmt<W: fmt::Write>(&self, f: &mut fmt::Formatter<W>) -> fmt::Result {
-        match self {
-            Reason::Damaged => f.write_str("damaged"),
-            Reason::Older => f.write_str("older"),
-            Reason::Counter => f.write_str("counter"),
-            Reason::NoSuchImage(image) => write!(f, "no-such-image {image}"),
-            Reason::Needs(image, minimum) => {
-                let dependency = Dependency {
-                    image: *image,
-                    minimum: *minimum,
-                };
-                Needs(dependency).fmt(f)
-            }
-            Reason::NeedsOne(group) => NeedsOne(group).fmt(f),
-        }
+        write_reason(f, self)
     }
 }
 
 // The lines of the images, numbered from 0.
-fn write_images<W: fmt::Write>(f: &mut fmt::Formatter<W>, images: &[Image]) -> fmt::Result
+fn write_images<S: Sink>(sink: &mut S, images: &[Image]) -> Result<(), S::Error>
     requires { length images.now ≤ MOST_IMAGES }
-    ensures { WritesOnOk W.write_str_gives f.old result
-        (printed_lines table_line_text (table_lines 0 images.now)) f.new }
+    ensures { IfOk result (λ done. S.takes sink.old
+        (printed_lines table_line_text (table_lines 0 images.now)) sink.new) }
 {
     for (number, image) in images.iter().enumerate() {
-        write_image(f, number as u8, image)?;
+        write_image(sink, number as u8, image)?;
     }
     Ok(())
 }
 
 // What runs, what it needs, and what is requested in its place.
-fn write_image<W: fmt::Write>(f: &mut fmt::Formatter<W>, number: u8, image: &Image) -> fmt::Result
-    ensures { WritesOnOk W.write_str_gives f.old result
-        (printed_lines table_line_text (image_lines number image.now)) f.new }
+fn write_image<S: Sink>(sink: &mut S, number: u8, image: &Image) -> Result<(), S::Error>
+    ensures { IfOk result (λ done. S.takes sink.old
+        (printed_lines table_line_text (image_lines number image.now)) sink.new) }
 {
     let line = TableLine::Image {
         number,
@@ -107,96 +81,145 @@ fn write_image<W: fmt::Write>(f: &mut fmt::Formatter<W>, number: u8, image: &Ima
         counter: image.running.counter,
         floor: image.floor,
     };
-    write_line(f, &line)?;
-    write_needs(f, &image.running)?;
-    write_request(f, &image.request)
+    write_line(sink, &line)?;
+    write_needs(sink, &image.running)?;
+    write_request(sink, &image.request)
 }
 
 // What is requested.
-fn write_request<W: fmt::Write>(f: &mut fmt::Formatter<W>, request: &Request) -> fmt::Result
-    ensures { WritesOnOk W.write_str_gives f.old result
-        (printed_lines table_line_text (request_lines request.now)) f.new }
+fn write_request<S: Sink>(sink: &mut S, request: &Request) -> Result<(), S::Error>
+    ensures { IfOk result (λ done. S.takes sink.old
+        (printed_lines table_line_text (request_lines request.now)) sink.new) }
 {
     match request {
         Request::None => Ok(()),
-        Request::Damaged => write_line(f, &TableLine::Damaged),
+        Request::Damaged => write_line(sink, &TableLine::Damaged),
         Request::Entry(entry) => {
             let line = TableLine::Request {
                 version: entry.version,
                 counter: entry.counter,
             };
-            write_line(f, &line)?;
-            write_needs(f, entry)
+            write_line(sink, &line)?;
+            write_needs(sink, entry)
         }
     }
 }
 
 // The dependencies of an entry, and then its groups.
-fn write_needs<W: fmt::Write>(f: &mut fmt::Formatter<W>, entry: &Entry) -> fmt::Result
-    ensures { WritesOnOk W.write_str_gives f.old result
-        (printed_lines table_line_text (needs_lines entry.now)) f.new }
+fn write_needs<S: Sink>(sink: &mut S, entry: &Entry) -> Result<(), S::Error>
+    ensures { IfOk result (λ done. S.takes sink.old
+        (printed_lines table_line_text (needs_lines entry.now)) sink.new) }
 {
     for dependency in entry.dependencies.as_slice() {
-        write_line(f, &TableLine::Needs(*dependency))?;
+        write_line(sink, &TableLine::Needs(*dependency))?;
     }
-    write_groups(f, entry.groups.as_slice())
-}
-
-// One line.
-fn write_line<W: fmt::Write>(f: &mut fmt::Formatter<W>, line: &TableLine) -> fmt::Result
-    ensures { WritesOnOk W.write_str_gives f.old result (table_line_text line.now ++ 10 ∷ []) f.new }
-{
-    writeln!(f, "{line}")
+    write_groups(sink, entry.groups.as_slice())
 }
 
 // Groups, a line each.
-fn write_groups<W: fmt::Write>(f: &mut fmt::Formatter<W>, groups: &[Group]) -> fmt::Result
-    ensures { WritesOnOk W.write_str_gives f.old result
-        (printed_lines table_line_text (group_lines groups.now)) f.new }
+fn write_groups<S: Sink>(sink: &mut S, groups: &[Group]) -> Result<(), S::Error>
+    ensures { IfOk result (λ done. S.takes sink.old
+        (printed_lines table_line_text (group_lines groups.now)) sink.new) }
 {
     for group in groups {
-        let line = NeedsOne(group);
-        writeln!(f, "{line}")?;
+        write_group(sink, group)?;
+        sink.put("\n")?;
     }
     Ok(())
 }
 
+// One line.
+fn write_line<S: Sink>(sink: &mut S, line: &TableLine) -> Result<(), S::Error>
+    ensures { IfOk result (λ done. S.takes sink.old (table_line_text line.now ++ 10 ∷ []) sink.new) }
+{
+    write_words(sink, line)?;
+    sink.put("\n")
+}
+
+// What one line says.
+fn write_words<S: Sink>(sink: &mut S, line: &TableLine) -> Result<(), S::Error>
+    ensures { IfOk result (λ done. S.takes sink.old (table_line_text line.now) sink.new) }
+{
+    match line {
+        TableLine::Image {
+            number,
+            version,
+            counter,
+            floor,
+        } => {
+            write_image_and_version(sink, "image ", *number, version)?;
+            write_number(sink, " ", *counter)?;
+            write_number(sink, " ", *floor)
+        }
+        TableLine::Needs(dependency) => write_dependency(sink, dependency),
+        TableLine::NeedsOne(group) => write_group(sink, group),
+        TableLine::Request { version, counter } => {
+            sink.put("request ")?;
+            write_version(sink, version)?;
+            write_number(sink, " ", *counter)
+        }
+        TableLine::Damaged => sink.put("damaged"),
+    }
+}
+
 // What becomes of the images, numbered from 0.
-fn write_reported_images<W: fmt::Write>(
-    f: &mut fmt::Formatter<W>,
-    images: &[ReportedImage],
-) -> fmt::Result
+fn write_reported_images<S: Sink>(sink: &mut S, images: &[ReportedImage]) -> Result<(), S::Error>
     requires { length images.now ≤ MOST_IMAGES }
-    ensures { WritesOnOk W.write_str_gives f.old result
-        (printed_lines report_line_text (reported_lines 0 images.now)) f.new }
+    ensures { IfOk result (λ done. S.takes sink.old
+        (printed_lines report_line_text (reported_lines 0 images.now)) sink.new) }
 {
     for (index, image) in images.iter().enumerate() {
-        let line = reported_line(index as u8, image);
-        writeln!(f, "{line}")?;
+        write_reported_image(sink, index as u8, image)?;
     }
     Ok(())
 }
 
 // What becomes of one image.
-fn reported_line(number: u8, image: &ReportedImage) -> ReportLine
-    ensures { result ≡ reported_line number image.now }
+fn write_reported_image<S: Sink>(
+    sink: &mut S,
+    number: u8,
+    image: &ReportedImage,
+) -> Result<(), S::Error>
+    ensures { IfOk result (λ done. S.takes sink.old
+        (report_line_text (reported_line number image.now) ++ 10 ∷ []) sink.new) }
 {
-    let version = image.version;
-    if image.is_taken {
-        ReportLine::Take { number, version }
-    } else {
-        ReportLine::Run { number, version }
-    }
+    let word = if image.is_taken { "take " } else { "run " };
+    write_image_and_version(sink, word, number, &image.version)?;
+    sink.put("\n")
 }
 
 // The refusals, in order.
-fn write_refusals<W: fmt::Write>(f: &mut fmt::Formatter<W>, refusals: &[Refusal]) -> fmt::Result
-    ensures { WritesOnOk W.write_str_gives f.old result
-        (printed_lines report_line_text (refuse_lines refusals.now)) f.new }
+fn write_refusals<S: Sink>(sink: &mut S, refusals: &[Refusal]) -> Result<(), S::Error>
+    ensures { IfOk result (λ done. S.takes sink.old
+        (printed_lines report_line_text (refuse_lines refusals.now)) sink.new) }
 {
     for refusal in refusals {
-        let Refusal { image, reason } = refusal;
-        writeln!(f, "refuse {image} {reason}")?;
+        write_refusal(sink, refusal)?;
     }
     Ok(())
+}
+
+// One refusal.
+fn write_refusal<S: Sink>(sink: &mut S, refusal: &Refusal) -> Result<(), S::Error>
+    ensures { IfOk result (λ done. S.takes sink.old
+        (report_line_text (line.Refuse refusal.now) ++ 10 ∷ []) sink.new) }
+{
+    write_number(sink, "refuse ", u32::from(refusal.image))?;
+    sink.put(" ")?;
+    write_reason(sink, &refusal.reason)?;
+    sink.put("\n")
+}
+
+// A reason as it is printed.
+fn write_reason<S: Sink>(sink: &mut S, reason: &Reason) -> Result<(), S::Error>
+    ensures { IfOk result (λ done. S.takes sink.old (reason_text reason.now) sink.new) }
+{
+    match reason {
+        Reason::Damaged => sink.put("damaged"),
+        Reason::Older => sink.put("older"),
+        Reason::Counter => sink.put("counter"),
+        Reason::NoSuchImage(image) => write_number(sink, "no-such-image ", u32::from(*image)),
+        Reason::Needs(image, minimum) => write_image_and_version(sink, "needs ", *image, minimum),
+        Reason::NeedsOne(group) => write_group(sink, group),
+    }
 }

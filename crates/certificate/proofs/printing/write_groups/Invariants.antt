@@ -1,10 +1,10 @@
-use Rattle.std.proofs.Common.{take}
-use Rattle.std.specs.Fmt.{IsPlainFormatter, HasWritten}
+use Rattle.std.proofs.Common.{map, take}
 use Rattle.common.specs.Lines.{printed_lines}
-use Rattle.certificate.specs.TableText.{group_lines, table_line_text}
+use Rattle.certificate.specs.TableText.{table_line_text}
+use Rattle.certificate.specs.declared.table_line.TableLine.TheVariants as line
 use Rattle.certificate.proofs.printing.write_groups.Given as goal
 
 abbrev pub invariant-loop-group : goal.invariant-loop-group
 invariant-loop-group g l =
-    IsPlainFormatter l.initial.f → HasWritten g.W.Write.write_str_gives l.initial.f
-    (printed_lines table_line_text (group_lines (take l.group-index l.groups))) l.f
+    g.S.Sink.takes l.initial.sink
+    (printed_lines table_line_text (map (λ group. line.NeedsOne group) (take l.group-index l.groups))) l.sink

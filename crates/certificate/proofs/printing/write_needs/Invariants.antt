@@ -1,5 +1,4 @@
 use Rattle.std.proofs.Common.{map, take}
-use Rattle.std.specs.Fmt.{IsPlainFormatter, HasWritten}
 use Rattle.common.specs.Lines.{printed_lines}
 use Rattle.certificate.specs.TableText.{table_line_text}
 use Rattle.certificate.specs.declared.table_line.TableLine.TheVariants as line
@@ -7,6 +6,6 @@ use Rattle.certificate.proofs.printing.write_needs.Given as goal
 
 abbrev pub invariant-loop-dependency : goal.invariant-loop-dependency
 invariant-loop-dependency g l =
-    IsPlainFormatter l.initial.f → HasWritten g.W.Write.write_str_gives l.initial.f
+    g.S.Sink.takes l.initial.sink
     (printed_lines table_line_text (map (λ dependency. line.Needs dependency)
-    (take l.dependency-index l.dependency-items))) l.f
+    (take l.dependency-index l.dependency-items))) l.sink
