@@ -14,6 +14,7 @@ pub mod Given
 mod NotReady
 mod Wholes
 pub mod Steps
+pub mod CutEvents
 mod Afresh
 mod Resting
 mod Trials

@@ -159,6 +159,7 @@ pub stopped_ends : {T : Type 0} (old new : Chip) (told tnew : List (Option Uploa
 stopped_ends old new told tnew up upn none down flash.Cut ends = record {
   cuts = (ends.cut refl).cuts;
   power = λ e. absurd (omega (arith, e));
+  dark = λ e. (ends.cut refl).off;
   off = λ e more. absurd (omega (arith, more));
   down = λ e. down;
   closed = λ e. none;
@@ -169,6 +170,7 @@ stopped_ends old new told tnew up upn none down flash.Off ends =
     record {
       cuts = omega (arith, cuts);
       power = λ e. ap (λ (chip : Chip). chip.is_on) stays;
+      dark = λ e. absurd (omega (arith, e));
       off = λ e more. ends.off refl;
       down = λ e. down;
       closed = λ e. none;
@@ -180,6 +182,7 @@ pub ended : (old new : Chip) (told tnew : List (Option Upload)) (up upn : Bool) 
 ended old new told tnew up upn reply none unstopped uncut = record {
   cuts = omega (arith, none, uncut.cuts);
   power = λ e. uncut.on;
+  dark = λ e. absurd (omega (arith, none, e));
   off = λ e. absurd (true_false (sym e ∙ unstopped));
   down = λ e. absurd (true_false (sym e ∙ unstopped));
   closed = λ e. absurd (true_false (sym e ∙ unstopped));
@@ -300,6 +303,7 @@ failed_ends old mid new told tmid tnew up upn error same ends stopped fault is =
     (record {
       cuts = was.cuts ∙ ap (λ (chip : Chip). chip.cuts + 1) same;
       power = λ e. absurd (omega (arith, e));
+      dark = λ e. was.off;
       off = λ e more. absurd (omega (arith, more));
       down = λ e. stopped.down told_so;
       closed = λ e. stopped.closed told_so;
@@ -314,6 +318,7 @@ failed_ends old mid new told tmid tnew up upn error same ends stopped fault is =
     (record {
       cuts = omega (arith, cuts);
       power = λ e. ap (λ (chip : Chip). chip.is_on) stays;
+      dark = λ e. absurd (omega (arith, e));
       off = λ e more. sym (ap (λ (chip : Chip). chip.is_on) same) ∙ was;
       down = λ e. stopped.down told_so;
       closed = λ e. stopped.closed told_so;
@@ -325,6 +330,7 @@ failed_ends old mid new told tmid tnew up upn error same ends stopped fault is =
     (record {
       cuts = omega (arith, cuts);
       power = λ e. was.on ∙ ap (λ (chip : Chip). chip.is_on) same;
+      dark = λ e. absurd (omega (arith, e));
       off = λ e. absurd (true_false (sym e ∙ own));
       down = λ e. absurd (true_false (sym e ∙ own));
       closed = λ e. absurd (true_false (sym e ∙ own));
@@ -339,6 +345,7 @@ done_ends old mid new told tnew up same ends =
     record {
       cuts = omega (arith, cuts);
       power = λ e. was.on ∙ ap (λ (chip : Chip). chip.is_on) same;
+      dark = λ e. absurd (omega (arith, e));
       off = λ e. absurd (true_false (sym e));
       down = λ e. absurd (true_false (sym e));
       closed = λ e. absurd (true_false (sym e));
@@ -401,6 +408,7 @@ idle_ends old mid told tnew up upn reply uncut unstopped same =
     record {
       cuts = omega (arith, cuts, uncut);
       power = λ e. ap (λ (chip : Chip). chip.is_on) same;
+      dark = λ e. absurd (omega (arith, uncut, e));
       off = λ e. absurd (true_false (sym e ∙ unstopped));
       down = λ e. absurd (true_false (sym e ∙ unstopped));
       closed = λ e. absurd (true_false (sym e ∙ unstopped));
@@ -419,6 +427,7 @@ module _ (recorded : Option State) (old mid : Chip) (told tnew : List (Option Up
       record {
         cuts = omega (arith, cuts);
         power = λ e. ap (λ (chip : Chip). chip.is_on) same;
+        dark = λ e. absurd (omega (arith, e));
         off = λ e more. is.1;
         down = λ e. stopped.down refl;
         closed = λ e. stopped.closed refl;

@@ -85,11 +85,12 @@ is_stopped Cut = true
 is_stopped other = false
 
 -- How a call of a device ends, by its reply. Cut is answered where a write was cut and nowhere
--- else; else the power is as it was. That the flash is off is answered where it was. After either
--- no upload is open, and the device isn't up.
+-- else, and the flash is off then; else the power is as it was. That the flash is off is answered
+-- where it was. After either no upload is open, and the device isn't up.
 pub record EndsCall (reply : Reply) (old new : DeviceView) : Type 0 where
   pub cuts : new.flash.cuts ≡ old.flash.cuts + cut_of reply
   pub power : cut_of reply ≡ 0 → new.flash.is_on ≡ old.flash.is_on
+  pub dark : cut_of reply ≡ 1 → new.flash.is_on ≡ false
   pub off : is_stopped reply ≡ true → cut_of reply ≡ 0 → old.flash.is_on ≡ false
   pub down : is_stopped reply ≡ true → new.up ≡ false
   pub closed : is_stopped reply ≡ true → AllClosed new.sessions

@@ -35,6 +35,7 @@ use Rattle.upload.specs.declared.error.UploadError.TheVariants.{SizeWrong}
 use Rattle.upload.specs.declared.sessions.Upload.{Upload}
 use Rattle.upload.specs.Finishing.{WritesLastUnit}
 use Rattle.boot_core.specs.Answers.{reply_of_boot, reply_of_result}
+use Rattle.boot_core.specs.CutEvents.{DueEach, IsCutAsDue}
 use Rattle.boot_core.specs.Device.{StaysHeld, Whole, made}
 use Rattle.boot_core.specs.Found.{IsStopped}
 use Rattle.boot_core.specs.Ready.{LogsNoTrial, LogsTrialOf, RefusesManifest}
@@ -281,6 +282,8 @@ pub record Steps (event : DeviceEvent) (old new : Whole) (reply : Reply) : Type 
   pub on : new.here.flash.is_on ≡ true
   -- What is fixed of the flash stays, so also which writes of it are to be cut.
   pub fixed : new.here.flash.fixed ≡ old.here.flash.fixed
+  -- So the reply is a cut exactly where the flash took a write that was to be cut, or had a fault.
+  pub due : IsCutAsDue old.here.flash reply new.here.flash
 
 -- A device replies to these events, in order.
 pub record Runs (events : List DeviceEvent) (old new : Whole) {A E : Type 0}
@@ -292,6 +295,9 @@ pub record Runs (events : List DeviceEvent) (old new : Whole) {A E : Type 0}
   -- and as many of them are cuts as writes were cut.
   pub cuts : IfOk result (λ replies.
       new.here.flash.cuts ≡ old.here.flash.cuts + cuts_in replies.items)
+  -- Event by event, the reply is a cut exactly where the flash took a write in it that was to be
+  -- cut, or had a fault.
+  pub due : IfOk result (λ replies. DueEach old.setup old.here events replies.items new.here)
   -- The flash has power,
   pub on : new.here.flash.is_on ≡ true
   -- and what the device was made with stays, so another run can follow.

@@ -3,6 +3,7 @@ pub mod Confirming
 pub mod Preparing
 pub mod Provisions
 pub mod Taking
+pub mod CutEvents
 pub mod Calls
 pub mod Device
 pub mod Answers

@@ -79,6 +79,15 @@ pub record TakesHere (map : SectorMap) (event : DeviceEvent) (touched : Part →
   pub off : old.up ≡ true → old.flash.is_on ≡ false → IsOff result old.flash new.flash
   pub ends : EndsCall (reply_of_result result) old new
 
+-- Taking a text touches only what comes in for the images of the manifest that it means to this
+-- identity, and the log. A text that means none touches nothing.
+pub data TouchesNamed (map : SectorMap) (identity : Identity) (text : List ℕ) (old new : Chip)
+    : Type 0 where
+  Named : (manifest : given.Manifest) → IsManifest identity text manifest
+      → Keeps map (accepted_parts manifest.components.items) old new
+      → TouchesNamed map identity text old new
+  Untouched : new ≡ old → TouchesNamed map identity text old new
+
 -- A call takes a manifest of a device that has this map and this identity.
 pub record AcceptsHere (map : SectorMap) (identity : Identity) (text : Bor (List ℕ))
     (old new : DeviceView) (result : Result Unit Fault) : Type 0 where
@@ -89,8 +98,10 @@ pub record AcceptsHere (map : SectorMap) (identity : Identity) (text : Bor (List
   -- On a flash with power it is a step of the machine, however many boots its trials have.
   pub steps : (boots : ℕ) → old.flash.is_on ≡ true
       → StepsTo (made map identity boots) old new (event.Accept text) (reply_of_result result)
-  -- Only parts of the map are touched:
+  -- Only parts of the map are touched,
   pub outside : Keeps map any_part old.flash new.flash
+  -- and of these only what comes in for the images that are named, and the log:
+  pub named : TouchesNamed map identity text.now old.flash new.flash
   -- nothing where the device isn't up,
   pub down : old.up ≡ false → IsNotBooted result old new
   -- and nothing of the flash where a refusal is not of the flash.

@@ -8,6 +8,7 @@ ghost use Rattle.sector_map.specs.Part.{Slot, any_part, incoming_of, only};
 ghost use Rattle.sector_map.specs.declared.layout.Side.TheVariants.{Secondary};
 ghost use Rattle.boot_core.specs.Calls.{BootsDevice, ConfirmsTried, FinishesUpload, IsNew, Resets, Takes};
 ghost use Rattle.boot_core.specs.Calls.{TakesManifest};
+ghost use Rattle.boot_core.specs.Taking.{TouchesNamed};
 
 use crate::boots::boot_device;
 use crate::confirming::confirm_on;
@@ -130,7 +131,9 @@ impl<F: Flash> Device<F> {
     /// open; after a cut the old sequence number stands and each request as it was, or the new one
     /// and each request of a named image as it was or gone.
     pub fn accept(&mut self, alloc: Global, text: &[u8]) -> Result<(), Fault>
-        ensures { Takes (event.Accept text.entry) any_part self.old self.new result }
+        ensures taken { Takes (event.Accept text.entry) any_part self.old self.new result }
+        ensures named { TouchesNamed self.old.setup.map self.old.setup.identity text.now
+            self.old.here.flash self.new.here.flash }
     {
         accept(
             &mut self.flash,

@@ -58,14 +58,18 @@ fn call<F: Flash>(alloc: Global, device: &mut Device<F>, event: &Event<&[u8]>) -
 ///
 /// For every event and wherever power fails in it: where the device holds a state of the machine of
 /// whole images, the event with this reply is a step of that machine to a state which the device
-/// holds then, and the reply is `Cut` exactly where a write was cut. The flash has power as the
-/// step begins, and when it ends; so steps in a row are a run, and a caller who tells each reply
-/// before the next step needs no memory for the replies.
+/// holds then, and the reply is `Cut` exactly where a write was cut: one that was armed, or one
+/// that the flash counts as a fault. The flash has power as the step begins, and when it ends; so
+/// steps in a row are a run, and a caller who tells each reply before the next step needs no memory
+/// for the replies.
 pub fn step<F: Flash>(alloc: Global, device: &mut Device<F>, event: &Event<&[u8]>) -> Reply
     requires { device.old.here.flash.is_on ≡ true }
     ensures { Steps event.now device.old device.new result }
 {
+    // By a law of `Flash`, here and behind the call, each cut so far was armed or is a fault.
+    let _before = device.flash();
     let reply = call(alloc, device, event);
+    let _behind = device.flash();
     match reply {
         Reply::Cut => {
             device.reset();
@@ -81,8 +85,8 @@ pub fn step<F: Flash>(alloc: Global, device: &mut Device<F>, event: &Event<&[u8]
 ///
 /// For every list of events and wherever power fails in it: where the device holds a state of the
 /// machine of whole images, the events with these replies are a run of that machine to a state
-/// which the device holds then, and as many replies are `Cut` as writes were cut. The flash has
-/// power as the run begins, and when it ends.
+/// which the device holds then, and the reply to an event is `Cut` exactly where a write was cut in
+/// it. The flash has power as the run begins, and when it ends.
 ///
 /// # Errors
 /// `AllocError` where there is no memory for the replies, which are reserved first: nothing was

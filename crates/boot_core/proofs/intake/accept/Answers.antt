@@ -6,6 +6,7 @@ use Rattle.sector_map.proofs.Parts.{keeps_refl}
 use Rattle.upload.specs.Sessions.{AllOpenAt}
 use Rattle.upload.specs.View.{view}
 use Rattle.boot_core.specs.Device.{made, seen}
+use Rattle.boot_core.specs.Taking.{Named, Untouched}
 use Rattle.boot_core.proofs.Given.{opened_after}
 use Rattle.boot_core.proofs.NotReady.{declined_all, declines, kept_after, not_down, ready_on}
 use Rattle.upload.specs.Accepted.{accepted_parts}
@@ -25,6 +26,7 @@ returns-in-Err g c =
       opens = declined.opens;
       steps = declined.steps c.args.identity.now;
       outside = declined.outside;
+      named = Untouched c.check_ready.ensures.same;
       down = declined.down;
       refused = declined.refused;
       kept = declined_all c.args.map.now (g.F.Flash.chip c.args.flash.now) (g.F.Flash.chip c.check_ready.new.flash)
@@ -53,6 +55,7 @@ returns g c =
       steps = λ boots on. opened.steps boots c.args.text on c.in_ok-manifest.ensures.means;
       outside = on_more c.args.map.now (accepted_parts c.in_ok-manifest.manifest.components.items) old old
           (g.F.Flash.chip c.open_uploads.new.flash) opened.outside (keeps_refl c.args.map.now any_part old);
+      named = Named c.in_ok-manifest.manifest c.in_ok-manifest.ensures.means opened.outside;
       down = not_down c.open_uploads.result (seen old c.args.uploads.now.sessions c.args.is_up.now)
           (seen (g.F.Flash.chip c.open_uploads.new.flash) c.open_uploads.new.uploads.sessions c.open_uploads.new.is_up)
           c.in-Ok.ensures.ready.0;
@@ -81,6 +84,7 @@ returns-in_err-manifest g c =
           text_steps (made map c.args.identity.now boots) old mid told up ready.1.0 ready.0 ready.1.1 ready.1.2
           c.args.text same fault c.in_err-manifest.ensures.refused;
       outside = kept_after map any_part old mid mid same (keeps_refl map any_part mid);
+      named = Untouched same;
       down = not_down (Err fault) (seen old told up) (seen mid told up) ready.0;
       refused = λ own. same;
       kept = λ own. ap (λ chip. seen chip told up) same;

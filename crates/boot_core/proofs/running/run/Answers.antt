@@ -3,6 +3,8 @@ use Rattle.std.proofs.lemmas.List.{take_all, take_more}
 use Rattle.machine.specs.Passing.{RunsTo}
 use Rattle.machine.specs.Steps.{cuts_in}
 use Rattle.machine.proofs.Runs.{cuts_on, runs_on}
+use Rattle.boot_core.specs.CutEvents.{DueEach}
+use Rattle.boot_core.proofs.CutEvents.{due_on}
 use Rattle.boot_core.proofs.running.run.Goals as goal
 
 pub loop-event-preserved : goal.loop-event-preserved
@@ -21,6 +23,9 @@ loop-event-preserved g c =
           (take_more c.args.events.now c.loop-event.event-index _ (omega arith)) c.in-Ok.ensures.items so_far.runs
           c.step-reply.ensures.steps;
       cuts = cuts_on _ _ _ _ _ _ c.in-Ok.ensures.items so_far.cuts counted;
+      due = due_on _ _ _ _ _ _ _ _ _ _ _ so_far.setup
+          (take_more c.args.events.now c.loop-event.event-index _ (omega arith)) c.in-Ok.ensures.items so_far.due
+          c.step-reply.ensures.steps c.step-reply.ensures.due;
     }
 
 pub returns : goal.returns
@@ -32,6 +37,9 @@ returns g c =
           c.loop-event.replies.items) (take_all c.loop-event.event-index c.args.events.now all) done.runs;
       each = omega (arith, done.count, all);
       cuts = done.cuts;
+      due = subst (λ events. DueEach c.args.device.now.setup c.args.device.now.here events
+          c.loop-event.replies.items c.loop-event.device.here) (take_all c.loop-event.event-index c.args.events.now all)
+          done.due;
       on = done.on;
       setup = done.setup;
       nothing = tt;

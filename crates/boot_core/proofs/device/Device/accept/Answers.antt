@@ -2,14 +2,23 @@ use Rattle.std.proofs.Common.{◌+◌, false, ap, refl, subst}
 use Rattle.events.specs.declared.event.Event.TheVariants as event
 use Rattle.sector_map.specs.Part.{any_part}
 use Rattle.boot_core.specs.Calls.{Takes}
+use Rattle.boot_core.specs.Taking.{TouchesNamed}
 use Rattle.boot_core.specs.Device.{Whole, made, seen}
 use Rattle.machine.specs.Holding.{DeviceView}
 use Rattle.boot_core.proofs.Keeping.{if_err_as, keeps_unstopped}
 use Rattle.boot_core.proofs.Wholes.{whole_of}
 use Rattle.boot_core.proofs.device.Device.accept.Goals as goal
 
-pub returns : goal.returns
-returns g c =
+pub returns-clause-named : goal.returns-clause-named
+returns-clause-named g c =
+    let boots = c.self.inside.left + 1 in
+    let new = whole_of (made c.self.inside.map c.self.inside.identity boots)
+    (seen (g.F.Flash.chip c.accept.new.flash) c.accept.new.uploads.sessions c.accept.new.is_up) in
+    subst (λ (whole : Whole). TouchesNamed whole.setup.map whole.setup.identity c.args.text.now whole.here.flash
+    new.here.flash) c.self.view_is c.accept.ensures.named
+
+pub returns-clause-taken : goal.returns-clause-taken
+returns-clause-taken g c =
     let boots = c.self.inside.left + 1 in
     let new = whole_of (made c.self.inside.map c.self.inside.identity boots)
     (seen (g.F.Flash.chip c.accept.new.flash) c.accept.new.uploads.sessions c.accept.new.is_up) in
