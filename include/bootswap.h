@@ -127,7 +127,8 @@ struct bootswap_refusal {
 
 /* What a call tells. What the returned number doesn't speak of is 0. */
 struct bootswap_told {
-    uint64_t writes;                      /* how many writes the call began */
+    uint64_t writes;                      /* how many writes the call made: the bytes are what exactly these made of those
+                                             before, torn as the rows say. One that is cut is the last. */
     uint32_t fault;                       /* refused: a bootswap_fault */
     uint32_t detail;                      /* refused: what is behind it */
     uint32_t check;                       /* refused: the first check of an image that fails, 1 to 15 */
@@ -200,7 +201,7 @@ uint32_t bootswap_provision(const struct bootswap_setup *setup, uint8_t *flash, 
 /*
  * Boots. Returns BOOTSWAP_BOOTED, BOOTSWAP_REVERTED or BOOTSWAP_TRIAL_AGAIN, and the device is up; BOOTSWAP_REFUSED; or
  * BOOTSWAP_CUT, after which the next boot goes on. A boot that decided puts the texts of its table and its report at the
- * front of the two buffers, without a 0 behind them.
+ * front of the two buffers, without a 0 behind them. A text is left out only if it is longer than its buffer.
  */
 uint32_t bootswap_boot(const struct bootswap_setup *setup, uint8_t *flash, size_t flash_length,
                        struct bootswap_kept *kept, const struct bootswap_cut *cuts, size_t cuts_count, char *table,
@@ -256,7 +257,7 @@ void bootswap_digest(const uint8_t *bytes, size_t bytes_length, struct bootswap_
 /*
  * Chooses among the requests of the table that a text is, and puts the text of the report at the front of `report`.
  * Returns 0, and in `length` how many bytes it has; BOOTSWAP_NO_TABLE, and in `length` the number of the first line that
- * no table goes on from; BOOTSWAP_INVALID_SET; or BOOTSWAP_NO_ROOM.
+ * no table goes on from; BOOTSWAP_INVALID_SET; or BOOTSWAP_NO_ROOM, only if the report is longer than the buffer.
  */
 uint32_t bootswap_choose(const char *table, size_t table_length, char *report, size_t report_room, uint64_t *length);
 

@@ -1,7 +1,7 @@
 -- Making the bytes of a flash a device's.
-use Rattle.std.proofs.Common.{◌≡◌, ℕ, List, Result, sym, ◌∙◌}
+use Rattle.std.proofs.Common.{◌≡◌, ℕ, List, Result, subst, sym, ◌∙◌}
 use Rattle.std.proofs.lemmas.Result.{on_ok_weaker}
-use Rattle.flash_model.specs.Chip.{Chip}
+use Rattle.flash_model.specs.Chip.{Chip, Fixed}
 use Rattle.sector_map.specs.declared.layout.SectorMap.{SectorMap}
 use Rattle.sector_map.specs.Map.{IsLaidOut}
 use Rattle.upload.specs.Device.{DeviceState}
@@ -11,7 +11,7 @@ use Rattle.machine.specs.declared.reply.Reply.{Reply}
 use Rattle.boot_core.specs.Answers.{reply_of_result}
 use Rattle.boot_core.specs.Provisioned.{IsFirstState, IsProvisioned}
 use Rattle.boot_core.specs.Provisions.{Provisions}
-use Rattle.device_calls.specs.Cuts.{IsCutAsAsked}
+use Rattle.device_calls.specs.Cuts.{IsCutAsAsked, WritesAsAsked}
 use Rattle.device_calls.specs.Kept.{IsFlashOf}
 use Rattle.device_calls.specs.Provisioning.{ProvisionsOn}
 use Rattle.device_calls.proofs.SameBytes.{same_stands}
@@ -30,10 +30,12 @@ stands_new map new before after laid is (state, first, steady, sound, all) = (
 
 pub provisions_on : (map : SectorMap) (old new : List ℕ) (before after : Chip) (result : Result Unit Fault)
     (reply : Reply) → IsFlashOf map old before → after.bytes ≡ new → Provisions map before after result
-    → reply ≡ reply_of_result result → (numbers : List ℕ) (writes : ℕ)
-    → IsCutAsAsked numbers before after reply writes → ProvisionsOn map numbers old new reply writes
-provisions_on map old new before after result reply flash is provisions replies numbers writes cut = record {
+    → reply ≡ reply_of_result result → (asked : Fixed) (writes : ℕ)
+    → IsCutAsAsked asked.numbers before after reply writes → WritesAsAsked asked map.sector_size old after.bytes writes
+    → ProvisionsOn map asked old new reply writes
+provisions_on map old new before after result reply flash is provisions replies asked writes cut torn = record {
   cut_as_asked = cut;
+  writes_as_asked = subst (λ (l : List ℕ). WritesAsAsked asked map.sector_size old l writes) is torn;
   before = before;
   after = after;
   result = result;

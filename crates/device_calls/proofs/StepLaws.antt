@@ -25,7 +25,7 @@ use Rattle.device_calls.specs.declared.kept.Kept.{Kept}
 use Rattle.device_calls.specs.declared.kept.KeptUpload.{KeptUpload}
 use Rattle.device_calls.specs.declared.setup.Made.{Made}
 use Rattle.device_calls.specs.Calls.{IsCallOf, IsStepOf, MakesCall, StepsOn}
-use Rattle.device_calls.specs.Cuts.{IsCutAsAsked}
+use Rattle.device_calls.specs.Cuts.{IsCutAsAsked, WritesAsAsked}
 use Rattle.device_calls.specs.Setup.{HasRoom}
 use Rattle.device_calls.specs.Kept.{IsDeviceOf, IsFlashOf, IsKept, KeepsDevice, KeepsUpload, no_row, Up, Down}
 use Rattle.device_calls.proofs.Leaving.{leaves_of}
@@ -222,16 +222,18 @@ pub steps_on : (made_of : Made) (call : Call) (old new : List ℕ) (was is : Kep
     (told left : List (Option Upload)) (was_up is_up : Bool) (reply : Reply)
     → IsFlashOf made_of.map old before → IsKept made_of.map was (seen before told was_up)
     → MakesCall made_of.map made_of.identity made_of.boots call (seen before told was_up) (seen behind left is_up) reply
-    → behind.bytes ≡ new → KeepsDevice is left is_up → (numbers : List ℕ) (writes : ℕ)
-    → IsCutAsAsked numbers before behind reply writes → StepsOn made_of numbers call old was new is reply writes
-steps_on made_of call old new was is before behind told left was_up is_up reply flash kept makes bytes keeps numbers
-    writes cut = record {
+    → behind.bytes ≡ new → KeepsDevice is left is_up → (asked : Fixed) (writes : ℕ)
+    → IsCutAsAsked asked.numbers before behind reply writes
+    → WritesAsAsked asked made_of.map.sector_size old new writes → StepsOn made_of asked call old was new is reply writes
+steps_on made_of call old new was is before behind told left was_up is_up reply flash kept makes bytes keeps asked
+    writes cut torn = record {
       before = seen before told was_up;
       is_before = record { flash = flash; kept = kept };
       left = seen behind left is_up;
       is_left = record { laid_out = makes.laid; has = bytes; keeps = keeps };
       makes = makes;
       cut_as_asked = cut;
+      writes_as_asked = torn;
       leaves = leaves_of made_of.map made_of.identity made_of.boots (seen before told was_up) (seen behind left is_up) reply
           call old new flash.on flash.has bytes makes.is;
       each = λ device given. (
@@ -279,8 +281,8 @@ lent_flash map bytes chip fixed is_map room is = flash_made map bytes chip is_ma
 
 -- a step by other names of the bytes
 pub steps_over : (made_of : Made) (call : Call) (a b old new : List ℕ) (was is : Kept) (reply : Reply)
-    (numbers : List ℕ) (writes : ℕ) → a ≡ old → b ≡ new → StepsOn made_of numbers call a was b is reply writes
-    → StepsOn made_of numbers call old was new is reply writes
-steps_over made_of call a b old new was is reply numbers writes first second steps =
-    subst (λ l. StepsOn made_of numbers call old was l is reply writes) second
-    (subst (λ l. StepsOn made_of numbers call l was b is reply writes) first steps)
+    (asked : Fixed) (writes : ℕ) → a ≡ old → b ≡ new → StepsOn made_of asked call a was b is reply writes
+    → StepsOn made_of asked call old was new is reply writes
+steps_over made_of call a b old new was is reply asked writes first second steps =
+    subst (λ l. StepsOn made_of asked call old was l is reply writes) second
+    (subst (λ l. StepsOn made_of asked call l was b is reply writes) first steps)

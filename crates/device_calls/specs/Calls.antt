@@ -2,6 +2,7 @@
 use Rattle.std.specs.Prelude.{◌≡◌, ◌⊎◌, ℕ, ◌+◌, ◌<◌, ◌≤◌, List, length, slice_index, Result}
 use Rattle.std.specs.Borrow.{Bor}
 use Rattle.events.specs.declared.event.Event.TheVariants as event
+use Rattle.flash_model.specs.Chip.{Fixed}
 use Rattle.sector_map.specs.declared.layout.SectorMap.{SectorMap}
 use Rattle.sector_map.specs.declared.layout.Side.TheVariants.{Secondary}
 use Rattle.sector_map.specs.Map.{IsLaidOut, end_of_map}
@@ -26,7 +27,7 @@ use Rattle.device_calls.specs.declared.cuts.CutRow.{CutRow}
 use Rattle.device_calls.specs.declared.kept.Kept.{Kept}
 use Rattle.device_calls.specs.declared.setup.Made.{Made}
 use Rattle.device_calls.specs.declared.setup.Setup.{Setup}
-use Rattle.device_calls.specs.Cuts.{IsCutAsAsked, numbers_of}
+use Rattle.device_calls.specs.Cuts.{IsCutAsAsked, WritesAsAsked, asked_by}
 use Rattle.device_calls.specs.Kept.{IsDeviceOf, IsLeftIn}
 use Rattle.device_calls.specs.Numbers.{MOST_CUTS, TOO_MANY}
 use Rattle.device_calls.specs.Setup.{IsMade, IsUnmade}
@@ -103,7 +104,7 @@ pub record LeavesBytes (map : SectorMap) (call : Call) (old new : List ℕ) (rep
 
 -- A call is made on the device that the caller's bytes hold, where these of its writes are to be
 -- cut; it makes so many writes.
-pub record StepsOn (made_of : Made) (numbers : List ℕ) (call : Call) (old : List ℕ) (was : Kept)
+pub record StepsOn (made_of : Made) (asked : Fixed) (call : Call) (old : List ℕ) (was : Kept)
     (new : List ℕ) (is : Kept) (reply : Reply) (writes : ℕ) : Type 0 where
   -- It is made on a device that the bytes are, whose flash has power,
   pub before : DeviceView
@@ -115,7 +116,9 @@ pub record StepsOn (made_of : Made) (numbers : List ℕ) (call : Call) (old : Li
   pub makes : MakesCall made_of.map made_of.identity made_of.boots call before left reply
   pub leaves : LeavesBytes made_of.map call old new reply
   -- It is cut where the caller asks for it, and nowhere else.
-  pub cut_as_asked : IsCutAsAsked numbers before.flash left.flash reply writes
+  pub cut_as_asked : IsCutAsAsked asked.numbers before.flash left.flash reply writes
+  -- The bytes are what exactly so many writes made of those before, torn as the caller asks.
+  pub writes_as_asked : WritesAsAsked asked made_of.map.sector_size old new writes
   -- From each device that the bytes are it is a step to one that they are then: the flash of this
   -- one has power again, after a cut too.
   pub each : (device : DeviceView) → IsDeviceOf made_of.map old was device
@@ -128,7 +131,7 @@ pub record CallsOn (setup : Setup) (cuts : List CutRow) (call : Call) (old : Lis
   pub made_of : Made
   pub made : IsMade setup old made_of
   pub few : length cuts ≤ MOST_CUTS
-  pub steps : StepsOn made_of (numbers_of cuts) call old was new is reply writes
+  pub steps : StepsOn made_of (asked_by cuts) call old was new is reply writes
 
 -- More cuts are asked for than a call takes, of what a setup makes.
 pub record AsksTooMuch (setup : Setup) (cuts : List CutRow) (bytes : List ℕ) (number : ℕ)

@@ -1,5 +1,5 @@
 -- What is returned of tables and reports that are texts.
-use Rattle.std.specs.Prelude.{◌≡◌, ℕ, ◌++◌, List, drop, length}
+use Rattle.std.specs.Prelude.{◌≡◌, ℕ, ◌<◌, ◌≤◌, ◌++◌, List, drop, length}
 use Rattle.common.specs.Lines.{IsFirstBadLine}
 use Rattle.certificate.specs.declared.table.Table.{Table}
 use Rattle.certificate.specs.declared.report.Report.{Report}
@@ -8,10 +8,11 @@ use Rattle.certificate.specs.ReportText.{IsReportText, IsSomeReport, report_text
 use Rattle.certificate.specs.Rightness.{IsRight}
 use Rattle.certificate.specs.StandardOrder.{IsInStandardOrder}
 use Rattle.certificate.specs.TableText.{IsSomeTable, IsTableText}
+use Rattle.device_calls.specs.Texts.{MOST_REPORT}
 use Rattle.device_calls.specs.Numbers.{DONE, INVALID_SET, NO_REPORT, NO_ROOM, NO_TABLE, WRONG}
 
 -- What a choice returns. Without a report nothing is put into the buffer, and but for the number
--- of a line nothing is told.
+-- of a line nothing is told. A buffer of 2048 bytes has room for every report.
 pub data AnswersChoice (text old room : List ℕ) (told number : ℕ) : Type 0 where
   Chosen : (table : Table) (report : Report) → IsTableText text table → IsRight table report
       → IsInStandardOrder table report.refusals.items → told ≡ length (report_text report)
@@ -21,8 +22,10 @@ pub data AnswersChoice (text old room : List ℕ) (told number : ℕ) : Type 0 w
       → AnswersChoice text old room told number
   Invalid : (table : Table) → IsTableText text table → (IsValid table running_set → ⊥)
       → told ≡ 0 → room ≡ old → number ≡ INVALID_SET → AnswersChoice text old room told number
-  NoRoom : (table : Table) → IsTableText text table → IsValid table running_set
-      → told ≡ 0 → room ≡ old → number ≡ NO_ROOM → AnswersChoice text old room told number
+  NoRoom : (table : Table) (report : Report) → IsTableText text table → IsRight table report
+      → IsInStandardOrder table report.refusals.items → length old < length (report_text report)
+      → length (report_text report) ≤ MOST_REPORT → told ≡ 0 → room ≡ old → number ≡ NO_ROOM
+      → AnswersChoice text old room told number
 
 -- What a check returns. A report is looked at where the table is one.
 pub data AnswersCheck (rows lines : List ℕ) (told number : ℕ) : Type 0 where

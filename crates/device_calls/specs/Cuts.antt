@@ -1,6 +1,10 @@
 -- The writes that are to be cut in a call.
-use Rattle.std.specs.Prelude.{◌≡◌, ℕ, ◌≤◌, List, length, map, min, slice_get, take, Some}
-use Rattle.flash_model.specs.Chip.{Chip, reached}
+use Rattle.std.specs.Prelude.{◌≡◌, ◌==◌, ℕ, ◌<◌, ◌≤◌, false, List, [], length, map, min, slice_get, take}
+use Rattle.std.specs.Prelude.{if◌then◌else◌, Some}
+use Rattle.std.specs.List.{list_any}
+use Rattle.flash_model.specs.Chip.{Chip, Fixed, reached, unarmed}
+use Rattle.flash_model.specs.Torn.{Cutting}
+use Rattle.flash_model.specs.Written.{IsWrittenBy}
 use Rattle.machine.specs.Steps.{cut_of}
 use Rattle.machine.specs.declared.reply.Reply.{Reply}
 use Rattle.slice_flash.specs.declared.table.Cut.{Cut}
@@ -32,6 +36,34 @@ pub record AreCutsOf (rows : List CutRow) (table : List Cut) : Type 0 where
 -- The numbers of the writes that are to be cut.
 abbrev pub numbers_of : List CutRow → List ℕ
 numbers_of rows = map (λ row. row.write) rows
+
+-- What the cut of a row leaves of its range: 0 what it had, 1 what it was to have, 3 the pattern.
+abbrev pub kind_by : CutRow → ℕ
+kind_by row = if row.left == 0 then 0 else if row.left == 1 then 1 else 3
+
+abbrev pub pattern_by : CutRow → List ℕ
+pattern_by row = if row.left == 0 then [] else if row.left == 1 then []
+    else take (min row.pattern_length 8) row.pattern
+
+abbrev pub cutting_by : CutRow → Cutting
+cutting_by row = record {
+  number = row.write;
+  kind = kind_by row;
+  pattern = pattern_by row;
+}
+
+-- Which writes of a call are to be cut, and what each cut leaves.
+abbrev pub asked_by : List CutRow → Fixed
+asked_by rows = record unarmed { numbers = numbers_of rows; cuttings = map cutting_by rows }
+
+-- The new bytes are what exactly so many writes make of the old ones, in sectors of this size.
+pub record WritesAsAsked (asked : Fixed) (size : ℕ) (old new : List ℕ) (writes : ℕ) : Type 0 where
+  -- Each of these writes is one that a driver takes. Those that are asked for are torn as is asked,
+  -- and all others are done.
+  pub made : ∥ IsWrittenBy size (record asked { first = old }) new writes ∥₁
+  -- A write that is cut is the last one.
+  pub last : (k : ℕ) → 1 ≤ k → k < writes
+      → list_any (λ number. number == k) asked.numbers ≡ false
 
 -- A call is cut in these of its writes, in no others, and makes so many writes.
 pub record IsCutAsAsked (numbers : List ℕ) (before left : Chip) (reply : Reply) (writes : ℕ)

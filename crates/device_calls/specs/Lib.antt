@@ -4,6 +4,7 @@ pub mod Kept
 pub mod Cuts
 pub mod Calls
 pub mod Told
+pub mod Sinks
 pub mod Texts
 pub mod Manifests
 pub mod Answers

@@ -12,7 +12,7 @@ use chooser::choose;
 ///
 /// Returns 0, and in `length` how many bytes the report has; `NO_TABLE`, and in `length` the number
 /// of the first line, counted from 1, that no table goes on from; `INVALID_SET` where the running
-/// images don't fit each other; or `NO_ROOM`.
+/// images don't fit each other; or `NO_ROOM`, only if the report has more bytes than `room`.
 #[unsafe(no_mangle)]
 pub extern "C" fn bootswap_choose(table: &[u8], room: &mut [u8], length: &mut u64) -> u32
     ensures { AnswersChoice table.now room.old room.new length.new result }
@@ -28,9 +28,16 @@ pub extern "C" fn bootswap_choose(table: &[u8], room: &mut [u8], length: &mut u6
         *length = 0;
         return INVALID_SET;
     }
-    let put = put_report(&choose(&table), room);
-    *length = u64::from(put);
-    if put == 0 { NO_ROOM } else { DONE }
+    match put_report(&choose(&table), room) {
+        Some(put) => {
+            *length = u64::from(put);
+            DONE
+        }
+        None => {
+            *length = 0;
+            NO_ROOM
+        }
+    }
 }
 
 /// Checks whether the report that a text is is right for the table that another one is.

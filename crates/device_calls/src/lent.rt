@@ -1,13 +1,14 @@
 //! A call on a device that the caller's memory holds.
 
-ghost use Rattle.std.specs.Prelude.{◌≡◌, ℕ, ◌+◌, IfErr, IfOk, IfSome, List, None, Option, true};
+ghost use Rattle.std.specs.Prelude.{◌≡◌, ℕ, ◌+◌, [], IfErr, IfOk, IfSome, List, None, Option, false, true};
+ghost use Rattle.flash_model.specs.Chip.{Fixed};
 ghost use Rattle.sector_map.specs.Map.{IsLaidOut};
 ghost use Rattle.machine.specs.Steps.{cut_of};
 ghost use Rattle.boot_core.specs.Device.{seen};
-ghost use Rattle.slice_flash.specs.Rows.{numbers_in};
+ghost use Rattle.slice_flash.specs.Rows.{fixed_by};
 ghost use Rattle.upload.specs.declared.sessions.Upload.{Upload};
 ghost use Rattle.device_calls.specs.Calls.{CallsOn, IsRefusedBefore, StepsOn};
-ghost use Rattle.device_calls.specs.Cuts.{IsCutAsAsked};
+ghost use Rattle.device_calls.specs.Cuts.{IsCutAsAsked, WritesAsAsked};
 ghost use Rattle.device_calls.specs.Kept.{IsKept, IsUpKept, KeepsDevice};
 ghost use Rattle.device_calls.specs.Setup.{HasRoom, IsTrial};
 
@@ -101,9 +102,13 @@ fn call_on<F: Flash>(flash: &mut F, made: &Made, kept: &mut Kept, call: &Call<'_
     requires trial { IsTrial made.now.boots }
     ensures fixed { (F.chip flash.new).fixed ≡ (F.chip flash.old).fixed }
     ensures cuts { (F.chip flash.new).cuts ≡ (F.chip flash.old).cuts + cut_of result }
-    ensures steps { (numbers : List ℕ) (writes : ℕ)
-        → IsCutAsAsked numbers (F.chip flash.old) (F.chip flash.new) result writes
-        → StepsOn made.now numbers call.now (F.chip flash.old).bytes kept.old
+    ensures dark { cut_of result ≡ 1 → (F.chip flash.new).is_on ≡ false }
+    ensures laid { IsLaidOut made.now.map (F.chip flash.new) }
+    ensures steps { (asked : Fixed) (writes : ℕ)
+        → IsCutAsAsked asked.numbers (F.chip flash.old) (F.chip flash.new) result writes
+        → WritesAsAsked asked made.now.map.sector_size (F.chip flash.old).bytes
+        (F.chip flash.new).bytes writes
+        → StepsOn made.now asked call.now (F.chip flash.old).bytes kept.old
         (F.chip flash.new).bytes kept.new result writes }
 {
     let mut held = hold(flash, &made.map, kept);
@@ -135,7 +140,7 @@ fn call_over<L: Ledger>(
     requires room { HasRoom made.now.map bytes.old }
     requires images { made.now.identity.images ≡ made.now.map.images }
     requires trial { IsTrial made.now.boots }
-    ensures { StepsOn made.now (numbers_in table.now) call.now bytes.old kept.old bytes.new kept.new
+    ensures { StepsOn made.now (fixed_by table.now [] 0) call.now bytes.old kept.old bytes.new kept.new
         result.reply result.writes }
 {
     let mut flash = SliceFlash::<L>::new(blank, bytes, made.map.sector_size, table);

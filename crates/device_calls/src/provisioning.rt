@@ -1,7 +1,7 @@
 //! Making the bytes of a flash a device's.
 
-ghost use Rattle.std.specs.Prelude.{◌≡◌};
-ghost use Rattle.slice_flash.specs.Rows.{numbers_in};
+ghost use Rattle.std.specs.Prelude.{◌≡◌, []};
+ghost use Rattle.slice_flash.specs.Rows.{fixed_by};
 ghost use Rattle.device_calls.specs.Provisioning.{AnswersProvision, ProvisionsOn};
 ghost use Rattle.device_calls.specs.Setup.{HasRoom};
 
@@ -30,7 +30,7 @@ fn provision_on<L: Ledger>(
     requires parts { blank.parts ≡ L.parts }
     requires two { L.parts ≡ 2 }
     requires room { HasRoom map.now bytes.old }
-    ensures { ProvisionsOn map.now (numbers_in table.now) bytes.old bytes.new result writes.new }
+    ensures { ProvisionsOn map.now (fixed_by table.now [] 0) bytes.old bytes.new result writes.new }
 {
     let mut flash = SliceFlash::<L>::new(blank, bytes, map.sector_size, table);
     let reply = answer(provision(&mut flash, map));

@@ -1,53 +1,38 @@
 //! Tables and reports as texts, in a buffer of the caller.
 
-ghost use Rattle.std.specs.Prelude.{◌≡◌, ◌<◌, ◌≤◌, IfSome, List, length, take};
 ghost use Rattle.certificate.specs.ReportText.{report_text};
 ghost use Rattle.certificate.specs.TableText.{table_text};
 ghost use Rattle.device_calls.specs.Answers.{HasTexts};
-ghost use Rattle.device_calls.specs.Texts.{IsPut};
+ghost use Rattle.device_calls.specs.Texts.{IsTried};
 
-use arrayvec::ArrayString;
+use crate::sinks::{Front, Length};
 use certificate::{Report, Table};
 use machine::Reply;
-use std::fmt::Write;
 
-/// How many bytes the text of a table has at most, and that of a report: 8 images with 16
-/// dependencies and 4 groups each, what runs and what is requested; 8 refusals of 4 alternatives.
-const MOST_TABLE: usize = 20480;
-
-const MOST_REPORT: usize = 2048;
-
-/// Puts a text at the front of a buffer, where there is room, and tells its length, else 0.
-fn put(text: &[u8], room: &mut [u8]) -> u32
-    ensures { IsPut text.now result room.old room.new }
+/// Puts the text of a table at the front of a buffer, if there is room for it, and returns its
+/// length.
+fn put_table(table: &Table, room: &mut [u8]) -> Option<u32>
+    ensures { IsTried (table_text table.now) room.old room.new result }
 {
-    if text.len() > room.len() || text.len() > u32::MAX as usize {
-        return 0;
-    }
-    room[..text.len()].copy_from_slice(text);
-    text.len() as u32
+    let mut length = Length::new();
+    let Ok(()) = table.write_to(&mut length);
+    let length = length.within(room.len())?;
+    let mut front = Front::new(room);
+    let Ok(()) = table.write_to(&mut front);
+    Some(length)
 }
 
-/// Puts the text of a table at the front of a buffer.
-fn put_table(table: &Table, room: &mut [u8]) -> u32
-    ensures { IsPut (table_text table.now) result room.old room.new }
+/// Puts the text of a report at the front of a buffer, if there is room for it, and returns its
+/// length.
+pub(crate) fn put_report(report: &Report, room: &mut [u8]) -> Option<u32>
+    ensures { IsTried (report_text report.now) room.old room.new result }
 {
-    let mut text = ArrayString::<MOST_TABLE>::new();
-    match write!(text, "{table}") {
-        Ok(()) => put(text.as_str().as_bytes(), room),
-        Err(_) => 0,
-    }
-}
-
-/// Puts the text of a report at the front of a buffer.
-pub(crate) fn put_report(report: &Report, room: &mut [u8]) -> u32
-    ensures { IsPut (report_text report.now) result room.old room.new }
-{
-    let mut text = ArrayString::<MOST_REPORT>::new();
-    match write!(text, "{report}") {
-        Ok(()) => put(text.as_str().as_bytes(), room),
-        Err(_) => 0,
-    }
+    let mut length = Length::new();
+    let Ok(()) = report.write_to(&mut length);
+    let length = length.within(room.len())?;
+    let mut front = Front::new(room);
+    let Ok(()) = report.write_to(&mut front);
+    Some(length)
 }
 
 /// The lengths of two texts, 0 where there is none or it had no room.
@@ -70,8 +55,8 @@ pub(crate) fn put_texts(reply: &Reply, table_room: &mut [u8], report_room: &mut 
 {
     match reply {
         Reply::Booted { table, report, .. } => Lengths {
-            table: put_table(table, table_room),
-            report: put_report(report, report_room),
+            table: put_table(table, table_room).unwrap_or(0),
+            report: put_report(report, report_room).unwrap_or(0),
         },
         _ => NO_TEXTS,
     }

@@ -59,7 +59,8 @@ pub struct ToldRefusal {
 #[repr(C)]
 #[derive(Clone, Copy)]
 pub struct Told {
-    /// How many writes the call began: programs and erases.
+    /// How many writes the call made: programs and erases. The flash's bytes are what exactly these
+    /// writes made of those before, torn as the caller's rows say. One that is cut is the last.
     pub writes: u64,
     /// Why it is refused: the number of the reason, 1 to 10.
     pub fault: u32,

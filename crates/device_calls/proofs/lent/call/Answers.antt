@@ -1,6 +1,7 @@
-use Rattle.std.proofs.Common.{List, ℕ, refl, subst, inl, inr, arith}
+use Rattle.std.proofs.Common.{refl, subst, inl, inr, arith}
+use Rattle.flash_model.specs.Chip.{Fixed}
 use Rattle.device_calls.specs.Calls.{StepsOn}
-use Rattle.device_calls.proofs.Counting.{same_numbers}
+use Rattle.device_calls.proofs.Asked.{same_asked}
 use Rattle.device_calls.proofs.lent.call.Goals as goal
 
 pub returns-then-cuts-gt-MOST_CUTS-clause-refused : goal.returns-then-cuts-gt-MOST_CUTS-clause-refused
@@ -23,8 +24,8 @@ returns-clause-ended c = record {
   made_of = c.in-Ok.made;
   made = c.in-Ok.ensures.made;
   few = omega (arith, c.if-cuts-gt-MOST_CUTS.false);
-  steps = subst (λ (numbers : List ℕ). StepsOn c.in-Ok.made numbers c.args.call.now c.args.bytes.now c.args.kept.now
+  steps = subst (λ (asked : Fixed). StepsOn c.in-Ok.made asked c.args.call.now c.args.bytes.now c.args.kept.now
       c.call_over.new.bytes c.call_over.new.kept c.call_over.result.reply c.call_over.result.writes)
-      (same_numbers c.args.cuts.now c.table_of-table.result c.table_of-table.ensures
+      (same_asked c.args.cuts.now c.table_of-table.result c.table_of-table.ensures
       (omega (arith, c.if-cuts-gt-MOST_CUTS.false, c.table_of-table.type_inv))) c.call_over.ensures;
 }

@@ -5,6 +5,7 @@ use Rattle.upload.specs.View.{view}
 use Rattle.machine.specs.Steps.{cut_of}
 use Rattle.boot_core.specs.Device.{seen}
 use Rattle.device_calls.specs.Calls.{MakesCall}
+use Rattle.device_calls.proofs.Asked.{dark_after}
 use Rattle.device_calls.proofs.Counting.{cuts_of}
 use Rattle.device_calls.proofs.StepLaws.{kept_opens, steps_on}
 use Rattle.device_calls.proofs.lent.call_on.Goals as goal
@@ -42,3 +43,11 @@ returns-clause-steps g c =
     (seen behind c.make_call-reply.new.uploads.sessions c.make_call-reply.new.is_up) c.make_call-reply.result)
     c.hold-held.ensures.same c.make_call-reply.ensures)
     refl c.keep.ensures
+
+pub returns-clause-dark : goal.returns-clause-dark
+returns-clause-dark g c =
+    let made = c.args.made.now in
+    dark_after made.map made.identity made.boots c.args.call.now
+    (seen (g.F.Flash.chip c.hold-held.new.flash) c.hold-held.result.uploads.sessions c.hold-held.result.is_up)
+    (seen (g.F.Flash.chip c.make_call-reply.new.flash) c.make_call-reply.new.uploads.sessions c.make_call-reply.new.is_up)
+    c.make_call-reply.result c.make_call-reply.ensures.is

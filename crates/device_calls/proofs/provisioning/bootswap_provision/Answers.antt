@@ -1,9 +1,10 @@
-use Rattle.std.proofs.Common.{◌≡◌, ◌≤◌, List, ℕ, length, take, refl, sym, subst, inl, inr, arith}
-use Rattle.device_calls.specs.Cuts.{numbers_of}
+use Rattle.std.proofs.Common.{◌≡◌, ◌≤◌, [], length, take, refl, sym, subst, inl, inr, arith}
+use Rattle.flash_model.specs.Chip.{Fixed}
+use Rattle.device_calls.specs.Cuts.{asked_by}
 use Rattle.device_calls.specs.Numbers.{MOST_CUTS}
 use Rattle.device_calls.specs.Provisioning.{ProvisionsOn, Replied, Unmade}
-use Rattle.slice_flash.specs.Rows.{numbers_in}
-use Rattle.device_calls.proofs.Counting.{same_numbers}
+use Rattle.slice_flash.specs.Rows.{fixed_by}
+use Rattle.device_calls.proofs.Asked.{same_asked}
 use Rattle.device_calls.proofs.provisioning.bootswap_provision.Goals as goal
 
 pub returns-in-Err : goal.returns-in-Err
@@ -20,13 +21,13 @@ returns-then-cuts-gt-MOST_CUTS c = Unmade (inr (record {
 pub returns : goal.returns
 returns c =
     let few : length c.args.cuts.now ≤ MOST_CUTS = omega (arith, c.if-cuts-gt-MOST_CUTS.false) in
-    let numbers = numbers_in (take (length c.args.cuts.now) c.table_of-table.result) in
-    let same : numbers ≡ numbers_of c.args.cuts.now =
-    same_numbers c.args.cuts.now c.table_of-table.result c.table_of-table.ensures
+    let asked = fixed_by (take (length c.args.cuts.now) c.table_of-table.result) [] 0 in
+    let same : asked ≡ asked_by c.args.cuts.now =
+    same_asked c.args.cuts.now c.table_of-table.result c.table_of-table.ensures
     (omega (arith, c.if-cuts-gt-MOST_CUTS.false, c.table_of-table.type_inv)) in
     Replied c.in-Ok.made c.provision_on-reply.result c.in-Ok.ensures.made few
-    (subst (λ (l : List ℕ). ProvisionsOn c.in-Ok.made.map l c.args.flash.now c.provision_on-reply.new.bytes
+    (subst (λ (these : Fixed). ProvisionsOn c.in-Ok.made.map these c.args.flash.now c.provision_on-reply.new.bytes
     c.provision_on-reply.result c.told_of.result.writes) same
-    (subst (λ n. ProvisionsOn c.in-Ok.made.map numbers c.args.flash.now c.provision_on-reply.new.bytes
+    (subst (λ n. ProvisionsOn c.in-Ok.made.map asked c.args.flash.now c.provision_on-reply.new.bytes
     c.provision_on-reply.result n) (sym c.told_of.ensures.writes) c.provision_on-reply.ensures))
     c.told_of.ensures.tells c.number_of.ensures

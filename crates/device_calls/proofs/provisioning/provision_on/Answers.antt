@@ -1,6 +1,8 @@
-use Rattle.std.proofs.Common.{rules, ap}
-use Rattle.slice_flash.specs.Rows.{numbers_in}
+use Rattle.std.proofs.Common.{◌≡◌, [], rules, ap, ◌∙◌}
+use Rattle.flash_model.specs.Chip.{Chip}
+use Rattle.slice_flash.specs.Rows.{fixed_by}
 use Rattle.slice_flash.specs.SliceFlash.{Slice, chip_of}
+use Rattle.device_calls.proofs.Asked.{dark_provided, writes_as_asked}
 use Rattle.device_calls.proofs.Counting.{cut_as_asked, cuts_provided}
 use Rattle.device_calls.proofs.StepLaws.{lent_flash}
 use Rattle.device_calls.proofs.Provisioned.{provisions_on}
@@ -13,12 +15,23 @@ provision-requires g c = record {
 }
 
 pub returns : goal.returns
-returns g c = provisions_on c.args.map.now c.args.bytes.now _ _ _ c.provision.result c.answer-reply.result
-    (lent_flash c.args.map.now c.args.bytes.now _ _ c.args.map.now.is_map c.requires.room
-    (ap (λ (s : Slice). s.chip) c.new-flash.ensures)) (search rules) c.provision.ensures c.answer-reply.ensures
-    (numbers_in c.args.table.now) c.writes.result
-    (cut_as_asked (chip_of c.new-flash.result) (chip_of c.provision.new.flash) c.answer-reply.result
-    c.writes.result _ _ _ _ (ap (λ (s : Slice). s.chip) c.new-flash.ensures) c.provision.ensures.outside.fixed
-    (cuts_provided c.args.map.now (chip_of c.new-flash.result) (chip_of c.provision.new.flash) c.provision.result
-    c.answer-reply.result c.provision.ensures c.answer-reply.ensures)
-    c.provision.new.flash.cut_as_told c.writes.ensures)
+returns g c =
+    let table = c.args.table.now in
+    let bytes = c.args.bytes.now in
+    let map = c.args.map.now in
+    let before = chip_of c.new-flash.result in
+    let left = chip_of c.provision.new.flash in
+    let chip = ap (λ (s : Slice). s.chip) c.new-flash.ensures in
+    let fixed : left.fixed ≡ fixed_by table bytes _ =
+    c.provision.ensures.outside.fixed ∙ ap (λ (c : Chip). c.fixed) chip in
+    let cut = cut_as_asked before left c.answer-reply.result c.writes.result _ _ _ _ chip
+    c.provision.ensures.outside.fixed
+    (cuts_provided map before left c.provision.result c.answer-reply.result c.provision.ensures c.answer-reply.ensures)
+    c.provision.new.flash.cut_as_told c.writes.ensures in
+    let torn = writes_as_asked table map.sector_size _ bytes before left c.answer-reply.result c.writes.result fixed
+    c.provision.ensures.laid.sector_size cut
+    (dark_provided map before left c.provision.result c.answer-reply.result c.provision.ensures c.answer-reply.ensures)
+    c.provision.new.flash.off_as_told c.provision.new.flash.written in
+    provisions_on map bytes _ before left c.provision.result c.answer-reply.result
+    (lent_flash map bytes before _ map.is_map c.requires.room chip) (search rules) c.provision.ensures
+    c.answer-reply.ensures (fixed_by table [] 0) c.writes.result cut torn
