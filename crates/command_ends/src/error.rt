@@ -96,6 +96,8 @@ pub enum SourceFault {
     TooLong(u32),
     /// It is no flash, and could not be made, or not be replaced.
     CannotReplace,
+    /// It was to be replaced by an image and holds none, so it stays.
+    NoImage,
 }
 
 impl fmt::Display for SourceRefusal {
@@ -105,6 +107,7 @@ impl fmt::Display for SourceRefusal {
             SourceFault::CannotRead => write!(f, "cannot read {source}"),
             SourceFault::TooLong(most) => write!(f, "{source} is longer than {most} bytes"),
             SourceFault::CannotReplace => write!(f, "cannot write {source}"),
+            SourceFault::NoImage => write!(f, "{source} is no image"),
         }
     }
 }

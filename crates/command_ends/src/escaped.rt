@@ -2,24 +2,77 @@
 
 use std::fmt;
 
+/// The most bytes that are printed of a text. No name of a file has more.
+const MOST_PRINTED: usize = 1 << 12;
+
 /// A text to print in which characters that change how a terminal shows a line are escaped as
-/// Rust's `char::escape_default` does: `\n`, `\u{1b}`, `\u{202e}`. These are the control
-/// characters, line feeds among them, and those that turn the direction of what follows. All else
-/// stays as it is.
+/// Rust's `char::escape_default` does: `\n`, `\u{1b}`, `\u{2028}`, `\u{202e}`. These are the
+/// control characters, line feeds among them, the separators of lines and of paragraphs, and those
+/// that turn the direction of what follows. All else stays as it is.
+///
+/// Where more than 4,096 bytes would be printed, `...` stands for the middle: at most 2,048 bytes
+/// stand before it, and as many after it.
 #[derive(Clone, Copy)]
 pub struct Escaped<'a>(pub &'a str);
 
 impl fmt::Display for Escaped<'_> {
     fn fmt<W: fmt::Write>(&self, f: &mut fmt::Formatter<W>) -> fmt::Result {
+        let all = all_printed_bytes(self.0);
+        let mut printed = 0usize;
+        let mut is_left_out = false;
         for character in self.0.chars() {
-            if character.is_control() || turns_direction(character) {
-                write!(f, "{}", character.escape_default())?;
-            } else {
-                f.write_char(character)?;
+            let start = printed;
+            printed = printed.saturating_add(printed_bytes(character));
+            if all <= MOST_PRINTED
+                || printed <= MOST_PRINTED / 2
+                || start >= all - MOST_PRINTED / 2
+            {
+                print(character, f)?;
+            } else if !is_left_out {
+                is_left_out = true;
+                f.write_str("...")?;
             }
         }
         Ok(())
     }
+}
+
+/// Whether a character that is no control character ends a line: the line separator or the paragraph
+/// separator (Unicode Standard Annex #14, class BK).
+fn ends_line(character: char) -> bool {
+    matches!(character, '\u{2028}'..='\u{2029}')
+}
+
+/// Prints a character, escaped where it has to be.
+fn print<W: fmt::Write>(character: char, f: &mut fmt::Formatter<W>) -> fmt::Result {
+    if is_escaped(character) {
+        write!(f, "{}", character.escape_default())
+    } else {
+        f.write_char(character)
+    }
+}
+
+/// How many bytes would be printed of a text, if none were left out.
+fn all_printed_bytes(text: &str) -> usize {
+    let mut all = 0usize;
+    for character in text.chars() {
+        all = all.saturating_add(printed_bytes(character));
+    }
+    all
+}
+
+/// How many bytes are printed of a character.
+fn printed_bytes(character: char) -> usize {
+    if is_escaped(character) {
+        character.escape_default().count()
+    } else {
+        character.len_utf8()
+    }
+}
+
+/// Whether a character changes how a terminal shows a line.
+fn is_escaped(character: char) -> bool {
+    character.is_control() || ends_line(character) || turns_direction(character)
 }
 
 /// Whether a character turns the direction in which what follows is shown: a mark, an embedding, an

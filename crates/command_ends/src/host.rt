@@ -2,6 +2,8 @@
 //! flash.
 ghost use Rattle.std.specs.Prelude.{◌≡◌, ◌≤◌, Bool, IfErr, IfOk, IfSome, IsTrue, List, ℕ, None, OnOk, Option, false, length, true};
 ghost use Rattle.std.specs.Io.KnownBytes.{Keeps};
+ghost use Rattle.std.specs.IoError.{error_kind};
+ghost use Rattle.std.specs.declared.io.ErrorKind.TheVariants.{NotFound};
 ghost use Rattle.command_ends.specs.Doings.{AreApart, IsOpenedFor, KeepsApart, Openings, no_openings};
 ghost use Rattle.command_ends.specs.Input.{IsKnownAs, IsKnownPart, KeepsFiles};
 
@@ -21,11 +23,21 @@ pub enum Access {
     WriteDurably,
 }
 
+/// What a new file may replace.
+#[derive(Clone, Copy, PartialEq, Eq)]
+pub enum Replaced {
+    /// A plain file.
+    PlainFile,
+    /// A plain file or a block device. A device is written in place.
+    FlashFile,
+}
+
 /// Why the file of a flash can't be had, or not be replaced. It is as it was, but for a block
-/// device of which a write failed.
+/// device of which a write failed, and for a file whose name could not be made to last.
 #[derive(Clone, Copy)]
 pub enum FlashFault {
-    /// Another program uses it.
+    /// Another program uses it, has made or replaced it meanwhile, or the system uses the block
+    /// device itself.
     InUse,
     /// It isn't as long as the flash.
     WrongLength,
@@ -43,14 +55,15 @@ pub enum FlashFault {
 /// a script names is read while a flash is written.
 ///
 /// Where a file or standard input is read, an error of kind `OutOfMemory` says that memory ran out,
-/// and any other that the read failed.
+/// and any other that the read failed; but of a part one of kind `FileTooLarge` says that it, or what
+/// is read up to its end, is longer than the most that is read of a file.
 pub trait Host {
     // What is left of standard input, where it is known.
     ghost input: { Self → Option (List ℕ) } = { λ _. None };
 
     // What the file of a name holds, where it is known. It isn't known of a block device, since a
     // write that fails may leave a part of what was to be written, nor of a file that a flash is
-    // written to.
+    // written to, nor of one whose folder may fail to be synced behind its replacement.
     ghost file: { Self → List ℕ → Option (List ℕ) } = { λ _ _. None };
 
     // How files of flashes were opened, as far as that is known.
@@ -102,13 +115,27 @@ pub trait Host {
             IsKnownPart (file self.now name.now) from count part.items)) };
 
     /// Whether the file of this name is a plain one, which can be read as often as one likes. A
-    /// pipe gives its bytes once.
+    /// pipe gives its bytes once. An error of kind `NotFound` says that there is no such file.
     fn is_plain(&self, name: &str) -> io::Result<bool>
-        ensures { IfOk result (λ is. is ≡ true → IsTrue (plain self.now name.now)) };
+        ensures plain { IfOk result (λ is. is ≡ true → IsTrue (plain self.now name.now)) }
+        ensures missing { IfErr result (λ error. error_kind error ≡ NotFound
+            → file self.now name.now ≡ None) };
+
+    /// How many bytes the file of this name has. It is a plain one or a block device. The notes on a
+    /// file of another length than is asked for say it, and no answer depends on it.
+    fn length_of(&self, name: &str) -> io::Result<u64>;
 
     /// Whether two names are of one file that is there, also where it has several names.
     fn is_same_file(&self, one: &str, other: &str) -> io::Result<bool>
         ensures { IfOk result (λ is. is ≡ false → AreApart (apart self.now) one.now other.now) };
+
+    /// Whether standard input is the file of this name, as far as that can be known: a system may
+    /// not tell of what standard input is.
+    fn is_input(&self, name: &str) -> io::Result<bool>;
+
+    /// Whether a plain file of this name can be made or replaced, as far as that can be known
+    /// before it is done. No file changes. A command that works for minutes asks first.
+    fn check_replaceable(&self, alloc: Global, name: &str) -> Result<(), FlashFault>;
 
     /// Opens the file of this name, which is that of a flash of so many bytes, and returns them, in
     /// memory of `alloc`. It is held until the host is dropped, or the next one is opened. Its
@@ -130,8 +157,10 @@ pub trait Host {
     /// byte `at` on. Does not allocate.
     fn write_flash(&self, at: u64, bytes: &[u8]) -> io::Result<()>;
 
-    /// Has the system put all that was written to that file on its medium. A write that the system
-    /// kept back, and could not do then, fails here: nothing tells of it once the file is closed.
+    /// Has the system put all that was written to that file on its medium, and the name of a file
+    /// that is opened with `WriteDurably`. A write that the system kept back, and could not do then,
+    /// fails here: nothing tells of it once the file is closed. So do a write that failed before,
+    /// and a file that lost its name or got another length.
     fn sync_flash(&mut self) -> io::Result<()>
         ensures synced { OnOk result (IsTrue (synced self.new)) }
         ensures files { KeepsFiles (file self.old) (file self.new) }
@@ -142,9 +171,19 @@ pub trait Host {
     /// there is none. Until it is done that file is as it was, and so it is where this fails. No
     /// other program may use it meanwhile. What takes memory is in that of `alloc`.
     ///
-    /// A block device has nothing beside it that could take its place. One that is as long as
-    /// `bytes` is written from its first byte on; where a write fails it holds a part of them.
-    fn replace_file(&mut self, alloc: Global, name: &str, bytes: &[u8]) -> Result<(), FlashFault>
+    /// It is done once the file and its name are on the disk. A file whose name could not be put
+    /// there holds `bytes`, and this fails: of such a file a host doesn't know what it holds.
+    ///
+    /// `replaced` says what may be replaced. A block device has nothing beside it that could take
+    /// its place. One that is as long as `bytes` is written from its first byte on; where a write
+    /// fails it holds a part of them.
+    fn replace_file(
+        &mut self,
+        alloc: Global,
+        name: &str,
+        bytes: &[u8],
+        replaced: Replaced,
+    ) -> Result<(), FlashFault>
         ensures done { OnOk result (IsKnownAs (file self.new name.now) bytes.now) }
         ensures others { OnOk result
             (KeepsApart (apart self.old name.now) (file self.old) (file self.new)) }

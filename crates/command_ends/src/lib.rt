@@ -15,6 +15,6 @@ mod source;
 pub use answer::{Answer, finish, refuse, status_after};
 pub use error::{Refusal, SourceFault, SourceRefusal};
 pub use escaped::Escaped;
-pub use host::{Access, FlashFault, Host};
+pub use host::{Access, FlashFault, Host, Replaced};
 pub use limits::{MOST_FILE, MOST_JSON, MOST_SCRIPT, MOST_TABLE};
 pub use source::{STANDARD_INPUT, Source};

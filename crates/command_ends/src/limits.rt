@@ -11,5 +11,6 @@ pub const MOST_JSON: u32 = 1 << 20;
 /// The most bytes of a script's text.
 pub const MOST_SCRIPT: u32 = 1 << 28;
 
-/// The most bytes of an image, of the body of one, and of what a line of a script names.
+/// The most bytes of an image, of the body of one, and of what a line of a script names; and the most
+/// that are read of what is no plain file for a part of it.
 pub const MOST_FILE: u32 = u32::MAX;

@@ -7,6 +7,7 @@ ghost use Rattle.command_ends.specs.Status.{status_of_refusal};
 use crate::error::{Refusal, SourceFault, SourceRefusal};
 use crate::escaped::Escaped;
 use crate::host::Host;
+use crate::limits::MOST_FILE;
 use std::alloc::Global;
 use std::io::ErrorKind;
 use std::{fmt, io};
@@ -87,7 +88,7 @@ impl<'a> Source<'a> {
             → IsApartFrom (H.apart host.now) name.now self.entry) }
     {
         match self {
-            Source::StandardInput => Ok(false),
+            Source::StandardInput => host.is_input(name),
             Source::File(other) if other == name => Ok(true),
             Source::File(other) => host.is_same_file(other, name),
         }
@@ -112,13 +113,14 @@ impl<'a> Source<'a> {
         }
     }
 
-    /// Why a command refuses where this could not be read, for this reason. It is named in memory of
-    /// `alloc`.
+    /// Why a command refuses where this could not be read, for this reason, or where a part of it has
+    /// more than [`MOST_FILE`] bytes. It is named in memory of `alloc`.
     pub fn refusal(self, alloc: Global, error: io::Error) -> Refusal
         ensures { status_of_refusal result ≡ 1 }
     {
         match error.kind() {
             ErrorKind::OutOfMemory => Refusal::NoMemory,
+            ErrorKind::FileTooLarge => self.refused(alloc, SourceFault::TooLong(MOST_FILE)),
             _ => self.refused(alloc, SourceFault::CannotRead),
         }
     }
