@@ -5,23 +5,43 @@
 
 use boot_cli::{Remembering, cli, note_reading};
 use command_words::{refuse_words, words_of};
-use std::io::IsTerminal;
+use std::io;
+use std::io::{ErrorKind, IsTerminal, Write};
 use std::process::ExitCode;
-use system_files::SystemHost;
+use system_files::{Output, STANDARD_ERROR, STANDARD_OUTPUT, SystemHost, reserve_stack};
 
 fn main(rt: HostRuntime) -> ExitCode {
-    let alloc = rt.alloc();
-    let status = match words_of(&rt) {
-        Ok(words) => {
-            let (input, mut out, mut err) = (rt.reader(), rt.stdout(), rt.stderr());
-            if words.len() <= 1 && input.is_terminal() {
-                note_reading(&mut err);
-            }
-            let system = SystemHost::new(&rt, input, err.is_terminal());
-            let mut host = Remembering::over(alloc, system);
-            cli(alloc, words.as_slice(), &mut host, &mut out, &mut err)
-        }
-        Err(error) => refuse_words(alloc, &error, &mut rt.stderr()),
+    let status = match reserve_stack(rt.alloc()) {
+        Ok(()) => run(rt),
+        Err(_) => refuse(rt, &io::Error::from(ErrorKind::OutOfMemory)),
     };
     ExitCode::from(status)
+}
+
+/// Does what the words ask for, and returns the exit status. It isn't inlined: what it holds may
+/// stand on the stack only once there is memory for that.
+#[inline(never)]
+fn run(rt: HostRuntime) -> u8 {
+    let alloc = rt.alloc();
+    let words = match words_of(&rt) {
+        Ok(words) => words,
+        Err(error) => return refuse(rt, &error),
+    };
+    let mut out = Output::new(rt, rt.stdout(), STANDARD_OUTPUT);
+    let mut err = Output::new(rt, rt.stderr(), STANDARD_ERROR);
+    let input = rt.reader();
+    if words.len() <= 1 && input.is_terminal() {
+        note_reading(&mut err);
+        let _ = err.flush();
+    }
+    let system = SystemHost::new(&rt, input, rt.stderr().is_terminal());
+    let mut host = Remembering::over(alloc, system);
+    cli(alloc, words.as_slice(), &mut host, &mut out, &mut err)
+}
+
+/// Says why the words can't be had, and returns the exit status.
+#[inline(never)]
+fn refuse(rt: HostRuntime, error: &io::Error) -> u8 {
+    let mut err = Output::new(rt, rt.stderr(), STANDARD_ERROR);
+    refuse_words(rt.alloc(), error, &mut err)
 }

@@ -4,19 +4,37 @@
 
 use command_words::{refuse_words, words_of};
 use core_cli::core_cli;
-use std::io::IsTerminal;
+use std::io;
+use std::io::{ErrorKind, IsTerminal};
 use std::process::ExitCode;
-use system_files::SystemHost;
+use system_files::{Output, STANDARD_ERROR, STANDARD_OUTPUT, SystemHost, reserve_stack};
 
 fn main(rt: HostRuntime) -> ExitCode {
-    let alloc = rt.alloc();
-    let status = match words_of(&rt) {
-        Ok(words) => {
-            let (mut out, mut err) = (rt.stdout(), rt.stderr());
-            let mut host = SystemHost::new(&rt, rt.reader(), err.is_terminal());
-            core_cli(alloc, words.as_slice(), &mut host, &mut out, &mut err)
-        }
-        Err(error) => refuse_words(alloc, &error, &mut rt.stderr()),
+    let status = match reserve_stack(rt.alloc()) {
+        Ok(()) => run(rt),
+        Err(_) => refuse(rt, &io::Error::from(ErrorKind::OutOfMemory)),
     };
     ExitCode::from(status)
+}
+
+/// Does what the words ask for, and returns the exit status. It isn't inlined: what it holds may
+/// stand on the stack only once there is memory for that.
+#[inline(never)]
+fn run(rt: HostRuntime) -> u8 {
+    let alloc = rt.alloc();
+    let words = match words_of(&rt) {
+        Ok(words) => words,
+        Err(error) => return refuse(rt, &error),
+    };
+    let mut out = Output::new(rt, rt.stdout(), STANDARD_OUTPUT);
+    let mut err = Output::new(rt, rt.stderr(), STANDARD_ERROR);
+    let mut host = SystemHost::new(&rt, rt.reader(), rt.stderr().is_terminal());
+    core_cli(alloc, words.as_slice(), &mut host, &mut out, &mut err)
+}
+
+/// Says why the words can't be had, and returns the exit status.
+#[inline(never)]
+fn refuse(rt: HostRuntime, error: &io::Error) -> u8 {
+    let mut err = Output::new(rt, rt.stderr(), STANDARD_ERROR);
+    refuse_words(rt.alloc(), error, &mut err)
 }

@@ -3,16 +3,21 @@
 ghost use Rattle.std.specs.Prelude.{◌≡◌, IfOk, length};
 
 use crate::holding::HeldFile;
-use crate::lasting::{Medium, put};
 use crate::{file_reading, holding, replacing};
-use command_ends::{Access, FlashFault, Host};
+use command_ends::{Access, FlashFault, Host, Replaced};
 use std::alloc::Global;
 use std::fs::File;
 use std::io;
 use std::io::{ErrorKind, Read};
 use std::os::unix::fs::FileExt;
+use std::random::RandomSource;
 use std::rt::Files;
 use std::time::Clock;
+
+/// The name by which Linux leads to the file that is standard input, a pipe too. It leads nowhere
+/// where standard input is closed, and on a system without `/proc`: there it isn't known to be a file
+/// that a command names.
+const INPUT: &str = "/proc/self/fd/0";
 
 /// The system that the program runs on: its files, and its standard input as a reader.
 #[derive(Drop)]
@@ -36,7 +41,7 @@ impl<'a, R: Files, I: Read> SystemHost<'a, R, I> {
     }
 }
 
-impl<R: Files<File = File> + Clock, I: Read> Host for SystemHost<'_, R, I> {
+impl<R: Files<File = File> + Clock + RandomSource, I: Read> Host for SystemHost<'_, R, I> {
     ghost input = { λ host. I.remaining host.input };
 
     fn read_file(&mut self, alloc: Global, name: &str, most: u32) -> io::Result<Vec<u8>> {
@@ -65,8 +70,20 @@ impl<R: Files<File = File> + Clock, I: Read> Host for SystemHost<'_, R, I> {
         file_reading::is_plain(self.runtime, name)
     }
 
+    fn length_of(&self, name: &str) -> io::Result<u64> {
+        holding::length_of_name(self.runtime, name)
+    }
+
     fn is_same_file(&self, one: &str, other: &str) -> io::Result<bool> {
         replacing::is_same_file(self.runtime, one, other)
+    }
+
+    fn is_input(&self, name: &str) -> io::Result<bool> {
+        replacing::is_same_file(self.runtime, INPUT, name)
+    }
+
+    fn check_replaceable(&self, alloc: Global, name: &str) -> Result<(), FlashFault> {
+        replacing::check_replaceable(self.runtime, alloc, name)
     }
 
     fn open_flash(
@@ -76,29 +93,34 @@ impl<R: Files<File = File> + Clock, I: Read> Host for SystemHost<'_, R, I> {
         length: u64,
         access: Access,
     ) -> Result<Vec<u8>, FlashFault> {
-        let held = holding::open(self.runtime, name, length, access)?;
+        let held = holding::open(self.runtime, alloc, name, length, access)?;
         let bytes = flash_bytes(alloc, &held.file, length)?;
         self.flash = Some(held);
         Ok(bytes)
     }
 
     fn write_flash(&self, at: u64, bytes: &[u8]) -> io::Result<()> {
-        let Some(held) = &self.flash else {
-            return Err(io::Error::from(ErrorKind::NotFound));
-        };
-        let mut flash = FlashData { file: &held.file };
-        put(&mut flash, at, bytes, held.is_durable)
+        match &self.flash {
+            Some(held) => held.write(at, bytes),
+            None => Err(io::Error::from(ErrorKind::NotFound)),
+        }
     }
 
     fn sync_flash(&mut self) -> io::Result<()> {
         match &self.flash {
-            Some(held) => FlashData { file: &held.file }.sync(),
+            Some(held) => held.sync(self.runtime),
             None => Ok(()),
         }
     }
 
-    fn replace_file(&mut self, alloc: Global, name: &str, bytes: &[u8]) -> Result<(), FlashFault> {
-        replacing::replace_file(self.runtime, alloc, name, bytes)
+    fn replace_file(
+        &mut self,
+        alloc: Global,
+        name: &str,
+        bytes: &[u8],
+        replaced: Replaced,
+    ) -> Result<(), FlashFault> {
+        replacing::replace_file(self.runtime, alloc, name, bytes, replaced)
     }
 
     fn watched_seconds(&self) -> Option<u64> {
@@ -106,22 +128,6 @@ impl<R: Files<File = File> + Clock, I: Read> Host for SystemHost<'_, R, I> {
             return None;
         }
         Some(self.runtime.monotonic().ok()?.as_secs())
-    }
-}
-
-/// The file of a flash, which is written in its place.
-#[derive(Drop)]
-struct FlashData<'a> {
-    file: &'a File,
-}
-
-impl Medium for FlashData<'_> {
-    fn write(&mut self, at: u64, bytes: &[u8]) -> io::Result<()> {
-        self.file.write_all_at(bytes, at)
-    }
-
-    fn sync(&mut self) -> io::Result<()> {
-        self.file.sync_data()
     }
 }
 

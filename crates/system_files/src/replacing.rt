@@ -2,20 +2,19 @@
 //! block device can't be replaced, and is written in its place.
 
 use crate::holding;
-use crate::holding::{hold, is_one_file};
-use crate::lasting::{Medium, NewFile, place, put};
-use command_ends::{Access, FlashFault};
+use crate::holding::{fault_of, hold_path, is_one_file};
+use crate::lasting::{place, put};
+use crate::new_file::{Beside, OldFile};
+use crate::resolving::{Place, resolve};
+use crate::writing::InPlace;
+use command_ends::{Access, FlashFault, Replaced};
 use std::alloc::Global;
-use std::fs::{File, Metadata, OpenFile, OpenOptions, Permissions};
-use std::io::{ErrorKind, Write};
-use std::os::unix::fs::{FileExt, FileTypeExt};
-use std::path::PathBuf;
+use std::fs::{File, Metadata, OpenOptions};
+use std::io::ErrorKind;
+use std::os::unix::fs::FileTypeExt;
+use std::random::RandomSource;
 use std::rt::Files;
 use std::{fs, io};
-
-/// How many names are tried for the new file. A name is taken where a run before was killed, and
-/// left its own.
-const MOST_NAMES: u32 = 100;
 
 /// Whether two names are of one file that is there: each is looked up as far as symbolic links
 /// lead, and names of one file have its number in common.
@@ -28,7 +27,12 @@ pub fn is_same_file<R: Files>(runtime: &R, one: &str, other: &str) -> io::Result
 
 /// What the system says of the file of this name, if there is one.
 fn found<R: Files>(runtime: &R, name: &str) -> io::Result<Option<Metadata>> {
-    match fs::metadata(runtime, name) {
+    there(fs::metadata(runtime, name))
+}
+
+/// What the system said, if there is a file.
+fn there(found: io::Result<Metadata>) -> io::Result<Option<Metadata>> {
+    match found {
         Ok(metadata) => Ok(Some(metadata)),
         Err(error) if error.kind() == ErrorKind::NotFound => Ok(None),
         Err(error) => Err(error),
@@ -38,31 +42,34 @@ fn found<R: Files>(runtime: &R, name: &str) -> io::Result<Option<Metadata>> {
 /// Puts a file of these bytes in the place of the file of this name, or makes it where there is
 /// none.
 ///
-/// The bytes are written to a new file in the same folder, which takes the name once they are on
-/// the disk. Where that fails the new file is removed. A file that is replaced has to be a plain
-/// one that can be written, and it is held meanwhile. Its permissions stay; a symbolic link to it
-/// stays too, and one that leads nowhere is refused. A block device is written by [`write_device`].
-pub fn replace_file<R: Files<File = File>>(
+/// The name is looked up once. The bytes are written to a new file in the same folder, which nobody
+/// else of this program can use. It takes the name once they are on the disk, and then the folder is
+/// synced. Where anything fails before it has the name, it is removed. Where the sync of the folder
+/// fails the file of this name is the new one, whole, and a power cut may bring the old one back.
+///
+/// A file that is replaced has to be a plain one that can be written, and it is held meanwhile. Its
+/// permissions stay; a symbolic link to it stays too, and one that leads nowhere is refused. Where
+/// there was none, a file that another program makes meanwhile stays, and is in use. A block device
+/// is written by [`write_device`].
+pub fn replace_file<R: Files<File = File> + RandomSource>(
     runtime: &R,
     alloc: Global,
     name: &str,
     bytes: &[u8],
+    replaced: Replaced,
 ) -> Result<(), FlashFault> {
-    let put = match found(runtime, name) {
-        Ok(Some(old)) if old.file_type().is_block_device() => {
-            return write_device(runtime, name, bytes);
+    let place = resolve(runtime, alloc, name).map_err(fault_of)?;
+    let found = there(fs::symlink_metadata(runtime, place.path.as_str()));
+    match found.map_err(FlashFault::Failed)? {
+        Some(old) if replaced == Replaced::FlashFile && old.file_type().is_block_device() => {
+            write_device(runtime, alloc, place.path.as_str(), bytes)
         }
-        Ok(Some(old)) => {
-            let _held = open_old(runtime, name, &old)?;
-            put_over(runtime, alloc, name, old.permissions(), bytes)
+        Some(old) => {
+            let old = open_old(runtime, &place, old)?;
+            put_file(runtime, alloc, &place, Some(&old), bytes)
         }
-        Ok(None) => put_first(runtime, alloc, name, bytes),
-        Err(error) => Err(error),
-    };
-    put.map_err(|error| match error.kind() {
-        ErrorKind::OutOfMemory => FlashFault::NoMemory,
-        _ => FlashFault::Failed(error),
-    })
+        None => put_file(runtime, alloc, &place, None, bytes),
+    }
 }
 
 /// Writes a block device of as many bytes in its place, which is held meanwhile, and returns once
@@ -70,135 +77,65 @@ pub fn replace_file<R: Files<File = File>>(
 /// they could be put first.
 fn write_device<R: Files<File = File>>(
     runtime: &R,
-    name: &str,
+    alloc: Global,
+    path: &str,
     bytes: &[u8],
 ) -> Result<(), FlashFault> {
-    let held = holding::open(runtime, name, bytes.len() as u64, Access::Write)?;
+    let length = bytes.len() as u64;
+    let held = holding::open(runtime, alloc, path, length, Access::Write)?;
     // Another file may have taken the name, of which a part would not do.
     if !held.is_device {
         return Err(FlashFault::Failed(io::Error::from(ErrorKind::InvalidInput)));
     }
-    let mut device = WholeFile { file: &held.file };
+    let mut device = InPlace { file: &held.file };
     put(&mut device, 0, bytes, true).map_err(FlashFault::Failed)
 }
 
-/// A file that is written from its first byte on.
-#[derive(Drop)]
-struct WholeFile<'a> {
-    file: &'a File,
+/// Whether a plain file of this name can be made or replaced, as far as that can be known before.
+pub fn check_replaceable<R: Files<File = File>>(
+    runtime: &R,
+    alloc: Global,
+    name: &str,
+) -> Result<(), FlashFault> {
+    let place = resolve(runtime, alloc, name).map_err(fault_of)?;
+    let found = there(fs::symlink_metadata(runtime, place.path.as_str()));
+    if let Some(old) = found.map_err(FlashFault::Failed)? {
+        let _held = open_old(runtime, &place, old)?;
+    }
+    Ok(())
 }
 
-impl Medium for WholeFile<'_> {
-    fn write(&mut self, at: u64, bytes: &[u8]) -> io::Result<()> {
-        self.file.write_all_at(bytes, at)
-    }
-
-    fn sync(&mut self) -> io::Result<()> {
-        self.file.sync_all()
-    }
-}
-
-/// Opens and holds the file that is to be replaced, which is a plain one that can be written.
+/// Opens and holds the file at this place that is to be replaced, which is a plain one that can be
+/// written. A link was put there after it was looked up.
 fn open_old<R: Files<File = File>>(
     runtime: &R,
-    name: &str,
-    old: &Metadata,
-) -> Result<File, FlashFault> {
-    if !old.is_file() {
+    place: &Place,
+    found: Metadata,
+) -> Result<OldFile, FlashFault> {
+    if found.is_symlink() {
+        return Err(FlashFault::InUse);
+    }
+    if !found.is_file() {
         return Err(FlashFault::Failed(io::Error::from(ErrorKind::InvalidInput)));
     }
+    let path = place.path.as_str();
     let file = OpenOptions::new()
         .write(true)
-        .open(runtime, name)
+        .open(runtime, path)
         .map_err(FlashFault::Failed)?;
-    hold(runtime, name, &file, Access::Write)?;
-    Ok(file)
+    hold_path(runtime, path, &file)?;
+    let found = file.metadata().map_err(FlashFault::Failed)?;
+    Ok(OldFile { file, found })
 }
 
-/// Puts a file in the place of one that is there, where it stands, not where a link to it does.
-fn put_over<R: Files>(
+/// Writes a new file of these bytes and has it take this place, which is that of `old`, or free.
+fn put_file<R: Files<File = File> + RandomSource>(
     runtime: &R,
     alloc: Global,
-    name: &str,
-    permissions: Permissions,
+    at: &Place,
+    old: Option<&OldFile>,
     bytes: &[u8],
-) -> io::Result<()> {
-    let path = runtime.canonicalize(alloc, name)?;
-    put_file(runtime, alloc, path.as_str(), Some(permissions), bytes)
-}
-
-/// Makes a file where there is none.
-fn put_first<R: Files>(runtime: &R, alloc: Global, name: &str, bytes: &[u8]) -> io::Result<()> {
-    if fs::symlink_metadata(runtime, name).is_ok() {
-        return Err(io::Error::from(ErrorKind::NotFound));
-    }
-    put_file(runtime, alloc, name, None, bytes)
-}
-
-/// Writes a new file of these bytes and has it take this name. It has these permissions, or else
-/// those of any new file.
-fn put_file<R: Files>(
-    runtime: &R,
-    alloc: Global,
-    name: &str,
-    permissions: Option<Permissions>,
-    bytes: &[u8],
-) -> io::Result<()> {
-    let (file, new) = new_file(runtime, alloc, name)?;
-    let mut beside = Beside {
-        runtime,
-        file,
-        new,
-        name,
-        permissions,
-    };
-    place(&mut beside, bytes)
-}
-
-/// A new file beside the one whose name it is to take.
-#[derive(Drop)]
-struct Beside<'a, 'n, R: Files> {
-    runtime: &'a R,
-    file: R::File,
-    new: String,
-    name: &'n str,
-    permissions: Option<Permissions>,
-}
-
-impl<R: Files> NewFile for Beside<'_, '_, R> {
-    fn fill(&mut self, bytes: &[u8]) -> io::Result<()> {
-        if let Some(permissions) = self.permissions.take() {
-            self.file.set_permissions(permissions)?;
-        }
-        self.file.write_all(bytes)
-    }
-
-    fn sync(&mut self) -> io::Result<()> {
-        self.file.sync_all()
-    }
-
-    fn take_name(&mut self) -> io::Result<()> {
-        fs::rename(self.runtime, self.new.as_str(), self.name)
-    }
-
-    fn remove(&mut self) {
-        let _ = fs::remove_file(self.runtime, self.new.as_str());
-    }
-}
-
-/// An empty file that was not there, beside the one of this name, and its own name.
-fn new_file<R: Files>(runtime: &R, alloc: Global, name: &str) -> io::Result<(R::File, String)> {
-    for number in 0..MOST_NAMES {
-        let new = format!(in alloc; "{name}.new-{number}")?;
-        let made = OpenOptions::new()
-            .write(true)
-            .create_new(true)
-            .open(runtime, new.as_str());
-        match made {
-            Ok(file) => return Ok((file, new)),
-            Err(error) if error.kind() == ErrorKind::AlreadyExists => {}
-            Err(error) => return Err(error),
-        }
-    }
-    Err(io::Error::from(ErrorKind::AlreadyExists))
+) -> Result<(), FlashFault> {
+    let mut new = Beside::make(runtime, alloc, at, old)?;
+    place(&mut new, bytes)
 }

@@ -1,0 +1,120 @@
+//! How far the system lets this program write a file, as `ulimit -f` sets it.
+//!
+//! A write past that ends a program by a signal, in the middle of what it does, and the standard
+//! library can't change what a signal does. So such a write is refused here before it reaches the
+//! system, as the system refuses it where the signal is ignored. The limit, and how far an output
+//! has come, are read below /proc. Where that isn't there nothing is refused.
+
+ghost use Rattle.std.specs.Prelude.{◌+◌, ◌<◌, ◌≤◌, IfSome, IsSome, OnErr, OnOk};
+
+use arrayvec::ArrayVec;
+use std::fs::File;
+use std::io::ErrorKind;
+use std::rt::Files;
+use std::{fs, io, str};
+
+/// The bytes of the longest text that is read below /proc.
+const TEXT: usize = 1 << 12;
+
+/// The flag of an open file whose writes go to its end.
+const APPENDING: u64 = 0o2000;
+
+/// The most bytes that this program may write a file to, where there is such a limit.
+pub fn most_bytes<R: Files>(runtime: &R) -> Option<u64> {
+    let text = text_of(runtime, "/proc/self/limits").ok()?;
+    word_after(&text, "Max file size")?.parse().ok()
+}
+
+/// Refuses a write of `count` bytes from the byte `at` of a file on where it ends past the most.
+pub fn refuse_past(most: Option<u64>, at: u64, count: usize) -> io::Result<()>
+    ensures within { OnOk result (IfSome most (λ bytes. at + count ≤ bytes)) }
+    ensures limited { OnErr result (IsSome most) }
+    ensures past { OnErr result (IfSome most (λ bytes. bytes < at + count)) }
+{
+    match most {
+        Some(most) if at > most || count as u64 > most - at => {
+            Err(io::Error::from(ErrorKind::FileTooLarge))
+        }
+        _ => Ok(()),
+    }
+}
+
+/// How many bytes more an output of the program takes.
+#[derive(Drop)]
+pub struct Room<R> {
+    runtime: R,
+    output: OutputFile,
+    most: Option<u64>,
+}
+
+/// Where the system tells of the file of an output.
+#[derive(Clone, Copy)]
+pub struct OutputFile {
+    /// The file, by another name.
+    name: &'static str,
+    /// The text on its position and its flags.
+    info: &'static str,
+}
+
+/// The file that standard output is.
+pub const STANDARD_OUTPUT: OutputFile = OutputFile {
+    name: "/proc/self/fd/1",
+    info: "/proc/self/fdinfo/1",
+};
+
+/// The file that standard error is.
+pub const STANDARD_ERROR: OutputFile = OutputFile {
+    name: "/proc/self/fd/2",
+    info: "/proc/self/fdinfo/2",
+};
+
+impl<R: Files> Room<R> {
+    /// What an output takes: without end where it isn't a plain file.
+    pub fn of(runtime: R, output: OutputFile) -> Self {
+        let most = match fs::metadata(&runtime, output.name) {
+            Ok(found) if found.is_file() => most_bytes(&runtime),
+            _ => None,
+        };
+        Room {
+            runtime,
+            output,
+            most,
+        }
+    }
+
+    /// How many bytes more it takes now. Other programs may write to it, too.
+    pub fn left(&self) -> u64 {
+        match (self.most, self.position()) {
+            (Some(most), Some(at)) => most.saturating_sub(at),
+            _ => u64::MAX,
+        }
+    }
+
+    /// Where the next write begins, if that can be said and a limit is to be kept.
+    fn position(&self) -> Option<u64> {
+        self.most?;
+        let text = text_of(&self.runtime, self.output.info).ok()?;
+        let flags = u64::from_str_radix(word_after(&text, "flags:")?, 8).ok()?;
+        if flags & APPENDING != 0 {
+            return Some(fs::metadata(&self.runtime, self.output.name).ok()?.len());
+        }
+        word_after(&text, "pos:")?.parse().ok()
+    }
+}
+
+/// A short text of the system.
+fn text_of<R: Files>(runtime: &R, name: &str) -> io::Result<ArrayVec<u8, TEXT>> {
+    let mut text = ArrayVec::new();
+    io::copy(&mut File::open(runtime, name)?, &mut text)?;
+    Ok(text)
+}
+
+/// The first word behind a label that a line of a text begins with.
+fn word_after<'a>(text: &'a [u8], label: &str) -> Option<&'a str> {
+    for line in str::from_utf8(text).ok()?.lines() {
+        if let Some(rest) = line.strip_prefix(label) {
+            return rest.split_whitespace().next();
+        }
+    }
+    None
+}
