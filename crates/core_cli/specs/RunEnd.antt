@@ -4,15 +4,16 @@ use Rattle.std.specs.Io.KnownBytes.{Appends}
 use Rattle.events.specs.declared.event.Event.{Event}
 use Rattle.events.specs.Event.{event_map}
 use Rattle.flash_model.specs.declared.torn.Armed.{Armed}
-use Rattle.flash_model.specs.Chip.{Chip, numbers_of, reached}
+use Rattle.flash_model.specs.Chip.{Chip}
 use Rattle.flash_model.specs.Memory.{with_armed}
 use Rattle.sector_map.specs.declared.layout.SectorMap.{SectorMap}
 use Rattle.upload.specs.Sessions.{AllClosed}
 use Rattle.machine.specs.Holding.{DeviceView}
 use Rattle.machine.specs.Passing.{RunsTo}
-use Rattle.machine.specs.Steps.{DeviceEvent, cuts_in}
+use Rattle.machine.specs.Steps.{DeviceEvent}
 use Rattle.machine.specs.declared.reply.Reply.{Reply}
 use Rattle.machine.specs.declared.reply.Reply.TheVariants as reply
+use Rattle.boot_core.specs.CutEvents.{CutsEach}
 use Rattle.command_ends.specs.declared.answer.Answer.{Answer}
 use Rattle.command_ends.specs.declared.answer.Answer.TheVariants.{Done, Refused, Cut}
 use Rattle.device_texts.specs.declared.device.DeviceFile.{DeviceFile}
@@ -65,20 +66,16 @@ answer_of replies = answer_after (slice_get replies (length replies - 1))
 abbrev pub came_by : DeviceEvent → Event (List ℕ)
 came_by lent = event_map (λ bytes. bytes.now) lent
 
--- Of these replies as many are Cut as the flash took writes that were to be cut: it was cut in each
--- of those, and in no other.
-abbrev pub AreCutAsArmed : List Reply → List Armed → Chip → Type 0
-AreCutAsArmed replies cuts flash = cuts_in replies ≡ reached (numbers_of cuts) flash.writes
-
 -- What is answered of a device of this file with these bytes on its flash, of whose writes these
--- are to be cut, and to which this comes; and what a writer took: the replies.
+-- are to be cut, and to which this comes; and what a writer took: the replies. Event by event, the
+-- reply is Cut exactly if the flash took a write in it that was to be cut.
 pub record Plays (answer : Answer) (device : DeviceFile) (bytes : List ℕ) (cuts : List Armed)
     (came : List (Event (List ℕ))) (old new : Option (List ℕ)) : Type 0 where
   pub events : List DeviceEvent
   pub replies : List Reply
   pub come : map came_by events ≡ came
   pub played : IsPlayed device bytes cuts events replies
-  pub cut : AreCutAsArmed replies cuts played.new.flash
+  pub cut : CutsEach (setup_of device) played.old events replies played.new
   pub answered : answer ≡ answer_of replies
   pub written : Appends old new (replies_text 1 replies)
 

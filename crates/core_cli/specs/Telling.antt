@@ -1,5 +1,5 @@
 -- What telling the replies of a device one by one leaves: for the private contracts of `run`.
-use Rattle.std.specs.Prelude.{◌≡◌, ℕ, ◌+◌, ◌≤◌, List, [], ◌++◌, length, Option, Some, map, take}
+use Rattle.std.specs.Prelude.{◌≡◌, ℕ, ◌+◌, ◌≤◌, Bool, false, List, [], ◌++◌, length, Option, Some, map, take}
 use Rattle.std.specs.Io.KnownBytes.{Appends}
 use Rattle.common.specs.Lines.{lines_of}
 use Rattle.events.specs.declared.event.Event.{Event}
@@ -7,13 +7,15 @@ use Rattle.flash_model.specs.declared.torn.Armed.{Armed}
 use Rattle.machine.specs.Holding.{DeviceView}
 use Rattle.machine.specs.Intake.{Setup}
 use Rattle.machine.specs.Passing.{RunsTo, StepsTo}
-use Rattle.machine.specs.Steps.{DeviceEvent, cut_of, cuts_in}
+use Rattle.machine.specs.Steps.{DeviceEvent}
 use Rattle.machine.specs.declared.reply.Reply.{Reply}
+use Rattle.boot_core.specs.CutEvents.{CutsEach, DueEach, IsCutAsDue}
 use Rattle.command_ends.specs.declared.answer.Answer.{Answer}
 use Rattle.command_ends.specs.declared.error.Refusal.{Refusal}
 use Rattle.command_ends.specs.declared.error.Refusal.TheVariants.{FlashFile}
 use Rattle.command_ends.specs.Input.{FileBytes}
 use Rattle.device_texts.specs.declared.device.DeviceFile.{DeviceFile}
+use Rattle.device_texts.specs.DeviceFile.{setup_of}
 use Rattle.device_texts.specs.ReplyText.{replies_text, reply_text}
 use Rattle.reading_inputs.specs.declared.judging.Kept.{Kept}
 use Rattle.reading_inputs.specs.Loading.{BringsAll, BringsFirst}
@@ -35,9 +37,8 @@ pub record TellsEvent (answer : Answer) (number : ℕ) (setup : Setup) (old new 
   pub reply : Reply
   pub comes : came_by event ≡ came
   pub steps : StepsTo setup old new event reply
-  -- The reply is Cut where a write was cut and nowhere else, and what is fixed of the flash stays.
-  pub cuts : new.flash.cuts ≡ old.flash.cuts + cut_of reply
-  pub fixed : new.flash.fixed ≡ old.flash.fixed
+  -- The reply is Cut exactly where the flash took a write that was to be cut, or had a fault.
+  pub due : IsCutAsDue old.flash reply new.flash
   pub written : Appends before after (reply_text number reply)
   pub answered : answer ≡ answer_after (Some reply)
 
@@ -48,20 +49,23 @@ pub record BreaksEvent (refusal : Refusal) (number : ℕ) (setup : Setup) (old n
   pub reply : Reply
   pub comes : came_by event ≡ came
   pub steps : StepsTo setup old new event reply
+  pub due : IsCutAsDue old.flash reply new.flash
   pub broken : BreaksOff refusal (reply_text number reply) before after
 
 -- A device replied to all that came, and a writer took the replies. The last of them says the
--- answer.
-pub record TellsAll (answer : Answer) (setup : Setup) (old new : DeviceView)
+-- answer. A write of the flash file has failed, or none has.
+pub record TellsAll (answer : Answer) (failed : Bool) (setup : Setup) (old new : DeviceView)
     (came : List (Event (List ℕ))) (before after : Option (List ℕ)) : Type 0 where
   pub events : List DeviceEvent
   pub replies : List Reply
   pub come : map came_by events ≡ came
   pub runs : RunsTo setup old new events replies
   pub each : length replies ≡ length events
-  -- As many replies are Cut as writes were cut, and what is fixed of the flash stays.
-  pub cuts : new.flash.cuts ≡ old.flash.cuts + cuts_in replies
-  pub fixed : new.flash.fixed ≡ old.flash.fixed
+  -- Event by event, the reply is Cut exactly where the flash took a write in it that was to be cut,
+  -- or had a fault,
+  pub due : DueEach setup old events replies new
+  -- and it had none where no write of its file has failed.
+  pub sound : failed ≡ false → (new.flash.faults ≡ 0) × CutsEach setup old events replies new
   pub answered : answer ≡ answer_of replies
   pub written : Appends before after (replies_text 1 replies)
 
@@ -75,22 +79,25 @@ pub record TellsSome (refusal : Refusal) (setup : Setup) (old new : DeviceView)
   pub count : ℕ
   pub come : map came_by events ≡ came
   pub runs : RunsTo setup old new events (told ++ untold)
+  pub due : DueEach setup old events (told ++ untold) new
   pub each : length (told ++ untold) ≡ length events
   pub one : length untold ≤ 1
   pub written : Appends before after
       (replies_text 1 told ++ take count (replies_text (1 + length told) untold))
-  pub output : refusal ≡ FlashFile → ⊥
+  -- Where it is the flash file that failed, each reply was told.
+  pub output : refusal ≡ FlashFile → untold ≡ []
 
--- All that comes by a text came, and a device replied to it, as it is told.
+-- All that comes by a text came, and a device replied to it, as it is told. No write of the flash
+-- file failed.
 pub record TellsText (answer : Answer) (setup : Setup) (old new : DeviceView)
     (text : List ℕ) (kept : List Kept) (files : FileBytes) (before after : Option (List ℕ))
     : Type 0 where
   pub came : List (Event (List ℕ))
   pub comes : BringsAll text kept files came
-  pub tells : TellsAll answer setup old new came before after
+  pub tells : TellsAll answer false setup old new came before after
 
 -- What comes by the first lines of a text came, and not all replies to it could be told, or the next
--- line could not be read.
+-- line could not be read; or all of it came, and the flash file failed.
 pub record BreaksText (refusal : Refusal) (setup : Setup) (old new : DeviceView)
     (text : List ℕ) (kept : List Kept) (files : FileBytes) (before after : Option (List ℕ))
     : Type 0 where
@@ -98,6 +105,7 @@ pub record BreaksText (refusal : Refusal) (setup : Setup) (old new : DeviceView)
   pub came : List (Event (List ℕ))
   pub comes : BringsFirst lines text kept files came
   pub tells : TellsSome refusal setup old new came before after
+  pub whole : refusal ≡ FlashFile → lines ≡ length (lines_of text)
 
 -- What is answered of a device of this file with these bytes on its flash, of whose writes these
 -- are to be cut, and to which all comes that comes by a text; and what a writer took: the replies.
@@ -125,6 +133,9 @@ pub record TellsFirst (refusal : Refusal) (device : DeviceFile) (bytes : List �
   pub untold : List Reply
   pub played : IsPlayed device bytes cuts events (told ++ untold)
   pub one : length untold ≤ 1
+  -- Event by event, the reply is Cut exactly where the flash took a write in it that was to be cut,
+  -- or had a fault, which it has only once a write of its file failed.
+  pub due : DueEach (setup_of device) played.old events (told ++ untold) played.new
   -- The writer took all of those that were told, and so many bytes of the one that wasn't.
   pub count : ℕ
   pub written : Appends old new

@@ -8,7 +8,7 @@ ghost use Rattle.command_ends.specs.Inputs.{names_of};
 ghost use Rattle.command_ends.specs.Doings.{IsApartFrom, KeepsApart, KeepsSource};
 ghost use Rattle.core_cli.specs.ProvisionEnd.{AnswersMade, AnswersProvision, AreOthers, EndsBefore, EndsMade, KeepsWords, ReadsImages, done_text, new_flash};
 
-use command_ends::{Answer, FlashFault, Host, Refusal, Source};
+use command_ends::{Answer, FlashFault, Host, Refusal, Replaced, Source};
 use device_texts::{flash_of, refused_fault_text, write_all};
 use machine::Fault;
 use reading_inputs::read_device;
@@ -190,7 +190,7 @@ fn replace<H: Host>(alloc: Global, name: &str, bytes: &[u8], host: &mut H) -> Re
     ensures others { KeepsApart (H.apart host.old name.now) (H.file host.old) (H.file host.new) }
     ensures opened { H.opened host.new ≡ H.opened host.old }
 {
-    match host.replace_file(alloc, name, bytes) {
+    match host.replace_file(alloc, name, bytes, Replaced::FlashFile) {
         Ok(()) => Ok(()),
         Err(FlashFault::InUse) => Err(Refusal::FlashInUse),
         Err(FlashFault::WrongLength) => Err(Refusal::FlashSize),

@@ -1,5 +1,7 @@
 //! `bootswap run`: what a device answers to the events of a script.
 ghost use Rattle.command_ends.specs.Doings.{IsOpenedFor};
+ghost use Rattle.command_ends.specs.Input.{Gives, KeepsOthers};
+ghost use Rattle.reading_inputs.specs.DeviceInput.{OpensFlash};
 ghost use Rattle.std.specs.Prelude.{◌≡◌, ◌++◌, IfErr, IfOk, IsTrue, OnOk, Some, length, true};
 ghost use Rattle.std.specs.Io.KnownBytes.{Appends};
 ghost use Rattle.std.specs.Option.{ForSome};
@@ -37,7 +39,9 @@ use std::sync::ledger::{Blank, Ledger};
 /// written through to its file at once, which is opened for `access`, one that writes. `notes` is
 /// told of each reply.
 ///
-/// The answer is `Done` only where a sync at the end said that all writes are on the medium.
+/// However the run ends, the file is synced then. Where that fails the answer is why, whatever the
+/// run came to: so `Done` says that all writes are on the medium. With [`Access::WriteDurably`] the
+/// file and its name are there before the first event.
 ///
 /// All stands in memory of `alloc`. All files are judged before anything is run, and the flash's is
 /// held from then on. What a line names is read as its event comes, so that of the script only its
@@ -63,7 +67,7 @@ pub fn perform<H: Host, O: Write, N: RunNotes>(
     let Some(device) = read_device(alloc, device, host, out)? else {
         return Ok(Answer::Refused);
     };
-    let bytes = read_flash(alloc, Source::File(flash), &device.map, access, host)?;
+    let bytes = read_sure_flash(alloc, Source::File(flash), &device.map, access, host)?;
     let text = read_script(alloc, script, host)?;
     let Judged { cuts, kept, .. } = judge(alloc, &text, Some(flash), is_input_read, host)?;
     let sources = Sources {
@@ -71,12 +75,38 @@ pub fn perform<H: Host, O: Write, N: RunNotes>(
         host: &*host,
         kept: &kept,
     };
-    notes.begin(&device);
-    let answer = play_text(alloc, &device, bytes, cuts, &text, &sources, out, notes)?;
+    notes.begin(&device, bytes.as_slice());
+    let played = play_text(alloc, &device, bytes, cuts, &text, &sources, out, notes);
+    // What was written has to be on the medium, also where the run ended early.
     match host.sync_flash() {
-        Ok(()) => Ok(answer),
+        Ok(()) => played,
         Err(_) => Err(Refusal::FlashFile),
     }
+}
+
+/// The bytes of a device's flash, whose file is opened for `access`, and held from then on. Where
+/// each write is to last, the file as it is and its name are on the disk before this returns.
+fn read_sure_flash<H: Host>(
+    alloc: Global,
+    flash: Source<'_>,
+    map: &SectorMap,
+    access: Access,
+    host: &mut H,
+) -> Result<Vec<u8>, Refusal>
+    ensures bytes { IfOk result (λ bytes.
+        Gives flash.entry (H.input host.old) (H.file host.old) bytes.items) }
+    ensures whole { IfOk result (λ bytes. IsFlashOf map.now bytes.items) }
+    ensures others { KeepsOthers flash.entry (H.input host.old) (H.file host.old)
+        (H.input host.new) (H.file host.new) }
+    ensures opened { IfOk result (λ _.
+        OpensFlash access flash.entry (H.opened host.old) (H.opened host.new)) }
+    ensures sure { access ≡ Access.WriteDurably → OnOk result (IsTrue (H.synced host.new)) }
+{
+    let bytes = read_flash(alloc, flash, map, access, host)?;
+    if access == Access::WriteDurably && host.sync_flash().is_err() {
+        return Err(Refusal::FlashFile);
+    }
+    Ok(bytes)
 }
 
 /// Runs what comes by the lines of a script on a device that has these bytes on its flash, with
@@ -155,11 +185,7 @@ fn play<L: Ledger, M: Ledger, H: Host, F: FlashFile + Drop, O: Write, N: RunNote
         return Err(Refusal::NoMemory);
     };
     let mut device = Device::with_trial(flash, device.map, device.identity, device.trial_boots);
-    let answer = tell_each(alloc, &mut device, text, sources, out, notes)?;
-    if device.flash().has_failed() {
-        return Err(Refusal::FlashFile);
-    }
-    Ok(answer)
+    tell_each(alloc, &mut device, text, sources, out, notes)
 }
 
 /// A flash that has these bytes, of which these writes are cut, and that writes what changes
@@ -206,16 +232,17 @@ fn arm_all<M: Ledger>(memory: &mut MemFlash<M>, cuts: Vec<Cut>) -> Result<(), Al
 
 /// Runs what comes by the lines of a script on a device, in order, and writes each reply to `out` as
 /// its event is done, before the next one. Where a reply can't be written, or the file of a line
-/// can't be read any more, no event is run after it.
-fn tell_each<H: Host, F: Flash, O: Write, N: RunNotes>(
+/// can't be read any more, no event is run after it. Where the flash file failed, all events are.
+fn tell_each<L: Ledger, M: Ledger, F: FlashFile + Drop, H: Host, O: Write, N: RunNotes>(
     alloc: Global,
-    device: &mut Device<F>,
+    device: &mut Device<FileFlash<F, L, M>>,
     text: &[u8],
     sources: &Sources<'_, '_, '_, H>,
     out: &mut O,
     notes: &mut N,
 ) -> Result<Answer, Refusal>
-    requires { device.old.here.flash.is_on ≡ true }
+    requires on { device.old.here.flash.is_on ≡ true }
+    requires sound { device.old.here.flash.faults ≡ 0 }
     ensures all { IfOk result (λ answer.
         TellsText answer device.old.setup device.old.here device.new.here text.now
         sources.now.kept.now (H.file sources.now.host.now) (O.contents out.old) (O.contents out.new)) }
@@ -224,6 +251,7 @@ fn tell_each<H: Host, F: Flash, O: Write, N: RunNotes>(
         sources.now.kept.now (H.file sources.now.host.now) (O.contents out.old) (O.contents out.new)) }
 {
     let mut answer = Answer::Done;
+    let mut has_failed = false;
     let mut lines = Lines::of(text);
     let mut used = 0;
     let mut number: usize = 0;
@@ -232,7 +260,12 @@ fn tell_each<H: Host, F: Flash, O: Write, N: RunNotes>(
             let event = sources.bring(&mut used, lines.number, event)?;
             number += 1;
             answer = tell_event(alloc, device, number, event, out, notes)?;
+            // Asked behind each event, it says that no cut so far is one that wasn't armed.
+            has_failed |= device.flash().has_failed();
         }
+    }
+    if has_failed {
+        return Err(Refusal::FlashFile);
     }
     Ok(answer)
 }

@@ -1,5 +1,5 @@
 //! What comes to a device by the lines of a script, with the bytes of the files that they name.
-ghost use Rattle.std.specs.Prelude.{◌≡◌, ◌≢◌, IfErr, IfOk, IfSome, Some, codes, IsTrue, false};
+ghost use Rattle.std.specs.Prelude.{◌≡◌, ◌≢◌, ◌≤◌, IfErr, IfOk, IfSome, Some, codes, IsTrue, false, length};
 ghost use Rattle.std.specs.Option.{option_map};
 ghost use Rattle.events.specs.Event.{event_map};
 ghost use Rattle.command_ends.specs.Input.{IsKnownAs, IsKnownPart};
@@ -117,6 +117,7 @@ pub fn piece_of<H: Host>(
 ) -> Result<Vec<u8>, Refusal>
     ensures read { IfOk result (λ bytes.
         ReadsNow (said_file file.entry) bytes.items (H.file host.now)) }
+    ensures most { IfOk result (λ bytes. length bytes.items ≤ MOST_FILE) }
     ensures refused { IfErr result (λ refusal. status_of_refusal refusal ≡ 1) }
 {
     match (Source::named(file.name), file.part) {
@@ -129,6 +130,7 @@ pub fn piece_of<H: Host>(
 /// All bytes of a file, which isn't standard input.
 fn whole_file<H: Host>(alloc: Global, host: &H, name: &str) -> Result<Vec<u8>, Refusal>
     ensures bytes { IfOk result (λ bytes. IsKnownAs (H.file host.now name.now) bytes.items) }
+    ensures most { IfOk result (λ bytes. length bytes.items ≤ MOST_FILE) }
     ensures refused { IfErr result (λ refusal. status_of_refusal refusal ≡ 1) }
 {
     let source = Source::File(name);
@@ -153,6 +155,7 @@ fn file_part<H: Host>(
     requires { name.now ≢ codes "-" }
     ensures read { IfOk result (λ piece.
         ReadsNow (file_of name.now (Some (part_words part.entry))) piece.items (H.file host.now)) }
+    ensures most { IfOk result (λ piece. length piece.items ≤ MOST_FILE) }
     ensures refused { IfErr result (λ refusal. status_of_refusal refusal ≡ 1) }
 {
     let Some((from, count)) = part.numbers() else {
@@ -165,7 +168,8 @@ fn file_part<H: Host>(
     Ok(piece)
 }
 
-/// So many bytes of a file from that number on, if it has them.
+/// So many bytes of a file from that number on, if it has them. There may be as many as of a whole
+/// file.
 fn part_at<H: Host>(
     alloc: Global,
     host: &H,
@@ -175,11 +179,16 @@ fn part_at<H: Host>(
 ) -> Result<Option<Vec<u8>>, Refusal>
     ensures part { IfOk result (λ read. IfSome read (λ part.
         IsKnownPart (H.file host.now name.now) from count part.items)) }
+    ensures most { IfOk result (λ read. IfSome read (λ part. length part.items ≤ MOST_FILE)) }
     ensures refused { IfErr result (λ refusal. status_of_refusal refusal ≡ 1) }
 {
+    let source = Source::File(name);
     match host.read_part(alloc, name, from, count) {
+        Ok(Some(part)) if part.len() > MOST_FILE as usize => {
+            Err(source.refused(alloc, SourceFault::TooLong(MOST_FILE)))
+        }
         Ok(part) => Ok(part),
-        Err(error) => Err(Source::File(name).refusal(alloc, error)),
+        Err(error) => Err(source.refusal(alloc, error)),
     }
 }
 

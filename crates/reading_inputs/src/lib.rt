@@ -22,5 +22,5 @@ pub use device_input::{read_device, read_flash};
 pub use judging::{Cut, Judged, Kept, judge};
 pub use lines::Lines;
 pub use loading::{load, read_script};
-pub use resting_table::table_on;
+pub use resting_table::{has_state, table_on};
 pub use run_notes::{NoNotes, RunNotes};

@@ -1,4 +1,4 @@
-//! The table of a device that rests, for notes.
+//! Whether a flash has the log of a device, and the table of one that rests, for notes.
 
 ghost use Rattle.std.specs.Prelude.{◌≡◌};
 ghost use Rattle.sector_map.specs.Map.{IsLaidOut};
@@ -24,4 +24,12 @@ pub fn table_on<F: Flash>(flash: &mut F, map: &SectorMap) -> Option<Table>
         Ok(Reading::Read(table)) => Some(table),
         _ => None,
     }
+}
+
+/// Whether the log of a flash has a state: the flash was provisioned.
+pub fn has_state<F: Flash>(flash: &mut F, map: &SectorMap) -> bool
+    requires { IsLaidOut map.now (F.chip flash.old) }
+    ensures { F.chip flash.new ≡ F.chip flash.old }
+{
+    read_state(flash, map).is_ok()
 }

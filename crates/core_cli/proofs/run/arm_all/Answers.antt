@@ -1,4 +1,4 @@
-use Rattle.std.proofs.Common.{◌≡◌, ◌<◌, ◌≤◌, ◌+◌, ◌∙◌, ap, arith}
+use Rattle.std.proofs.Common.{◌≡◌, ◌∙◌, ap, arith}
 use Rattle.flash_model.specs.Chip.{Chip}
 use Rattle.flash_model.specs.Memory.{chip_of, with_armed}
 use Rattle.core_cli.proofs.FileLaws.{armed-more}

@@ -1,8 +1,11 @@
-use Rattle.std.proofs.Common.{◌+◌, ◌∷◌, ◌++◌, [], ap, arith, eqb-true, length, length-append, refl, rules, sym, ◌∙◌}
+use Rattle.std.proofs.Common.{◌≡◌, ◌+◌, ◌∷◌, ◌++◌, [], ap, arith, eqb-true, length, length-append, refl, rules, subst, sym, ◌∙◌}
+use Rattle.std.proofs.lemmas.Bool.{or_parts}
+use Rattle.flash_model.specs.Chip.{Chip}
 use Rattle.common.proofs.Results.{IfErr-passed}
+use Rattle.core_cli.specs.Telling.{TellsAll}
 use Rattle.reading_inputs.specs.Loading.{came_of}
 use Rattle.reading_inputs.proofs.ScriptLaws.{AreTaken-cut, AreTaken-event, AreTaken-none, BringsAll-taken}
-use Rattle.core_cli.proofs.TellingLaws.{BreaksText-some, TellsAll-more, TellsAll-none, TellsSome-all, TellsSome-more}
+use Rattle.core_cli.proofs.TellingLaws.{BreaksText-all, BreaksText-some, TellsAll-more, TellsAll-none, TellsSome-all, TellsSome-more, not_of_file}
 use Rattle.core_cli.proofs.run.tell_each.Goals as goal
 
 -- No line was taken yet.
@@ -18,7 +21,7 @@ loop-lines-init g c =
       counted = refl;
       are = AreTaken-none c.args.text.now c.of-lines.result.rest.now c.of-lines.result.reading c.args.sources.now.kept.now
           (g.H.Host.file c.args.sources.now.host.now) c.of-lines.ensures.all c.of-lines.ensures.order;
-      told = TellsAll-none _ _ _;
+      told = TellsAll-none _ _ _ c.requires.sound;
     }
 
 -- The next line is none that can be done ..
@@ -28,8 +31,8 @@ returns-in_err-event-clause-some g c =
     IfErr-passed _ _ _ c.from_residual.ensures.1
     (BreaksText-some _ c.args.device.now.setup _ _ c.args.text.now c.loop-lines.lines.rest.now c.loop-lines.lines.reading
     before.taken c.args.sources.now.kept.now (g.H.Host.file c.args.sources.now.host.now) before.came _ _ before.are
-    (TellsSome-all _ c.args.device.now.setup _ _ before.came c.loop-lines.answer _ _ c.in_err-event.ensures.refused
-    before.told))
+    (TellsSome-all _ c.args.device.now.setup _ _ before.came c.loop-lines.answer c.loop-lines.has_failed _ _ before.told)
+    (not_of_file _ c.in_err-event.ensures.refused))
 
 -- .. or its file can't be read any more ..
 pub returns-in_err-event-2-clause-some : goal.returns-in_err-event-2-clause-some
@@ -38,8 +41,8 @@ returns-in_err-event-2-clause-some g c =
     IfErr-passed _ _ _ c.from_residual-in_err-event-2.ensures.1
     (BreaksText-some _ c.args.device.now.setup _ _ c.args.text.now c.loop-lines.lines.rest.now c.loop-lines.lines.reading
     before.taken c.args.sources.now.kept.now (g.H.Host.file c.args.sources.now.host.now) before.came _ _ before.are
-    (TellsSome-all _ c.args.device.now.setup _ _ before.came c.loop-lines.answer _ _ c.in_err-event-2.ensures.refused
-    before.told))
+    (TellsSome-all _ c.args.device.now.setup _ _ before.came c.loop-lines.answer c.loop-lines.has_failed _ _ before.told)
+    (not_of_file _ c.in_err-event-2.ensures.refused))
 
 -- .. or the reply to its event could not be told, or not to its end.
 pub returns-in_err-answer-clause-some : goal.returns-in_err-answer-clause-some
@@ -55,7 +58,9 @@ returns-in_err-answer-clause-some g c =
     c.args.sources.now.kept.now (g.H.Host.file c.args.sources.now.host.now) before.came one next
     c.in_ok-event-2.ensures.brought before.are)
     (TellsSome-more _ c.args.device.now.setup c.loop-lines.device.setup _ _ _ before.came one (c.loop-lines.number + 1)
-    c.loop-lines.answer _ _ _ before.told (omega (arith, before.counted)) before.setup c.in_err-answer.ensures.begun))
+    c.loop-lines.answer c.loop-lines.has_failed _ _ _ before.told (omega (arith, before.counted)) before.setup
+    c.in_err-answer.ensures.begun)
+    c.in_err-answer.ensures.begun.broken.output)
 
 -- The reply to one event more was told.
 pub loop-lines-preserved-in-Event : goal.loop-lines-preserved-in-Event
@@ -74,8 +79,13 @@ loop-lines-preserved-in-Event g c =
           c.args.sources.now.kept.now (g.H.Host.file c.args.sources.now.host.now) before.came one next
           c.in_ok-event-2.ensures.brought before.are;
       told = TellsAll-more c.args.device.now.setup c.loop-lines.device.setup _ _ _ before.came one
-          (c.loop-lines.number + 1) c.loop-lines.answer _ _ _ _ before.told (omega (arith, before.counted)) before.setup
-          c.in_ok-answer.ensures.told;
+          (c.loop-lines.number + 1) c.loop-lines.answer _ c.loop-lines.has_failed _ _ _ _ before.told
+          (omega (arith, before.counted)) before.setup c.in_ok-answer.ensures.told
+          (λ none.
+          let parts = or_parts c.loop-lines.has_failed c.has_failed-has_failed.result none in (
+            parts.0,
+            subst (λ (chip : Chip). chip.faults ≡ 0) c.flash.ensures (rw parts.1 at c.has_failed-has_failed.ensures.faults),
+          ));
     }
 
 -- A line was passed that cuts a write.
@@ -96,14 +106,30 @@ loop-lines-preserved g c =
       told = before.told;
     }
 
--- All was told.
+-- All was told, and the flash file failed ..
+pub returns-then-has_failed-clause-some : goal.returns-then-has_failed-clause-some
+returns-then-has_failed-clause-some g c =
+    let before = c.loop-lines.invariant in
+    BreaksText-all c.args.device.now.setup _ _ c.args.text.now c.args.sources.now.kept.now
+    (g.H.Host.file c.args.sources.now.host.now) before.came c.loop-lines.answer c.loop-lines.has_failed _ _
+    (BringsAll-taken c.args.text.now c.loop-lines.lines.rest.now c.loop-lines.lines.reading before.taken
+    c.args.sources.now.kept.now (g.H.Host.file c.args.sources.now.host.now) before.came
+    (eqb-true _ _ (sym c.loop-lines-test.ensures)) before.are)
+    before.told
+
+-- .. or not.
 pub returns-clause-all : goal.returns-clause-all
 returns-clause-all g c =
     let before = c.loop-lines.invariant in
+    let setup = c.args.device.now.setup in
+    let old = c.args.device.now.here in
+    let new = c.loop-lines.device.here in
+    let written = g.O.Write.contents c.loop-lines.out in
     record {
       came = before.came;
       comes = BringsAll-taken c.args.text.now c.loop-lines.lines.rest.now c.loop-lines.lines.reading before.taken
           c.args.sources.now.kept.now (g.H.Host.file c.args.sources.now.host.now) before.came
           (eqb-true _ _ (sym c.loop-lines-test.ensures)) before.are;
-      tells = before.told;
+      tells = subst (λ failed. TellsAll c.loop-lines.answer failed setup old new before.came
+          (g.O.Write.contents c.args.out.now) written) c.if-has_failed.false before.told;
     }
