@@ -22,6 +22,7 @@ use Rattle.command_words.specs.Given.{IsNamed, is_given, is_standard_input, stan
 use Rattle.command_line.specs.Needs.{AreNeeds, IsBracketed, IsNeed}
 use Rattle.command_line.specs.declared.orders.NewDevice.{NewDevice}
 use Rattle.command_line.specs.declared.orders.NewComponent.{NewComponent}
+use Rattle.command_line.specs.declared.orders.NewFile.{NewFile}
 use Rattle.command_line.specs.declared.orders.NewImage.{NewImage}
 use Rattle.command_line.specs.declared.orders.NewManifest.{NewManifest}
 use Rattle.command_line.specs.declared.orders.Order.{Order}
@@ -144,6 +145,7 @@ pub record SaysManifest (rows : List Row) (manifest : NewManifest) : Type 0 wher
   pub precursor : option_map (λ flash. flash.now) manifest.precursor
       ≡ first_of (codes "precursor") rows
   pub components : SaysComponents rows manifest.components.items
+  pub strict : manifest.is_strict ≡ is_given (codes "strict") rows
 
 -- The matches say this of a sweep.
 pub record SaysSweep (rows : List Row) (choices : SweepChoices) : Type 0 where
@@ -151,6 +153,11 @@ pub record SaysSweep (rows : List Row) (choices : SweepChoices) : Type 0 where
   pub sample : HasNumber (codes "sample") (2 ^ 32) rows choices.sample
   pub seed : HasNumber (codes "seed") (2 ^ 32) rows choices.seed
   pub picture : option_map (λ file. file.now) choices.picture ≡ first_of (codes "svg") rows
+
+-- The matches say this of the file of an image that is to be made.
+pub record IsNewFile (rows : List Row) (file : NewFile) : Type 0 where
+  pub name : IsNamed rows (codes "OUT") file.name.now
+  pub forced : file.is_forced ≡ is_given (codes "force") rows
 
 -- The number of an image that the matches have.
 abbrev pub image_at : List Row → Option ℕ
@@ -176,7 +183,7 @@ HasNames rows (Manifest device file) =
     IsNamed rows (codes "DEVICE") device.now × IsNamed rows (codes "FILE") file.now
 HasNames rows (MakeDevice device) = SaysDevice rows device
 HasNames rows (MakeImage image body values) =
-    IsNamed rows (codes "OUT") image.now × IsNamed rows (codes "BODY") body.now
+    IsNewFile rows image × IsNamed rows (codes "BODY") body.now
     × SaysImage rows values
 HasNames rows (MakeManifest device manifest) =
     IsNamed rows (codes "DEVICE") device.now × SaysManifest rows manifest
@@ -185,7 +192,7 @@ HasNames rows (Provision device flash images) =
 HasNames rows (Extract device flash image side out) =
     IsNamed rows (codes "DEVICE") device.now × IsNamed rows (codes "FLASH") flash.now
     × (image_at rows ≡ Some image) × (side_at rows ≡ Some side)
-    × IsNamed rows (codes "OUT") out.now
+    × IsNewFile rows out
 HasNames rows (Show device flash) =
     IsNamed rows (codes "DEVICE") device.now × IsNamed rows (codes "FLASH") flash.now
 HasNames rows (Slots device flash) =
@@ -224,22 +231,30 @@ names_of (Check table report) = table ∷ report ∷ []
 names_of (Image file) = file ∷ []
 names_of (Manifest device file) = device ∷ file ∷ []
 names_of (MakeDevice device) = []
-names_of (MakeImage image body values) = image ∷ body ∷ []
+names_of (MakeImage image body values) = image.name ∷ body ∷ []
 names_of (MakeManifest device manifest) = device ∷ files_of manifest
 names_of (Provision device flash images) = device ∷ flash ∷ images.items
-names_of (Extract device flash image side out) = device ∷ flash ∷ out ∷ []
+names_of (Extract device flash image side out) = device ∷ flash ∷ out.name ∷ []
 names_of (Show device flash) = device ∷ flash ∷ []
 names_of (Slots device flash) = device ∷ flash ∷ []
 names_of (Run device flash script durable) = device ∷ flash ∷ script ∷ []
 names_of (Sweep device script images choices) = device ∷ script ∷ images.items
 names_of Codes = []
 
+-- The order has a device made, read or run, and names more files than two.
+abbrev pub IsOnDevice : Order → Type 0
+IsOnDevice (Provision device flash images) = ⊤
+IsOnDevice (Extract device flash image side out) = ⊤
+IsOnDevice (Run device flash script durable) = ⊤
+IsOnDevice (Sweep device script images choices) = ⊤
+IsOnDevice _ = ⊥
+
 -- The file that would be written to is standard input.
 abbrev pub writes_to_standard_input : Order → Bool
-writes_to_standard_input (MakeImage image body values) = is_standard_input image
+writes_to_standard_input (MakeImage image body values) = is_standard_input image.name
 writes_to_standard_input (Provision device flash images) = is_standard_input flash
 writes_to_standard_input (Run device flash script durable) = is_standard_input flash
-writes_to_standard_input (Extract device flash image side out) = is_standard_input out
+writes_to_standard_input (Extract device flash image side out) = is_standard_input out.name
 writes_to_standard_input (Sweep device script images choices) =
     option_map_or is_standard_input choices.picture false
 writes_to_standard_input _ = false

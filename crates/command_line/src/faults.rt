@@ -6,7 +6,7 @@ ghost use Rattle.clap.specs.declared.error.kind.ErrorKind.TheVariants.{InvalidVa
 ghost use Rattle.clap.specs.declared.error.kind.ErrorKind.TheVariants.{MissingSubcommand};
 ghost use Rattle.command_words.specs.Faults.{IsUsage};
 ghost use Rattle.command_words.specs.Given.{standard_inputs};
-ghost use Rattle.command_line.specs.Orders.{files_of, misuse_of, names_of};
+ghost use Rattle.command_line.specs.Orders.{IsOnDevice, files_of, misuse_of, names_of};
 ghost use Rattle.command_line.specs.Orders.{writes_to_standard_input};
 
 use crate::bracketed_words::bracketed_in;
@@ -229,8 +229,8 @@ fn writes_to_standard_input(order: &Order<'_>) -> bool
 {
     match order {
         Order::Provision { flash, .. } | Order::Run { flash, .. } => is_standard_input(flash),
-        Order::MakeImage { image, .. } => is_standard_input(image),
-        Order::Extract { out, .. } => is_standard_input(out),
+        Order::MakeImage { image: file, .. } | Order::Extract { out: file, .. } =>
+            is_standard_input(file.name),
         Order::Sweep { choices, .. } => choices.picture.is_some_and(|file| is_standard_input(file)),
         Order::Choose { .. }
         | Order::Check { .. }
@@ -255,11 +255,6 @@ fn reads_standard_input_twice(order: &Order<'_>) -> bool
             report: b,
         }
         | Order::Manifest { device: a, file: b }
-        | Order::MakeImage {
-            image: a,
-            body: b,
-            ..
-        }
         | Order::Show {
             device: a,
             flash: b,
@@ -268,6 +263,21 @@ fn reads_standard_input_twice(order: &Order<'_>) -> bool
             device: a,
             flash: b,
         } => is_standard_input(a) && is_standard_input(b),
+        Order::MakeImage { image, body, .. } => {
+            is_standard_input(image.name) && is_standard_input(body)
+        }
+        Order::MakeManifest { device, manifest } => inputs_of_manifest(device, manifest) > 1,
+        Order::Provision { .. } | Order::Extract { .. } | Order::Run { .. } | Order::Sweep { .. } =>
+            device_reads_standard_input_twice(order),
+    }
+}
+
+/// The same of an order that has a device made, read or run, with more files than two.
+fn device_reads_standard_input_twice(order: &Order<'_>) -> bool
+    ensures { IsOnDevice order.now
+        → result ≡ nat_lt 1 (standard_inputs (names_of order.now)) }
+{
+    match order {
         Order::Provision {
             device,
             flash,
@@ -284,14 +294,14 @@ fn reads_standard_input_twice(order: &Order<'_>) -> bool
             flash,
             out,
             ..
-        } => standard_inputs(&[*device, *flash, *out]) > 1,
-        Order::MakeManifest { device, manifest } => inputs_of_manifest(device, manifest) > 1,
+        } => standard_inputs(&[*device, *flash, out.name]) > 1,
         Order::Sweep {
             device,
             script,
             images,
             ..
         } => inputs_with(device, script, images.as_slice()) > 1,
+        _ => false,
     }
 }
 

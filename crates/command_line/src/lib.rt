@@ -19,4 +19,6 @@ mod sweep_words;
 
 pub use command_words::{OrderError, REFUSALS, fault_of, no_text};
 pub use order_reading::{order, request};
-pub use orders::{NewComponent, NewDevice, NewImage, NewManifest, Order, Request, SweepChoices};
+pub use orders::{
+    NewComponent, NewDevice, NewFile, NewImage, NewManifest, Order, Request, SweepChoices,
+};

@@ -9,7 +9,7 @@ ghost use Rattle.command_line.specs.Orders.{SaysManifest, texts_at};
 use crate::device_words::number_in;
 use crate::orders::{NewComponent, NewManifest};
 use clap::ArgMatches;
-use command_words::{name_in, named, names_in};
+use command_words::{is_given, name_in, named, names_in};
 use common::ascii::number_u8;
 use common::limits::MOST_IMAGES;
 use std::alloc::{AllocError, Global};
@@ -32,6 +32,7 @@ pub fn manifest_values_in<'a>(
         sequence,
         precursor: name_in(names, named::PRECURSOR),
         components,
+        is_strict: is_given(names, named::STRICT),
     }))
 }
 

@@ -5,19 +5,20 @@ ghost use Rattle.clap.specs.Words.{fault_of, found_of, rows_of, subcommand_rows_
 ghost use Rattle.command_words.specs.Commands.{bootswap, shape_for};
 ghost use Rattle.command_words.specs.Given.{Finds, is_explained};
 ghost use Rattle.command_line.specs.Faults.{IsRefusal};
-ghost use Rattle.command_line.specs.Orders.{Asks, GiveOrder, IsOrder, IsOrderOf, image_at};
+ghost use Rattle.command_line.specs.Orders.{Asks, GiveOrder, IsNewFile, IsOrder, IsOrderOf};
+ghost use Rattle.command_line.specs.Orders.{image_at};
 ghost use Rattle.command_line.specs.Orders.{misuse_of, order_to_device, side_at, side_of};
 
 use crate::device_words::device_in;
 use crate::faults::{misuse, no_order};
 use crate::image_words::image_values_in;
 use crate::manifest_words::manifest_values_in;
-use crate::orders::{Order, Request};
+use crate::orders::{NewFile, Order, Request};
 use crate::sweep_words::sweep_choices_in;
 use clap::ArgMatches;
 use command_words::{
-    DeviceOrder, OrderError, Subcommand, images_in, is_explained, matches_of, name_in, named,
-    named_in, provision_in, run_in,
+    DeviceOrder, OrderError, Subcommand, images_in, is_explained, is_given, matches_of, name_in,
+    named, named_in, provision_in, run_in,
 };
 use common::ascii::number_u8;
 use sector_map::Side;
@@ -164,7 +165,7 @@ fn make_device_in<'a>(
 fn make_image_in<'a>(alloc: Global, names: &ArgMatches<'a>) -> Result<Option<Order<'a>>, AllocError>
     ensures { IfOk result (Finds (Asks (codes "make-image") (rows_of (found_of names.now)))) }
 {
-    let Some(image) = name_in(names, named::OUT) else {
+    let Some(image) = new_file_in(names) else {
         return Ok(None);
     };
     let Some(body) = name_in(names, named::BODY) else {
@@ -251,7 +252,7 @@ fn extract_in<'a>(names: &ArgMatches<'a>) -> Option<Order<'a>>
     let flash = name_in(names, named::FLASH)?;
     let image = image_in_words(names)?;
     let side = side_in(names)?;
-    let out = name_in(names, named::OUT)?;
+    let out = new_file_in(names)?;
     Some(Order::Extract {
         device,
         flash,
@@ -259,6 +260,15 @@ fn extract_in<'a>(names: &ArgMatches<'a>) -> Option<Order<'a>>
         side,
         out,
     })
+}
+
+/// The file of an image that is to be made, which the words give.
+fn new_file_in<'a>(names: &ArgMatches<'a>) -> Option<NewFile<'a>>
+    ensures { Finds (IsNewFile (rows_of (found_of names.now))) result }
+{
+    let name = name_in(names, named::OUT)?;
+    let is_forced = is_given(names, named::FORCE);
+    Some(NewFile { name, is_forced })
 }
 
 /// The number of an image that the words give.

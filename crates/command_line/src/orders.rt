@@ -38,6 +38,15 @@ pub struct NewImage {
     pub flags: Option<u32>,
 }
 
+/// The file of an image that is to be made, as the words have it.
+#[derive(Clone, Copy)]
+pub struct NewFile<'a> {
+    /// Its name, which isn't that of standard input.
+    pub name: &'a str,
+    /// Whether it is replaced also if it is no image.
+    pub is_forced: bool,
+}
+
 /// A file that may come to a device, as the words have it.
 #[derive(Clone, Copy)]
 pub struct NewComponent<'a> {
@@ -59,6 +68,8 @@ pub struct NewManifest<'a> {
     /// The files that may come: those for a test, in the order of the words, and then those that
     /// are to stay.
     pub components: Vec<NewComponent<'a>>,
+    /// Whether a file that the device will not take gives exit status 1.
+    pub is_strict: bool,
 }
 
 /// What a sweep tries and makes, as the words have it.
@@ -108,8 +119,8 @@ pub enum Order<'a> {
     },
     /// The making of an image.
     MakeImage {
-        /// The name of the image's file, which isn't standard input.
-        image: &'a str,
+        /// The file of the image.
+        image: NewFile<'a>,
         /// The name of the file that holds its body.
         body: &'a str,
         /// What it says of itself.
@@ -141,8 +152,8 @@ pub enum Order<'a> {
         image: u8,
         /// Which of its slots.
         side: Side,
-        /// The name of the file that is made, which isn't standard input.
-        out: &'a str,
+        /// The file that is made.
+        out: NewFile<'a>,
     },
     /// What stands on a flash.
     Show {

@@ -97,13 +97,13 @@ make_image_shape = asking (codes "make-image")
     ∷ counter_option ∷ options (codes "needs") ∷ options (codes "dependencies")
     ∷ options (codes "needs-one")
     ∷ one_option (codes "header-size") false ∷ one_option (codes "load-address") false
-    ∷ one_option (codes "flags") false ∷ [])
+    ∷ one_option (codes "flags") false ∷ one_flag (codes "force") ∷ [])
 
 abbrev pub make_manifest_shape : Shape
 make_manifest_shape = asking (codes "make-manifest")
     (one_name (codes "DEVICE") ∷ one_option (codes "sequence") true
     ∷ one_option (codes "precursor") false ∷ options (codes "test")
-    ∷ options (codes "permanent") ∷ [])
+    ∷ options (codes "permanent") ∷ one_flag (codes "strict") ∷ [])
 
 abbrev pub provision_shape : Shape
 provision_shape = asking (codes "provision")
@@ -112,7 +112,7 @@ provision_shape = asking (codes "provision")
 abbrev pub extract_shape : Shape
 extract_shape = asking (codes "extract")
     (one_name (codes "DEVICE") ∷ one_name (codes "FLASH") ∷ one_name (codes "IMAGE")
-    ∷ one_name (codes "SIDE") ∷ one_name (codes "OUT") ∷ [])
+    ∷ one_name (codes "SIDE") ∷ one_name (codes "OUT") ∷ one_flag (codes "force") ∷ [])
 
 abbrev pub show_shape : Shape
 show_shape = asking (codes "show") (one_name (codes "DEVICE") ∷ one_name (codes "FLASH") ∷ [])

@@ -64,6 +64,8 @@ pub const TRIAL_BOOTS: OptionHelp = OptionHelp {
 
 pub const NEW_IMAGE_FILE: &str = "The image file that is made";
 
+pub const FORCE: &str = "Replace OUT even if it is no image";
+
 pub const BODY_FILE: &str = "The file that the body is read from; `-` is standard input";
 
 pub const VERSION: OptionHelp = OptionHelp {
@@ -123,8 +125,10 @@ pub const TEST: OptionHelp = OptionHelp {
 
 pub const PERMANENT: OptionHelp = OptionHelp {
     value: "I=FILE",
-    text: "FILE may come for image I, to stay",
+    text: "The same, to stay; beside --test it may revert too",
 };
+
+pub const STRICT: &str = "End with status 1 if the device will not take a file";
 
 pub const TWICE: &str = "Behind each cut, cut each write of the next boot too";
 

@@ -25,13 +25,14 @@ An image, also behind `NotAnImage`:
   14 BadCounter           a counter isn't 4 bytes long, or there are two
   15 TooManyGroups        there are more than 4 groups
 
-The values of `make-image`:
+The values of `make-image`, of which 6 is checked before 4:
    1 BadHeaderSize        the length of the header is below 32
    2 UnsupportedFlags     a flag other than 0x1, 0x10 and 0x100 is set
    3 TooManyDependencies  there are more than 16 dependencies
+   4 TooBig               the body has 2^32 bytes or more
+   5 NoMemory             memory ran out, which is `error: memory`
    6 BadGroups            there are more than 4 groups, or one has more than 4
                           alternatives
-   4 TooBig               the body has 2^32 bytes or more
 
 The sizes of a device, `refused map`:
    1 BadSector            the bytes of a sector aren't a multiple of 64 from 512

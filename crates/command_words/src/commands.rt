@@ -79,11 +79,18 @@ pub mod named {
 
     pub const EXPLAIN: &str = "explain";
 
+    pub const FORCE: &str = "force";
+
+    pub const STRICT: &str = "strict";
+
     pub const DEPENDENCIES: &str = "dependencies";
 }
 
 /// The option that each subcommand has.
 const EXPLAIN: Argument = Argument::Flag(named::EXPLAIN, argument_help::EXPLAIN);
+
+/// The option of each subcommand that makes an image file.
+const FORCE: Argument = Argument::Flag(named::FORCE, argument_help::FORCE);
 
 // What each subcommand is given, in the order in which help tells it.
 
@@ -133,6 +140,7 @@ const MAKE_IMAGE_ARGUMENTS: &[Argument] = &[
     Argument::Optional(named::HEADER_SIZE, argument_help::HEADER_SIZE),
     Argument::Optional(named::LOAD_ADDRESS, argument_help::LOAD_ADDRESS),
     Argument::Optional(named::FLAGS, argument_help::FLAGS),
+    FORCE,
     EXPLAIN,
 ];
 
@@ -142,6 +150,7 @@ const MAKE_MANIFEST_ARGUMENTS: &[Argument] = &[
     Argument::Optional(named::PRECURSOR, argument_help::PRECURSOR),
     Argument::Repeated(named::TEST, argument_help::TEST),
     Argument::Repeated(named::PERMANENT, argument_help::PERMANENT),
+    Argument::Flag(named::STRICT, argument_help::STRICT),
     EXPLAIN,
 ];
 
@@ -158,6 +167,7 @@ const EXTRACT_ARGUMENTS: &[Argument] = &[
     Argument::File(named::IMAGE, argument_help::IMAGE_NUMBER),
     Argument::File(named::SIDE, argument_help::SLOT_SIDE),
     Argument::File(named::OUT, argument_help::NEW_IMAGE_FILE),
+    FORCE,
     EXPLAIN,
 ];
 

@@ -303,7 +303,7 @@ pub const MAKE_IMAGE: &Help = &Help {
     usage: "bootswap make-image <OUT> <BODY> --version <VERSION> [--counter <N>]
            [--needs <'J VERSION'>].. [--dependencies <'(J, V)'>]..
            [--needs-one <'J VERSION ..'>].. [--header-size <BYTES>]
-           [--load-address <N>] [--flags <N>] [--explain]",
+           [--load-address <N>] [--flags <N>] [--force] [--explain]",
     about: "Makes an image of MCUboot's format out of its body",
     long_about: "Reads the body of an image from BODY, and makes the image in the file OUT:
 header, body, what the image asks of a device, and its digest. It prints `done`.
@@ -326,8 +326,11 @@ that it needs one of these images, one to four; it may be given up to 4 times.
 The quotes keep the words of one dependency together.
 
 Without `--counter` the image has no security counter, which counts as 0. Zero
-bytes fill a header of more than 32 bytes. A file OUT that is there is replaced,
-once all is done; it isn't BODY. The image is not signed.
+bytes fill a header of more than 32 bytes. The image is not signed.
+
+OUT comes before BODY, unlike the names of `cp` and `imgtool`. An image in OUT
+is replaced, once all is done, and so is an empty file; another file only with
+`--force`, and never BODY.
 
 Where no image can have what is asked for it prints `refused CODE NAME`:
   refused 1 BadHeaderSize        the header has 32 bytes at least
@@ -341,10 +344,11 @@ Example: bootswap make-image a.img body.bin --version 1.0.0
     long_after: "Exit status:
   0  OUT is made, and `done` is printed
   1  what is asked for is refused, and why is printed; or standard error has a
-     line `error: ..`: `image is an input` where OUT is BODY, `image in use`
-     where another program works on OUT, `cannot read NAME`, `cannot write NAME`
-     where OUT could not be made or replaced, or `memory`; or the answer could
-     not be written
+     line `error: ..`: `image is an input` where OUT is BODY, `NAME is no image`
+     where OUT is another file than an image and `--force` isn't given,
+     `image in use` where another program works on OUT, `cannot read NAME`,
+     `cannot write NAME` where OUT could not be made or replaced, or `memory`;
+     or the answer could not be written
   2  the words of the command are wrong, or one of them is no number, version or
      dependency
 
@@ -357,7 +361,7 @@ Examples:
 
 pub const MAKE_MANIFEST: &Help = &Help {
     usage: "bootswap make-manifest <DEVICE> --sequence <N> [--precursor <FLASH>]
-           [--test <I=FILE>].. [--permanent <I=FILE>].. [--explain]",
+           [--test <I=FILE>].. [--permanent <I=FILE>].. [--strict] [--explain]",
     about: "Makes a manifest, of the files that may come to a device",
     long_about: "Reads a device file and the files that may come to the device, and prints the
 manifest that lets them come: it is for the device's vendor and class, and has
@@ -381,9 +385,15 @@ it took. With `--precursor FLASH` the files are only for devices that run the
 images that run on that flash: the manifest names the digests of those whose
 files may come. FLASH is only read.
 
+The device tries the images of one boot as a set. So beside an image for a test
+one that is to stay is tried too, also if neither needs the other: both revert
+unless each is confirmed.
+
 On standard error a line `note: ..` tells of a file that the device will not
-take, since it is no intact image, or since it is longer than its slot. The
-manifest is made nevertheless.
+take, since it is no intact image, or since it is longer than its slot, and of a
+manifest with files for a test and files that are to stay. The manifest is made
+nevertheless. With `--strict` the exit status is 1 if the device will not take a
+file.
 
 `refused 6 NoComponent` says that the device has no such image, and
 `refused 7 RepeatedComponent` that two files are for one image. Where no intact
@@ -394,11 +404,12 @@ Example: bootswap make-manifest device.json --sequence 2 --test 0=a.img
 `bootswap make-manifest --help` tells more.",
     long_after: "Exit status:
   0  the manifest is printed
-  1  what is asked for is refused, and why is printed; or standard error has a
-     line `error: ..`: `device file` where DEVICE is none, `flash size` where
-     FLASH isn't as long as the device's flash, `flash in use` where another
-     program writes to FLASH, `cannot read NAME`, or `memory`; or what had to be
-     printed could not be written
+  1  what is asked for is refused, and why is printed; or, with `--strict`, the
+     manifest is printed, and a note tells of a file that the device will not
+     take; or standard error has a line `error: ..`: `device file` where DEVICE
+     is none, `flash size` where FLASH isn't as long as the device's flash,
+     `flash in use` where another program writes to FLASH, `cannot read NAME`,
+     or `memory`; or what had to be printed could not be written
   2  the words of the command are wrong
 
 Examples:
@@ -417,7 +428,7 @@ slot, the first for image 0, and then what a device starts from: empty trailers,
 and a log with the security counters of the images as floors. It prints `done`.
 A file FLASH that is there is replaced, once all is done; it is none of those
 that are read. A block device that is as long as the flash is written in its
-place, and synced.
+place, and synced. All is on the disk when `done` is printed.
 
 An IMAGE is an intact image of MCUboot's format that isn't longer than its slot,
 as `bootswap image` describes it. There is one for each image of the device, and
@@ -445,12 +456,17 @@ Example: bootswap provision device.json flash.bin a.img b.img
      `error: ..`: `device file` where DEVICE is none, `image count` where the
      device has another number of images, `image 1 too big` where that file is
      longer than its slot, `flash is an input` where FLASH is one of the files
-     that are read, `flash in use` where another program works on FLASH,
-     `flash size` where it is a block device of another length,
+     that are read, `flash in use` where another program works on FLASH or
+     makes it meanwhile, or where it is a block device that is mounted, swapped
+     to or held, `flash size` where it is a block device of another length,
      `cannot read NAME`, or `memory`; or the answer could not be written
   2  the words of the command are wrong
   4  standard error has the line `error: flash file`: FLASH could not be made,
-     replaced or written
+     replaced or written; or it was, and its folder could not be synced
+
+A killed run may leave a file `.bootswap-` with 16 hex digits beside FLASH. It
+may be removed. Two nodes of one block device exclude each other only if the
+system has `/sys`.
 
 Examples:
   bootswap provision device.json flash.bin a.img b.img
@@ -468,8 +484,9 @@ what runs:
   bootswap extract device.json flash.bin 0 primary running.img
 
 What it copies is the image alone, byte for byte, and nothing of what follows it
-in the slot. FLASH is only read. A file OUT that is there is replaced, once all
-is done; it is none of those that are read.
+in the slot. FLASH is only read. An image in OUT is replaced, once all is done,
+and so is an empty file; another file only with `--force`, and no file that is
+read.
 
 Where the slot begins with no intact image it prints `refused CODE NAME`, as
 `bootswap help image` has them, and where the device's sizes make no map of its
@@ -484,9 +501,10 @@ Example: bootswap extract device.json flash.bin 0 primary running.img
      `no image 2` where the device has no image of this number, `flash size`
      where FLASH isn't as long as the device's flash, `flash in use` where
      another program writes to FLASH, `image is an input` where OUT is one of
-     the files that are read, `image in use` where another program works on
-     OUT, `cannot read NAME`, `cannot write NAME` where OUT could not be made or
-     replaced, or `memory`; or the answer could not be written
+     the files that are read, `NAME is no image` where OUT is another file than
+     an image and `--force` isn't given, `image in use` where another program
+     works on OUT, `cannot read NAME`, `cannot write NAME` where OUT could not
+     be made or replaced, or `memory`; or the answer could not be written
   2  the words of the command are wrong
 
 Examples:
@@ -579,7 +597,8 @@ pub const RUN: &Help = &Help {
 Each write goes to FLASH at once, so that the next run goes on from there. FLASH
 may be a block device, where each write is synced; no other program may use it.
 With `--durable` each write to a plain file is synced too: it is on the disk
-before the next one, so that a power cut of this machine is one of the device.
+before the next one, and the file and its name are before the first event. So a
+power cut of this machine is one of the device.
 `bootswap help provision` tells what a device file looks like, and makes a flash
 file. In a script first come the writes that are cut, if any:
   cut WRITE TORN
@@ -596,7 +615,9 @@ Then events:
   boot                         the device boots
   reset                        the device stops, and boots before all else
 One space parts the words of a line, and FILE is a name without spaces. All
-files are read and judged before the device runs. A script:
+files are read and judged before the device runs. FLASH, the script's text and
+all its cuts stand in memory, the file of a line only while its event comes,
+unless it can't be read twice. A script:
   boot
   accept manifest.json
   piece 0 a.img
@@ -630,13 +651,15 @@ Example: bootswap run device.json flash.bin script.txt
   1  the last reply is a refusal, or the device's sizes are refused; or standard
      error has a line `error: ..`: `device file` where DEVICE is none,
      `flash size` where FLASH isn't as long as the device's flash,
-     `flash in use` where another program works on FLASH, `script line 3` for
-     the first line that is wrong, `cannot read NAME`, or `memory`; or the
+     `flash in use` where another program works on FLASH, or where it is a block
+     device that is mounted, swapped to or held, `script line 3` for the first
+     line that is wrong, `cannot read NAME`, or `memory`; or the
      replies could not be written
   2  the words of the command are wrong
   3  the last reply is `cut`
   4  standard error has the line `error: flash file`: a write of FLASH failed,
-     which to the device is a cut
+     which to the device is a cut; or FLASH was removed, replaced or got another
+     length meanwhile; whatever else the run ended with
 
 Examples:
   bootswap run device.json flash.bin script.txt
@@ -651,7 +674,8 @@ pub const SWEEP: &Help = &Help {
     long_about: "Provisions a device in memory with these images, as `provision` does, and runs a
 script on it as `run` does, once for each write of its flash and each way to
 tear that write. Behind the cut the device boots until a boot isn't cut, and the
-script goes on. No file is changed. The script has no lines `cut`.
+script goes on. No file is changed. The script has no lines `cut`. If standard
+error is a terminal, a line there says how far the sweep is.
 
 It prints a line for each event, with a character for each of its writes: what
 the next boot said where that write was cut. So one sees where an upgrade
@@ -691,9 +715,9 @@ Example: bootswap sweep device.json script.txt a.img b.img
      device's sizes are refused, as `provision` tells; or standard error has a
      line `error: ..`: `device file`, `image count`, `image 1 too big`,
      `script line 1` for the first line that is wrong, `picture is an input`
-     where FILE is one of the files that are named, `cannot write NAME` where it
-     could not be made, `cannot read NAME`, or `memory`; or the answer could not
-     be written
+     where FILE is one of the files that are named, also by the script,
+     `cannot write NAME` where it can't be made, `cannot read NAME`, or
+     `memory`; or the answer could not be written
   2  the words of the command are wrong
 
 Examples:
