@@ -4,7 +4,7 @@ use Rattle.std.specs.Prelude.{Err, IfErr, IfOk, Ok, Result, slice_range}
 use Rattle.std.proofs.KnownBytes.{Appends-kept}
 use Rattle.std.specs.Io.KnownBytes.{Keeps}
 use Rattle.std.proofs.lemmas.List.{take-append-le, take_all}
-use Rattle.flash_model.specs.Chip.{Chip, size_of}
+use Rattle.flash_model.specs.Chip.{Chip}
 use Rattle.sector_map.specs.declared.layout.SectorMap.{SectorMap}
 use Rattle.sector_map.specs.declared.layout.Side.{Side}
 use Rattle.sector_map.specs.Map.{IsLaidOut, start_of}
@@ -25,7 +25,10 @@ use Rattle.command_ends.specs.Input.{FileBytes, Gives, KeepsFiles, KeepsOthers}
 use Rattle.command_ends.specs.Doings.{IsApartFrom, KeepsApart, KeepsSource}
 use Rattle.command_ends.proofs.InputLaws.{GiveBoth-read, KeepsSource-apart, KeepsSource-kept}
 use Rattle.making_commands.specs.CopyEnd.{AnswersCopied, AnswersCopy, EndsCopy, IsImageOf}
+use Rattle.command_line.specs.declared.orders.NewFile.{NewFile}
+use Rattle.making_commands.specs.NewFileEnd.{MayReplace, Replaces}
 use Rattle.making_commands.specs.NewImageEnd.{EndsUnmade}
+use Rattle.making_commands.proofs.NewFileLaws.{Replaces-before}
 use Rattle.making_commands.specs.declared.extract.Copied.{Copied}
 use Rattle.making_commands.specs.declared.extract.Copied.TheVariants as copied
 
@@ -101,6 +104,17 @@ copied_told (Ok Refused) copied.Done mid new old_out new_out answers late kept e
 copied_told (Ok Cut) copied.Done mid new old_out new_out answers late kept ends = absurd (cc answers.0)
 copied_told (Err refusal) copied.Done mid new old_out new_out answers late kept ends =
     absurd (subst (λ one. EndsUnmade (Err one)) (late refl) ends)
+
+-- Where the image was copied, its file could be replaced.
+pub copied_replaces : (answer : Answer) (outcome : Copied) (file : NewFile) (old mid : FileBytes)
+    (old_out new_out : Option (List ℕ)) → KeepsFiles old mid
+    → (outcome ≡ copied.Done → MayReplace file.is_forced (mid file.name.now))
+    → AnswersCopied answer outcome old_out new_out → Replaces answer file old
+copied_replaces Done copied.Done file old mid old_out new_out kept may told =
+    Replaces-before Done file old mid kept (may refl)
+copied_replaces Done (copied.Refused fault) file old mid old_out new_out kept may told = absurd (cc told.0)
+copied_replaces Refused outcome file old mid old_out new_out kept may told = tt
+copied_replaces Cut outcome file old mid old_out new_out kept may told = tt
 
 -- What was copied, and answered, of a device file and a flash that were read.
 pub copied_image : (answer : Answer) (device flash : Source) (image : ℕ) (side : Side) (input mid_input : Option (List ℕ))

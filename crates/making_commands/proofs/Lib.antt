@@ -1,5 +1,6 @@
 pub mod CopyLaws
 pub mod NewDeviceLaws
+pub mod NewFileLaws
 pub mod NewImageLaws
 pub mod NewManifestEnds
 mod NewManifestLaws

@@ -1,5 +1,5 @@
 -- What making a manifest comes to.
-use Rattle.std.specs.Prelude.{◌≡◌, ◌⊎◌, ℕ, ◌<◌, All, Any, List, [], ◌∷◌, ◌++◌, length, map, option_to_list, slice_index_or, take, Option, Some, None}
+use Rattle.std.specs.Prelude.{◌≡◌, ◌⊎◌, ℕ, true, ◌<◌, All, Any, List, [], ◌∷◌, ◌++◌, length, map, option_to_list, slice_index_or, take, Option, Some, None}
 use Rattle.std.specs.Io.KnownBytes.{Appends}
 use Rattle.std.specs.List.{AllZip}
 use Rattle.sha2.specs.Sha256.{sha256}
@@ -134,6 +134,13 @@ pub record RefusesRunning (device : Source) (asked : NewManifest) (input : Optio
       description → ⊥
   pub told : Appends old new (refused_fault_text (RunningDamaged image))
 
+-- The manifest was written, and it is asked for that a file which the device will not take is an
+-- answer of its own.
+abbrev pub WritesStrictly : Source → NewManifest → Option (List ℕ) → FileBytes
+    → Option (List ℕ) → Option (List ℕ) → Type 0
+WritesStrictly device asked input files old new =
+    (asked.is_strict ≡ true) × WritesManifest device asked input files old new
+
 abbrev pub AnswersNewManifest : Answer → Source → NewManifest → Option (List ℕ) → FileBytes
     → Option (List ℕ) → Option (List ℕ) → Type 0
 AnswersNewManifest Done device asked input files old new =
@@ -141,4 +148,5 @@ AnswersNewManifest Done device asked input files old new =
 AnswersNewManifest Refused device asked input files old new =
     RefusesMap device input files old new ⊎ RefusesAsked device asked input files old new
     ⊎ RefusesRunning device asked input files old new
+    ⊎ WritesStrictly device asked input files old new
 AnswersNewManifest Cut device asked input files old new = ⊥

@@ -7,6 +7,7 @@ ghost use Rattle.device_texts.specs.FlashOf.{IsFlashOf, flash_of};
 ghost use Rattle.command_ends.specs.Input.{KeepsFiles};
 ghost use Rattle.making_commands.specs.CopyEnd.{AnswersCopied, AnswersCopy, EndsCopy, IsImageOf};
 ghost use Rattle.command_ends.specs.Doings.{KeepsApart, KeepsSource};
+ghost use Rattle.making_commands.specs.NewFileEnd.{MayReplace, Replaces};
 ghost use Rattle.making_commands.specs.NewImageEnd.{EndsUnmade};
 ghost use Rattle.image_reading.specs.Codes.{code_of, name_of};
 ghost use Rattle.image_reading.specs.Fault.{IsFrontFault};
@@ -15,6 +16,7 @@ ghost use Rattle.image_reading.specs.Slot.{slot_bytes};
 use crate::image_file::{refuse_input, replace};
 use crate::telling::tell;
 use command_ends::{Access, Answer, Host, Refusal, Source};
+use command_line::NewFile;
 use device_texts::{flash_of, refused_text};
 use flash_model::Flash;
 use image_reading::{ImageError, SlotError, describe_slot};
@@ -32,8 +34,8 @@ pub struct Copying<'a> {
     pub image: u8,
     /// Which of its slots.
     pub side: Side,
-    /// The name of the file.
-    pub out: &'a str,
+    /// The file.
+    pub out: NewFile<'a>,
 }
 
 /// How copying an image ended.
@@ -50,8 +52,8 @@ pub enum Copied {
 /// there is no image. All stands in memory of `alloc`.
 ///
 /// The file is none of those that are read, which stay as they were whatever comes of it, and the
-/// flash is opened to be read alone. Unless the answer is `Done`, or can't be written, the file is as
-/// it was too.
+/// flash is opened to be read alone. A file that is there is replaced only if it is an image or empty,
+/// or by force. Unless the answer is `Done`, or can't be written, the file is as it was too.
 pub fn perform<H: Host, O: Write>(
     alloc: Global,
     device: Source<'_>,
@@ -62,8 +64,10 @@ pub fn perform<H: Host, O: Write>(
 ) -> Result<Answer, Refusal>
     ensures answers { IfOk result (λ answer.
         AnswersCopy answer device.entry flash.entry copying.entry.image copying.entry.side
-        (H.input host.old) (H.file host.old) (H.file host.new copying.entry.out.now)
+        (H.input host.old) (H.file host.old) (H.file host.new copying.entry.out.name.now)
         (O.contents out.old) (O.contents out.new)) }
+    ensures replaces { IfOk result (λ answer.
+        Replaces answer copying.entry.out (H.file host.old)) }
     ensures kept { EndsUnmade result → KeepsFiles (H.file host.old) (H.file host.new) }
     ensures inputs { KeepsSource device.entry (H.file host.old) (H.file host.new)
         × KeepsSource flash.entry (H.file host.old) (H.file host.new) }
@@ -77,8 +81,8 @@ pub fn perform<H: Host, O: Write>(
         return Err(Refusal::NoImage(copying.image));
     }
     let bytes = read_flash(alloc, flash, map, Access::Read, host)?;
-    refuse_input(alloc, host, copying.out, device)?;
-    refuse_input(alloc, host, copying.out, flash)?;
+    refuse_input(alloc, host, copying.out.name, device)?;
+    refuse_input(alloc, host, copying.out.name, flash)?;
     let copied = copy::<Brand, _>(alloc, Blank::new(2), map, bytes, copying, host)?;
     tell_copied(alloc, copied, out)
 }
@@ -99,11 +103,13 @@ fn copy<L: Ledger, H: Host>(
     requires there { copying.image < map.now.images }
     ensures copied { IfOk result (λ copied.
         EndsCopy copied map.now (flash_of map.now bytes.items) copying.entry.image
-        copying.entry.side (H.file host.new copying.entry.out.now)) }
+        copying.entry.side (H.file host.new copying.entry.out.name.now)) }
+    ensures replaces { IfOk result (λ copied. copied ≡ Copied.Done
+        → MayReplace copying.entry.out.is_forced (H.file host.old copying.entry.out.name.now)) }
     ensures refused { IfOk result (λ copied. copied ≢ Copied.Done
         → KeepsFiles (H.file host.old) (H.file host.new)) }
     ensures failed { IfErr result (λ _. KeepsFiles (H.file host.old) (H.file host.new)) }
-    ensures others { KeepsApart (H.apart host.old copying.entry.out.now)
+    ensures others { KeepsApart (H.apart host.old copying.entry.out.name.now)
         (H.file host.old) (H.file host.new) }
     ensures opened { H.opened host.new ≡ H.opened host.old }
 {

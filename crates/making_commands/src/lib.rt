@@ -4,9 +4,10 @@
 //! out of the slot of a flash.
 //!
 //! Promises: a command answers `Done` only where it wrote the file of what the words ask for, which
-//! the readers of that file read so; else a file that is there stays as it was. A device file and a
-//! manifest are read back before they are written; of an image it is proved what is read. A program
-//! may call it with its words, as `boot_cli` does.
+//! the readers of that file read so; else a file that is there stays as it was. A file that is no
+//! image is replaced by one only if that is forced. A device file and a manifest are read back before
+//! they are written; of an image it is proved what is read. A program may call it with its words, as
+//! `boot_cli` does.
 #![tactic(auto)]
 
 pub mod extract;

@@ -4,12 +4,13 @@ ghost use Rattle.std.specs.List.{AllZip};
 ghost use Rattle.std.specs.Io.KnownBytes.{Appends};
 ghost use Rattle.command_ends.specs.Doings.{KeepsApart, KeepsSource};
 ghost use Rattle.command_ends.specs.Input.{KeepsFiles};
+ghost use Rattle.making_commands.specs.NewFileEnd.{Replaces};
 ghost use Rattle.making_commands.specs.NewImageEnd.{AnswersMade, AnswersNewImage, AreAlternatives, EndsUnmade, IsImageFor, RefusesImage, fault_text};
 
 use crate::image_file::{refuse_input, replace};
 use crate::telling::tell;
 use command_ends::{Answer, Host, MOST_FILE, Refusal, Source};
-use command_line::NewImage;
+use command_line::{NewFile, NewImage};
 use device_texts::refused_text;
 use std::alloc::{AllocError, Global};
 use std::io::Write;
@@ -24,42 +25,45 @@ const USUAL_HEADER_SIZE: u16 = 32;
 /// memory of `alloc`.
 ///
 /// The image is made before its file is touched, which isn't that of the body: that one stays as it
-/// was whatever comes of it. Unless the answer is `Done`, or can't be written, the file of the image
-/// is as it was too.
+/// was whatever comes of it. A file that is there is replaced only if it is an image or empty, or by
+/// force. Unless the answer is `Done`, or can't be written, the file of the image is as it was too.
 pub fn perform<H: Host, O: Write>(
     alloc: Global,
-    image: &str,
+    image: NewFile<'_>,
     body: Source<'_>,
     asked: &NewImage,
     host: &mut H,
     out: &mut O,
 ) -> Result<Answer, Refusal>
     ensures answers { IfOk result (λ answer. AnswersNewImage answer body.entry asked.now
-        (H.input host.old) (H.file host.old) (H.file host.new image.now)
+        (H.input host.old) (H.file host.old) (H.file host.new image.entry.name.now)
         (O.contents out.old) (O.contents out.new)) }
+    ensures replaces { IfOk result (λ answer. Replaces answer image.entry (H.file host.old)) }
     ensures kept { EndsUnmade result → KeepsFiles (H.file host.old) (H.file host.new) }
     ensures input { KeepsSource body.entry (H.file host.old) (H.file host.new) }
     ensures opened { H.opened host.new ≡ H.opened host.old }
 {
     let source = body;
     let body = source.read(alloc, host, MOST_FILE)?;
-    refuse_input(alloc, host, image, source)?;
+    refuse_input(alloc, host, image.name, source)?;
     make(alloc, image, asked, &body, host, out)
 }
 
 /// Makes the image that is asked for, with this body, and then makes or replaces its file.
 fn make<H: Host, O: Write>(
     alloc: Global,
-    image: &str,
+    image: NewFile<'_>,
     asked: &NewImage,
     body: &[u8],
     host: &mut H,
     out: &mut O,
 ) -> Result<Answer, Refusal>
     ensures made { IfOk result (λ answer. AnswersMade answer asked.now body.now
-        (H.file host.new image.now) (O.contents out.old) (O.contents out.new)) }
+        (H.file host.new image.entry.name.now) (O.contents out.old) (O.contents out.new)) }
+    ensures replaces { IfOk result (λ answer. Replaces answer image.entry (H.file host.old)) }
     ensures kept { EndsUnmade result → KeepsFiles (H.file host.old) (H.file host.new) }
-    ensures others { KeepsApart (H.apart host.old image.now) (H.file host.old) (H.file host.new) }
+    ensures others { KeepsApart (H.apart host.old image.entry.name.now)
+        (H.file host.old) (H.file host.new) }
     ensures opened { H.opened host.new ≡ H.opened host.old }
 {
     match image_of(alloc, asked, body) {

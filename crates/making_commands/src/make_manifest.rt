@@ -13,7 +13,7 @@ ghost use Rattle.manifest.specs.Codes.{code_of, name_of};
 
 use crate::manifest_json::manifest_json;
 use crate::new_components::read_components;
-use crate::next_boot::write_refusals;
+use crate::next_boot::write_decisions;
 use crate::precursors::{Precursors, Running, read_precursors};
 use crate::telling::tell;
 use command_ends::{Answer, Host, Refusal, Source};
@@ -28,7 +28,8 @@ use std::io::Write;
 /// Reads a device file, the flash whose images have to run, where one is asked for, and each file
 /// that may come from `host`, one after the other, and writes to `out` the manifest that is asked
 /// for; where there is no such manifest for the device, it writes to `out` why. Then it writes to
-/// `err` which of the files the device will not take.
+/// `err` which of the files the device will not take, and whether it tries some that are to stay. If
+/// that is asked for, a file that the device will not take makes the answer `Refused`.
 ///
 /// The manifest is made in memory of `alloc`, where the device file and one file after the other
 /// stand too, as does the flash, and read back before it is written, for which its JSON value stands
@@ -56,7 +57,10 @@ pub fn perform<H: Host, O: Write, E: Write>(
     }
     match read_precursors(alloc, &of_device.map, asked, host)? {
         Precursors::Are(running) => {
-            write_manifest(alloc, &of_device, asked, running, host, out, err)?;
+            let takes_all = write_manifest(alloc, &of_device, asked, running, host, out, err)?;
+            if asked.is_strict && !takes_all {
+                return Ok(Answer::Refused);
+            }
             Ok(Answer::Done)
         }
         Precursors::DamagedAt(image) => {
@@ -107,7 +111,8 @@ pub(crate) fn is_named(asked: &[NewComponent<'_>], image: u8) -> bool
 }
 
 /// Reads the files that may come, and writes to `out` the manifest that lets them come where these
-/// images run, and to `err` which of them the device, or its next boot, will not take.
+/// images run, and to `err` which of them the device, or its next boot, will not take, and whether it
+/// tries some that are to stay. Returns whether it will take all of them, as far as that is known.
 fn write_manifest<H: Host, O: Write, E: Write>(
     alloc: Global,
     device: &DeviceFile,
@@ -116,7 +121,7 @@ fn write_manifest<H: Host, O: Write, E: Write>(
     host: &mut H,
     out: &mut O,
     err: &mut E,
-) -> Result<(), Refusal>
+) -> Result<bool, Refusal>
     requires same { length running.digests.items ≡ length asked.now.components.items }
     requires there { HaveImages device.now.map.images asked.now.components.items }
     ensures written { OnOk result (Writes device.now asked.now running.digests.items
@@ -128,9 +133,10 @@ fn write_manifest<H: Host, O: Write, E: Write>(
     let Running { digests, mut table } = running;
     let (map, files, follow) = (&device.map, asked.components.as_slice(), digests.as_slice());
     let components = read_components(alloc, map, files, follow, host, &mut table, &mut notes)?;
-    if write_refusals(&mut notes, files, &table).is_err() {
+    let fit = notes.is_empty();
+    let Ok(are_bootable) = write_decisions(&mut notes, files, &table) else {
         return Err(Refusal::NoMemory);
-    }
+    };
     let manifest = Manifest {
         sequence: asked.sequence,
         components,
@@ -140,7 +146,8 @@ fn write_manifest<H: Host, O: Write, E: Write>(
     };
     expect_manifest(alloc, text.as_bytes(), &device.identity, &manifest)?;
     tell(text.as_bytes(), out)?;
-    tell(notes.as_bytes(), err)
+    tell(notes.as_bytes(), err)?;
+    Ok(fit && are_bootable)
 }
 
 /// Refuses a text that isn't this manifest, to a device of this identity.

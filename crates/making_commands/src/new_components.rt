@@ -4,7 +4,7 @@ ghost use Rattle.command_ends.specs.Input.{KeepsFiles};
 ghost use Rattle.making_commands.specs.NewManifestEnd.{HaveImages};
 ghost use Rattle.making_commands.specs.NewManifestSteps.{ReadsComponent, ReadsComponents};
 
-use crate::next_boot::request;
+use crate::next_boot::{request, write_lack};
 use arrayvec::ArrayVec;
 use certificate::Table;
 use command_ends::{Host, MOST_FILE, Refusal, Source, SourceFault};
@@ -69,6 +69,10 @@ fn read_component<H: Host>(
     };
     let described = describe(&file);
     if write_notes(notes, map, asked.image, source, &file, &described).is_err() {
+        return Err(Refusal::NoMemory);
+    }
+    // Where there is a table, the choice over it has this reason too.
+    if table.is_none() && write_lack(notes, map.images, asked.image, &described).is_err() {
         return Err(Refusal::NoMemory);
     }
     request(table, asked.image, described);

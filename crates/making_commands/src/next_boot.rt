@@ -1,4 +1,4 @@
-//! What a boot would decide of the files that a manifest lets come: for its notes alone.
+//! What boots would decide of the files that a manifest lets come: for its notes alone.
 
 use crate::make_manifest::is_named;
 use certificate::{Reason, Request, Table, is_valid};
@@ -7,6 +7,7 @@ use command_line::NewComponent;
 use decision::entry_of;
 use image_reading::{Desc, ImageError};
 use std::alloc::AllocError;
+use version_order::Dependency;
 
 /// Requests for an image of a table, if there is one, what a file says of itself.
 pub fn request(table: &mut Option<Table>, image: u8, file: Result<Desc, ImageError>) {
@@ -22,9 +23,35 @@ pub fn request(table: &mut Option<Table>, image: u8, file: Result<Desc, ImageErr
     }
 }
 
+/// Adds to notes what a boot decides of the images that are asked for: that it tries some that are to
+/// stay, and which of them it would refuse by this table, a line for each. Returns whether it would
+/// refuse none.
+pub fn write_decisions(
+    notes: &mut String,
+    asked: &[NewComponent<'_>],
+    table: &Option<Table>,
+) -> Result<bool, AllocError> {
+    if asks_for_both(asked) {
+        writeln!(
+            notes,
+            "note: a boot tries these images as a set: those of --permanent revert too unless each \
+             is confirmed"
+        )?;
+    }
+    let before = notes.len();
+    write_refusals(notes, asked, table)?;
+    Ok(notes.len() == before)
+}
+
+/// Whether images are asked for of both kinds: for a test, and to stay.
+fn asks_for_both(asked: &[NewComponent<'_>]) -> bool {
+    asked.iter().any(|component| component.permanent)
+        && asked.iter().any(|component| !component.permanent)
+}
+
 /// Adds to notes which of the images that are asked for a boot by this table would refuse, a line
 /// for each, with the reason.
-pub fn write_refusals(
+fn write_refusals(
     notes: &mut String,
     asked: &[NewComponent<'_>],
     table: &Option<Table>,
@@ -48,4 +75,46 @@ pub fn write_refusals(
 /// Whether a refusal is told: it is of an image that is asked for, and of a file that is an image.
 fn is_told(asked: &[NewComponent<'_>], image: u8, reason: &Reason) -> bool {
     is_named(asked, image) && !matches!(reason, Reason::Damaged)
+}
+
+/// Adds to notes why every boot of a device with so many images would refuse a file for one of them,
+/// by the first reason that a report has for it: it needs an image that there isn't, or itself in a
+/// higher version.
+pub fn write_lack(
+    notes: &mut String,
+    images: u8,
+    image: u8,
+    file: &Result<Desc, ImageError>,
+) -> Result<(), AllocError> {
+    let Ok(description) = file else {
+        return Ok(());
+    };
+    match lack_of(description, images, image) {
+        Some(reason) => writeln!(notes, "note: a boot would refuse image {image}: {reason}"),
+        None => Ok(()),
+    }
+}
+
+/// What an image of this number needs that no device with so many images can have.
+fn lack_of(description: &Desc, images: u8, image: u8) -> Option<Reason> {
+    for need in description.dependencies.iter() {
+        if need.image >= images {
+            return Some(Reason::NoSuchImage(need.image));
+        }
+        if !can_have(description, images, image, need) {
+            return Some(Reason::Needs(need.image, need.minimum));
+        }
+    }
+    for group in description.groups.iter() {
+        let mut needs = group.alternatives.iter();
+        if !needs.any(|need| can_have(description, images, image, need)) {
+            return Some(Reason::NeedsOne(group.copied()));
+        }
+    }
+    None
+}
+
+/// Whether some device with so many images meets a dependency of an image of this number.
+fn can_have(description: &Desc, images: u8, image: u8, need: &Dependency) -> bool {
+    need.image < images && (need.image != image || description.version >= need.minimum)
 }

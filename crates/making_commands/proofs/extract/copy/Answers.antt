@@ -52,7 +52,7 @@ returns-clause-copied g c =
     let chip = chip_of c.flash_of-flash.result in
     let long = c.in-Ok.length in
     let at = c.slot_start-at.result in
-    let held = g.H.Host.file c.replace.new.host c.args.copying.out.now in
+    let held = g.H.Host.file c.replace.new.host c.args.copying.out.name.now in
     let lent : c.bytes.result.now ≡ chip.bytes = c.bytes.ensures ∙ ap (λ one. one.bytes) c.in-Ok.ensures.same in
     let same = ap (λ all. slice_range all at (at + long)) lent
     ∙ ap (λ from. slice_range chip.bytes from (from + long)) c.slot_start-at.ensures

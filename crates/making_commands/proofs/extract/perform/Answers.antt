@@ -1,7 +1,7 @@
 use Rattle.std.proofs.Common.{arith}
 use Rattle.std.proofs.lemmas.Result.{IfOk-weaker}
 use Rattle.command_ends.proofs.InputLaws.{KeepsFiles-twice}
-use Rattle.making_commands.proofs.CopyLaws.{both_apart, both_kept, copied_image, copied_told}
+use Rattle.making_commands.proofs.CopyLaws.{both_apart, both_kept, copied_image, copied_replaces, copied_told}
 use Rattle.making_commands.proofs.extract.perform.Goals as goal
 
 -- The device file and the flash were read, and what came of copying was written.
@@ -13,6 +13,15 @@ returns-clause-answers g c =
     c.in-Some.of_device c.in_ok-bytes.bytes.items c.in_ok-copied.copied read.0 read.1 c.in_ok-of_device.ensures.others
     c.in_ok-bytes.ensures.bytes c.in_ok-bytes.ensures.whole (omega (arith, c.if-copying-map.false))
     c.in_ok-copied.ensures.copied told)
+    c.tell_copied.ensures.told
+
+-- The file could be replaced when it was, and held the same before.
+pub returns-clause-replaces : goal.returns-clause-replaces
+returns-clause-replaces g c =
+    IfOk-weaker c.tell_copied.result _ _
+    (λ answer told. copied_replaces answer c.in_ok-copied.copied c.args.copying.out _ _ _ _
+    (KeepsFiles-twice _ _ _ c.in_ok-of_device.ensures.files c.in_ok-bytes.ensures.files)
+    c.in_ok-copied.ensures.replaces told)
     c.tell_copied.ensures.told
 
 -- The flash was read or not, and no image was copied.
@@ -65,13 +74,13 @@ returns-in_err-refuse_input-2-clause-inputs g c = both_kept c.args.device c.args
 
 -- .. or a file that is neither of them.
 pub returns-in_err-copied-clause-inputs : goal.returns-in_err-copied-clause-inputs
-returns-in_err-copied-clause-inputs g c = both_apart c.args.device c.args.flash c.args.copying.out.now
+returns-in_err-copied-clause-inputs g c = both_apart c.args.device c.args.flash c.args.copying.out.name.now
     (g.H.Host.apart c.read_flash.new.host) _ _ _
     (KeepsFiles-twice _ _ _ c.in_ok-of_device.ensures.files c.in_ok-bytes.ensures.files)
     c.in_ok-refuse_input.ensures c.in_ok-refuse_input-2.ensures c.in_err-copied.ensures.others
 
 pub returns-clause-inputs : goal.returns-clause-inputs
-returns-clause-inputs g c = both_apart c.args.device c.args.flash c.args.copying.out.now
+returns-clause-inputs g c = both_apart c.args.device c.args.flash c.args.copying.out.name.now
     (g.H.Host.apart c.read_flash.new.host) _ _ _
     (KeepsFiles-twice _ _ _ c.in_ok-of_device.ensures.files c.in_ok-bytes.ensures.files)
     c.in_ok-refuse_input.ensures c.in_ok-refuse_input-2.ensures c.in_ok-copied.ensures.others

@@ -1,5 +1,6 @@
 use Rattle.std.proofs.lemmas.Result.{IfOk-weaker}
 use Rattle.command_ends.proofs.InputLaws.{KeepsFiles-twice, KeepsSource-apart, KeepsSource-kept}
+use Rattle.making_commands.proofs.NewFileLaws.{Replaces-before}
 use Rattle.making_commands.proofs.NewImageLaws.{AnswersMade-same}
 use Rattle.making_commands.proofs.make_image.perform.Goals as goal
 
@@ -14,6 +15,13 @@ returns-clause-answers g c =
     ))
     c.make.ensures.made
 
+-- The file could be replaced when it was, and held the same before.
+pub returns-clause-replaces : goal.returns-clause-replaces
+returns-clause-replaces g c =
+    IfOk-weaker c.make.result _ _
+    (λ answer may. Replaces-before answer c.args.image _ _ c.in_ok-body.ensures.files may)
+    c.make.ensures.replaces
+
 -- The image was refused, or its file could not be replaced.
 pub returns-clause-kept : goal.returns-clause-kept
 returns-clause-kept g c = λ ends.
@@ -27,6 +35,6 @@ pub returns-in_err-refuse_input-clause-input : goal.returns-in_err-refuse_input-
 returns-in_err-refuse_input-clause-input g c = KeepsSource-kept c.args.body _ _ c.in_ok-body.ensures.files
 
 pub returns-clause-input : goal.returns-clause-input
-returns-clause-input g c = KeepsSource-apart c.args.body c.args.image.now (g.H.Host.apart c.read.new.host) _ _ _
+returns-clause-input g c = KeepsSource-apart c.args.body c.args.image.name.now (g.H.Host.apart c.read.new.host) _ _ _
     c.in_ok-body.ensures.files
     c.in_ok-refuse_input.ensures c.make.ensures.others
