@@ -21,8 +21,8 @@ use Rattle.device_texts.specs.FlashOf.{flash_of}
 use Rattle.device_texts.proofs.TextLaws.{range-more}
 use Rattle.sweep.specs.Cuts.{AreArmedFor, ArmsAll, IsArmedFor, IsTorn}
 use Rattle.sweep.specs.declared.cuts.Cut.{Cut}
-use Rattle.sweep.proofs.CutRuns.{StepsCut, runs_join, runs_more, runs_none, runs_one}
-use Rattle.sweep.specs.Living.{HasVersion, Lives, LivesOne, Reboots, RunsCut, held_in, lent_in, with_boots}
+use Rattle.sweep.proofs.CutRuns.{runs_join, runs_more, runs_none, runs_one}
+use Rattle.sweep.specs.Living.{HasVersion, Lives, LivesOne, Reboots, RunsCut, StepsCut, held_in, lent_in, with_boots}
 
 -- ---- boots
 

@@ -1,11 +1,11 @@
 -- What a device goes through in a run of a sweep, and how that ends.
-use Rattle.std.specs.Prelude.{◌≡◌, ℕ, ◌+◌, ◌<◌, false, List, [], ◌∷◌, ◌++◌, length, map, replicate, Option, None, Some, option_map, Vec}
+use Rattle.std.specs.Prelude.{◌≡◌, ℕ, ◌<◌, false, List, [], ◌∷◌, ◌++◌, length, map, replicate, Option, None, Some, option_map, Vec}
 use Rattle.std.specs.List.{AllZip, range_with_len}
 use Rattle.events.specs.declared.event.Event.{Event}
 use Rattle.events.specs.declared.event.Event.TheVariants as event
 use Rattle.events.specs.Event.{event_map}
 use Rattle.flash_model.specs.declared.torn.Armed.{Armed}
-use Rattle.flash_model.specs.Chip.{Chip, numbers_of, reached}
+use Rattle.flash_model.specs.Chip.{Chip}
 use Rattle.flash_model.specs.Memory.{with_armed}
 use Rattle.sector_map.specs.declared.layout.SectorMap.{SectorMap}
 use Rattle.sector_map.specs.declared.layout.Side.TheVariants.{Primary}
@@ -16,13 +16,13 @@ use Rattle.upload.specs.Sessions.{AllClosed}
 use Rattle.upload.specs.Steady.{IsFront}
 use Rattle.machine.specs.Holding.{DeviceView}
 use Rattle.machine.specs.Intake.{Setup}
-use Rattle.machine.specs.Passing.{RunsTo}
+use Rattle.machine.specs.Passing.{RunsTo, StepsTo}
 use Rattle.machine.specs.Reading.{IsReadOf}
-use Rattle.machine.specs.Steps.{DeviceEvent, cuts_in}
+use Rattle.machine.specs.Steps.{DeviceEvent}
 use Rattle.machine.specs.declared.reply.Reply.{Reply}
-use Rattle.device_texts.specs.declared.device.DeviceFile.{DeviceFile}
 use Rattle.device_texts.specs.DeviceFile.{setup_of}
 use Rattle.device_texts.specs.FlashOf.{flash_of}
+use Rattle.boot_core.specs.CutEvents.{CutsEach, IsCutByWrite}
 use Rattle.sweep.specs.Cuts.{AreArmedFor}
 use Rattle.sweep.specs.declared.cuts.Cut.{Cut}
 use Rattle.sweep.specs.declared.living.Life.{Life}
@@ -43,13 +43,19 @@ with_boots (came ∷ rest) [] = came ∷ rest
 with_boots (came ∷ rest) (count ∷ counts) =
     came ∷ (replicate count event.Boot ++ with_boots rest counts)
 
--- Replies to events are a run of the machine, as many of them are Cut as writes of the flash were
--- cut, and the writes that are to be cut stay the same.
+-- An event with its reply is a step of the machine. The reply is Cut exactly if the flash took a
+-- write in it that is to be cut, and the writes that are to be cut stay the same.
+pub record StepsCut (setup : Setup) (old new : DeviceView) (happened : DeviceEvent) (reply : Reply)
+    : Type 0 where
+  pub steps : StepsTo setup old new happened reply
+  pub cut : IsCutByWrite old.flash reply new.flash
+
+-- Replies to events are a run of the machine. Event by event, the reply is Cut exactly if the flash
+-- took a write in it that is to be cut, and the writes that are to be cut stay the same.
 pub record RunsCut (setup : Setup) (old new : DeviceView) (events : List DeviceEvent)
     (replies : List Reply) : Type 0 where
   pub runs : RunsTo setup old new events replies
-  pub cuts : new.flash.cuts ≡ old.flash.cuts + cuts_in replies
-  pub fixed : new.flash.fixed ≡ old.flash.fixed
+  pub cuts : CutsEach setup old events replies new
 
 -- A device boots again and again: that is a run of the machine.
 pub record Reboots (setup : Setup) (old new : DeviceView) : Type 0 where
@@ -98,9 +104,9 @@ abbrev pub all_of : Life → List (Event (List ℕ))
 all_of life = held_in life.events.now ++ held_in life.between.now ++ held_in life.more.now
 
 -- A life that was lived with these cuts, and how it ended: a device that was just made over the
--- flash, with those writes armed and no others, went through all that comes, was cut in each of
--- those writes that the flash took and in no other, and its images run in these versions then, or
--- one of them is damaged and no versions are reported.
+-- flash, with those writes armed and no others, went through all that comes. The reply to an event
+-- is Cut exactly if the flash took one of those writes in it. Its images run in these versions
+-- then, or one of them is damaged and no versions are reported.
 pub record IsLived (life : Life) (cuts : List Cut) (end : LifeEnd) : Type 0 where
   pub armed : List Armed
   pub old : DeviceView
@@ -110,6 +116,5 @@ pub record IsLived (life : Life) (cuts : List Cut) (end : LifeEnd) : Type 0 wher
   pub down : old.up ≡ false
   pub closed : AllClosed old.sessions
   pub lives : Lives (setup_of life.device.now) old new (all_of life)
-  pub cut : cuts_in lives.replies ≡ reached (numbers_of armed) new.flash.writes
   pub running : HaveVersions life.device.now.map new.flash
       (option_map (λ versions. versions.items) end.versions)

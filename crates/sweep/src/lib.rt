@@ -25,6 +25,6 @@ pub use found::{Found, Mark, SetTally, Tally};
 pub use living::{Life, live};
 pub use notes::{CutNote, LifeEnd, Said};
 pub use picture::picture_of;
-pub use plan::{Plan, Watch};
+pub use plan::{Plan, Step, Watch};
 pub use sweeping::sweep;
 pub use text::found_text;

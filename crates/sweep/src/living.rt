@@ -5,7 +5,7 @@ ghost use Rattle.flash_model.specs.Memory.{chip_of};
 ghost use Rattle.device_texts.specs.DeviceFile.{IsOfFile};
 ghost use Rattle.device_texts.specs.FlashOf.{IsFlashOf};
 ghost use Rattle.sweep.specs.Cuts.{ArmsAll};
-ghost use Rattle.sweep.specs.Living.{IsLived, Lives, LivesOne, Reboots, all_of, held_in};
+ghost use Rattle.sweep.specs.Living.{IsLived, Lives, LivesOne, Reboots, StepsCut, all_of, held_in};
 
 use crate::cuts::Cut;
 use crate::device::device_over;
@@ -14,7 +14,7 @@ use crate::running::running_versions;
 use boot_core::{Device, step};
 use device_texts::{DeviceFile, flash_of};
 use events::Event;
-use flash_model::{Flash, MemFlash};
+use flash_model::MemFlash;
 use machine::Reply;
 use std::alloc::{AllocError, Global};
 use std::marker::Brand;
@@ -148,7 +148,7 @@ fn go_on<L: Ledger>(
     ensures on { device.new.here.flash.is_on ≡ true }
     ensures lives { LivesOne device.old.setup device.old.here device.new.here event.now }
 {
-    let reply = step(alloc, device, event);
+    let reply = reply_to(alloc, device, event);
     if let Reply::Cut = reply {
         let writes = device.flash().writes();
         let reply = boot_again(alloc, device, most);
@@ -165,19 +165,38 @@ fn go_on<L: Ledger>(
 
 /// Boots a device whose flash has power until a boot isn't cut, at most so many times, but once in
 /// any case. The answer is that of the last boot.
-fn boot_again<F: Flash>(alloc: Global, device: &mut Device<F>, most: usize) -> Reply
+fn boot_again<L: Ledger>(alloc: Global, device: &mut Device<MemFlash<L>>, most: usize) -> Reply
     requires { device.old.here.flash.is_on ≡ true }
     ensures setup { device.new.setup ≡ device.old.setup }
     ensures on { device.new.here.flash.is_on ≡ true }
     ensures reboots { Reboots device.old.setup device.old.here device.new.here }
 {
     for _ in 1..most {
-        let reply = step(alloc, device, &Event::Boot);
+        let reply = reply_to(alloc, device, &Event::Boot);
         if !is_cut(&reply) {
             return reply;
         }
     }
-    step(alloc, device, &Event::Boot)
+    reply_to(alloc, device, &Event::Boot)
+}
+
+/// What a device whose flash has power answers to an event: `Cut` exactly where the flash took a
+/// write in it that is to be cut.
+fn reply_to<L: Ledger>(
+    alloc: Global,
+    device: &mut Device<MemFlash<L>>,
+    event: &Event<&[u8]>,
+) -> Reply
+    requires { device.old.here.flash.is_on ≡ true }
+    ensures setup { device.new.setup ≡ device.old.setup }
+    ensures on { device.new.here.flash.is_on ≡ true }
+    ensures steps { StepsCut device.old.setup device.old.here device.new.here event.now result }
+{
+    // A flash in memory has no faults, here and behind the step.
+    let _before = device.flash();
+    let reply = step(alloc, device, event);
+    let _behind = device.flash();
+    reply
 }
 
 /// Whether a reply says that power failed.

@@ -1,4 +1,4 @@
-//! What a sweep tries, and who is told how far it is.
+//! What a sweep tries, and who is told what it does.
 
 /// Which writes a sweep cuts.
 #[derive(Clone, Copy)]
@@ -12,8 +12,32 @@ pub struct Plan {
     pub seed: u32,
 }
 
-/// Who is told how far a sweep is.
+/// What a sweep does.
+#[derive(Clone, Copy)]
+pub enum Step {
+    /// It runs the script for the first time, without a cut, and counts the writes: the event of
+    /// this number comes, from 1, of so many.
+    Counting {
+        /// The number of the event.
+        event: usize,
+        /// How many events there are.
+        events: usize,
+    },
+    /// It runs the script once more without a cut, to see what runs at its end.
+    Uncut,
+    /// It makes the runs with cuts.
+    Cutting {
+        /// How many parts are done. A part is all runs of one write, or one draw of a sample.
+        done: u32,
+        /// How many parts there are.
+        all: u32,
+        /// How many runs were made.
+        runs: u64,
+    },
+}
+
+/// Who is told what a sweep does.
 pub trait Watch {
-    /// So many of so many parts are done; a part is all runs of one write, or one run of a sample.
-    fn see(&mut self, done: u32, all: u32);
+    /// The sweep does this now.
+    fn see(&mut self, step: Step);
 }

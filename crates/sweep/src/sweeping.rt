@@ -9,7 +9,7 @@ use crate::device::device_over;
 use crate::found::{Found, Mark, Tally, is_same};
 use crate::living::{Life, live};
 use crate::notes::{CutNote, LifeEnd, had_memory};
-use crate::plan::{Plan, Watch};
+use crate::plan::{Plan, Step, Watch};
 use arrayvec::ArrayVec;
 use boot_core::{Device, step};
 use common::limits::MOST_IMAGES;
@@ -36,8 +36,26 @@ struct EndsBeside {
     behind: Option<ArrayVec<Version, MOST_IMAGES>>,
 }
 
+/// How far the runs with cuts are, for who watches.
+#[derive(Drop)]
+struct Parts<'a, W> {
+    watch: &'a mut W,
+    /// How many parts are done.
+    done: u32,
+    /// How many there are.
+    all: u32,
+}
+
+impl<W: Watch> Parts<'_, W> {
+    /// Tells who watches that so many runs were made.
+    fn tell(&mut self, runs: u64) {
+        let (done, all) = (self.done, self.all);
+        self.watch.see(Step::Cutting { done, all, runs });
+    }
+}
+
 /// Lives a life once without a cut, and then once with each write cut in each way, or as `plan`
-/// says. Who watches is told after each part.
+/// says. Who watches is told of each event of the first run, and of each run behind it.
 ///
 /// A device that has no memory for a manifest ends the sweep. In memory of `alloc`
 /// stand two copies of the flash at a time, and a few numbers for each write and each event.
@@ -53,7 +71,7 @@ pub fn sweep<W: Watch>(
     requires device { IsOfFile life.now.device.now }
     requires whole { IsFlashOf life.now.device.now.map life.now.bytes.now }
 {
-    let writes = count_writes::<Brand>(alloc, Blank::new(2), life)?;
+    let writes = count_writes::<Brand, _>(alloc, Blank::new(2), life, watch)?;
     let count = writes.last().copied().unwrap_or(0);
     let marks = vec![in alloc; Mark::NotTried; count as usize]?;
     let mut found = Found {
@@ -64,6 +82,7 @@ pub fn sweep<W: Watch>(
         others: Tally::none(),
         refused: Tally::none(),
     };
+    watch.see(Step::Uncut);
     let end = live(alloc, life, &[])?;
     found.count_run(None, end)?;
     match plan.sample {
@@ -74,10 +93,11 @@ pub fn sweep<W: Watch>(
 }
 
 /// For each event the number of writes that were made when it was over. No write is cut.
-fn count_writes<L: Ledger>(
+fn count_writes<L: Ledger, W: Watch>(
     alloc: Global,
     blank: Blank,
     life: &Life<'_>,
+    watch: &mut W,
 ) -> Result<Vec<u32>, AllocError>
     requires name { blank.name ≡ L.name }
     requires parts { blank.parts ≡ L.parts }
@@ -88,20 +108,25 @@ fn count_writes<L: Ledger>(
     let bytes = Vec::from_slice(alloc, life.bytes)?;
     let flash = flash_of::<L>(alloc, blank, &life.device.map, bytes);
     let mut device = device_over(flash, life.device);
-    count_through(alloc, &mut device, life.events)
+    count_through(alloc, &mut device, life.events, watch)
 }
 
 /// For each of these events, as they come to a device whose flash has power, the number of writes
 /// that were made when it was over.
-fn count_through<L: Ledger>(
+fn count_through<L: Ledger, W: Watch>(
     alloc: Global,
     device: &mut Device<MemFlash<L>>,
     events: &[Event<Vec<u8>>],
+    watch: &mut W,
 ) -> Result<Vec<u32>, AllocError>
     requires { device.old.here.flash.is_on ≡ true }
 {
     let mut writes = Vec::with_capacity(alloc, events.len())?;
     for event in events {
+        watch.see(Step::Counting {
+            event: writes.len().saturating_add(1),
+            events: events.len(),
+        });
         let event = event.as_deref();
         let reply = step(alloc, device, &event);
         had_memory(&reply)?;
@@ -124,69 +149,77 @@ fn cut_each<W: Watch>(
 {
     let count = found.marks.len().min(u32::MAX as usize) as u32;
     let mut beside = None;
+    let mut parts = Parts {
+        watch,
+        done: 0,
+        all: count,
+    };
     for done in 0..count {
-        cut_write(alloc, life, done + 1, is_twice, found, &mut beside)?;
-        watch.see(done + 1, count);
+        parts.done = done;
+        cut_write(alloc, life, is_twice, found, &mut beside, &mut parts)?;
     }
     Ok(())
 }
 
-/// Cuts a write in each way.
-fn cut_write(
+/// Cuts the write behind those that are done in each way.
+fn cut_write<W: Watch>(
     alloc: Global,
     life: &Life<'_>,
-    write: u32,
     is_twice: bool,
     found: &mut Found,
     beside: &mut Option<EndsBeside>,
+    parts: &mut Parts<'_, W>,
 ) -> Result<(), AllocError>
     requires device { IsOfFile life.now.device.now }
     requires whole { IsFlashOf life.now.device.now.map life.now.bytes.now }
 {
+    let write = parts.done.saturating_add(1);
     for tear in &TEARS {
         let first = Cut { write, tear: *tear };
-        let behind = try_cuts(alloc, life, Cuts::One(first), found, beside)?;
+        let behind = try_cuts(alloc, life, Cuts::One(first), found, beside, parts)?;
         if is_twice {
-            cut_behind(alloc, life, first, behind, found, beside)?;
+            cut_behind(alloc, life, first, behind, found, beside, parts)?;
         }
     }
     Ok(())
 }
 
 /// Cuts each write of the boot behind a cut too, which makes so many.
-fn cut_behind(
+fn cut_behind<W: Watch>(
     alloc: Global,
     life: &Life<'_>,
     first: Cut,
     behind: u32,
     found: &mut Found,
     beside: &mut Option<EndsBeside>,
+    parts: &mut Parts<'_, W>,
 ) -> Result<(), AllocError>
     requires device { IsOfFile life.now.device.now }
     requires whole { IsFlashOf life.now.device.now.map life.now.bytes.now }
 {
     for place in 0..behind {
         let write = first.write.saturating_add(place).saturating_add(1);
-        cut_second(alloc, life, first, write, found, beside)?;
+        cut_second(alloc, life, first, write, found, beside, parts)?;
     }
     Ok(())
 }
 
 /// Cuts a write behind a cut in each way.
-fn cut_second(
+fn cut_second<W: Watch>(
     alloc: Global,
     life: &Life<'_>,
     first: Cut,
     write: u32,
     found: &mut Found,
     beside: &mut Option<EndsBeside>,
+    parts: &mut Parts<'_, W>,
 ) -> Result<(), AllocError>
     requires device { IsOfFile life.now.device.now }
     requires whole { IsFlashOf life.now.device.now.map life.now.bytes.now }
 {
     for tear in &TEARS {
         let second = Cut { write, tear: *tear };
-        try_cuts(alloc, life, Cuts::Two(first, second), found, beside)?;
+        try_cuts(alloc, life, Cuts::Two(first, second), found, beside, parts)?;
     }
     Ok(())
 }
@@ -207,17 +240,24 @@ fn cut_some<W: Watch>(
     let mut beside = None;
     // The generator takes any number but 0.
     let mut random = Random::new(plan.seed.max(1));
+    let mut parts = Parts {
+        watch,
+        done: 0,
+        all: runs,
+    };
     for done in 0..runs {
+        parts.done = done;
         let Some(first) = drawn(&mut random, 0, count) else {
             return Ok(());
         };
-        let behind = try_cuts(alloc, life, Cuts::One(first), found, &mut beside)?;
+        let cuts = Cuts::One(first);
+        let behind = try_cuts(alloc, life, cuts, found, &mut beside, &mut parts)?;
         if plan.is_twice {
             if let Some(second) = drawn(&mut random, first.write, behind) {
-                try_cuts(alloc, life, Cuts::Two(first, second), found, &mut beside)?;
+                let cuts = Cuts::Two(first, second);
+                try_cuts(alloc, life, cuts, found, &mut beside, &mut parts)?;
             }
         }
-        watch.see(done + 1, runs);
     }
     Ok(())
 }
@@ -244,12 +284,13 @@ fn tear_at(number: u32) -> Tear {
 /// Lives a life with these cuts, and counts what came of it. The answer is how many writes there
 /// were from the one behind the first that was cut to the end of the boot that was not cut any
 /// more.
-fn try_cuts(
+fn try_cuts<W: Watch>(
     alloc: Global,
     life: &Life<'_>,
     cuts: Cuts,
     found: &mut Found,
     beside: &mut Option<EndsBeside>,
+    parts: &mut Parts<'_, W>,
 ) -> Result<u32, AllocError>
     requires device { IsOfFile life.now.device.now }
     requires whole { IsFlashOf life.now.device.now.map life.now.bytes.now }
@@ -268,6 +309,7 @@ fn try_cuts(
         }
     }
     found.count_run(Some(cuts), end)?;
+    parts.tell(found.all.runs);
     Ok(behind)
 }
 

@@ -1,4 +1,4 @@
-use Rattle.std.proofs.Common.{◌≡◌, ◌<◌, ◌≤◌, ◌∙◌, ap, arith, refl}
+use Rattle.std.proofs.Common.{◌≡◌, ◌∙◌, ap, arith, refl}
 use Rattle.std.proofs.lemmas.List.{get_or_default}
 use Rattle.flash_model.specs.Chip.{Chip}
 use Rattle.flash_model.specs.Memory.{chip_of}

@@ -1,25 +1,24 @@
 use Rattle.std.proofs.Common.{rules}
-use Rattle.sweep.proofs.CutRuns.{step_cut}
 use Rattle.sweep.proofs.LivingLaws.{reboots_more}
 use Rattle.sweep.proofs.living.boot_again.Goals as goal
 
 -- A boot wasn't cut.
 pub returns-then-not-is_cut-clause-reboots : goal.returns-then-not-is_cut-clause-reboots
 returns-then-not-is_cut-clause-reboots g c =
-    reboots_more c.args.device.now.setup c.loop.device.setup _ _ _ c.step-reply.result c.loop.invariant.reboots
-    c.loop.invariant.setup (step_cut c.step-reply.ensures)
+    reboots_more c.args.device.now.setup c.loop.device.setup _ _ _ c.reply_to-reply.result c.loop.invariant.reboots
+    c.loop.invariant.setup c.reply_to-reply.ensures.steps
 
 -- It was, and the device boots again.
 pub loop-preserved : goal.loop-preserved
 loop-preserved g c = record {
   setup = search rules;
   on = search rules;
-  reboots = reboots_more c.args.device.now.setup c.loop.device.setup _ _ _ c.step-reply.result
-      c.loop.invariant.reboots c.loop.invariant.setup (step_cut c.step-reply.ensures);
+  reboots = reboots_more c.args.device.now.setup c.loop.device.setup _ _ _ c.reply_to-reply.result
+      c.loop.invariant.reboots c.loop.invariant.setup c.reply_to-reply.ensures.steps;
 }
 
 -- The last boot.
 pub returns-clause-reboots : goal.returns-clause-reboots
 returns-clause-reboots g c =
-    reboots_more c.args.device.now.setup c.loop.device.setup _ _ _ c.step.result c.loop.invariant.reboots
-    c.loop.invariant.setup (step_cut c.step.ensures)
+    reboots_more c.args.device.now.setup c.loop.device.setup _ _ _ c.reply_to.result c.loop.invariant.reboots
+    c.loop.invariant.setup c.reply_to.ensures.steps

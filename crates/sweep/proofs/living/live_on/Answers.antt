@@ -1,6 +1,5 @@
-use Rattle.std.proofs.Common.{◌≡◌, ◌∙◌, ap, subst}
-use Rattle.flash_model.specs.Chip.{Chip, reached}
-use Rattle.sweep.proofs.CutRuns.{cut_as_armed}
+use Rattle.std.proofs.Common.{◌∙◌, ap}
+use Rattle.flash_model.specs.Chip.{Chip}
 use Rattle.sweep.proofs.LivingLaws.{armed_flash}
 use Rattle.sweep.proofs.living.live_on.Goals as goal
 
@@ -25,9 +24,5 @@ returns g c =
       down = made.down;
       closed = made.closed;
       lives = lived;
-      cut = cut_as_armed _ _ _ c.args.life.now.device.now.map c.args.life.now.bytes.now arms.armed lived.events
-          lived.replies over lived.runs
-          (subst (λ (chip : Chip). chip.cuts ≡ reached chip.fixed.numbers chip.writes) c.into_flash-flash.ensures.flash
-          c.into_flash-flash.result.cut_as_armed);
       running = rw c.into_flash-flash.ensures.flash at c.running_versions-versions.ensures;
     }
