@@ -1,5 +1,6 @@
 //! Why a command ended as it did.
 
+use crate::hint::hint_at_notes;
 use crate::inputs::{Inputs, inputs_of};
 use crate::refused::{explain_answer, explain_choice};
 use crate::remembering::Remembering;
@@ -10,16 +11,36 @@ use common::lines::first_line;
 use device_texts::DeviceFile;
 use explanations::{
     Shown, explain_device, explain_report_line, explain_running, explain_script_line,
-    explain_table_line,
+    explain_table_line, file_named_at,
 };
 use script::{Event, Line, line_of};
 use std::alloc::{AllocError, Global};
 use std::io::Write;
 
-/// Writes to `err` why a command ended so: the command of `order`, which was run over `host`. The
-/// notes are made in memory of `alloc`. There are none where there was no memory to keep what was
-/// read.
-pub fn explain_end<H: Host, E: Write>(
+/// The number by which the system refuses to write to a file that is open to be read alone (`EBADF`).
+const BAD_FILE: i32 = 9;
+
+/// Writes to `err` the notes on how the command of `order` ended, which was run over `host`: why it
+/// ended so, if that is asked for, and else that this can be asked for, where somebody at a terminal
+/// reads them. They are made in memory of `alloc`.
+pub fn note_end<H: Host, E: Write>(
+    alloc: Global,
+    order: &Order<'_>,
+    is_explained: bool,
+    outcome: &Result<Answer, Refusal>,
+    host: &Remembering<H>,
+    err: &mut E,
+) {
+    if is_explained {
+        explain_end(alloc, order, outcome, host, err);
+    } else {
+        hint_at_notes(outcome, host, err);
+    }
+}
+
+/// Writes to `err` why a command ended so. There are no notes where there was no memory to keep what
+/// was read.
+fn explain_end<H: Host, E: Write>(
     alloc: Global,
     order: &Order<'_>,
     outcome: &Result<Answer, Refusal>,
@@ -64,12 +85,15 @@ fn explain_refusal<H: Host>(
         Refusal::DeviceFile => explain_device(notes, alloc, read(host, inputs.device)),
         Refusal::ScriptLine(number) => {
             let may_cut = !matches!(order, Order::Sweep { .. });
-            explain_script_line(notes, read(host, inputs.script), number, may_cut)
+            let (text, length) = (read(host, inputs.script), named_length(order, number, host));
+            explain_script_line(notes, text, number, may_cut, length)
         }
-        Refusal::OfSource(ref refused) => explain_source(notes, inputs, refused, host),
+        Refusal::OfSource(ref refused) => explain_source(notes, order, inputs, refused, host),
         Refusal::FlashFile => explain_flash(notes, order, host),
+        Refusal::FlashInUse => explain_use(notes, flash_name(order)),
+        Refusal::ImageInUse => explain_use(notes, new_file_name(order)),
         Refusal::FlashSize | Refusal::ImageCount | Refusal::NoImage(_) | Refusal::ImageTooBig(_) =>
-            explain_size(alloc, notes, inputs, refusal, host),
+            explain_size(alloc, notes, order, refusal, host),
         _ => Ok(()),
     }
 }
@@ -82,10 +106,11 @@ pub fn read<'r, H: Host>(host: &'r Remembering<H>, source: Option<Source<'_>>) -
     }
 }
 
-/// Adds what the system says of a file that can't be read or written, and which line of a script
-/// names one that can't be read.
+/// Adds what the system says of a file that can't be read or written, which line of a script names
+/// one that can't be read, and how one is replaced that holds no image.
 fn explain_source<H: Host>(
     notes: &mut String,
+    order: &Order<'_>,
     inputs: Inputs<'_>,
     refused: &SourceRefusal,
     host: &Remembering<H>,
@@ -97,7 +122,26 @@ fn explain_source<H: Host>(
             explain_place(notes, source, read(host, inputs.script))
         }
         SourceFault::CannotReplace => explain_error(notes, source, host),
+        SourceFault::NoImage => explain_names(notes, order, source),
         SourceFault::TooLong(_) => Ok(()),
+    }
+}
+
+/// Adds in which order a command has its names, and how a file is replaced that holds no image.
+fn explain_names(
+    notes: &mut String,
+    order: &Order<'_>,
+    source: Source<'_>,
+) -> Result<(), AllocError> {
+    match order {
+        Order::MakeImage { body, .. } => {
+            let body = Source::named(body);
+            writeln!(
+                notes,
+                "note: OUT comes first, then BODY: `--force` replaces {source} by an image of {body}"
+            )
+        }
+        _ => writeln!(notes, "note: `--force` replaces {source} by the image"),
     }
 }
 
@@ -113,6 +157,69 @@ fn explain_error<H: Host>(
     }
 }
 
+/// How many bytes the file has that the line of this number names, where that is known. Of standard
+/// input it is where no word of the command names that.
+fn named_length<H: Host>(order: &Order<'_>, number: usize, host: &Remembering<H>) -> Option<u64> {
+    let inputs = inputs_of(order);
+    let name = file_named_at(read(host, inputs.script), number)?;
+    if !Source::named(name).is_standard_input() {
+        return host.length.get();
+    }
+    let is_word = match order {
+        Order::Sweep { images, .. } => images
+            .as_slice()
+            .iter()
+            .any(|image| Source::named(image).is_standard_input()),
+        _ => false,
+    };
+    let is_read = is_word || is_input(inputs.device) || is_input(inputs.script);
+    if is_read {
+        return None;
+    }
+    Some(host.kept.input().len() as u64)
+}
+
+/// Whether an input is standard input.
+fn is_input(source: Option<Source<'_>>) -> bool {
+    source.is_some_and(|source| source.is_standard_input())
+}
+
+/// The word that names the new file of an order that makes an image.
+fn new_file_name<'a>(order: &Order<'a>) -> Option<&'a str> {
+    match order {
+        Order::MakeImage { image: file, .. } | Order::Extract { out: file, .. } => Some(file.name),
+        _ => None,
+    }
+}
+
+/// Adds which file another program holds: this one.
+fn explain_use(notes: &mut String, name: Option<&str>) -> Result<(), AllocError> {
+    match name {
+        Some(name) => {
+            let file = Source::File(name);
+            writeln!(
+                notes,
+                "note: another program holds {file}, or is replacing it: one that writes it holds \
+                 it alone"
+            )
+        }
+        None => Ok(()),
+    }
+}
+
+/// The word that names the flash of an order.
+fn flash_name<'a>(order: &Order<'a>) -> Option<&'a str> {
+    match order {
+        Order::Provision { flash, .. }
+        | Order::Extract { flash, .. }
+        | Order::Show { flash, .. }
+        | Order::Slots { flash, .. }
+        | Order::Run { flash, .. } => Some(*flash),
+        Order::MakeManifest { manifest, .. } => manifest.precursor,
+        _ => None,
+    }
+}
+
 /// Adds the system's reason for which the file of a flash can't be made or written.
 fn explain_flash<H: Host>(
     notes: &mut String,
@@ -120,10 +227,27 @@ fn explain_flash<H: Host>(
     host: &Remembering<H>,
 ) -> Result<(), AllocError> {
     match order {
+        Order::Run { flash, .. } if is_only_read(host) => {
+            let file = Source::File(flash);
+            writeln!(
+                notes,
+                "note: {file} can't be opened for writing: its permissions, or those of its file \
+                 system, allow only reading"
+            )
+        }
         Order::Run { flash, .. } | Order::Provision { flash, .. } => {
             explain_error(notes, Source::named(flash), host)
         }
         _ => Ok(()),
+    }
+}
+
+/// Whether the last error of the system is that a file is open to be read alone, as that of a flash
+/// is that can't be opened for writing.
+fn is_only_read<H: Host>(host: &Remembering<H>) -> bool {
+    match host.error.get() {
+        Some(error) => error.raw_os_error() == Some(BAD_FILE),
+        None => false,
     }
 }
 
@@ -155,23 +279,21 @@ fn names_file(line: &[u8], name: &str) -> bool {
     }
 }
 
-/// Adds the size that is asked for by the device file.
+/// Adds the size that is asked for by the device file, and that of a flash that has another one.
 fn explain_size<H: Host>(
     alloc: Global,
     notes: &mut String,
-    inputs: Inputs<'_>,
+    order: &Order<'_>,
     refusal: &Refusal,
     host: &Remembering<H>,
 ) -> Result<(), AllocError> {
-    let Ok(device) = DeviceFile::read(alloc, read(host, inputs.device)) else {
+    let device = read(host, inputs_of(order).device);
+    let Ok(device) = DeviceFile::read(alloc, device) else {
         return Ok(());
     };
     let map = device.map;
     match *refusal {
-        Refusal::FlashSize => {
-            let bytes = map.bytes_in_all();
-            writeln!(notes, "note: the flash of the device has {bytes} bytes")
-        }
+        Refusal::FlashSize => explain_flash_size(notes, order, map.bytes_in_all(), host),
         Refusal::ImageTooBig(image) if image < map.images => {
             let bytes = map.slot_length(image);
             writeln!(notes, "note: the slot of image {image} has {bytes} bytes")
@@ -180,5 +302,35 @@ fn explain_size<H: Host>(
             let images = map.images;
             writeln!(notes, "note: the device has {images} images, from 0 on")
         }
+    }
+}
+
+/// Adds how many bytes the flash of an order has, where that is known, and how many it has to have.
+fn explain_flash_size<H: Host>(
+    notes: &mut String,
+    order: &Order<'_>,
+    most: u32,
+    host: &Remembering<H>,
+) -> Result<(), AllocError> {
+    let Some(name) = flash_name(order) else {
+        return Ok(());
+    };
+    let source = Source::named(name);
+    let is_input = source.is_standard_input();
+    let length = if is_input {
+        Some(host.kept.input().len() as u64)
+    } else {
+        host.length.get()
+    };
+    match length {
+        Some(length) if is_input && length > u64::from(most) => writeln!(
+            notes,
+            "note: {source} has more bytes than the flash of the device, which has {most}"
+        ),
+        Some(length) => writeln!(
+            notes,
+            "note: {source} has {length} bytes, and the flash of the device has {most}"
+        ),
+        None => writeln!(notes, "note: the flash of the device has {most} bytes"),
     }
 }

@@ -34,8 +34,11 @@ pub fn inputs_of<'a>(order: &Order<'a>) -> Inputs<'a> {
             inputs.device = named(device);
             inputs.file = named(file);
         }
-        Order::MakeManifest { device, .. } | Order::Provision { device, .. } => inputs.device =
-            named(device),
+        Order::MakeManifest { device, manifest } => {
+            inputs.device = named(device);
+            inputs.flash = manifest.precursor.map(Source::named);
+        }
+        Order::Provision { device, .. } => inputs.device = named(device),
         Order::Show { device, flash }
         | Order::Slots { device, flash }
         | Order::Extract { device, flash, .. } => {

@@ -31,9 +31,14 @@ impl Kept {
         }
     }
 
-    /// Keeps from now on what is read.
-    pub fn start(&mut self) {
-        self.is_on = true;
+    /// Keeps from now on what is read, if that is asked for.
+    pub fn start(&mut self, is_asked: bool) {
+        self.is_on = is_asked;
+    }
+
+    /// Whether what is read is kept.
+    pub fn is_on(&self) -> bool {
+        self.is_on
     }
 
     /// Keeps what the file of this name holds.

@@ -1,12 +1,14 @@
 //! Why an answer is a no or a refusal, and why requests are refused.
 
-ghost use Rattle.std.specs.Prelude.{◌≡◌, ◌<◌};
-ghost use Rattle.device_texts.specs.FlashOf.{IsFlashOf, flash_of};
-ghost use Rattle.image_reading.specs.Slot.{slot_bytes};
+ghost use Rattle.std.specs.Prelude.{◌≡◌};
+ghost use Rattle.device_texts.specs.FlashOf.{IsFlashOf};
 
 use crate::ends::read;
+use crate::faults::explain_no_state;
 use crate::inputs::Inputs;
+use crate::making::{explain_new_device, explain_new_image, explain_new_manifest};
 use crate::remembering::Remembering;
+use crate::slots::{begins_intact, explain_slot};
 use arrayvec::ArrayVec;
 use certificate::{Image, Report, Request, Table, is_valid};
 use chooser::choose;
@@ -18,7 +20,7 @@ use explanations::{
     explain_image, explain_manifest, explain_map, explain_no, explain_refusals, explain_running,
 };
 use image_reading::{ImageError, describe};
-use reading_inputs::table_on;
+use reading_inputs::{has_state, table_on};
 use sector_map::{SectorMap, Side};
 use std::alloc::{AllocError, Global};
 use std::marker::Brand;
@@ -61,28 +63,58 @@ pub fn explain_answer<H: Host>(
     match order {
         Order::Check { .. } => explain_verdict(notes, inputs, host),
         Order::Image { .. } => explain_file(notes, read(host, inputs.file)),
-        Order::Manifest { .. } => match DeviceFile::read(alloc, device) {
-            Ok(device) => {
-                explain_manifest(notes, alloc, read(host, inputs.file), &device.identity)
-            }
-            Err(_) => Ok(()),
-        },
-        Order::Extract { image, side, .. } => match DeviceFile::read(alloc, device) {
-            Ok(device) => {
-                let slot = slot_of(&device.map, read(host, inputs.flash), *image, *side);
-                explain_file(notes, slot)
-            }
-            Err(_) => Ok(()),
-        },
+        Order::MakeDevice { device } => explain_new_device(notes, device),
+        Order::MakeImage { values, .. } => explain_new_image(notes, values),
         Order::Provision { images, .. } | Order::Sweep { images, .. } => {
             explain_images(notes, images.as_slice(), host)
         }
-        Order::Slots { .. } | Order::Run { .. } => match table_of_flash(alloc, inputs, host)? {
-            Some(table) => explain_running(notes, &table),
-            None => Ok(()),
+        _ => match DeviceFile::read(alloc, device) {
+            Ok(device) => explain_of_device(alloc, notes, order, inputs, &device, host),
+            Err(_) => Ok(()),
+        },
+    }
+}
+
+/// Adds why an answer is a refusal that is about a device and its flash.
+fn explain_of_device<H: Host>(
+    alloc: Global,
+    notes: &mut String,
+    order: &Order<'_>,
+    inputs: Inputs<'_>,
+    device: &DeviceFile,
+    host: &Remembering<H>,
+) -> Result<(), AllocError> {
+    let (map, flash) = (&device.map, read(host, inputs.flash));
+    match order {
+        Order::Manifest { .. } => {
+            explain_manifest(notes, alloc, read(host, inputs.file), &device.identity)
+        }
+        Order::MakeManifest { manifest, .. } => {
+            explain_new_manifest(notes, device, manifest, flash)
+        }
+        Order::Extract { image, side, .. } => explain_slot(notes, map, flash, *image, *side),
+        Order::Show { .. } => explain_no_state(notes),
+        Order::Slots { .. } => match standing_on(alloc, map, flash)? {
+            Standing::NoState => explain_no_state(notes),
+            Standing::Table(table) => explain_running(notes, &table),
+            Standing::NoTable => explain_damaged(notes, map, flash),
+        },
+        Order::Run { .. } => match standing_on(alloc, map, flash)? {
+            Standing::Table(table) => explain_running(notes, &table),
+            _ => Ok(()),
         },
         _ => Ok(()),
     }
+}
+
+/// Adds why the first primary slot that begins with no intact image does so.
+fn explain_damaged(notes: &mut String, map: &SectorMap, flash: &[u8]) -> Result<(), AllocError> {
+    for image in 0..map.images {
+        if !begins_intact(map, flash, image, Side::Primary) {
+            return explain_slot(notes, map, flash, image, Side::Primary);
+        }
+    }
+    Ok(())
 }
 
 /// Adds why a report isn't right for a table.
@@ -105,22 +137,6 @@ fn explain_file(notes: &mut String, bytes: &[u8]) -> Result<(), AllocError> {
         Ok(_) => Ok(()),
         Err(fault) => explain_image(notes, bytes, fault),
     }
-}
-
-/// What a flash of these bytes has in a slot.
-fn slot_of<'f>(map: &SectorMap, flash: &'f [u8], image: u8, side: Side) -> &'f [u8]
-    ensures { image < map.now.images → IsFlashOf map.now flash.now
-        → result.now ≡ slot_bytes map.now (flash_of map.now flash.now) image side }
-{
-    if image >= map.images {
-        return &[];
-    }
-    let start = map.slot_start(image, side) as usize;
-    let end = start + map.slot_length(image) as usize;
-    if end > flash.len() {
-        return &[];
-    }
-    &flash[start..end]
 }
 
 /// Adds why files are no images that run together.
@@ -155,6 +171,17 @@ fn explain_images<H: Host>(
     explain_running(notes, &table)
 }
 
+/// What a flash says of its device.
+#[derive(Drop)]
+enum Standing {
+    /// Nothing: its log has no state.
+    NoState,
+    /// This, and the device is at rest.
+    Table(Table),
+    /// The device isn't at rest, or what runs can't be read.
+    NoTable,
+}
+
 /// The table of a flash that was read, where its device is at rest.
 fn table_of_flash<H: Host>(
     alloc: Global,
@@ -164,26 +191,35 @@ fn table_of_flash<H: Host>(
     let Ok(device) = DeviceFile::read(alloc, read(host, inputs.device)) else {
         return Ok(None);
     };
-    let bytes = read(host, inputs.flash);
-    if bytes.len() != device.map.bytes_in_all() as usize {
-        return Ok(None);
+    match standing_on(alloc, &device.map, read(host, inputs.flash))? {
+        Standing::Table(table) => Ok(Some(table)),
+        _ => Ok(None),
     }
-    let bytes = Vec::from_slice(alloc, bytes)?;
-    Ok(table_in::<Brand>(alloc, Blank::new(2), &device.map, bytes))
 }
 
-/// The table of a flash of these bytes.
-fn table_in<L: Ledger>(
-    alloc: Global,
-    blank: Blank,
-    map: &SectorMap,
-    bytes: Vec<u8>,
-) -> Option<Table>
+/// What a flash of these bytes says of its device, where they are as many as its map has.
+fn standing_on(alloc: Global, map: &SectorMap, bytes: &[u8]) -> Result<Standing, AllocError> {
+    if bytes.len() != map.bytes_in_all() as usize {
+        return Ok(Standing::NoTable);
+    }
+    let bytes = Vec::from_slice(alloc, bytes)?;
+    Ok(standing_in::<Brand>(alloc, Blank::new(2), map, bytes))
+}
+
+/// What a flash of these bytes says of its device.
+fn standing_in<L: Ledger>(alloc: Global, blank: Blank, map: &SectorMap, bytes: Vec<u8>) -> Standing
     requires name { blank.name ≡ L.name }
     requires parts { blank.parts ≡ L.parts }
     requires two { L.parts ≡ 2 }
     requires whole { IsFlashOf map.now bytes.items }
 {
     let mut flash = flash_of::<L>(alloc, blank, map, bytes);
-    table_on(&mut flash, map)
+    if let Some(table) = table_on(&mut flash, map) {
+        return Standing::Table(table);
+    }
+    if has_state(&mut flash, map) {
+        Standing::NoTable
+    } else {
+        Standing::NoState
+    }
 }

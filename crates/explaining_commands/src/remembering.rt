@@ -1,7 +1,7 @@
 //! A host that remembers what was read from it.
 
 use crate::kept::Kept;
-use command_ends::{Access, FlashFault, Host, Source};
+use command_ends::{Access, FlashFault, Host, Replaced, Source};
 use std::alloc::Global;
 use std::cell::Cell;
 use std::io;
@@ -16,6 +16,8 @@ pub struct Remembering<H> {
     pub kept: Kept,
     /// The last error of the system. A host that is lent to a flash tells its errors too.
     pub error: Cell<Option<io::Error>>,
+    /// How many bytes the file has that was asked last for more or fewer, where what is read is kept.
+    pub length: Cell<Option<u64>>,
 }
 
 impl<H: Host> Remembering<H> {
@@ -26,6 +28,23 @@ impl<H: Host> Remembering<H> {
             host,
             kept: Kept::new(alloc),
             error: Cell::new(None),
+            length: Cell::new(None),
+        }
+    }
+
+    /// Keeps why the file of this name can't be had or replaced.
+    fn keep_fault(&self, name: &str, fault: FlashFault) {
+        match fault {
+            FlashFault::Failed(error) => self.error.set(Some(error)),
+            FlashFault::WrongLength => self.keep_length(name),
+            FlashFault::InUse | FlashFault::NoMemory => {}
+        }
+    }
+
+    /// Keeps how many bytes the file of this name has, which isn't as long as is asked for.
+    fn keep_length(&self, name: &str) {
+        if self.kept.is_on() {
+            self.length.set(self.host.length_of(name).ok());
         }
     }
 
@@ -85,8 +104,10 @@ impl<H: Host> Host for Remembering<H> {
         count: usize,
     ) -> io::Result<Option<Vec<u8>>> {
         let read = self.host.read_part(alloc, name, from, count);
-        if let Err(error) = &read {
-            self.error.set(Some(*error));
+        match &read {
+            Ok(Some(_)) => {}
+            Ok(None) => self.keep_length(name),
+            Err(error) => self.error.set(Some(*error)),
         }
         read
     }
@@ -95,8 +116,28 @@ impl<H: Host> Host for Remembering<H> {
         self.host.is_plain(name)
     }
 
+    fn length_of(&self, name: &str) -> io::Result<u64> {
+        self.host.length_of(name)
+    }
+
     fn is_same_file(&self, one: &str, other: &str) -> io::Result<bool> {
-        self.host.is_same_file(one, other)
+        let is_same = self.host.is_same_file(one, other);
+        if let Err(error) = &is_same {
+            self.error.set(Some(*error));
+        }
+        is_same
+    }
+
+    fn is_input(&self, name: &str) -> io::Result<bool> {
+        self.host.is_input(name)
+    }
+
+    fn check_replaceable(&self, alloc: Global, name: &str) -> Result<(), FlashFault> {
+        let checked = self.host.check_replaceable(alloc, name);
+        if let Err(FlashFault::Failed(error)) = &checked {
+            self.error.set(Some(*error));
+        }
+        checked
     }
 
     fn open_flash(
@@ -109,8 +150,7 @@ impl<H: Host> Host for Remembering<H> {
         let opened = self.host.open_flash(alloc, name, length, access);
         match &opened {
             Ok(bytes) => self.kept.keep_file(name, bytes),
-            Err(FlashFault::Failed(error)) => self.error.set(Some(*error)),
-            Err(_) => {}
+            Err(fault) => self.keep_fault(name, *fault),
         }
         opened
     }
@@ -131,12 +171,18 @@ impl<H: Host> Host for Remembering<H> {
         synced
     }
 
-    fn replace_file(&mut self, alloc: Global, name: &str, bytes: &[u8]) -> Result<(), FlashFault> {
-        let replaced = self.host.replace_file(alloc, name, bytes);
-        if let Err(FlashFault::Failed(error)) = &replaced {
-            self.error.set(Some(*error));
+    fn replace_file(
+        &mut self,
+        alloc: Global,
+        name: &str,
+        bytes: &[u8],
+        replaced: Replaced,
+    ) -> Result<(), FlashFault> {
+        let done = self.host.replace_file(alloc, name, bytes, replaced);
+        if let Err(fault) = &done {
+            self.keep_fault(name, *fault);
         }
-        replaced
+        done
     }
 
     fn watched_seconds(&self) -> Option<u64> {

@@ -1,5 +1,7 @@
 //! Why the replies of a run are as they are.
 
+use crate::faults::explain_state;
+use crate::trials::Trials;
 use crate::uploads::{Uploads, explain_opening};
 use device_texts::DeviceFile;
 use events::Event;
@@ -16,12 +18,14 @@ pub struct ReplyNotes<'e, E> {
     alloc: Global,
     device: Option<DeviceFile>,
     uploads: Uploads,
+    trials: Trials,
     err: Option<&'e mut E>,
 }
 
 impl<E: Write> RunNotes for ReplyNotes<'_, E> {
-    fn begin(&mut self, device: &DeviceFile) {
+    fn begin(&mut self, device: &DeviceFile, flash: &[u8]) {
         self.device = Some(*device);
+        self.trials = Trials::on(&device.map, flash);
     }
 
     /// Writes why this is the reply to the event of this number, where there is something to say.
@@ -55,6 +59,7 @@ impl<'e, E: Write> ReplyNotes<'e, E> {
             alloc,
             device: None,
             uploads: Uploads::new(alloc),
+            trials: Trials::default(),
             err,
         }
     }
@@ -67,31 +72,78 @@ impl<'e, E: Write> ReplyNotes<'e, E> {
         event: &Event<Vec<u8>>,
         reply: &Reply,
     ) -> Result<(), AllocError> {
-        match (event, reply) {
-            (Event::Accept(text), Reply::Done) => {
-                match Manifest::read(self.alloc, text, &device.identity) {
-                    Ok(manifest) => self.uploads.open(&manifest),
-                    Err(_) => Ok(()),
-                }
+        self.keep_request(event, reply);
+        match reply {
+            Reply::Done => self.keep_bytes(device, event),
+            Reply::Refused(fault) => self.explain_fault(notes, device, event, *fault),
+            Reply::Booted {
+                table,
+                report,
+                permanent,
+            } => {
+                explain_refusals(notes, table, report)?;
+                self.trials.begin(notes, report, *permanent)
             }
-            (Event::Accept(text), Reply::Refused(Fault::Manifest(_))) => {
+            Reply::Reverted(set) => self.trials.revert(notes, *set),
+            Reply::TrialAgain { .. } | Reply::Cut => Ok(()),
+        }
+    }
+
+    /// Keeps how an image is requested whose upload was finished. One that power cut may be requested
+    /// too.
+    fn keep_request(&mut self, event: &Event<Vec<u8>>, reply: &Reply) {
+        let Event::Finish(image) = event else {
+            return;
+        };
+        if let Reply::Done | Reply::Cut = reply
+            && let Some(permanent) = self.uploads.is_permanent(*image)
+        {
+            self.trials.request(*image, permanent);
+        }
+    }
+
+    /// Keeps what came in an event that was done.
+    fn keep_bytes(
+        &mut self,
+        device: &DeviceFile,
+        event: &Event<Vec<u8>>,
+    ) -> Result<(), AllocError> {
+        match event {
+            Event::Accept(text) => match Manifest::read(self.alloc, text, &device.identity) {
+                Ok(manifest) => self.uploads.open(&manifest),
+                Err(_) => Ok(()),
+            },
+            Event::Piece(image, bytes) => self.uploads.add(*image, bytes),
+            _ => Ok(()),
+        }
+    }
+
+    /// Adds why an event is refused.
+    fn explain_fault(
+        &mut self,
+        notes: &mut String,
+        device: &DeviceFile,
+        event: &Event<Vec<u8>>,
+        fault: Fault,
+    ) -> Result<(), AllocError> {
+        explain_state(notes, device, event, fault)?;
+        match (event, fault) {
+            (Event::Accept(text), Fault::Manifest(_)) => {
                 explain_manifest(notes, self.alloc, text, &device.identity)
             }
-            (Event::Accept(text), Reply::Refused(Fault::Upload(error))) => {
+            (Event::Accept(text), Fault::Upload(error)) => {
                 match Manifest::read(self.alloc, text, &device.identity) {
-                    Ok(manifest) => explain_opening(notes, &device.map, &manifest, *error),
+                    Ok(manifest) => explain_opening(notes, &device.map, &manifest, error),
                     Err(_) => Ok(()),
                 }
             }
-            (Event::Piece(image, bytes), Reply::Done) => self.uploads.add(*image, bytes),
-            (Event::Piece(image, bytes), Reply::Refused(Fault::Upload(error))) => {
+            (Event::Piece(image, bytes), Fault::Upload(error)) => {
                 self.uploads.add(*image, bytes)?;
-                self.uploads.explain(notes, *image, *error)
+                self.uploads.explain(notes, *image, error)
             }
-            (Event::Finish(image), Reply::Refused(Fault::Upload(error))) => {
-                self.uploads.explain(notes, *image, *error)
+            (Event::Finish(image), Fault::Upload(error)) => {
+                self.uploads.explain(notes, *image, error)
             }
-            (_, Reply::Booted { table, report, .. }) => explain_refusals(notes, table, report),
             _ => Ok(()),
         }
     }

@@ -54,6 +54,12 @@ impl Uploads {
         }
     }
 
+    /// Whether the upload of an image is for a permanent request.
+    pub fn is_permanent(&self, image: u8) -> Option<bool> {
+        let place = self.place_of(image)?;
+        Some(self.uploads[place].component.permanent)
+    }
+
     /// Adds why the upload of an image is refused.
     pub fn explain(
         &self,

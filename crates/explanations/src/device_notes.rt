@@ -62,8 +62,29 @@ fn explain_trial_boots(notes: &mut String, value: &Value) -> Result<(), AllocErr
     }
 }
 
+/// What the sizes of a device are called where they stand.
+#[derive(Clone, Copy)]
+struct SizeNames {
+    /// The length of a sector.
+    sector: &'static str,
+    /// How many sectors the slots of each image have.
+    sectors: &'static str,
+}
+
+/// What they are called in a device file.
+const FILE_NAMES: SizeNames = SizeNames {
+    sector: "sector",
+    sectors: "sectors",
+};
+
+/// What they are called in the words of a command.
+const OPTION_NAMES: SizeNames = SizeNames {
+    sector: "--sector",
+    sectors: "--slots",
+};
+
 /// Adds which sizes of a device file make no map. Its JSON value stands in memory of `alloc`
-/// meanwhile.
+/// meanwhile, and the sizes do too.
 pub fn explain_map(
     notes: &mut String,
     alloc: Global,
@@ -73,25 +94,43 @@ pub fn explain_map(
     let Ok(value) = json_of(alloc, bytes) else {
         return Ok(());
     };
-    match (number(&value, "sector"), array(&value, "sectors")) {
-        (Some(sector), Some(sectors)) => explain_sizes(notes, sector, sectors.as_slice(), fault),
-        _ => Ok(()),
+    let (Some(sector), Some(list)) = (number(&value, "sector"), array(&value, "sectors")) else {
+        return Ok(());
+    };
+    let mut sectors = Vec::new(alloc);
+    for count in list {
+        sectors.push(number_of(count).unwrap_or_default())?;
     }
+    explain_sizes(notes, FILE_NAMES, sector, sectors.as_slice(), fault)
+}
+
+/// Adds which sizes make no map that the words of a command ask for.
+pub fn explain_asked_map(
+    notes: &mut String,
+    sector: u32,
+    sectors: &[u32],
+    fault: MapError,
+) -> Result<(), AllocError> {
+    explain_sizes(notes, OPTION_NAMES, sector, sectors, fault)
 }
 
 /// Adds which of these sizes make no map.
 fn explain_sizes(
     notes: &mut String,
+    names: SizeNames,
     sector: u32,
-    sectors: &[Value],
+    sectors: &[u32],
     fault: MapError,
 ) -> Result<(), AllocError> {
     match fault {
-        MapError::BadSector => writeln!(
-            notes,
-            "note: `sector` is {sector}, and a sector has 512 to 131072 bytes, a multiple of 64"
-        ),
-        MapError::BadCount => explain_count(notes, sectors),
+        MapError::BadSector => {
+            let name = names.sector;
+            writeln!(
+                notes,
+                "note: `{name}` is {sector}, and a sector has 512 to 131072 bytes, a multiple of 64"
+            )
+        }
+        MapError::BadCount => explain_count(notes, names.sectors, sectors),
         MapError::TrailerFull => explain_trailers(notes, sector, sectors),
         MapError::TooLarge => notes.push_str(
             "note: all slots, the scratch and the log together have 4294967295 bytes at most\n",
@@ -100,35 +139,36 @@ fn explain_sizes(
 }
 
 /// Adds that there are too few images or too many, or which of them has no sectors.
-fn explain_count(notes: &mut String, sectors: &[Value]) -> Result<(), AllocError> {
+fn explain_count(notes: &mut String, name: &str, sectors: &[u32]) -> Result<(), AllocError> {
     let count = sectors.len();
     if count == 0 || count > MOST_IMAGES {
         writeln!(
             notes,
-            "note: `sectors` has {count} entries, one an image, and there are 1 to {MOST_IMAGES}"
+            "note: `{name}` has {count} entries, one an image, and there are 1 to {MOST_IMAGES}"
         )?;
     }
     for (image, sectors) in sectors.iter().enumerate() {
-        if number_of(sectors) == Some(0) {
+        if *sectors == 0 {
             writeln!(
                 notes,
-                "note: `sectors` has 0 for image {image}, and it is 1 at least"
+                "note: `{name}` has 0 for image {image}, and it is 1 at least"
             )?;
         }
     }
     Ok(())
 }
 
-/// Adds the images whose trailers don't fit into a sector.
-fn explain_trailers(notes: &mut String, sector: u32, sectors: &[Value]) -> Result<(), AllocError> {
+/// Adds the images whose trailers don't fit into a sector, and how many sectors fit.
+fn explain_trailers(notes: &mut String, sector: u32, sectors: &[u32]) -> Result<(), AllocError> {
+    let most = sector.saturating_sub(56) / 24;
     for (image, sectors) in sectors.iter().enumerate() {
-        let count = number_of(sectors).unwrap_or_default();
-        let trailer = u64::from(count) * 24 + 56;
+        let trailer = u64::from(*sectors) * 24 + 56;
         if trailer > u64::from(sector) {
             writeln!(
                 notes,
-                "note: image {image} has {count} sectors; its trailer would have 24 a sector and \
-                 56 bytes, {trailer}, and a sector has {sector}"
+                "note: image {image} has {sectors} sectors; its trailer would have 24 bytes a \
+                 sector and 56 more, {trailer}, and a sector has {sector}: a slot has {most} \
+                 sectors at most"
             )?;
         }
     }

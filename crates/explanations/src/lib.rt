@@ -23,14 +23,14 @@ mod table_notes;
 mod verdict_notes;
 mod versions;
 
-pub use device_notes::{explain_device, explain_map};
+pub use device_notes::{explain_asked_map, explain_device, explain_map};
 pub use image_notes::{add_digits, explain_image};
 pub use manifest_notes::explain_manifest;
 pub use needs_notes::explain_running;
 pub use places::{Place, line_at};
 pub use refusal_notes::explain_refusals;
 pub use report_notes::explain_report_line;
-pub use script_notes::explain_script_line;
+pub use script_notes::{explain_script_line, file_named_at};
 pub use shown::Shown;
 pub use table_notes::explain_table_line;
 pub use verdict_notes::explain_no;

@@ -51,11 +51,12 @@ fn explain_value(
     explain_version(notes, value)?;
     explain_identifier(notes, value, "vendor-id", identity.vendor)?;
     explain_identifier(notes, value, "class-id", identity.class)?;
-    let components = match array(value, "components") {
-        Some(components) => components.as_slice(),
-        None => &[],
-    };
-    explain_components(notes, alloc, components, identity.images)
+    match array(value, "components") {
+        Some(components) => {
+            explain_components(notes, alloc, components.as_slice(), identity.images)
+        }
+        None => Ok(()),
+    }
 }
 
 /// Adds that the version of the format isn't 1, where it is another one.

@@ -7,6 +7,9 @@ use common::lines::first_line;
 use script::{Event, FileText, Line, PartText, line_of};
 use std::alloc::AllocError;
 
+/// The name that stands for standard input.
+const STANDARD_INPUT: &str = "-";
+
 /// What stands behind a word that a line begins with.
 #[derive(Clone, Copy)]
 enum Fields {
@@ -31,12 +34,14 @@ const FIELDS: [(&str, Fields); 8] = [
 
 /// Adds what the line of this number says, counted from 1, and why no script has it there: how it
 /// is spelled, where it stands, or what it names of a file. `may_cut` says whether the script may
-/// cut writes.
+/// cut writes. `length` is how many bytes the file has that the line names, where that is known; of
+/// standard input it isn't where the words of the command name that too.
 pub fn explain_script_line(
     notes: &mut String,
     text: &[u8],
     number: usize,
     may_cut: bool,
+    length: Option<u64>,
 ) -> Result<(), AllocError> {
     let Some(place) = line_at(text, number) else {
         return Ok(());
@@ -48,7 +53,7 @@ pub fn explain_script_line(
             "note: a sweep cuts each write itself, and its script cuts none\n",
         ),
         Some(Line::Cut { write, torn: _ }) => explain_order(notes, place.before, write),
-        Some(Line::Event(event)) => explain_event(notes, event),
+        Some(Line::Event(event)) => explain_event(notes, place.before, event, length),
     }
 }
 
@@ -73,31 +78,74 @@ fn explain_order(notes: &mut String, before: &[u8], write: u32) -> Result<(), Al
     )
 }
 
-/// Adds what is wrong with what an event names of a file.
-fn explain_event(notes: &mut String, event: Event<FileText<'_>>) -> Result<(), AllocError> {
+/// The name of the file that the line of this number names, counted from 1, if it names one.
+pub fn file_named_at(text: &[u8], number: usize) -> Option<&str> {
+    match line_of(line_at(text, number)?.line) {
+        Some(Line::Event(Event::Accept(file) | Event::Piece(_, file))) => Some(file.name),
+        _ => None,
+    }
+}
+
+/// Adds what is wrong with what an event names of a file, behind these lines.
+fn explain_event(
+    notes: &mut String,
+    before: &[u8],
+    event: Event<FileText<'_>>,
+    length: Option<u64>,
+) -> Result<(), AllocError> {
     let (Event::Accept(file) | Event::Piece(_, file)) = event else {
         return Ok(());
     };
-    if file.name == "-" {
+    if file.name == STANDARD_INPUT && (length.is_none() || name_input(before)) {
         return notes.push_str("note: standard input is read once, and was read before\n");
     }
     match file.part {
-        Some(part) => explain_part(notes, file.name, part),
+        Some(part) => explain_part(notes, file.name, part, length),
         None => Ok(()),
     }
 }
 
-/// Adds what is wrong with the part of a file.
-fn explain_part(notes: &mut String, name: &str, part: PartText<'_>) -> Result<(), AllocError> {
-    let name = Shown(name.as_bytes());
-    match part.numbers() {
-        Some((from, count)) => writeln!(
-            notes,
-            "note: {name} doesn't have {count} bytes from byte {from} on, the first being byte 0"
-        ),
-        None => notes.push_str(
+/// Whether one of these lines names standard input.
+fn name_input(text: &[u8]) -> bool {
+    let mut rest = text;
+    for _ in 0..text.len() {
+        if rest.is_empty() {
+            break;
+        }
+        let (line, after) = first_line(rest);
+        rest = after;
+        if let Some(Line::Event(Event::Accept(file) | Event::Piece(_, file))) = line_of(line)
+            && file.name == STANDARD_INPUT
+        {
+            return true;
+        }
+    }
+    false
+}
+
+/// Adds what is wrong with the part of a file that has so many bytes, where that is known.
+fn explain_part(
+    notes: &mut String,
+    name: &str,
+    part: PartText<'_>,
+    length: Option<u64>,
+) -> Result<(), AllocError> {
+    let Some((from, count)) = part.numbers() else {
+        return notes.push_str(
             "note: behind a file stand two numbers, its first byte and how many: decimal, without \
              leading zeros\n",
+        );
+    };
+    let name = Shown(name.as_bytes());
+    match length {
+        Some(length) => writeln!(
+            notes,
+            "note: {name} has {length} bytes, and not {count} from byte {from} on, the first being \
+             byte 0"
+        ),
+        None => writeln!(
+            notes,
+            "note: {name} doesn't have {count} bytes from byte {from} on, the first being byte 0"
         ),
     }
 }

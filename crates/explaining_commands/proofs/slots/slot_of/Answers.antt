@@ -1,6 +1,6 @@
 use Rattle.std.proofs.Common.{arith}
 use Rattle.explaining_commands.proofs.SlotLaws.{slot_range, slot_within}
-use Rattle.explaining_commands.proofs.refused.slot_of.Goals as goal
+use Rattle.explaining_commands.proofs.slots.slot_of.Goals as goal
 
 -- A slot lies in the flash ..
 pub returns-then-end-flash : goal.returns-then-end-flash
