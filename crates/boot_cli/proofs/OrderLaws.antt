@@ -41,15 +41,20 @@ pub AnswersOrder-kept : (asked : Order) (input : Option (List ℕ)) (file then :
     → AnswersOrder Done asked input file then old new
 AnswersOrder-kept (order.MakeDevice device) input file then old mid new answered kept =
     AnswersNewDevice-kept device old mid new answered kept
-AnswersOrder-kept (order.MakeImage image body values) input file then old mid new answered kept =
-    (answered.0, answered.1, AnswersNewImage-kept answered.0 values input file (then image.now) old mid new answered.2 kept)
+AnswersOrder-kept (order.MakeImage image body values) input file then old mid new answered kept = (
+  answered.0,
+  answered.1,
+  AnswersNewImage-kept answered.0 values input file (then image.name.now) old mid new answered.2 kept,
+  answered.3,
+)
 AnswersOrder-kept (order.MakeManifest device manifest) input file then old mid new answered kept =
     (answered.0, answered.1, AnswersNewManifest-kept answered.0 manifest input file old mid new answered.2 kept)
 AnswersOrder-kept (order.Extract device flash image side out) input file then old mid new answered kept = (
   answered.0,
   answered.1,
   answered.2,
-  AnswersCopy-kept answered.0 answered.1 image side input file (then out.now) old mid new answered.3 kept,
+  AnswersCopy-kept answered.0 answered.1 image side input file (then out.name.now) old mid new answered.3 kept,
+  answered.4,
 )
 AnswersOrder-kept (order.Sweep device script images choices) input file then old mid new answered kept =
     (answered.0, answered.1, answered.2, answered.3, answered.4)

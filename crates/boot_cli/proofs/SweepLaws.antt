@@ -1,6 +1,13 @@
 -- What a sweep came to, by what was read in turn, and the files that it keeps.
-use Rattle.std.proofs.Common.{◌≤◌, ℕ, Bool, List, [], ◌∷◌, None, Option, Some, arith, inl}
-use Rattle.std.specs.Prelude.{IfSome}
+use Rattle.std.proofs.Common.{◌≡◌, ◌⊎◌, ◌≤◌, ℕ, Bool, List, [], ◌∷◌, None, Option, Some, arith, inl, inr, length, subst, sym}
+use Rattle.common.specs.Lines.{lines_of}
+use Rattle.script.specs.LineText.{IsLineText}
+use Rattle.script.specs.Said.{Said, said}
+use Rattle.script.specs.declared.line.Line.{Line}
+use Rattle.script.proofs.LineLaws.{one_line}
+use Rattle.reading_inputs.specs.Loading.{IsNextLine}
+use Rattle.reading_inputs.specs.declared.lines.Lines.{Lines}
+use Rattle.std.specs.Prelude.{IfSome, IsSomeAnd}
 use Rattle.std.specs.Borrow.{Bor}
 use Rattle.command_ends.specs.declared.answer.Answer.{Answer}
 use Rattle.command_ends.specs.declared.answer.Answer.TheVariants.{Done, Refused, Cut}
@@ -10,11 +17,11 @@ use Rattle.command_ends.specs.declared.source.Source.{Source}
 use Rattle.reading_inputs.specs.DeviceInput.{GivesDevice}
 use Rattle.command_ends.specs.declared.source.Source.TheVariants.{StandardInput, File}
 use Rattle.command_ends.specs.Doings.{KeepsSource}
-use Rattle.command_ends.specs.Input.{FileBytes, Gives, KeepsFiles, KeepsOthers}
-use Rattle.boot_cli.specs.SweepEnd.{AnswersSweep, IsNoInput, KeepsBesides, KeepsInputs, SweepsDevice}
+use Rattle.command_ends.specs.Input.{FileBytes, Gives, IsKnownAs, KeepsFiles, KeepsOthers}
+use Rattle.boot_cli.specs.SweepEnd.{AnswersSweep, IsNamedBy, IsNamedIn, IsNoInput, IsOther, KeepsBesides, KeepsInputs, KeepsRead, LineNames, SaysFile, SomeNames, SweepsDevice}
 use Rattle.reading_inputs.specs.Script.{IsScript, Known, StaysKnown, known_after}
 use Rattle.command_ends.specs.Status.{status_of_answer}
-use Rattle.command_ends.proofs.InputLaws.{GiveEach-one, GiveEach-read, KeepsFiles-twice, KeepsSource-apart, KeepsSource-kept, kept_twice}
+use Rattle.command_ends.proofs.InputLaws.{IsKnownAs-kept, GiveEach-one, GiveEach-read, KeepsFiles-twice, KeepsSource-apart, KeepsSource-kept, kept_twice}
 use Rattle.reading_inputs.proofs.ScriptLaws.{StaysKnown-itself, StaysKnown-read}
 
 AnswersSweep-swept : (answer : Answer) (device script : Source) (input : Option (List ℕ)) (file : FileBytes)
@@ -50,27 +57,31 @@ AnswersSweep-read answer device script input second_input third_input file secon
     })
 
 -- The files that a sweep reads stay where all files were kept ..
-pub inputs_kept : (device script : Source) (images : List (Bor (List ℕ))) (picture : Option (Bor (List ℕ)))
-    (old new : FileBytes) → KeepsFiles old new → KeepsInputs device script images picture old new
-inputs_kept device script images picture old new kept = record {
+pub inputs_kept : (device script : Source) (images : List (Bor (List ℕ))) (IsNamed : List ℕ → Type 0)
+    (picture : Option (Bor (List ℕ))) (old new : FileBytes) → KeepsFiles old new
+    → KeepsRead device script images IsNamed picture old new
+inputs_kept device script images IsNamed picture old new kept = record {
   device_kept = KeepsSource-kept device old new kept;
   script_kept = KeepsSource-kept script old new kept;
   images_kept = λ place word at differs. kept word.now;
+  named_kept = λ name named. kept name;
   all_kept = λ none. kept;
 }
 
 -- .. or then that of the picture was replaced, which is none of them ..
-pub inputs_besides : (device script : Source) (images : List (Bor (List ℕ))) (picture : Option (Bor (List ℕ)))
-    (apart : List ℕ → List ℕ → Bool) (old mid new : FileBytes) → KeepsFiles old mid
-    → IfSome picture (λ name. IsNoInput apart name.now device script images)
-    → KeepsBesides picture apart mid new → KeepsInputs device script images picture old new
-inputs_besides device script images None apart old mid new kept others after =
-    inputs_kept device script images None old new (KeepsFiles-twice old mid new kept after)
-inputs_besides device script images (Some name) apart old mid new kept others after = record {
+pub inputs_besides : (device script : Source) (images : List (Bor (List ℕ))) (text : List ℕ)
+    (picture : Option (Bor (List ℕ))) (apart : List ℕ → List ℕ → Bool) (old mid new : FileBytes) → KeepsFiles old mid
+    → IfSome picture (λ name. IsNoInput apart name.now device script images text)
+    → KeepsBesides picture apart mid new → KeepsRead device script images (IsNamedBy text) picture old new
+inputs_besides device script images text None apart old mid new kept others after =
+    inputs_kept device script images (IsNamedBy text) None old new (KeepsFiles-twice old mid new kept after)
+inputs_besides device script images text (Some name) apart old mid new kept others after = record {
   device_kept = KeepsSource-apart device name.now apart old mid new kept others.not_device after;
   script_kept = KeepsSource-apart script name.now apart old mid new kept others.not_script after;
   images_kept = λ place word at differs. kept_twice (old word.now) (mid word.now) (new word.now) (kept word.now)
       (after word.now (others.no_image place word at differs));
+  named_kept = λ other named. kept_twice (old other) (mid other) (new other) (kept other)
+      (after other (others.not_named other named));
   all_kept = λ none. absurd (cc none);
 }
 
@@ -80,14 +91,78 @@ source_later StandardInput old mid new kept later = tt
 source_later (File name) old mid new kept later =
     kept_twice (old name.now) (mid name.now) (new name.now) (kept name.now) later
 
--- .. also where all files were kept before that.
-pub inputs_later : (device script : Source) (images : List (Bor (List ℕ))) (picture : Option (Bor (List ℕ)))
-    (old mid new : FileBytes) → KeepsFiles old mid → KeepsInputs device script images picture mid new
+held_read : (held : Option (List ℕ)) (text name : List ℕ) → IsKnownAs held text
+    → IsSomeAnd held (λ known. IsNamedBy known name) → IsNamedBy text name
+held_read None text name same named = absurd named
+held_read (Some known) text name same named = subst (λ one. IsNamedBy one name) (sym same) named
+
+-- a file that the script is known to name is one that the text names that was read
+named_read : (script : Source) (text name : List ℕ) (input : Option (List ℕ)) (old mid : FileBytes)
+    → KeepsFiles old mid → Gives script input mid text → IsNamedIn script old name → IsNamedBy text name
+named_read StandardInput text name input old mid kept given named = absurd named
+named_read (File script) text name input old mid kept given named =
+    held_read (old script.now) text name (IsKnownAs-kept (old script.now) (mid script.now) text (kept script.now) given) named
+
+-- .. also where all files were kept before that, among them the script, which has this text.
+pub inputs_later : (device script : Source) (images : List (Bor (List ℕ))) (text : List ℕ)
+    (picture : Option (Bor (List ℕ))) (input : Option (List ℕ)) (old read mid new : FileBytes)
+    → KeepsFiles old read → Gives script input read text → KeepsFiles old mid
+    → KeepsRead device script images (IsNamedBy text) picture mid new
     → KeepsInputs device script images picture old new
-inputs_later device script images picture old mid new kept later = record {
+inputs_later device script images text picture input old read mid new before given kept later = record {
   device_kept = source_later device old mid new kept later.device_kept;
   script_kept = source_later script old mid new kept later.script_kept;
   images_kept = λ place word at differs. kept_twice (old word.now) (mid word.now) (new word.now) (kept word.now)
       (later.images_kept place word at differs);
+  named_kept = λ name named. kept_twice (old name) (mid name) (new name) (kept name)
+      (later.named_kept name (named_read script text name input old read before given named));
   all_kept = λ none. KeepsFiles-twice old mid new kept (later.all_kept none);
 }
+
+-- What a line says names no file that isn't apart, since it says one thing alone.
+line_apart : (apart : List ℕ → List ℕ → Bool) (picture line name : List ℕ) (says : Said) → IsLineText line says
+    → ((other : List ℕ) → SaysFile other says → IsOther apart picture other) → LineNames name line
+    → IsOther apart picture name
+line_apart apart picture line name says is others names =
+    others name (subst (SaysFile name) (one_line line names.0 says names.1 is) names.2)
+
+-- The files that a text names are apart, or named by what is left of it ..
+abbrev pub AreApartBefore : (List ℕ → List ℕ → Bool) → List ℕ → List ℕ → List ℕ → Type 0
+AreApartBefore apart picture text rest = (name : List ℕ) → IsNamedBy text name
+    → IsOther apart picture name ⊎ IsNamedBy rest name
+
+apart_or : (apart : List ℕ → List ℕ → Bool) (picture name line : List ℕ) (more : List (List ℕ)) (says : Said)
+    → IsLineText line says → ((other : List ℕ) → SaysFile other says → IsOther apart picture other)
+    → SomeNames name (line ∷ more) → IsOther apart picture name ⊎ SomeNames name more
+apart_or apart picture name line more says is others (inl names) =
+    inl (line_apart apart picture line name says is others names)
+apart_or apart picture name line more says is others (inr names) = inr names
+
+apart_on : (apart : List ℕ → List ℕ → Bool) (picture : List ℕ) (old new : Lines) (line : Line)
+    → IsNextLine old new line → ((other : List ℕ) → SaysFile other (said line) → IsOther apart picture other)
+    → (name : List ℕ) → IsOther apart picture name ⊎ IsNamedBy old.rest.now name
+    → IsOther apart picture name ⊎ IsNamedBy new.rest.now name
+apart_on apart picture old new line next others name (inl is) = inl is
+apart_on apart picture old new line next others name (inr named) =
+    apart_or apart picture name next.text (lines_of new.rest.now) (said line) next.says others
+    (subst (SomeNames name) next.parts named)
+
+-- .. also behind the next line, where the file that it names is apart ..
+pub apart_more : (apart : List ℕ → List ℕ → Bool) (picture text : List ℕ) (old new : Lines) (line : Line)
+    → IsNextLine old new line
+    → ((other : List ℕ) → SaysFile other (said line) → IsOther apart picture other)
+    → AreApartBefore apart picture text old.rest.now → AreApartBefore apart picture text new.rest.now
+apart_more apart picture text old new line next others before name named =
+    apart_on apart picture old new line next others name (before name named)
+
+apart_now : (apart : List ℕ → List ℕ → Bool) (picture name : List ℕ)
+    → IsOther apart picture name ⊎ IsNamedBy [] name → IsOther apart picture name
+apart_now apart picture name (inl is) = is
+apart_now apart picture name (inr named) = absurd named
+
+-- .. and all of them are apart where nothing is left.
+pub apart_all : (apart : List ℕ → List ℕ → Bool) (picture text rest : List ℕ) → length rest ≡ 0
+    → AreApartBefore apart picture text rest
+    → (name : List ℕ) → IsNamedBy text name → IsOther apart picture name
+apart_all apart picture text [] none before name named = apart_now apart picture name (before name named)
+apart_all apart picture text (byte ∷ rest) none before name named = absurd (cc none)

@@ -8,6 +8,7 @@ use Rattle.command_ends.specs.declared.source.Source.{Source}
 use Rattle.command_ends.specs.Input.{AreNamed, FileBytes, IsNamed}
 use Rattle.making_commands.specs.CopyEnd.{AnswersCopy}
 use Rattle.making_commands.specs.NewDeviceEnd.{AnswersNewDevice}
+use Rattle.making_commands.specs.NewFileEnd.{Replaces}
 use Rattle.making_commands.specs.NewImageEnd.{AnswersNewImage}
 use Rattle.making_commands.specs.NewManifestEnd.{AnswersNewManifest}
 use Rattle.reading_commands.specs.ReadingEnd.{AnswersReading}
@@ -22,13 +23,15 @@ AnswersOrder answer (order.MakeDevice device) input file then old new =
     AnswersNewDevice answer device old new
 AnswersOrder answer (order.MakeImage image body values) input file then old new =
     (source : Source) × IsNamed body.now source
-    × AnswersNewImage answer source values input file (then image.now) old new
+    × AnswersNewImage answer source values input file (then image.name.now) old new
+    × Replaces answer image file
 AnswersOrder answer (order.MakeManifest device manifest) input file then old new =
     (source : Source) × IsNamed device.now source
     × AnswersNewManifest answer source manifest input file old new
 AnswersOrder answer (order.Extract device flash image side out) input file then old new =
     (one other : Source) × AreNamed device.now flash.now one other
-    × AnswersCopy answer one other image side input file (then out.now) old new
+    × AnswersCopy answer one other image side input file (then out.name.now) old new
+    × Replaces answer out file
 AnswersOrder answer (order.Sweep device script images choices) input file then old new =
     (one other : Source) × AreNamed device.now script.now one other
     × AnswersSweep answer one other input file old new

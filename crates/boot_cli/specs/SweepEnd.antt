@@ -1,11 +1,18 @@
 -- What a sweep comes to, and what it leaves of files.
-use Rattle.std.specs.Prelude.{◌≡◌, ◌⊎◌, ℕ, Bool, List, [], ◌∷◌, None, Option, Some}
+use Rattle.std.specs.Prelude.{◌≡◌, ◌≢◌, ◌⊎◌, ℕ, Bool, IsSomeAnd, IsTrue, List, [], ◌∷◌, None, Option, Some, codes}
+use Rattle.std.specs.Io.KnownBytes.{Keeps}
 use Rattle.std.specs.Borrow.{Bor}
+use Rattle.common.specs.Lines.{lines_of}
 use Rattle.events.specs.declared.event.Event.{Event}
+use Rattle.events.specs.declared.event.Event.TheVariants as event
+use Rattle.script.specs.LineText.{IsLineText}
+use Rattle.script.specs.Said.{Said}
+use Rattle.script.specs.Said as said
 use Rattle.sector_map.specs.declared.layout.SectorMap.{SectorMap}
 use Rattle.command_ends.specs.declared.answer.Answer.{Answer}
 use Rattle.command_ends.specs.declared.answer.Answer.TheVariants.{Done, Refused, Cut}
 use Rattle.command_ends.specs.declared.source.Source.{Source}
+use Rattle.command_ends.specs.declared.source.Source.TheVariants.{StandardInput, File}
 use Rattle.reading_inputs.specs.DeviceInput.{RefusesMap}
 use Rattle.command_ends.specs.Doings.{IsApartFrom, KeepsApart, KeepsSource}
 use Rattle.command_ends.specs.Input.{FileBytes, KeepsFiles}
@@ -44,13 +51,42 @@ AnswersSweep Refused device script input files old new =
     SweepsDevice device script input files ⊎ RefusesMap device input files old new
 AnswersSweep Cut device script input files old new = ⊥
 
--- The file of this name isn't the device file, the script nor an image of a sweep, by whatever name
--- these are read.
+-- What a line of a script says names this file, of which all comes or a part. `-` names none.
+abbrev pub SaysFile : List ℕ → Said → Type 0
+SaysFile name (said.Event (event.Accept file)) = (file.name ≡ name) × (name ≢ codes "-")
+SaysFile name (said.Event (event.Piece image file)) = (file.name ≡ name) × (name ≢ codes "-")
+SaysFile name other = ⊥
+
+-- A line says that.
+abbrev pub LineNames : List ℕ → List ℕ → Type 0
+LineNames name line = (says : Said) × IsLineText line says × SaysFile name says
+
+-- One of these lines says that ..
+abbrev pub SomeNames : List ℕ → List (List ℕ) → Type 0
+SomeNames name [] = ⊥
+SomeNames name (line ∷ lines) = LineNames name line ⊎ SomeNames name lines
+
+-- .. or a line of this text.
+abbrev pub IsNamedBy : List ℕ → List ℕ → Type 0
+IsNamedBy text name = SomeNames name (lines_of text)
+
+-- A line of a script says that, where the script is a file that is known to hold its text.
+abbrev pub IsNamedIn : Source → FileBytes → List ℕ → Type 0
+IsNamedIn StandardInput files name = ⊥
+IsNamedIn (File script) files name = IsSomeAnd (files script.now) (λ text. IsNamedBy text name)
+
+-- Of two names it was said that they are of different files.
+abbrev pub IsOther : (List ℕ → List ℕ → Bool) → List ℕ → List ℕ → Type 0
+IsOther apart name other = IsTrue (apart name other)
+
+-- The file of this name isn't the device file, the script, an image of a sweep, nor one that a line
+-- of the script's text names, by whatever name these are read.
 pub record IsNoInput (apart : List ℕ → List ℕ → Bool) (name : List ℕ) (device script : Source)
-    (images : List (Bor (List ℕ))) : Type 0 where
+    (images : List (Bor (List ℕ))) (text : List ℕ) : Type 0 where
   pub not_device : IsApartFrom apart name device
   pub not_script : IsApartFrom apart name script
   pub no_image : AreOthers (apart name) images
+  pub not_named : (other : List ℕ) → IsNamedBy text other → IsOther apart name other
 
 -- Each file keeps what it is known to hold, but for that of the picture, where one is asked for.
 abbrev pub KeepsBesides : Option (Bor (List ℕ)) → (List ℕ → List ℕ → Bool)
@@ -58,11 +94,20 @@ abbrev pub KeepsBesides : Option (Bor (List ℕ)) → (List ℕ → List ℕ →
 KeepsBesides None apart old new = KeepsFiles old new
 KeepsBesides (Some picture) apart old new = KeepsApart (apart picture.now) old new
 
--- What a sweep leaves of files, whatever comes of it: the device file, the script and each image
--- keep what they are known to hold, and where no picture is asked for each file does.
-pub record KeepsInputs (device script : Source) (images : List (Bor (List ℕ)))
-    (picture : Option (Bor (List ℕ))) (old new : FileBytes) : Type 0 where
+-- What a sweep leaves of files, whatever comes of it: the device file, the script, each image and
+-- each file that is named so keep what they are known to hold, and where no picture is asked for
+-- each file does.
+pub record KeepsRead (device script : Source) (images : List (Bor (List ℕ)))
+    (IsNamed : List ℕ → Type 0) (picture : Option (Bor (List ℕ))) (old new : FileBytes)
+    : Type 0 where
   pub device_kept : KeepsSource device old new
   pub script_kept : KeepsSource script old new
   pub images_kept : KeepsWords images old new
+  pub named_kept : (name : List ℕ) → IsNamed name → Keeps (old name) (new name)
   pub all_kept : picture ≡ None → KeepsFiles old new
+
+-- The same, of the files that the script names.
+abbrev pub KeepsInputs : Source → Source → List (Bor (List ℕ)) → Option (Bor (List ℕ))
+    → FileBytes → FileBytes → Type 0
+KeepsInputs device script images picture old new =
+    KeepsRead device script images (IsNamedIn script old) picture old new

@@ -12,6 +12,7 @@
 #![tactic(auto)]
 
 mod program;
+mod progress;
 mod sweeping;
 mod words;
 
@@ -19,7 +20,7 @@ pub use answers::{
     CheckEnd, ChooseEnd, DescribeEnd, ManifestEnd, ShowEnd, check_over, choose_over, describe_over,
     show_over, tell_over,
 };
-pub use command_ends::{Access, FlashFault, Host};
+pub use command_ends::{Access, FlashFault, Host, Replaced};
 pub use command_line::{Order, OrderError, Request, order, request};
 pub use explaining_commands::Remembering;
 pub use program::{cli, run_order};

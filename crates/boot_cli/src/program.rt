@@ -10,7 +10,7 @@ use command_ends::{Answer, Host, Refusal, Source, finish};
 use command_line::Order;
 use command_words::{DeviceOrder, answer_words};
 use core_cli::provision;
-use explaining_commands::{Remembering, ReplyNotes, UntilFailed, explain_end};
+use explaining_commands::{Remembering, ReplyNotes, UntilFailed, note_end};
 use making_commands::extract::Copying;
 use making_commands::{extract, make_device, make_image, make_manifest};
 use std::alloc::Global;
@@ -36,19 +36,19 @@ pub fn cli<S: AsStr, H: Host, O: Write, E: Write>(
         (H.file host.old.host) (H.file host.new.host) (O.contents out.old) (O.contents out.new) }
 {
     match request_in(alloc, words) {
-        Ok(request) if request.is_explained => {
-            run_explained(alloc, request.order, host, out, err)
-        }
-        Ok(request) => run_order(alloc, request.order, host, out, err),
+        Ok(request) if words.len() <= 1 => run_order(alloc, request.order, host, out, err),
+        Ok(request) => run_noted(alloc, request.order, request.is_explained, host, out, err),
         Err(error) => answer_words(alloc, words, error, out, err),
     }
 }
 
 /// Runs the command of an order to its exit status, as [`run_order`] does, and says on standard
-/// error why its answer is as it is. The host keeps what is read, for that.
-fn run_explained<H: Host, O: Write, E: Write>(
+/// error why its answer is as it is, if that is asked for. The host keeps what is read, for that.
+/// Else a line after an error line tells somebody at a terminal to ask for it.
+fn run_noted<H: Host, O: Write, E: Write>(
     alloc: Global,
     order: Order<'_>,
+    is_explained: bool,
     host: &mut Remembering<H>,
     out: &mut O,
     err: &mut E,
@@ -60,10 +60,10 @@ fn run_explained<H: Host, O: Write, E: Write>(
     ensures other { result ≢ 2 }
 {
     let mut told = UntilFailed::over(err);
-    host.kept.start();
-    let outcome = perform(alloc, &order, true, host, out, &mut told);
+    host.kept.start(is_explained);
+    let outcome = perform(alloc, &order, is_explained, host, out, &mut told);
     let status = finish(&outcome, out, &mut told);
-    explain_end(alloc, &order, &outcome, host, &mut told);
+    note_end(alloc, &order, is_explained, &outcome, host, &mut told);
     status
 }
 
@@ -128,6 +128,25 @@ fn perform<H: Host, O: Write, E: Write>(
             let (device, flash) = (Source::named(device), Source::named(flash));
             extract::perform(alloc, device, flash, copying, host, out)
         }
+        _ => perform_on_device(alloc, order, is_explained, host, out, err),
+    }
+}
+
+/// Runs the command of an order that has a device made or run, or that only reads.
+fn perform_on_device<H: Host, O: Write, E: Write>(
+    alloc: Global,
+    order: &Order<'_>,
+    is_explained: bool,
+    host: &mut H,
+    out: &mut O,
+    err: &mut E,
+) -> Result<Answer, Refusal>
+    ensures answers { IfOk result (λ answer. AnswersOrder answer order.now
+        (H.input host.old) (H.file host.old) (H.file host.new)
+        (O.contents out.old) (O.contents out.new)) }
+    ensures swept { KeepsSwept order.now (H.file host.old) (H.file host.new) }
+{
+    match *order {
         Order::Sweep {
             device,
             script,

@@ -1,25 +1,28 @@
 //! `bootswap sweep`: what comes of a script, with each write of the flash cut.
-ghost use Rattle.std.specs.Prelude.{◌≡◌, ◌≤◌, IfErr, IfOk, IfSome, OnOk};
+ghost use Rattle.std.specs.Prelude.{◌≡◌, ◌≢◌, ◌≤◌, IfErr, IfOk, IfSome, IsTrue, List, ℕ, OnOk, codes};
 ghost use Rattle.device_texts.specs.DeviceFile.{IsOfFile};
 ghost use Rattle.device_texts.specs.FlashOf.{IsFlashOf};
 ghost use Rattle.command_ends.specs.Doings.{IsApartFrom, KeepsApart};
 ghost use Rattle.command_ends.specs.Input.{IsKnownAs, KeepsFiles};
 ghost use Rattle.command_ends.specs.Status.{status_of_answer};
-ghost use Rattle.boot_cli.specs.SweepEnd.{AnswersSweep, IsNoInput, IsWhole, KeepsBesides, KeepsInputs};
+ghost use Rattle.script.specs.Said.{said};
+ghost use Rattle.boot_cli.specs.SweepEnd.{AnswersSweep, IsNamedBy, IsNoInput, IsOther, IsWhole, KeepsBesides, KeepsInputs, KeepsRead, SaysFile};
 
-use command_ends::{Answer, FlashFault, Host, Refusal, Source, SourceFault};
+use crate::progress::Progress;
+use command_ends::{Answer, FlashFault, Host, Refusal, Replaced, Source, SourceFault};
 use command_line::SweepChoices;
 use core_cli::provision::{Made, read_images, tell_made};
 use device_texts::{DeviceFile, flash_of, write_all};
 use events::Event;
 use machine::Fault;
-use reading_inputs::{load, read_device, read_script};
+use reading_inputs::{Lines, load, read_device, read_script};
+use script::Line;
 use sector_map::SectorMap;
 use std::alloc::{AllocError, Global};
 use std::io::Write;
 use std::marker::Brand;
 use std::sync::ledger::{Blank, Ledger};
-use sweep::{Found, Life, Plan, Watch, found_text, picture_of, sweep};
+use sweep::{Found, Life, Plan, found_text, picture_of, sweep};
 
 /// What the words of a sweep name: the files that it reads, and what it tries and makes.
 #[derive(Clone, Copy)]
@@ -43,15 +46,13 @@ pub enum Provisioned {
     Refused(Fault),
 }
 
-/// How far a sweep is, told on standard error.
-#[derive(Drop)]
-struct Progress<'a, H, E> {
-    /// Where the time comes from.
-    host: &'a H,
-    /// Standard error.
-    err: &'a mut E,
-    /// When the sweep began, and when it was told last, in seconds; none where nobody watches.
-    seconds: Option<(u64, u64)>,
+/// A script that was read.
+#[derive(Clone, Copy)]
+struct Script<'t, 'e> {
+    /// Its text.
+    text: &'t [u8],
+    /// What comes to the device by it.
+    events: &'e [Event<Vec<u8>>],
 }
 
 /// Reads a device file, a script and images from `host`, makes a flash in memory a device's, runs
@@ -59,8 +60,9 @@ struct Progress<'a, H, E> {
 /// All stands in memory of `alloc`. Where somebody watches, `err` is told how far it is.
 ///
 /// All files are judged before anything is run, and none is changed but the picture, where one is
-/// asked for, which is made or replaced once all is run. The device file, the script and the images
-/// keep their bytes, whatever comes of it: none of them may be the picture.
+/// asked for, which is made or replaced once all is run. Whether it can be is seen before. The device
+/// file, the script, what its lines name and the images keep their bytes, whatever comes of it: none
+/// of them may be the picture.
 pub fn perform<H: Host, O: Write, E: Write>(
     alloc: Global,
     named: Named<'_, '_>,
@@ -80,7 +82,11 @@ pub fn perform<H: Host, O: Write, E: Write>(
     };
     let text = read_script(alloc, named.script, host)?;
     let events = load(alloc, &text, is_input_read, host)?;
-    sweep_images(alloc, &device, &events, &named, host, out, err)
+    let script = Script {
+        text: &text,
+        events: &events,
+    };
+    sweep_images(alloc, &device, script, &named, host, out, err)
 }
 
 /// Whether one of these files is standard input.
@@ -93,21 +99,59 @@ fn reads_standard_input(named: &Named<'_, '_>) -> bool {
             .any(|image| Source::named(image).is_standard_input())
 }
 
-/// Refuses a picture whose file is one of those that are read.
-fn refuse_inputs<H: Host>(alloc: Global, host: &H, named: &Named<'_, '_>) -> Result<(), Refusal>
+/// Refuses a picture whose file is one of those that are read, with this text as the script, and one
+/// that can't be made.
+fn refuse_inputs<H: Host>(
+    alloc: Global,
+    host: &H,
+    named: &Named<'_, '_>,
+    text: &[u8],
+) -> Result<(), Refusal>
     ensures { OnOk result (IfSome named.now.choices.picture (λ picture.
         IsNoInput (H.apart host.now) picture.now
-        named.now.device named.now.script named.now.images.now)) }
+        named.now.device named.now.script named.now.images.now text.now)) }
 {
     let Some(picture) = named.choices.picture else {
         return Ok(());
     };
     refuse_input(alloc, host, picture, named.device)?;
     refuse_input(alloc, host, picture, named.script)?;
+    refuse_named(alloc, host, picture, text)?;
     for image in named.images {
         refuse_input(alloc, host, picture, Source::named(image))?;
     }
+    check_picture(alloc, host, picture)
+}
+
+/// Refuses a picture whose file is one that a line of a script's text names.
+fn refuse_named<H: Host>(alloc: Global, host: &H, picture: &str, text: &[u8]) -> Result<(), Refusal>
+    ensures { OnOk result ((name : List ℕ) → IsNamedBy text.now name
+        → IsOther (H.apart host.now) picture.now name) }
+{
+    let mut lines = Lines::of(text);
+    while !lines.rest.is_empty() {
+        let line = lines.next_line()?;
+        refuse_line(alloc, host, picture, line)?;
+    }
     Ok(())
+}
+
+/// Refuses a picture whose file is the one that this line names, if it names one.
+fn refuse_line<H: Host>(
+    alloc: Global,
+    host: &H,
+    picture: &str,
+    line: Line<'_>,
+) -> Result<(), Refusal>
+    ensures { OnOk result ((name : List ℕ) → SaysFile name (said line.entry)
+        → IsOther (H.apart host.now) picture.now name) }
+{
+    match line {
+        Line::Event(Event::Accept(file) | Event::Piece(_, file)) => {
+            refuse_input(alloc, host, picture, Source::named(file.name))
+        }
+        _ => Ok(()),
+    }
 }
 
 /// Refuses a picture whose file is what is read here, by whatever name.
@@ -126,11 +170,11 @@ fn refuse_input<H: Host>(
     }
 }
 
-/// Reads the images, makes a flash with them a device's, and sweeps these events on it.
+/// Reads the images, makes a flash with them a device's, and sweeps a script on it.
 fn sweep_images<H: Host, O: Write, E: Write>(
     alloc: Global,
     device: &DeviceFile,
-    events: &[Event<Vec<u8>>],
+    script: Script<'_, '_>,
     named: &Named<'_, '_>,
     host: &mut H,
     out: &mut O,
@@ -138,12 +182,13 @@ fn sweep_images<H: Host, O: Write, E: Write>(
 ) -> Result<Answer, Refusal>
     requires device { IsOfFile device.now }
     ensures answers { IfOk result (λ answer. status_of_answer answer ≤ 1) }
-    ensures inputs { KeepsInputs named.now.device named.now.script named.now.images.now
-        named.now.choices.picture (H.file host.old) (H.file host.new) }
+    ensures inputs { KeepsRead named.now.device named.now.script named.now.images.now
+        (IsNamedBy script.entry.text.now) named.now.choices.picture
+        (H.file host.old) (H.file host.new) }
 {
     let bytes = read_images(alloc, &device.map, named.images, host)?;
     // Only now: while the host reads, names may become those of another file.
-    refuse_inputs(alloc, host, named)?;
+    refuse_inputs(alloc, host, named, script.text)?;
     let Ok(made) = provision_in_memory::<Brand>(alloc, Blank::new(2), &device.map, bytes) else {
         return Err(Refusal::NoMemory);
     };
@@ -153,7 +198,7 @@ fn sweep_images<H: Host, O: Write, E: Write>(
             let life = Life {
                 device,
                 bytes: &bytes,
-                events,
+                events: script.events,
                 between: &[],
                 more: &[],
             };
@@ -198,7 +243,9 @@ fn tell_sweep<H: Host, O: Write, E: Write>(
         (H.file host.old) (H.file host.new) }
 {
     let mut progress = Progress::new(host, err);
-    let Ok(found) = sweep(alloc, life, plan_of(choices), &mut progress) else {
+    let swept = sweep(alloc, life, plan_of(choices), &mut progress);
+    progress.clear();
+    let Ok(found) = swept else {
         return Err(Refusal::NoMemory);
     };
     make_picture(alloc, life, &found, choices.picture, host)?;
@@ -257,54 +304,26 @@ fn replace<H: Host>(alloc: Global, name: &str, bytes: &[u8], host: &mut H) -> Re
     ensures failed { IfErr result (λ _. KeepsFiles (H.file host.old) (H.file host.new)) }
     ensures opened { H.opened host.new ≡ H.opened host.old }
 {
-    match host.replace_file(alloc, name, bytes) {
+    match host.replace_file(alloc, name, bytes, Replaced::PlainFile) {
         Ok(()) => Ok(()),
-        Err(FlashFault::NoMemory) => Err(Refusal::NoMemory),
-        Err(FlashFault::InUse | FlashFault::WrongLength | FlashFault::Failed(_)) => {
-            Err(Source::File(name).refused(alloc, SourceFault::CannotReplace))
+        Err(fault) => Err(picture_refusal(alloc, name, fault)),
+    }
+}
+
+/// Refuses a picture that can't be made, or not take the place of a file, before anything is run.
+fn check_picture<H: Host>(alloc: Global, host: &H, picture: &str) -> Result<(), Refusal> {
+    match host.check_replaceable(alloc, picture) {
+        Ok(()) => Ok(()),
+        Err(fault) => Err(picture_refusal(alloc, picture, fault)),
+    }
+}
+
+/// Why a sweep refuses whose picture can't be made, or not take the place of a file.
+fn picture_refusal(alloc: Global, name: &str, fault: FlashFault) -> Refusal {
+    match fault {
+        FlashFault::NoMemory => Refusal::NoMemory,
+        FlashFault::InUse | FlashFault::WrongLength | FlashFault::Failed(_) => {
+            Source::File(name).refused(alloc, SourceFault::CannotReplace)
         }
     }
-}
-
-impl<'a, H: Host, E: Write> Progress<'a, H, E> {
-    /// Of a sweep that begins now.
-    fn new(host: &'a H, err: &'a mut E) -> Self {
-        let seconds = host.watched_seconds().map(|now| (now, now));
-        Progress { host, err, seconds }
-    }
-
-    /// Writes how far the sweep is, over what was written before, or takes that away at the end.
-    /// Nothing depends on it, so a write that fails changes nothing.
-    fn tell(&mut self, done: u32, all: u32, went: u64) {
-        let result = if done == all {
-            write!(self.err, "\r\x1b[K")
-        } else {
-            let left = seconds_left(done, all, went);
-            write!(self.err, "\rsweep: {done} of {all}, {left} s left\x1b[K")
-        };
-        let _ = result;
-        let _ = self.err.flush();
-    }
-}
-
-impl<H: Host, E: Write> Watch for Progress<'_, H, E> {
-    fn see(&mut self, done: u32, all: u32) {
-        let Some((began, told)) = self.seconds else {
-            return;
-        };
-        let Some(now) = self.host.watched_seconds() else {
-            return;
-        };
-        if now == told && done != all {
-            return;
-        }
-        self.seconds = Some((began, now));
-        self.tell(done, all, now.saturating_sub(began));
-    }
-}
-
-/// How many seconds the rest takes, where so many parts of all took these.
-fn seconds_left(done: u32, all: u32, went: u64) -> u64 {
-    let left = u64::from(all.saturating_sub(done));
-    went.saturating_mul(left) / u64::from(done.max(1))
 }

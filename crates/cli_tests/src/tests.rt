@@ -2,5 +2,6 @@
 mod decisions;
 mod devices;
 mod host;
+mod making;
 mod running;
 mod samples;

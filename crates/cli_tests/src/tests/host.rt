@@ -1,6 +1,6 @@
 //! Files and standard input in memory.
 
-use boot_cli::{Access, FlashFault, Host};
+use boot_cli::{Access, FlashFault, Host, Replaced};
 use std::alloc::{AllocError, Global};
 use std::cell::Cell;
 use std::io::ErrorKind;
@@ -114,12 +114,27 @@ impl Host for MemoryHost {
         Ok(Some(Vec::from_slice(alloc, &bytes[from..from + count])?))
     }
 
-    fn is_plain(&self, _name: &str) -> io::Result<bool> {
-        Ok(true)
+    fn is_plain(&self, name: &str) -> io::Result<bool> {
+        match self.place_of(name) {
+            Some(_) => Ok(true),
+            None => Err(io::Error::from(ErrorKind::NotFound)),
+        }
+    }
+
+    fn length_of(&self, name: &str) -> io::Result<u64> {
+        Ok(self.bytes_of(name)?.len() as u64)
     }
 
     fn is_same_file(&self, one: &str, other: &str) -> io::Result<bool> {
         Ok(one == other && self.place_of(one).is_some())
+    }
+
+    fn is_input(&self, _name: &str) -> io::Result<bool> {
+        Ok(false)
+    }
+
+    fn check_replaceable(&self, _alloc: Global, _name: &str) -> Result<(), FlashFault> {
+        Ok(())
     }
 
     fn open_flash(
@@ -163,7 +178,13 @@ impl Host for MemoryHost {
         Ok(())
     }
 
-    fn replace_file(&mut self, alloc: Global, name: &str, bytes: &[u8]) -> Result<(), FlashFault> {
+    fn replace_file(
+        &mut self,
+        alloc: Global,
+        name: &str,
+        bytes: &[u8],
+        _replaced: Replaced,
+    ) -> Result<(), FlashFault> {
         let Ok(bytes) = Vec::from_slice(alloc, bytes) else {
             return Err(FlashFault::NoMemory);
         };

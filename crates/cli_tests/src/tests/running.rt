@@ -8,6 +8,7 @@
 use crate::tests::decisions::DECISIONS;
 use crate::tests::devices::DEVICES;
 use crate::tests::host::MemoryHost;
+use crate::tests::making::MAKING;
 use crate::tests::samples::FILES;
 use boot_cli::{Remembering, cli};
 use std::alloc::Global;
@@ -126,6 +127,7 @@ fn each_run_leaves_what_it_has_to(rt: HostRuntime) -> Result<(), Fail> {
     put_each(alloc, &mut host, FILES)?;
     host.put(alloc, "erased", vec![in alloc; 0xff; 8192]?)?;
     let host = make_each(alloc, host, DECISIONS)?;
-    let _ = make_each(alloc, host, DEVICES)?;
+    let host = make_each(alloc, host, DEVICES)?;
+    let _ = make_each(alloc, host, MAKING)?;
     Ok(())
 }

@@ -4,6 +4,7 @@ use Rattle.reading_inputs.specs.Loading.{came_in}
 use Rattle.reading_inputs.specs.Script.{IsScript}
 use Rattle.device_texts.proofs.DeviceLaws.{IsOfFile-read}
 use Rattle.command_ends.proofs.InputLaws.{KeepsFiles-twice}
+use Rattle.boot_cli.specs.SweepEnd.{IsNamedBy, IsNamedIn, KeepsRead}
 use Rattle.boot_cli.proofs.SweepLaws.{AnswersSweep-read, inputs_kept, inputs_later}
 use Rattle.boot_cli.proofs.sweeping.perform.Goals as goal
 
@@ -29,23 +30,27 @@ returns-clause-answers g c =
 -- Nothing was written yet ..
 pub returns-in_err-device-clause-inputs : goal.returns-in_err-device-clause-inputs
 returns-in_err-device-clause-inputs g c = inputs_kept c.args.named.device c.args.named.script c.args.named.images.now
-    c.args.named.choices.picture _ _ c.in_err-device.ensures.files
+    (IsNamedIn c.args.named.script (g.H.Host.file c.args.host.now)) c.args.named.choices.picture _ _ c.in_err-device.ensures.files
 
 pub returns-in_default-clause-inputs : goal.returns-in_default-clause-inputs
 returns-in_default-clause-inputs g c = inputs_kept c.args.named.device c.args.named.script c.args.named.images.now
-    c.args.named.choices.picture _ _ c.in_ok-device.ensures.files
+    (IsNamedIn c.args.named.script (g.H.Host.file c.args.host.now)) c.args.named.choices.picture _ _ c.in_ok-device.ensures.files
 
 pub returns-in_err-text-clause-inputs : goal.returns-in_err-text-clause-inputs
 returns-in_err-text-clause-inputs g c = inputs_kept c.args.named.device c.args.named.script c.args.named.images.now
-    c.args.named.choices.picture _ _ (KeepsFiles-twice _ _ _ c.in_ok-device.ensures.files c.in_err-text.ensures.files)
+    (IsNamedIn c.args.named.script (g.H.Host.file c.args.host.now)) c.args.named.choices.picture _ _ (KeepsFiles-twice _ _ _ c.in_ok-device.ensures.files c.in_err-text.ensures.files)
 
 pub returns-in_err-events-clause-inputs : goal.returns-in_err-events-clause-inputs
 returns-in_err-events-clause-inputs g c = inputs_kept c.args.named.device c.args.named.script c.args.named.images.now
-    c.args.named.choices.picture _ _ (KeepsFiles-twice _ _ _ c.in_ok-device.ensures.files
+    (IsNamedIn c.args.named.script (g.H.Host.file c.args.host.now)) c.args.named.choices.picture _ _ (KeepsFiles-twice _ _ _ c.in_ok-device.ensures.files
     (KeepsFiles-twice _ _ _ c.in_ok-text.ensures.files c.in_err-events.ensures.files))
 
 -- .. or the files that were read stay.
 pub returns-clause-inputs : goal.returns-clause-inputs
-returns-clause-inputs g c = inputs_later c.args.named.device c.args.named.script c.args.named.images.now
-    c.args.named.choices.picture _ _ _ (KeepsFiles-twice _ _ _ c.in_ok-device.ensures.files
-    (KeepsFiles-twice _ _ _ c.in_ok-text.ensures.files c.in_ok-events.ensures.files)) c.sweep_images.ensures.inputs
+returns-clause-inputs g c = inputs_later c.args.named.device c.args.named.script c.args.named.images.now c.in_ok-text.text.items
+    c.args.named.choices.picture _ _ _ _ _ c.in_ok-device.ensures.files c.in_ok-text.ensures.bytes
+    (KeepsFiles-twice _ _ _ c.in_ok-device.ensures.files
+    (KeepsFiles-twice _ _ _ c.in_ok-text.ensures.files c.in_ok-events.ensures.files))
+    (subst (λ text. KeepsRead c.args.named.device c.args.named.script c.args.named.images.now (IsNamedBy text)
+    c.args.named.choices.picture (g.H.Host.file c.load.new.host) (g.H.Host.file c.sweep_images.new.host))
+    c.deref-2.ensures.value c.sweep_images.ensures.inputs)

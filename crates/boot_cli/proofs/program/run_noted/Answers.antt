@@ -1,8 +1,8 @@
-use Rattle.boot_cli.proofs.program.run_explained.Goals as goal
+use Rattle.boot_cli.proofs.program.run_noted.Goals as goal
 use Rattle.boot_cli.proofs.OrderLaws.{AnswersOrder-kept}
 use Rattle.core_cli.proofs.WordsLaws.{never_usage, only_cut}
 
--- The status is 0 only after `Done`, as of an order that isn't explained: the host that remembers
+-- The status is 0 only after `Done`, as of an order without notes: the host that remembers
 -- gives what the one below gives.
 pub returns-clause-done : goal.returns-clause-done
 returns-clause-done g c = λ zero.
