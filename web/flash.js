@@ -59,7 +59,8 @@ export function trailerWords(bytes, sectors) {
   if (isSet(bytes, end - 32)) words.push("done");
   if (isSet(bytes, end - 48)) words.push(`${little(bytes, end - 48)} bytes`);
   if (isSet(bytes, end - 56)) words.push("withdrawn");
-  if (count) words.push(`${count < 0 ? 3 * sectors : count} steps`);
+  const steps = count < 0 ? 3 * sectors : count;
+  if (steps) words.push(`${steps} step${steps === 1 ? "" : "s"}`);
   return words;
 }
 
