@@ -23,9 +23,11 @@ class Browser:
         words += [f"--user-data-dir={self.folder}", "about:blank"]
         # The protocol's ends are the descriptors 3 and 4.
         script = f'exec "$@" 3<&{theirs_in} 4>&{theirs_out}'
+        # The path of its socket may have 107 bytes at most, however long that of its folder is.
+        short = {**os.environ, "TMPDIR": "/proc/self/cwd"}
         self.ran = subprocess.Popen(
             ["bash", "-c", script, "", *words], pass_fds=[theirs_in, theirs_out], stdin=subprocess.DEVNULL,
-            stdout=subprocess.DEVNULL, stderr=subprocess.DEVNULL, start_new_session=True,
+            stdout=subprocess.DEVNULL, stderr=subprocess.DEVNULL, start_new_session=True, cwd=self.folder, env=short,
         )
         os.close(theirs_in)
         os.close(theirs_out)

@@ -56,6 +56,10 @@ class Checks:
         self.counts = self.counts.and_then(Counts(not faults, bool(faults)))
         print(f"{'FAILED' if faults else 'ok'} {name}{self.suffix}", *faults, sep="\n     ", flush=True)
 
+    def skip(self, what, why):
+        """Names what can't be checked here, and counts it."""
+        self.counts = self.counts.and_then(skip(what, why))
+
     def file(self, name, contents):
         """Writes a file where the program runs, and returns its name."""
         with open(f"{self.folder}/{name}", "wb") as it:

@@ -183,11 +183,12 @@ def check_replacing(checks):
     checks.file("flash", b"old")
     os.symlink("flash", path("link"))
     expect_replaced("a file by a link", [], ["provision", PAIR, "link", ONE, ONE])
-    checks.file("flash.new-0", b"another's")
-    os.symlink("another", path("flash.new-1"))
+    left = f".bootswap-{16 * '0'}"
+    checks.file(left, b"another's")
+    os.symlink("another", path(left.replace("0", "f")))
     checks.file("flash", b"old")
-    expect_replaced("a file beside others that new ones may be named as", [])
-    for name in ("link", "flash.new-0", "flash.new-1"):
+    expect_replaced("a file beside others that are named as new ones", [])
+    for name in ("link", left, left.replace("0", "f")):
         os.remove(path(name))
     os.symlink("nowhere", path("astray"))
     os.mkfifo(path("pipe"))
@@ -221,6 +222,21 @@ def check_inputs(checks):
             for words in given or [[PAIR, second, first, ONE], [PAIR, second, ONE, first]]:
                 named = " ".join(words).replace(checks.folder, "FOLDER").replace(EXAMPLES, "EXAMPLES")
                 expect_kept(checks, f"provision: an input as the flash: {named}", words, 1, err=told)
+    for name, words in (("device", ["-", None, ONE, ONE]), ("image", [PAIR, None, ONE, "-"])):
+        for flash in (name, f"./{name}", f"{name}-link", f"{name}-second", "/dev/stdin"):
+            with open(path(name), "rb") as given:
+                words[1] = flash
+                named = " ".join(words).replace(EXAMPLES, "EXAMPLES")
+                named = f"provision: standard input as the flash: {named} <{name}"
+                expect_kept(checks, named, words, 1, err=told, stdin=given)
+    os.mkfifo(path("pipe"))
+    given = os.open(path("pipe"), os.O_RDONLY | os.O_NONBLOCK)
+    with open(path("pipe"), "wb") as writer:
+        writer.write(read(PAIR))
+    words = ["-", "pipe", ONE, ONE]
+    expect_kept(checks, "provision: a pipe as standard input, and as the flash", words, 1, err=told, stdin=given)
+    os.close(given)
+    os.remove(path("pipe"))
     words = [PAIR, "image", "image", "absent"]
     expect_kept(checks, "provision: an input as the flash, and one that isn't there", words, 1, err=ABSENT)
     words = [PAIR, "image", "image", "other"]
@@ -266,7 +282,7 @@ def check_holding(checks):
         checks.expect("a flash file that is written, and too long", ["run", PAIR, "long", "-"], 1, err=IN_USE)
     # A run that waits for its script has judged and holds the file.
     waits = subprocess.Popen(
-        [checks.program, *run], cwd=checks.folder, stdin=subprocess.PIPE, stdout=subprocess.PIPE
+        [checks.program, *run], cwd=checks.folder, stdin=subprocess.PIPE, stdout=subprocess.PIPE, stderr=subprocess.PIPE
     )
     tries = iter(range(200))
     while not is_written_by_one(path("flash")) and next(tries, None) is not None:
@@ -276,8 +292,9 @@ def check_holding(checks):
     os.rename(path("flash"), path("moved"))
     checks.file("flash", b"another")
     script = f"boot\naccept {EXAMPLES}/manifests/trial.json\n".encode()
-    said, _ = waits.communicate(script, timeout=LIMIT)
-    faults = [] if said.endswith(b"2 done\n") else [short(said)]
+    said, told = waits.communicate(script, timeout=LIMIT)
+    is_right = said.endswith(b"2 done\n") and (waits.returncode, told) == (4, CANNOT_MAKE)
+    faults = [] if is_right else [short(said), short(told)]
     faults += [] if read(path("flash")) == b"another" else ["what took the name was written"]
     faults += [] if read(path("moved")) != whole else ["the file wasn't written"]
     checks.tell("a flash file that loses its name in a run", faults)

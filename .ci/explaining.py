@@ -259,7 +259,10 @@ MAPS = [
     (device(sectors=[2, 0]), [b"`sectors` has 0 for image 1, and it is 1 at least"]),
     (
         device(sectors=[2, 20]),
-        [b"image 1 has 20 sectors; its trailer would have 24 a sector and 56 bytes, 536, and a sector has 512"],
+        [
+            b"image 1 has 20 sectors; its trailer would have 24 bytes a sector and 56 more, 536, and a sector has 512:"
+            b" a slot has 19 sectors at most"
+        ],
     ),
 ]
 
@@ -277,7 +280,7 @@ def check_devices(checks):
         is_good = (status, err) == (1, noted(*why)) and out.startswith(b"refused map ")
         checks.tell(f"explained: a map: {text[:60]!r}", [] if is_good else [repr((status, out, err))])
     checks.file("short", b"abc")
-    told = b"error: flash size\n" + noted(b"the flash of the device has 8192 bytes")
+    told = b"error: flash size\n" + noted(b"short has 3 bytes, and the flash of the device has 8192")
     checks.expect("explained: the size of a flash", ["show", PAIR, "short", "--explain"], 1, b"", told)
 
 
@@ -343,7 +346,7 @@ LINES = [
         b"piece 0 one 01 1",
         [b"behind a file stand two numbers, its first byte and how many: decimal, without leading zeros"],
     ),
-    (b"piece 0 one 2 2", [b"one doesn't have 2 bytes from byte 2 on, the first being byte 0"]),
+    (b"piece 0 one 2 2", [b"one has 3 bytes, and not 2 from byte 2 on, the first being byte 0"]),
     (b"piece 0 -", [b"standard input is read once, and was read before"]),
     (b"accept a b", [b"behind `accept` stands the name of one file, in UTF-8 and without a space"]),
     (b"cut 0 keep", [b"`0` is no number of a write: 1 to 4294967295, decimal, without leading zeros"]),

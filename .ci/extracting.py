@@ -9,6 +9,9 @@ from devices import placed
 
 NEEDING = f"{EXAMPLES}/images/needing.img"
 
+# The image that a file holds before.
+OLD = read(f"{EXAMPLES}/images/counted.img")
+
 # The device with a new image in the secondary slot of image 0, whose slot begins at byte 3072.
 REQUESTED = 3072
 
@@ -36,7 +39,7 @@ def check_copies(checks):
         ("the flash as -", extract("-", 0, "secondary"), read(NEEDING), before),
         ("the device as -", extract(both, 0, "secondary", of="-"), read(NEEDING), read(PAIR)),
     ]:
-        checks.file("copy", b"old")
+        checks.file("copy", OLD)
         checks.expect(f"extract: {name}", words, 0, b"done\n", given=given)
         tell_copied(checks, f"extract: {name}: the file", wanted)
     is_kept = read(f"{checks.folder}/{both}") == before and read(f"{checks.folder}/flash") == whole
@@ -66,7 +69,7 @@ def check_refused_copies(checks):
     bad, small = checks.file("bad", b"{}"), checks.file("small", device(sector=64))
     checks.file("short", whole[:-1])
     os.symlink("flash", f"{checks.folder}/by-link")
-    checks.file("copy", b"old")
+    checks.file("copy", OLD)
     told = b"error: image is an input\n"
     for name, words, out, err in [
         ("an erased slot", extract("flash", 0, "secondary"), b"refused 2 BadMagic\n", b""),
@@ -87,7 +90,7 @@ def check_refused_copies(checks):
     checks.expect("extract: the device file as the file", words, 1, err=told)
     most = extract("flash", 0, "primary")
     checks.expect("extract: a file that can't be written", most, 1, err=b"error: cannot write copy\n", most=10)
-    is_kept = (read(f"{checks.folder}/copy"), read(f"{checks.folder}/flash")) == (b"old", whole)
+    is_kept = (read(f"{checks.folder}/copy"), read(f"{checks.folder}/flash")) == (OLD, whole)
     checks.tell("extract: what is refused leaves the files", [] if is_kept else ["they changed"])
     with open(f"{checks.folder}/flash", "rb") as held:
         fcntl.flock(held, fcntl.LOCK_EX)
@@ -96,6 +99,26 @@ def check_refused_copies(checks):
         fcntl.flock(held, fcntl.LOCK_EX)
         checks.expect("extract: a file that is in use", most, 1, err=b"error: image in use\n")
     os.remove(f"{checks.folder}/by-link")
+
+
+def check_other_files(checks):
+    """A file that is no image is replaced by force alone."""
+    flash_of(checks)
+    told = b"error: copy is no image\n"
+    for name, old in {"text": b"old", "the front of an image": read(ONE)[:31], "a flash": 8192 * b"\xff"}.items():
+        checks.file("copy", old)
+        words = extract("flash", 0, "primary")
+        checks.expect(f"extract: over {name}", words, 1, err=told)
+        more = b"note: `--force` replaces copy by the image\n"
+        checks.expect(f"extract: over {name}, explained", [*words, "--explain"], 1, err=told + more)
+        tell_copied(checks, f"extract: over {name}: the file stays", old)
+        erased = extract("flash", 0, "secondary")
+        checks.expect(f"extract: an erased slot, over {name}", erased, 1, b"refused 2 BadMagic\n")
+        checks.expect(f"extract: over {name}, by force", [*words, "--force"], 0, b"done\n")
+        tell_copied(checks, f"extract: over {name}, by force: the file", read(ONE))
+    checks.file("copy", b"")
+    checks.expect("extract: over an empty file", extract("flash", 0, "primary"), 0, b"done\n")
+    tell_copied(checks, "extract: over an empty file: the file", read(ONE))
 
 
 USAGE = """
@@ -123,4 +146,4 @@ def check_unreadable_slots(checks):
         checks.expect(f"extract: wrong words: {' '.join(words[2:])}: {told[:12]}", words, 2, b"", err)
 
 
-CHECKS = (check_copies, check_full_slot, check_refused_copies, check_unreadable_slots)
+CHECKS = (check_copies, check_full_slot, check_refused_copies, check_other_files, check_unreadable_slots)

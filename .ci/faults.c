@@ -1,10 +1,11 @@
 /* Loaded before a program, makes one of its calls go wrong, the one whose number is FAULT_AT: of those that open, lock,
-   read, write, sync, close, look up or rename a file (FAULT=fail), of those that read (FAULT=unread, or FAULT=starve
-   for want of memory), of those that write (FAULT=nothing, where the call takes no byte), of those that read or write
-   (FAULT=short, after which the call moves one byte at most), or of the allocations (FAULT=memory). Or of those that
-   read or write each other one is interrupted (FAULT=interrupt), or each moves one byte (FAULT=trickle). When the
-   program ends, the number of those calls is written to the file FAULT_COUNT, how many bytes were read to the file
-   FAULT_READ, and what the call that failed was to do to the file FAULT_WRONG. `./gate` compiles and uses it. */
+   read, write, sync, close, look up, link, rename or remove a file or ask for random bytes (FAULT=fail), of those that
+   read (FAULT=unread, or FAULT=starve for want of memory), of those that write (FAULT=nothing, where the call takes no
+   byte), of those that read or write (FAULT=short, after which the call moves one byte at most), or of the allocations
+   (FAULT=memory). Or of those that read or write each other one is interrupted (FAULT=interrupt), or each moves one
+   byte (FAULT=trickle). When the program ends, the number of those calls is written to the file FAULT_COUNT, how many
+   bytes were read to the file FAULT_READ, and what the call that failed was to do to the file FAULT_WRONG. `./gate`
+   compiles and uses it. */
 #define _GNU_SOURCE
 #include <errno.h>
 #include <fcntl.h>
@@ -49,12 +50,19 @@ static int has_failed(const char *what) {
     return 0;
 }
 
+/* The file that was opened last of those in which the system tells of a process: what is read of it isn't counted. */
+static int of_process = -1;
+
 int open(const char *name, int flags, ...) {
     va_list rest;
     va_start(rest, flags);
     int mode = flags & O_CREAT ? va_arg(rest, int) : 0;
     va_end(rest);
-    return has_failed("open") ? -1 : (int)syscall(SYS_openat, AT_FDCWD, name, flags, mode);
+    int file = has_failed("open") ? -1 : (int)syscall(SYS_openat, AT_FDCWD, name, flags, mode);
+    if (file >= 0) {
+        of_process = strncmp(name, "/proc/", strlen("/proc/")) == 0 ? file : of_process == file ? -1 : of_process;
+    }
+    return file;
 }
 
 int flock(int file, int how) { return has_failed("lock") ? -1 : (int)syscall(SYS_flock, file, how); }
@@ -74,6 +82,14 @@ int statx(int folder, const char *name, int flags, unsigned mask, struct statx *
 }
 
 int rename(const char *old, const char *new) { return has_failed("rename") ? -1 : (int)syscall(SYS_rename, old, new); }
+
+int link(const char *old, const char *new) { return has_failed("link") ? -1 : (int)syscall(SYS_link, old, new); }
+
+int unlink(const char *name) { return has_failed("remove") ? -1 : (int)syscall(SYS_unlink, name); }
+
+int getentropy(void *bytes, size_t length) {
+    return has_failed("draw") ? -1 : syscall(SYS_getrandom, bytes, length, 0) == (ssize_t)length ? 0 : -1;
+}
 
 /* A close that fails has let go of the file, as on Linux. */
 int close(int file) {
@@ -109,7 +125,7 @@ static ssize_t received(long call, int file, void *bytes, size_t length, off_t a
         return -1;
     }
     ssize_t given = moved("read", call, file, bytes, length, at);
-    taken += given > 0 ? given : 0;
+    taken += given > 0 && file != of_process ? given : 0;
     return given;
 }
 

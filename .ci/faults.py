@@ -14,7 +14,7 @@ SCRIPT = f"{EXAMPLES}/scripts/{WORKED}.txt"
 TOLD = ("count", "taken", "wrong")
 
 # The calls after whose failure a command has not done what it is to do: nothing was written, or not all is on its medium.
-NEEDED = ("sync", "write", "rename", "change", "print")
+NEEDED = ("sync", "write", "link", "rename", "remove", "change", "draw", "print")
 
 
 def with_fault(checks, fault, at=0):
@@ -192,6 +192,9 @@ def is_made_after(fault, wrong, got, left, kept, made, refusal):
         return True
     if fault == "memory":
         return got == (1, b"", b"error: memory\n") and left == kept
+    # The name is taken before its folder is synced, and before the new file loses the one that it was made under.
+    if got == refusal and wrong in ("sync", "remove") and left == made:
+        return fault in FAILING
     is_told = got == refusal or (status == 1 and err.startswith(b"error: cannot read "))
     return fault in FAILING and is_told and not out and left == kept
 
@@ -218,7 +221,7 @@ def check_making_faults(checks):
         checks.run(words)
         whole = read(path)
         others = {*os.listdir(checks.folder), *TOLD, "faults.so"} - {file}
-        for old in (None, b"old"):
+        for old in (None, read(f"{EXAMPLES}/images/counted.img")):
             kept, made = {} if old is None else {file: old}, {file: whole}
 
             def run(env=os.environ):
@@ -241,6 +244,14 @@ def check_making_faults(checks):
                 got, left = run(with_fault(checks, fault))
                 is_right = got == (0, b"done\n", b"") and left == made
                 checks.tell(f"{fault}: {words[0]} of a file {name}", [] if is_right else [short(got), *sorted(left)])
+
+
+FAULT = b"error: flash file\n"
+
+# How many calls `run --durable` makes beside a sync for each write of the file. It looks up the folder, opens and
+# closes it. Before the first event it syncs the file and the folder, and looks whether the name leads to the file (two
+# calls) and how long that is. At the end it syncs the folder again.
+SYNCED_ONCE = 3 + 5 + 1
 
 
 def boots_behind(checks):
@@ -325,7 +336,10 @@ def check_run_faults(checks):
             faults = []
             for at, (got, kept) in each_fault(checks, fault, lambda env: run(words, env)):
                 wrong = wrong_call(checks)
-                if not is_run_after(fault, wrong, got, kept, flashes) or not boots_behind(checks):
+                # Before the first event `--durable` makes sure of the file as it is.
+                is_unsure = len(words) > 1 and fault == "fail" and (got, kept) == ((4, b"", FAULT), before)
+                is_right = is_unsure or is_run_after(fault, wrong, got, kept, flashes)
+                if not is_right or not boots_behind(checks):
                     faults.append(f"at call {at}, to {wrong}: {short(got)}")
             checks.tell(f"{fault}: {' '.join(words)} of a device, {at} calls", faults[:5])
             calls[words[-1], fault] = at
@@ -333,10 +347,10 @@ def check_run_faults(checks):
             got = run(words, with_fault(checks, fault))
             is_right = got == ((0, numbered(USUAL), b""), flashes[-1])
             checks.tell(f"{fault}: {' '.join(words)} of a device", [] if is_right else [short(got[0])])
-    # Of what fails, `--durable` adds the syncs alone: one for each write of the file.
-    synced = calls["--durable", "fail"] - calls["run", "fail"]
-    is_right = synced == SUM_OF_WRITES
-    checks.tell("run --durable: its syncs", [] if is_right else [f"{synced}, and not {SUM_OF_WRITES}"])
+    # Of what fails, `--durable` adds the syncs, and what opens, looks up and closes the folder.
+    added = calls["--durable", "fail"] - calls["run", "fail"]
+    is_right = added == SUM_OF_WRITES + SYNCED_ONCE
+    checks.tell("run --durable: its calls", [] if is_right else [f"{added}, and not {SUM_OF_WRITES + SYNCED_ONCE}"])
 
 
 # Runs that end with a refusal, with a cut and with no run at all, and how each ends.
@@ -401,8 +415,8 @@ def check_durable_words(checks):
         checks.tell(f"syncs: run {shown(words)}: what is told", [] if got == wanted else [short(got)])
     usual = counts[shown(files)]
     for words, count in counts.items():
-        synced = SUM_OF_WRITES if words.split(" -- ")[0].count("--durable") else 0
-        checks.tell(f"syncs: run {words}", [] if count - usual == synced else [f"{count - usual}, and not {synced}"])
+        added = SUM_OF_WRITES + SYNCED_ONCE if words.split(" -- ")[0].count("--durable") else 0
+        checks.tell(f"syncs: run {words}", [] if count - usual == added else [f"{count - usual}, and not {added}"])
     os.remove(f"{checks.folder}/--durable")
 
 

@@ -254,7 +254,7 @@ def expect_made(checks, name, words, body, wanted):
     """A check: `make-image` makes this image with these words, of a file and of standard input, whatever was there."""
     for source in (checks.file("body", body), "-"):
         checks.file("made", 1000 * b"Z")
-        got = checks.run(["make-image", "made", source, *words], given=body)
+        got = checks.run(["make-image", "made", source, "--force", *words], given=body)
         made = read(f"{checks.folder}/made")
         faults = [] if got == (0, b"done\n", b"") else [f"{got}"]
         faults += [] if made == wanted else [f"it is {made[:500].hex()}"]

@@ -1,11 +1,13 @@
-"""Checks of the library behind include/bootswap.h, for `./gate`: the program in C, and the tests of the Python names."""
+"""Checks of the library behind include/bootswap.h, for `./gate`: the program in C, the tests of the Python names, and what
+bindings/README.md has one type."""
 
 import os
+import re
 import shutil
 import subprocess
 import sys
 
-from checking import EXAMPLES, ROOT, short
+from checking import EXAMPLES, ROOT, read, short
 from program import TARGET, NotBuilt, asked_of_rt, crates_of, static_library
 
 LIFE = f"{ROOT}/bindings/c/life.c"
@@ -79,14 +81,48 @@ def check_requests_no_memory(checks, archive):
     checks.tell("the library requests no memory", faults or [f"what it calls: {it}" for it in more])
 
 
-def check_python(checks, archive):
+def share(archive, shared):
+    """Makes the shared library for Python, and returns what is wrong, if something is."""
+    return ran(["cc", "-shared", "-o", shared, "-Wl,--whole-archive", archive, "-Wl,--no-whole-archive"])[0]
+
+
+def check_python(checks, shared):
     """The tests of the Python names, over the library as it was built."""
-    shared = f"{checks.folder}/libbootswap.so"
-    faults, _ = ran(["cc", "-shared", "-o", shared, "-Wl,--whole-archive", archive, "-Wl,--no-whole-archive"])
-    if not faults:
-        words = [sys.executable, "-B", f"{ROOT}/bindings/python/test_bootswap.py"]
-        faults, _ = ran(words, env={**os.environ, "BOOTSWAP_LIBRARY": shared}, timeout=LIMIT)
+    words = [sys.executable, "-B", f"{ROOT}/bindings/python/test_bootswap.py"]
+    faults, _ = ran(words, env={**os.environ, "BOOTSWAP_LIBRARY": shared}, timeout=LIMIT)
     checks.tell("the tests of the Python names", faults)
+
+
+def fenced(text, language):
+    """Returns the blocks of a page in Markdown that are in a language, each with the block of its output if one is next."""
+    blocks = re.findall(r"^```(\w*)\n(.*?)^```$", text, re.MULTILINE | re.DOTALL)
+    return [(body, more if not kind else "") for (own, body), (kind, more) in zip(blocks, [*blocks[1:], ("none", "")]) if own == language]
+
+
+def check_readme(checks, archive, shared):
+    """The commands and the Python program of bindings/README.md do what it says, exactly as they are printed there: at the
+    top of a clone, once `bindings/build` has made the libraries."""
+    top = f"{checks.folder}/clone"
+    for name in ("bindings", "examples", "include"):
+        shutil.copytree(f"{ROOT}/{name}", f"{top}/{name}")
+    os.mkdir(f"{top}/out")
+    shutil.copy(archive, f"{top}/out/libbootswap.a")
+    shutil.copy(shared, f"{top}/out/libbootswap.so")
+    text = read(f"{ROOT}/bindings/README.md").decode()
+    (commands, printed), *_ = fenced(text, "sh") or [("", "")]
+    (program, report), *_ = fenced(text, "python") or [("", "")]
+    first, _, others = commands.partition("\n")
+    checks.tell("bindings/README.md begins with a build", [first] * (first != "bindings/build"))
+    environment = {name: value for name, value in os.environ.items() if name not in ("BOOTSWAP_LIBRARY", "PYTHONPATH")}
+    streams = {"stdin": subprocess.DEVNULL, "stdout": subprocess.PIPE, "stderr": subprocess.PIPE, "text": True}
+    for name, words, wanted in (
+        ("commands", ["bash", "-ec", others], printed),
+        ("Python program", [sys.executable, "-c", program], report),
+    ):
+        done = subprocess.run(words, cwd=top, env=environment, timeout=LIMIT, **streams)
+        faults = [f"status {done.returncode}: {short(done.stderr[-2000:])}"] * (done.returncode != 0)
+        faults += [f"it prints {short(done.stdout)}, and not {short(wanted)}"] * (not wanted or done.stdout != wanted)
+        checks.tell(f"the {name} of bindings/README.md", faults)
 
 
 def check_library(checks, build):
@@ -98,4 +134,9 @@ def check_library(checks, build):
         check_life(checks, archive)
         check_cpp(checks)
         check_requests_no_memory(checks, archive)
-        check_python(checks, archive)
+        shared = f"{checks.folder}/libbootswap.so"
+        faults = share(archive, shared)
+        checks.tell("the library for Python is linked", faults)
+        if not faults:
+            check_python(checks, shared)
+            check_readme(checks, archive, shared)

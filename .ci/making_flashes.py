@@ -2,6 +2,9 @@
 
 import fcntl
 import os
+import resource
+import subprocess
+import time
 
 from builders import little
 from checking import PAIR, read, short
@@ -134,15 +137,37 @@ RECORDS = [
 ]
 
 
+def wait_until_reading(process):
+    """Waits until a process reads its standard input: Linux tells the number of its call and that of the file."""
+    for _ in range(10_000):
+        with open(f"/proc/{process}/syscall", encoding="ascii") as it:
+            if it.read().startswith("0 0x0 "):
+                return
+        time.sleep(0.001)
+
+
+def run_on_full_disk(checks, script, most):
+    """A run whose flash file takes no byte past the first `most` ones. The program doesn't know it, since that is so only
+    once it has opened the file, and so a write may be done in part."""
+    words = [checks.program, "run", PAIR, "flash", "-"]
+    pipes = {"stdin": subprocess.PIPE, "stdout": subprocess.PIPE, "stderr": subprocess.PIPE}
+    # Python ignores the signal that such a write would end the program by, and so does what it starts.
+    with subprocess.Popen(words, cwd=checks.folder, restore_signals=False, **pipes) as ran:
+        wait_until_reading(ran.pid)
+        resource.prlimit(ran.pid, resource.RLIMIT_FSIZE, (most, most))
+        out, err = ran.communicate(script)
+    return ran.returncode, out, err
+
+
 def check_halves(checks):
     """Of a record, or of its gate, so many bytes are written, and then no write of the flash file is done any more."""
     new = new_device(checks)
-    script = checks.file("script", WORKED_EVENTS.replace(", ", "\n").encode())
+    script = WORKED_EVENTS.replace(", ", "\n").encode()
     for place, replies, before, behind in RECORDS:
         faults = []
         for count in (0, 1, 28, 55, 56, 57, 60, 63):
             checks.file("flash", new)
-            got = checks.run(["run", PAIR, "flash", script], most=place + count)
+            got = run_on_full_disk(checks, script, place + count)
             if got != (4, numbered(replies), b"error: flash file\n"):
                 faults.append(f"{count} bytes: {short(got)}")
             # Behind the first record that is written nothing else has changed.

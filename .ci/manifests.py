@@ -38,6 +38,9 @@ OF_ABC = f"""{{"manifest-version":1,"sequence-number":7,
 
 NO_IMAGE = b"note: abc is no intact image: 1 Short\n"
 
+# What is noted where some files are for a test and others are to stay.
+BOTH_KINDS = b"note: a boot tries these images as a set: those of --permanent revert too unless each is confirmed\n"
+
 # Events that request the first image, and that raise its floor to 5.
 FIRST_COMES = "boot, accept first.json, piece 0 needing.img, finish 0"
 FLOOR_RAISED = "boot, accept patched.json, piece 0 patched.img, finish 0, boot"
@@ -69,7 +72,7 @@ def check_new_manifests(checks):
     kinds = [component(component_id=1), component(kind="permanent")]
     checks.file("a=b", b"abc")
     words = asked("--permanent=0=a=b", "--test=1=abc", sequence=2**32 - 1)
-    told = NO_IMAGE + NO_IMAGE.replace(b"abc is", b"a=b is")
+    told = NO_IMAGE + NO_IMAGE.replace(b"abc is", b"a=b is") + BOTH_KINDS
     value = manifest(components=kinds, sequence_number=2**32 - 1)
     expect_value(checks, "make-manifest: those for a test come first", words, value, told)
     empty = checks.file("empty", b"")
@@ -166,10 +169,33 @@ def refused_note(number, reason):
     return f"note: a boot would refuse image {number}: {reason}\n".encode()
 
 
+def check_both_kinds(checks):
+    """If an image for a test and one to stay come together, both are tried and both go back, as the note says, though
+    neither needs the other; where both are to stay none is tried."""
+    new = {it: checks.file(f"new-{it}.img", image([], own=version(2, it))) for it in (0, 1)}
+    for kinds, note, replies in [
+        (("test", "permanent"), BOTH_KINDS, ["plain", "trial", "reverted"]),
+        (("permanent", "test"), BOTH_KINDS, ["plain", "trial", "reverted"]),
+        (("permanent", "permanent"), b"", ["plain", "permanent", "plain"]),
+        (("test", "test"), b"", ["plain", "trial", "reverted"]),
+    ]:
+        flash_of(checks)
+        words = asked(*(f"--{kind}={number}={new[number]}" for number, kind in enumerate(kinds)))
+        status, out, err = checks.run(words)
+        checks.file("made.json", out)
+        script = f"boot\naccept made.json\npiece 0 {new[0]}\npiece 1 {new[1]}\nfinish 0\nfinish 1\nboot\nboot\n"
+        told = checks.run(["run", PAIR, "flash", "-"], given=script.encode())[1].decode().splitlines()
+        got = [it.split()[1] for it in told if it.split()[0] in ("1", "7", "8")]
+        faults = [] if (status, err) == (0, note) else [f"{status} {short(err)}"]
+        faults += [] if got == replies else [f"{got}"]
+        checks.tell(f"make-manifest: {' and '.join(kinds)}: what is noted, and what the device does", faults)
+
+
 # Requests on the flash of a device, files that may come to it, and what is noted of them.
 NEXT_BOOTS = [
     ("it needs another that doesn't come", "", ["--test=0=needing.img"], refused_note(0, "needs 1 2.0.0+0")),
-    ("both come", "", ["--test=0=needing.img", "--permanent=1=partner.img"], b""),
+    ("both come", "", ["--test=0=needing.img", "--permanent=1=partner.img"], BOTH_KINDS),
+    ("both stay", "", ["--permanent=0=needing.img", "--permanent=1=partner.img"], b""),
     ("the other one needs it, and runs on", "", ["--test=1=partner.img"], refused_note(1, "needs 0 2.0.0+0")),
     ("the other one is requested already", f"{FIRST_COMES}, accept second.json", ["--test=1=partner.img"], b""),
     ("it takes the place of what is requested", FIRST_COMES, ["--test=0=one.img"], b""),
@@ -188,7 +214,7 @@ def check_next_boots(checks):
         status = run_of(checks, events)[0] if events else 0
         got = checks.run(asked(*options, "--precursor=flash", sequence=9))
         alone = checks.run(asked(*options, sequence=9))[2]
-        wanted = (0, 0, note, NO_IMAGE if note == NO_IMAGE else b"")
+        wanted = (0, 0, note, note if note in (NO_IMAGE, BOTH_KINDS) else b"")
         found = (status, got[0], got[2], alone)
         faults = [] if found == wanted else [f"{short(found)}, and not {short(wanted)}"]
         checks.tell(f"make-manifest: the next boot: {name}", faults)
@@ -199,10 +225,31 @@ def check_next_boots(checks):
     checks.tell("make-manifest: the next boot: what runs doesn't fit", faults)
 
 
+def check_strict_manifests(checks):
+    """With `--strict` the status is 1 if a note tells of a file that the device will not take, and all else stays."""
+    new_device(checks)
+    checks.file("abc", b"abc")
+    checks.file("long.img", image([], body=bytes(1024)))
+    both = ["--test=0=needing.img", "--permanent=1=partner.img"]
+    for name, options, status in [
+        ("a damaged file", ["--test=0=abc"], 1),
+        ("a file longer than its slot", ["--test=0=long.img"], 1),
+        ("a file that the next boot would refuse", ["--test=0=needing.img", "--precursor=flash"], 1),
+        ("files of both kinds", both, 0),
+        ("files of both kinds that the next boot takes", [*both, "--precursor=flash"], 0),
+        ("a file for a test", ["--test=0=one.img"], 0),
+    ]:
+        plain, strict = (checks.run(asked(*options, *more)) for more in ([], ["--strict"]))
+        wanted = (status, *plain[1:])
+        faults = [] if (plain[0], strict) == (0, wanted) else [f"{short(strict)}, and not {short(wanted)}"]
+        faults += [] if plain[1].startswith(b"{") else [short(plain[1])]
+        checks.tell(f"make-manifest --strict: {name}", faults)
+
+
 USAGE = """
 
 Usage: bootswap make-manifest <DEVICE> --sequence <N> [--precursor <FLASH>]
-           [--test <I=FILE>].. [--permanent <I=FILE>].. [--explain]
+           [--test <I=FILE>].. [--permanent <I=FILE>].. [--strict] [--explain]
 
 For more information, try '--help'.
 """
@@ -237,4 +284,5 @@ def check_unreadable_manifests(checks):
     checks.expect("make-manifest: the device and a file as -", asked("--test=0=-", of="-"), 2, b"", err)
 
 
-CHECKS = (check_new_manifests, check_precursors, check_refused_manifests, check_next_boots, check_unreadable_manifests)
+CHECKS = (check_new_manifests, check_precursors, check_refused_manifests, check_both_kinds, check_next_boots)
+CHECKS += (check_strict_manifests, check_unreadable_manifests)

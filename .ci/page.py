@@ -1,5 +1,5 @@
 """Checks of the page of web/, for `./gate`: a device's life is clicked through in a browser without a window, and what the
-page says is compared with what the program prints of the same events."""
+page says is compared with what the program prints of the same events. How it looks is checked in page_looks.py."""
 
 import contextlib
 import os
@@ -11,12 +11,13 @@ import time
 
 from browser import Browser
 from checking import PAIR, ROOT, flash_of
+from page_looks import check_looks
 from program import WEB_TARGET, link_for_web
 
 BROWSER = shutil.which("chromium") or shutil.which("chromium-browser")
 
 # How many seconds the whole may take.
-LIMIT = 120
+LIMIT = 240
 
 EVENTS = "[...document.querySelectorAll('#events li')].map(it => it.querySelector('pre').textContent)"
 CHECKED = "[...document.querySelectorAll('#events .checked')].map(it => it.textContent)"
@@ -29,7 +30,7 @@ def click(name):
 
 
 def confirm(image):
-    return f"document.querySelectorAll('#rows tr')[{image}].querySelectorAll('button')[0].click()"
+    return f"document.querySelector('[aria-label=\"Confirm image {image}\"]').click()"
 
 
 class Page:
@@ -47,12 +48,21 @@ class Page:
         self.browser.open(f"{self.address}/index.html")
         self.wait()
 
-    def wait(self):
-        """Waits until the page shows a device. While it is loaded nothing on it can be asked."""
+    def visit(self, link, state="yes"):
+        """Opens the page anew, with the hash of a link."""
+        self.browser.call("Page.navigate", url="about:blank")
+        self.browser.call("Page.navigate", url=f"{self.address}/index.html{link}")
+        self.wait(state)
+
+    def resize(self, width):
+        self.browser.call("Emulation.setDeviceMetricsOverride", width=width, height=1000, deviceScaleFactor=1, mobile=False)
+
+    def wait(self, state="yes"):
+        """Waits until the page shows a device, or is in another state. While it is loaded nothing on it can be asked."""
         until = time.monotonic() + 30
         while time.monotonic() < until:
             with contextlib.suppress(KeyError):
-                if self.browser.run(READY) == "yes":
+                if self.browser.run(READY) == state:
                     return
             time.sleep(0.05)
         raise ValueError("the page isn't ready after 30 seconds")
@@ -112,9 +122,7 @@ def check_life(checks, page):
 def check_link(checks, page, wanted):
     """The link of a scene carries all of it."""
     link = page.browser.run("location.hash")
-    page.browser.call("Page.navigate", url="about:blank")
-    page.browser.call("Page.navigate", url=f"{page.address}/index.html{link}")
-    page.wait()
+    page.visit(link)
     got = page.browser.run(EVENTS)
     checks.tell("a link carries the scene", [f"{got}, and not {wanted}"] * (got != wanted))
 
@@ -137,7 +145,7 @@ def check_refusal(checks, page):
     run = page.browser.run
     run("document.getElementById('images').value = 3")
     page.renew()
-    tick = "document.querySelectorAll('#rows input[type=checkbox]')[{}].click()"
+    tick = "document.querySelector('[name=tick{}]').click()"
     for step in (click("boot"), tick.format(1), UPLOAD, click("boot")):
         run(step)
     said = run("document.querySelector('#events li:last-child').textContent")
@@ -177,6 +185,7 @@ def check_page(checks, build):
         check_link(checks, page, check_life(checks, page))
         check_beside(checks, page)
         check_refusal(checks, page)
+        check_looks(checks, page, module)
         checks.tell("the page has no fault", page.browser.faults)
     except (EOFError, KeyError, OSError, ValueError) as error:
         checks.tell("the page is clicked through", [repr(error)])

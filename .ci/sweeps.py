@@ -1,9 +1,13 @@
 """What the built program tells of a script with each write cut, and that the same commands by hand say the same."""
 
 import contextlib
+import fcntl
 import hashlib
 import os
 import re
+import select
+import subprocess
+import time
 import xml.etree.ElementTree
 
 from builders import component, device, image, manifest, version
@@ -218,6 +222,70 @@ def check_pictures(checks):
     os.remove(picture)
 
 
+# What the line at a terminal says of a sweep, behind its first event.
+DOING = rb"first run, event \d+ of \d+|second run|cuts 0 of \d+, \d+ runs|cuts \d+ of \d+, \d+ runs, \d+ s left"
+
+
+def big_device(checks):
+    """Makes a device file, and an image that takes a boot some hundredths of a second to read."""
+    checks.file("big.json", device(sector=65536, sectors=[62]))
+    return checks.file("big.img", image([], body=4_000_000 * b"x", own=version(1)))
+
+
+def told_until(checks, words, seconds, wanted):
+    """Runs a sweep with a terminal as its standard error for so many seconds at most, until the terminal was told this;
+    returns what it was told, and how many seconds went to the first byte. The sweep is ended then."""
+    ours, theirs = os.openpty()
+    began, told, first = time.monotonic(), b"", None
+    ran = subprocess.Popen([checks.program, *words], cwd=checks.folder, stdout=subprocess.DEVNULL, stderr=theirs)
+    os.close(theirs)
+    # Linux ends what a terminal has with an error, once nobody writes to it.
+    with contextlib.suppress(OSError):
+        while not re.search(wanted, told) and time.monotonic() - began < seconds:
+            if select.select([ours], [], [], 0.1)[0]:
+                told += os.read(ours, 4096)
+                first = first or time.monotonic() - began
+    ran.kill()
+    ran.wait()
+    os.close(ours)
+    return told, first or seconds
+
+
+def check_early_progress(checks):
+    """The line comes within two seconds of the start and goes on: while the first run of a long script goes on, and
+    while the first write of a sweep by two cuts is tried."""
+    big = big_device(checks)
+    checks.file("long", 2000 * b"boot\n")
+    checks.file("manifest", manifest(components=[component()]))
+    checks.file("twice", 20 * b"boot\n" + b"accept manifest\n")
+    start = rb"^\rsweep: first run, event 1 of "
+    for name, words, wanted in [
+        ("a long script", ["big.json", "long", big], start + rb"2000\x1b\[K.*event [1-9]\d+ of 2000\x1b\[K"),
+        ("--twice", ["--twice", "big.json", "twice", big], start + rb"21\x1b\[K.*\rsweep: cuts 0 of \d+, \d+ runs"),
+    ]:
+        told, first = told_until(checks, ["sweep", *words], 20, wanted)
+        faults = [] if re.search(wanted, told) else [short(told)]
+        faults += [] if first < 2 else [f"the first line comes after {first} s"]
+        checks.tell(f"sweep: how far it is, from its start: {name}", faults)
+
+
+def check_early_refusals(checks):
+    """A picture that can't be made is refused before the runs, which would take longer than a check may."""
+    big = big_device(checks)
+    checks.file("long", 4000 * b"boot\n")
+    os.mkfifo(f"{checks.folder}/pipe")
+    for name in (".", "pipe", "/dev/null"):
+        words = ["sweep", f"--svg={name}", "big.json", "long", big]
+        told = f"error: cannot write {name}\n".encode()
+        checks.expect(f"sweep: the picture can't be made, at once: {name}", words, 1, err=told)
+    os.remove(f"{checks.folder}/pipe")
+    checks.file("held", b"old")
+    with open(f"{checks.folder}/held", "rb") as held:
+        fcntl.flock(held, fcntl.LOCK_EX)
+        words = ["sweep", "--svg=held", "big.json", "long", big]
+        checks.expect("sweep: the picture is held, at once", words, 1, err=b"error: cannot write held\n")
+
+
 def check_progress(checks):
     """A terminal at standard error is told how far a sweep is, in one line that is taken away at the end."""
     ours, theirs = os.openpty()
@@ -230,7 +298,8 @@ def check_progress(checks):
         while more := os.read(ours, 4096):
             told += more
     os.close(ours)
-    line = rb"(\rsweep: \d+ of 91, \d+ s left\x1b\[K)*\r\x1b\[K"
+    first = rb"\rsweep: first run, event 1 of 10\x1b\[K"
+    line = first + rb"(\rsweep: (" + DOING + rb")\x1b\[K)*\r\x1b\[K"
     faults = [] if got == usual else [short(got)]
     faults += [] if re.fullmatch(line, told) else [short(told)]
     checks.tell("sweep: how far it is, at a terminal", faults)
@@ -264,11 +333,30 @@ def check_refusals(checks):
         checks.expect(f"sweep: {name}", words, 1, out, err)
     words = ["sweep", "--svg=script", PAIR, "script", ONE, ONE]
     checks.expect("sweep: the picture is a script that is right", words, 1, err=b"error: picture is an input\n")
+    files |= {"names": b"boot\naccept abc\n", "pieces": b"boot\npiece 0 abc 1 2\npiece 1 script\n", "abc-second": b""}
+    checks.file("names", files["names"])
+    checks.file("pieces", files["pieces"])
+    os.link(f"{checks.folder}/abc", f"{checks.folder}/abc-second")
+    for script, name in [
+        ("names", "abc"),
+        ("names", "./abc"),
+        ("names", "abc-second"),
+        ("pieces", "abc"),
+        ("pieces", f"{checks.folder}/abc"),
+        ("pieces", "script"),
+    ]:
+        words = ["sweep", f"--svg={name}", PAIR, script, ONE, ONE]
+        title = f"sweep: the picture is a file that the script names: {script}, {name.removeprefix(checks.folder)}"
+        checks.expect(title, words, 1, err=b"error: picture is an input\n")
+        given = read(f"{checks.folder}/{script}")
+        words = ["sweep", f"--svg={name}", PAIR, "-", ONE, ONE]
+        checks.expect(f"{title}, on standard input", words, 1, err=b"error: picture is an input\n", given=given)
     is_kept = (read(f"{checks.folder}/picture"), read(f"{checks.folder}/abc")) == (b"old", b"abc")
+    is_kept = is_kept and read(f"{checks.folder}/script") == read(SCRIPT)
     checks.tell("sweep: no picture is made of what is refused", [] if is_kept else ["a file was changed"])
     for name in files:
         os.remove(f"{checks.folder}/{name}")
 
 
 CHECKS = (check_worked, check_kept, check_characters, check_others, check_samples, check_pictures)
-CHECKS += (check_progress, check_refusals)
+CHECKS += (check_progress, check_early_progress, check_early_refusals, check_refusals)

@@ -36,6 +36,11 @@ def check_refused_names(checks):
     for made, body in pairs:
         name = f"that of its body, by {names[made]}, and the body by {names[body]}"
         expect_made(checks, name, [made, body, "--version=1"], 1, b"", b"error: image is an input\n", [])
+    for made in ("own", "own-link", "own-second"):
+        with open(path("own"), "rb") as given:
+            name = f"that of its body, which is standard input, by {names[made]}"
+            err = b"error: image is an input\n"
+            expect_made(checks, name, [made, "-", "--version=1"], 1, b"", err, [], stdin=given)
     for made, told in [
         ("no/a.img", "no/a.img"),
         ("no\n/a\x1b", "no\\n/a\\u{1b}"),
@@ -57,23 +62,24 @@ def check_replaced_images(checks):
     path = lambda name: f"{checks.folder}/{name}"
     one = read(ONE)
     words = ["own", checks.file("body", b"ABCD"), "--version=1.0.0+0"]
-    for old in (None, b"", 1000 * b"Z", b"short", one[:-1]):
+    for old, more in ((None, []), (b"", []), (one[:-1], []), (1000 * b"Z", ["--force"]), (b"short", ["--force"])):
         if os.path.exists(path("own")):
             os.remove(path("own"))
         if old is not None:
             checks.file("own", old)
         name = "that isn't there" if old is None else f"of {len(old)} bytes"
-        expect_made(checks, name, words, 0, b"done\n", b"", ["own"])
+        expect_made(checks, name, [*words, *more], 0, b"done\n", b"", ["own"])
         checks.tell(f"a file of make-image: {name}: it is whole", [] if read(path("own")) == one else ["it isn't"])
-    checks.file("own", b"old")
+    old = read(f"{EXAMPLES}/images/counted.img")
+    checks.file("own", old)
     os.link(path("own"), path("own-second"))
     os.chmod(path("own"), 0o640)
     os.symlink("own", path("own-link"))
     expect_made(checks, "by a link", ["own-link", *words[1:]], 0, b"done\n", b"", ["own"])
     mode = stat.S_IMODE(os.stat(path("own")).st_mode)
-    is_right = (read(path("own")), read(path("own-second")), mode) == (one, b"old", 0o640)
+    is_right = (read(path("own")), read(path("own-second")), mode) == (one, old, 0o640)
     checks.tell("a file of make-image: its second name and its permissions", [] if is_right else ["they are others"])
-    checks.file("own", b"old")
+    checks.file("own", old)
     for name, how in (("written", fcntl.LOCK_EX), ("read", fcntl.LOCK_SH)):
         with open(path("own"), "rb") as held:
             fcntl.flock(held, how)
@@ -85,6 +91,86 @@ def check_replaced_images(checks):
     checks.tell("an image that can't be told stands", [] if read(path("own")) == one else ["it doesn't"])
     os.remove(path("own-link"))
     os.remove(path("own-second"))
+
+
+# The 32 bytes of a header that is accepted, and of others: with another magic number, of 31 bytes, and with a flag that
+# isn't accepted.
+HEADER = bytes.fromhex("3db8f396" "00000000" "2000" "0000" "04000000" "00000000" "0100000000000000" "00000000")
+NO_HEADERS = {
+    "of text": b"old",
+    "of a byte": b"\n",
+    "of a header but for its last byte": HEADER[:-1],
+    "of another magic number": b"\x3c" + HEADER[1:],
+    "of a header size of 31": HEADER[:8] + b"\x1f\0" + HEADER[10:],
+    "of a flag that isn't accepted": HEADER[:16] + b"\2\0\0\0" + HEADER[20:],
+}
+
+
+def check_other_files(checks):
+    """A file that is no image is replaced by force alone, as a body is whose name comes first by mistake."""
+    path = lambda name: f"{checks.folder}/{name}"
+    one = read(ONE)
+    checks.file("body", b"ABCD")
+    for name, old in NO_HEADERS.items():
+        checks.file("own", old)
+        words = ["own", "body", "--version=1.0.0"]
+        expect_made(checks, f"{name} stays", words, 1, b"", b"error: own is no image\n", [])
+        expect_made(checks, f"{name}, by force", [*words, "--force"], 0, b"done\n", b"", ["own"])
+        checks.tell(f"a file of make-image: {name}, by force: it is whole", [] if read(path("own")) == one else ["no"])
+    checks.file("own", HEADER)
+    expect_made(checks, "of a header alone", ["own", "body", "--version=1.0.0"], 0, b"done\n", b"", ["own"])
+    swapped, told = ["body", "own", "--version=1.0.0"], b"error: body is no image\n"
+    expect_made(checks, "that is a body", swapped, 1, b"", told, [])
+    told += b"note: OUT comes first, then BODY: `--force` replaces body by an image of own\n"
+    expect_made(checks, "that is a body, explained", [*swapped, "--explain"], 1, b"", told, [])
+    checks.file("\nbody\x1b", b"ABCD")
+    told = b"error: \\nbody\\u{1b} is no image\n"
+    expect_made(checks, "with a name that is escaped", ["\nbody\x1b", "own", "--version=1"], 1, b"", told, [])
+    os.remove(path("\nbody\x1b"))
+    checks.file("own", b"old")
+    flags = ["own", "body", "--version=1", "--flags=2"]
+    expect_made(checks, "of text, and no values", flags, 1, b"refused 2 UnsupportedFlags\n", b"", [])
+    os.remove(path("own"))
+
+
+def given_file(checks, words, name):
+    """Runs the program with this file as its standard input, as a shell does by `<`."""
+    with open(f"{checks.folder}/{name}", "rb") as it:
+        return checks.run(words, stdin=it)
+
+
+def check_standard_inputs(checks):
+    """A file that is standard input is none that a command makes, by whatever name."""
+    path = lambda name: f"{checks.folder}/{name}"
+    whole, pair = flash_of(checks), read(PAIR)
+    checks.file("own", read(ONE))
+    checks.file("pair", pair)
+    checks.file("script", b"boot\n")
+    os.symlink("own", path("own-link"))
+    for words, name, kind in [
+        (["make-image", "own", "-", "--version=1"], "own", "image"),
+        (["make-image", "own", "-", "--version=1", "--force"], "own", "image"),
+        (["make-image", "own-link", "-", "--version=1"], "own", "image"),
+        (["make-image", "own", "-", "--version=1"], "own-link", "image"),
+        (["extract", PAIR, "-", "0", "primary", "flash"], "flash", "image"),
+        (["extract", PAIR, "-", "0", "primary", "./flash", "--force"], "flash", "image"),
+        (["extract", "-", "flash", "0", "primary", "pair"], "pair", "image"),
+        (["provision", "-", "pair", ONE, ONE], "pair", "flash"),
+        (["provision", PAIR, "own", ONE, "-"], "own", "flash"),
+        (["sweep", "--svg=pair", "-", "script", ONE, ONE], "pair", "picture"),
+        (["sweep", "--svg=script", PAIR, "-", ONE, ONE], "script", "picture"),
+        (["sweep", "--svg=own-link", PAIR, "script", "-", ONE], "own", "picture"),
+    ]:
+        before = [*files_in(checks.folder)]
+        got = given_file(checks, words, name)
+        wanted = (1, b"", f"error: {kind} is an input\n".encode())
+        faults = [] if got == wanted else [f"{got}"]
+        faults += [] if [*files_in(checks.folder)] == before else ["a file was changed"]
+        checks.tell(f"standard input is the file: {shown(words)} < {name}", faults)
+    got = given_file(checks, ["make-image", "new", "-", "--version=1.0.0"], "script")
+    checks.tell("standard input is another file", [] if got == (0, b"done\n", b"") else [f"{got}"])
+    for name in ("new", "own-link", "own"):
+        os.remove(path(name))
 
 
 def check_written_in_place(checks):
@@ -155,4 +241,5 @@ def check_little_room(checks):
         checks.tell(f"an output with little room: {stream} of make-device", faults)
 
 
-CHECKS = (check_refused_names, check_replaced_images, check_written_in_place, check_little_room)
+CHECKS = (check_refused_names, check_replaced_images, check_other_files, check_standard_inputs, check_written_in_place)
+CHECKS += (check_little_room,)

@@ -351,6 +351,7 @@ NEW_IMAGES = {
 def check_new_images(checks):
     """Images that `make-image` makes are those of the format, and the other commands take them."""
     body = checks.file("body", b"ABCD")
+    checks.file("made", b"")
     for name, words in NEW_IMAGES.items():
         wanted = read(f"{EXAMPLES}/images/{name}.img")
         for source in (body, "-"):
@@ -401,7 +402,7 @@ IMAGE_USAGE = """
 Usage: bootswap make-image <OUT> <BODY> --version <VERSION> [--counter <N>]
            [--needs <'J VERSION'>].. [--dependencies <'(J, V)'>]..
            [--needs-one <'J VERSION ..'>].. [--header-size <BYTES>]
-           [--load-address <N>] [--flags <N>] [--explain]
+           [--load-address <N>] [--flags <N>] [--force] [--explain]
 
 For more information, try '--help'.
 """

@@ -131,6 +131,8 @@ IMAGES = [
     ["make-image", "--needs", "1 2", "made", "--counter=5", "body", "--version=1.0.0+0"],
     ["make-image", "--security-counter=5", "--version=1", "--needs=1 2.0", "--", "--made", "--body"],
     ["make-image", "made", "--needs=1 2", "--security-counter", "5", "--version", "1", "-"],
+    ["make-image", "--force", "made", "body", "--version=1", "--needs=1 2", "--counter=5"],
+    ["make-image", "made", "body", "--version=1", "--needs=1 2", "--counter=5", "--force", "--explain"],
 ]
 FLASHES = [
     ["provision", PAIR, "flash", ONE, ONE],
@@ -146,7 +148,8 @@ def check_making(checks, whole):
     for several, wanted in ((IMAGES, counted), (FLASHES, whole)):
         for words in several:
             made = next(it for it in words if it in ("made", "--made", "flash"))
-            checks.file(made, b"old")
+            # A file that is no image is replaced by an image only if that is forced.
+            checks.file(made, b"" if words[0] == "make-image" and "--force" not in words else b"old")
             checks.expect(f"spelled: {shown(words)}", words, 0, b"done\n", given=b"ABCD")
             is_same = read(f"{checks.folder}/{made}") == wanted
             checks.tell(f"spelled: {shown(words)}: the file", [] if is_same else ["it holds other bytes"])
@@ -224,7 +227,7 @@ USAGES = {
     """make-image <OUT> <BODY> --version <VERSION> [--counter <N>]
            [--needs <'J VERSION'>].. [--dependencies <'(J, V)'>]..
            [--needs-one <'J VERSION ..'>].. [--header-size <BYTES>]
-           [--load-address <N>] [--flags <N>] [--explain]""": {
+           [--load-address <N>] [--flags <N>] [--force] [--explain]""": {
         f"{MISSING}\n  --version <VERSION>": ["make-image a b"],
         IS_MADE: ["make-image - b --version=1", "make-image - - --version=1"],
         "the argument '--counter <N>' cannot be used multiple times": [
@@ -232,7 +235,7 @@ USAGES = {
         ],
     },
     """make-manifest <DEVICE> --sequence <N> [--precursor <FLASH>]
-           [--test <I=FILE>].. [--permanent <I=FILE>].. [--explain]""": {
+           [--test <I=FILE>].. [--permanent <I=FILE>].. [--strict] [--explain]""": {
         f"{MISSING}\n  <DEVICE>": ["make-manifest --sequence=1 --test=0=a"],
         f"{MISSING}\n  --sequence <N>": ["make-manifest a --test=0=a"],
         "the argument '--sequence <N>' cannot be used multiple times": ["make-manifest a --sequence=1 --sequence=1"],
@@ -298,6 +301,7 @@ def check_versions(checks):
 ESCAPED = [
     ("a\nerror: \x1b[2J\t\x7f\x85\u00e9'\\", "a\\nerror: \\u{1b}[2J\\t\\u{7f}\\u{85}\u00e9'\\"),
     ("\r", "\\r"),
+    ("a\u2028b\u2029c\u2027\u202f", "a\\u{2028}b\\u{2029}c\u2027\u202f"),
     ("a\u202egpj.\u061c\u200f\u2066b\u2069\u05d0", "a\\u{202e}gpj.\\u{61c}\\u{200f}\\u{2066}b\\u{2069}\u05d0"),
 ]
 
