@@ -1,13 +1,16 @@
-//! What `bench/` times: the proved checks and the choice, each as one call that answers a number.
+//! The calls that `bench/` times, as a static library.
 //!
-//! It is no interface for programs in C, and nothing of `bootswap` goes by way of it. It is a
-//! static library since the bench is plain Rust, which calls the proved code by C's conventions.
-//! That the numbers say what the crates below say is proved, so that what is timed is the proved
-//! work and not a part of it. What describes a slot allocates the flash that it lies in; no other
-//! call does.
+//! - Promises: The numbers that the bench gets say what the crates below say.
+//! - Main calls: `bench_choose`, `bench_check`, `bench_describe`, `bench_describe_slot`,
+//!   `bench_digest`
+//! - Allocates: a flash in memory, to describe a slot of it; nothing else.
+//! - Callers: the bench, which is plain Rust and calls the proved code by C's conventions.
 //!
-//! A slice crosses as a pointer and a length. The caller answers for them: so many bytes are there,
-//! and nothing changes them while the call runs.
+//! It is no interface for programs in C, and no program of this repository calls it. Its contracts
+//! say that the bench times the proved work and not a part of it.
+//!
+//! A slice crosses as a pointer and a length. The caller answers for them: exactly so many bytes
+//! are there, and nothing changes them while the call runs.
 #![tactic(auto)]
 
 mod choosing;

@@ -1,12 +1,12 @@
 -- A flash that is made a device's.
 use Rattle.std.proofs.Common.{◌≡◌, ◌⊎◌, ℕ, ◌+◌, ◌<◌, ◌≤◌, ◌==◌, max, Bool, true, false, List, [], ◌∷◌, ◌++◌, length, Option, Some, None, Result, Ok, Err}
-use Rattle.std.proofs.Common.{OnOk, IfErr, refl, sym, ◌∙◌, ap, subst, arith, slice_get, slice_index, get_or, ⊎_elim, inl, inr, zero, suc, replicate, length-append}
+use Rattle.std.proofs.Common.{refl, sym, ◌∙◌, ap, subst, arith, slice_get, slice_index, get_or, ⊎_elim, inl, inr, zero, suc, replicate, length-append}
 use Rattle.std.proofs.Math.Bool.{and-false}
 use Rattle.std.proofs.lemmas.Bool.{cases_lt}
 use Rattle.std.proofs.lemmas.List.{same_lists}
-use Rattle.std.proofs.lemmas.Option.{slice_get-get_or, slice_get_cases, slice_get_within}
-use Rattle.flash_model.specs.Chip.{Chip, Ends, IsUncut}
-use Rattle.flash_model.specs.declared.error.FlashError.{FlashError}
+use Rattle.std.proofs.lemmas.Option.{slice_get-get_or, slice_get_cases, slice_get_within, none-some}
+use Rattle.std.proofs.Common.{true≢false}
+use Rattle.flash_model.specs.Chip.{Chip}
 use Rattle.flash_model.specs.declared.error.FlashError.TheVariants as flash
 use Rattle.sector_map.specs.declared.layout.SectorMap.{SectorMap}
 use Rattle.sector_map.specs.declared.layout.Side.{Side}
@@ -43,29 +43,23 @@ use Rattle.machine.proofs.SoundBoots.{all_sound}
 use Rattle.machine.proofs.Steadying.{no_member}
 use Rattle.machine.proofs.Unique.{one_description}
 use Rattle.boot_core.proofs.Records.{none_within}
-use Rattle.boot_core.specs.Provisioned.{AnswersMaking, AreCleared, AreCounters, AreRunningRows, EndsMaking, HasCounters}
+use Rattle.boot_core.specs.Provisioned.{AnswersMaking, AreCleared, AreCounters, AreRunningRows, HasCounters}
 use Rattle.boot_core.specs.Provisioned.{HoldsImage, IsBegunAfresh, IsDoneOrCut, IsFirstDamaged, IsFirstState}
 use Rattle.boot_core.specs.Provisioned.{IsInvalidThere, IsProvisioned, IsRunningRow, IsRunningTable, IsTrailerErased}
-use Rattle.boot_core.specs.Provisioned.{IsValidThere, RefusesMaking, any_trailer, first_record, provided, running_bytes}
-
-none_some : {X : Type 0} (x : X) → None ≡ Some x → ⊥
-none_some x e = cc
+use Rattle.boot_core.specs.Provisioned.{IsValidThere, any_trailer, first_record, provided, running_bytes}
 
 the_one : {X : Type 0} (x y : X) → Some x ≡ Some y → x ≡ y
 the_one x y e = cc
 
-true_false : true ≡ false → ⊥
-true_false e = cc
-
 -- ---- rows are read
 
 pub rows_none : (map : SectorMap) (chip : Chip) → AreRunningRows map chip 0 []
-rows_none map chip = record { count = refl; each = λ i row e. absurd (none_some row e) }
+rows_none map chip = record { count = refl; each = λ i row e. absurd (none-some row e) }
 
 push_cases : {X : Type 0} (xs : List X) (y : X) (k : ℕ) (x : X) → slice_get (xs ++ y ∷ []) k ≡ Some x
     → (slice_get xs k ≡ Some x) ⊎ ((k ≡ length xs) × (y ≡ x))
 push_cases [] y zero x e = inr (refl, the_one y x e)
-push_cases [] y (suc k) x e = absurd (none_some x e)
+push_cases [] y (suc k) x e = absurd (none-some x e)
 push_cases (z ∷ zs) y zero x e = inl e
 push_cases (z ∷ zs) y (suc k) x e = ⊎_elim (λ (at : slice_get zs k ≡ Some x). inl at)
     (λ (last : (k ≡ length zs) × (y ≡ x)). inr (ap suc last.0, last.1)) (push_cases zs y k x e)
@@ -130,11 +124,6 @@ counters_of rows zeros floors none raised = record {
   from_zero : (n : ℕ) → max 0 n ≡ n
   from_zero n = omega arith
 
-pub counters_rest : (map : SectorMap) (chip : Chip) (floors : List ℕ) → HasCounters map chip floors → (i : ℕ)
-    → map.images ≤ i → slice_index floors i ≡ 0
-counters_rest map chip floors (table, there, valid, counters) i le =
-    counters.rest i (subst (λ n. n ≤ i) (sym there.count) le)
-
 -- ---- trailers are erased
 
 -- an erased trailer stays so where it isn't touched
@@ -155,13 +144,13 @@ both_cleared map mid new i first keeps second Secondary = second
 
 trailers_among : (j : ℕ) (part : Part) → any_trailer part ≡ false → trailers_of j part ≡ false
 trailers_among j (Slot i side) e = refl
-trailers_among j (TrailerOf i side) e = absurd (true_false e)
+trailers_among j (TrailerOf i side) e = absurd (true≢false e)
 trailers_among j Scratch e = refl
 trailers_among j Log e = refl
 
 any_provided : (part : Part) → provided part ≡ false → any_trailer part ≡ false
 any_provided (Slot i side) e = refl
-any_provided (TrailerOf i side) e = absurd (true_false e)
+any_provided (TrailerOf i side) e = absurd (true≢false e)
 any_provided Scratch e = refl
 any_provided Log e = refl
 
@@ -169,7 +158,7 @@ log_provided : (part : Part) → provided part ≡ false → only Log part ≡ f
 log_provided (Slot i side) e = refl
 log_provided (TrailerOf i side) e = refl
 log_provided Scratch e = refl
-log_provided Log e = absurd (true_false e)
+log_provided Log e = absurd (true≢false e)
 
 pub trailers_more : (map : SectorMap) (j : ℕ) (old mid new : Chip) → Keeps map any_trailer old mid
     → Keeps map (trailers_of j) mid new → Keeps map any_trailer old new
@@ -242,7 +231,7 @@ held_by whole (Some row) tells = Some (tells row refl).begins.0
 is_held : (whole : List ℕ) (found : Option Image)
     (tells : (row : Image) → found ≡ Some row → IsRunningRow whole row) (row : Image) → found ≡ Some row
     → IsHeld whole (held_by whole found tells) row
-is_held whole None tells row e = absurd (none_some row e)
+is_held whole None tells row e = absurd (none-some row e)
 is_held whole (Some first) tells row e =
     let told = tells first refl in
     subst (λ r. IsHeld whole (held_by whole (Some first) tells) r) (the_one first row e) (record {
@@ -263,7 +252,7 @@ held_front whole held row is = record {
         subst (λ l. Starts whole l) same is.starts,
         (is.description, subst (λ l. IsIntact l is.description) same is.intact),
       );
-  none = λ e. absurd (none_some is.bytes (sym e ∙ is.is));
+  none = λ e. absurd (none-some is.bytes (sym e ∙ is.is));
 }
 
 module _ (map : SectorMap) (old new : Chip) (floors : List ℕ) (table : Table)
@@ -408,7 +397,7 @@ damaged_answer map old new (Err no.InvalidSet) i (there, same) on first =
 damaged_answer map old new (Err (no.Flash flash.Cut)) i (valid, cut) on first =
     absurd (whole_or_not map old i valid.0 valid.1 first)
 damaged_answer map old new (Err (no.Flash flash.Off)) i (off, same) on first =
-    absurd (true_false (sym on ∙ off))
+    absurd (true≢false (sym on ∙ off))
 damaged_answer map old new (Err no.NotBooted) i never on first = absurd never
 damaged_answer map old new (Err no.OnTrial) i never on first = absurd never
 damaged_answer map old new (Err no.NotOnTrial) i never on first = absurd never
@@ -425,7 +414,7 @@ invalid_answer map old new (Err (no.RunningDamaged j)) (first, same) on there =
 invalid_answer map old new (Err no.InvalidSet) (also, same) on there = refl
 invalid_answer map old new (Err (no.Flash flash.Cut)) (valid, cut) on there =
     absurd (valid_or_not map old valid there)
-invalid_answer map old new (Err (no.Flash flash.Off)) (off, same) on there = absurd (true_false (sym on ∙ off))
+invalid_answer map old new (Err (no.Flash flash.Off)) (off, same) on there = absurd (true≢false (sym on ∙ off))
 invalid_answer map old new (Err no.NotBooted) never on there = absurd never
 invalid_answer map old new (Err no.OnTrial) never on there = absurd never
 invalid_answer map old new (Err no.NotOnTrial) never on there = absurd never
@@ -441,7 +430,7 @@ whole_answer map old new (Err (no.RunningDamaged j)) (first, same) on there =
     absurd (whole_or_not map old j there.0 there.1 first)
 whole_answer map old new (Err no.InvalidSet) (also, same) on there = absurd (valid_or_not map old there also)
 whole_answer map old new (Err (no.Flash flash.Cut)) (valid, cut) on there = refl
-whole_answer map old new (Err (no.Flash flash.Off)) (off, same) on there = absurd (true_false (sym on ∙ off))
+whole_answer map old new (Err (no.Flash flash.Off)) (off, same) on there = absurd (true≢false (sym on ∙ off))
 whole_answer map old new (Err no.NotBooted) never on there = absurd never
 whole_answer map old new (Err no.OnTrial) never on there = absurd never
 whole_answer map old new (Err no.NotOnTrial) never on there = absurd never
@@ -449,38 +438,6 @@ whole_answer map old new (Err no.NotProvisioned) never on there = absurd never
 whole_answer map old new (Err no.NoMemory) never on there = absurd never
 whole_answer map old new (Err (no.Manifest error)) never on there = absurd never
 whole_answer map old new (Err (no.Upload error)) never on there = absurd never
-
--- ---- the parts of an answer
-
-pub ok_answer : (map : SectorMap) (old new : Chip) (result : Result Unit Fault)
-    → AnswersMaking map old new result → OnOk result (IsProvisioned map old new)
-ok_answer map old new (Ok done) answer = answer.1
-ok_answer map old new (Err fault) answer = tt
-
-pub refused_answer : (map : SectorMap) (old new : Chip) (result : Result Unit Fault)
-    → AnswersMaking map old new result → IfErr result (RefusesMaking map old new)
-refused_answer map old new (Ok done) answer = tt
-refused_answer map old new (Err fault) answer = answer
-
-uncut_answer : (map : SectorMap) (old new : Chip) (result : Result Unit Fault)
-    → AnswersMaking map old new result → OnOk result (IsUncut old new)
-uncut_answer map old new (Ok done) answer = answer.2
-uncut_answer map old new (Err fault) answer = tt
-
-pub ends_answer : (map : SectorMap) (old new : Chip) (result : Result Unit Fault)
-    → AnswersMaking map old new result → (old.is_on ≡ false → new ≡ old) → EndsMaking result old new
-ends_answer map old new result answer asleep = record {
-  asleep = asleep;
-  uncut = uncut_answer map old new result answer;
-  cut = λ e. (subst (λ r. AnswersMaking map old new r) e answer).1;
-  off = λ e. (subst (λ r. AnswersMaking map old new r) e answer).0;
-}
-
--- a call on the flash failed
-pub stopped_answer : (map : SectorMap) (old new : Chip) (error : FlashError) → IsValidThere map old
-    → Ends {T = Unit} (Err error) old new → AnswersMaking map old new (Err (no.Flash error))
-stopped_answer map old new flash.Cut valid ends = (valid, ends.cut refl)
-stopped_answer map old new flash.Off valid ends = let off = ends.off refl in (off, ends.asleep off)
 
 pub valid_there : (map : SectorMap) (chip : Chip) (floors : List ℕ) → HasCounters map chip floors
     → IsValidThere map chip

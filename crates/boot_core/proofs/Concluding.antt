@@ -1,5 +1,6 @@
 -- A set is settled as what its record says.
-use Rattle.std.proofs.Common.{◌≡◌, ℕ, Bool, true, false, List, subst}
+use Rattle.std.proofs.Common.{◌≡◌, ℕ, Bool, true, false, List, subst, true≢false}
+use Rattle.std.proofs.lemmas.Bool.{false≢true}
 use Rattle.flash_model.specs.Chip.{Chip}
 use Rattle.sector_map.specs.declared.layout.SectorMap.{SectorMap}
 use Rattle.sector_map.specs.Part.{trailers_in}
@@ -13,12 +14,6 @@ use Rattle.machine.specs.States.{new_trial, taken_for_good, taken_on_trial}
 use Rattle.machine.specs.Holding.{AreSettled, IsSwapped, IsTrialAt}
 use Rattle.machine.specs.Passing.{IsTakenAt}
 use Rattle.machine.proofs.Swapping.{settling_kept}
-
-true_false : true ≡ false → ⊥
-true_false e = cc
-
-false_true : false ≡ true → ⊥
-false_true e = cc
 
 -- settled as what the trailers were asked for
 pub settled_as : (map : SectorMap) (chip : Chip) (mask : ℕ) (asked permanent : Bool) → asked ≡ permanent
@@ -34,7 +29,7 @@ pub good_ends : (map : SectorMap) (old mid new : Chip) (mask : ℕ) (permanent :
     → IsTakenAt (view map new) s mask permanent left floors
 good_ends map old mid new mask true left floors e keeps settled ends s table was = ends s table mask
     (settling_kept map old mid mask keeps s table log.Settle true was) settled
-good_ends map old mid new mask false left floors e keeps settled ends s table was = absurd (false_true e)
+good_ends map old mid new mask false left floors e keeps settled ends s table was = absurd (false≢true e)
 
 -- .. or on trial
 pub trial_ends : (map : SectorMap) (old mid new : Chip) (mask : ℕ) (permanent : Bool) (left : ℕ) (floors : List ℕ)
@@ -46,4 +41,4 @@ pub trial_ends : (map : SectorMap) (old mid new : Chip) (mask : ℕ) (permanent 
     → IsTakenAt (view map new) s mask permanent left floors
 trial_ends map old mid new mask false left floors e keeps settled ends s table was = ends s table mask
     (settling_kept map old mid mask keeps s table log.Settle false was) settled
-trial_ends map old mid new mask true left floors e keeps settled ends s table was = absurd (true_false e)
+trial_ends map old mid new mask true left floors e keeps settled ends s table was = absurd (true≢false e)

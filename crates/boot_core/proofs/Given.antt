@@ -1,5 +1,6 @@
 -- Manifests that were read already: what is held after one is taken, and what isn't refused of it.
 use Rattle.std.proofs.Common.{◌≡◌, Bool, true, false, List, Option, Some, None, Result, Err, IsErrOf, refl, sym, ◌∙◌, ap, subst, inl}
+use Rattle.std.proofs.Common.{true≢false}
 use Rattle.flash_model.specs.Chip.{Chip}
 use Rattle.flash_model.specs.declared.error.FlashError.TheVariants as flash
 use Rattle.sector_map.specs.declared.layout.SectorMap.{SectorMap}
@@ -23,20 +24,16 @@ use Rattle.machine.proofs.Uploading.{TakesRow, rest_steady}
 use Rattle.boot_core.specs.Answers.{is_stop}
 use Rattle.boot_core.specs.Device.{StaysHeld, seen}
 use Rattle.boot_core.specs.Ready.{IsReadiness, LogsNoTrial, RefusesManifest}
-use Rattle.boot_core.specs.Taking.{OpensUploads}
 use Rattle.boot_core.proofs.Stopping.{IsStopped, error_is, holds_down}
-
-true_false : true ≡ false → ⊥
-true_false e = cc
 
 -- ---- what is held
 
-module _ (map : SectorMap) (old new : Chip) (told tmid : List (Option Upload)) (up : Bool) (is_up : up ≡ true)
+module _ (map : SectorMap) (old new : Chip) (told tmid : List (Option Upload)) (up : Bool) (is_booted : up ≡ true)
     (rests : LogsNoTrial (view map old).log) (row : Machine → Row) (result : Result Unit UploadError)
     (takes : TakesRow map old new told tmid row result) where
   taken : (m : Machine) → Holds map (seen old told up) m → (next : Machine) × IsUpAt (view map new) tmid next
   taken m holds =
-      let here = holds.is_up ∙ is_up in
+      let here = holds.is_booted ∙ is_booted in
       let after = takes m (record {
         up = here;
         rest = rest_steady map old m.kept rests.0 rests.1 rests.2 (holds.rest here);
@@ -49,10 +46,10 @@ module _ (map : SectorMap) (old new : Chip) (told tmid : List (Option Upload)) (
         after.0,
         record {
           stands = Rests after.1.rest;
-          is_up = after.1.up ∙ sym is_up;
+          is_booted = after.1.up ∙ sym is_booted;
           rest = λ e. inl after.1.rest;
           open_ones = after.1.open_ones;
-          closed = λ e. absurd (true_false (sym after.1.up ∙ e));
+          closed = λ e. absurd (true≢false (sym after.1.up ∙ e));
         },
       )
 
@@ -74,19 +71,11 @@ held_failed map was old new tmid tnew up upn error on ends stopped down kept =
     let told_so : is_stop (no.Upload error) ≡ true = ap (λ e. is_stop (no.Upload e)) cut in
     subst (λ b. StaysHeld map was (seen new tnew b)) (sym (stopped.down told_so)) (down (stopped.closed told_so)))
     (λ (off : error ≡ upload.Flash flash.Off).
-    absurd (true_false (sym on ∙ ends.off (subst (λ e. IsErrOf {T = Unit} (Err e) (upload.Flash flash.Off))
+    absurd (true≢false (sym on ∙ ends.off (subst (λ e. IsErrOf {T = Unit} (Err e) (upload.Flash flash.Off))
     (sym off) refl))))
     (λ (own : is_flash {T = Unit} (Err error) ≡ false).
     subst (λ b. StaysHeld map was (seen new tnew b)) (sym (stopped.stays own))
     (subst (λ l. StaysHeld map was (seen new l up)) (sym (stopped.kept own)) kept))
-
--- the call that asks first leaves the flash as it was
-pub opened_after : (map : SectorMap) (identity : Identity) (manifest : given.Manifest) (old mid : Chip)
-    (told : List (Option Upload)) (up : Bool) (new : DeviceView) (result : Result Unit Fault) → mid ≡ old
-    → OpensUploads map identity manifest (seen mid told up) new result
-    → OpensUploads map identity manifest (seen old told up) new result
-opened_after map identity manifest old mid told up new result same opens =
-    subst (λ chip. OpensUploads map identity manifest (seen chip told up) new result) same opens
 
 -- ---- what is refused
 
@@ -107,7 +96,7 @@ not_ready_told identity manifest up recorded on (no.Upload error) is = tt
 -- and one that takes them isn't refused for it
 pub ready_not : (up : Bool) (recorded : Option State) (on : Bool) (fault : Fault)
     → IsReadiness (Err fault) up recorded on → on ≡ true → up ≡ true → LogsNoTrial recorded → ⊥
-ready_not up recorded on no.NotBooted is powered here rests = true_false (sym here ∙ is)
+ready_not up recorded on no.NotBooted is powered here rests = true≢false (sym here ∙ is)
 ready_not up recorded on no.OnTrial is powered here rests =
     let one : recorded ≡ Some is.1.0 = is.1.1 in
     let other : recorded ≡ Some rests.0 = rests.1 in
@@ -117,7 +106,7 @@ ready_not up recorded on no.NotProvisioned is powered here rests =
     let one : recorded ≡ None = is.1 in
     let other : recorded ≡ Some rests.0 = rests.1 in
     cc
-ready_not up recorded on (no.Flash flash.Off) is powered here rests = true_false (sym powered ∙ is.1)
+ready_not up recorded on (no.Flash flash.Off) is powered here rests = true≢false (sym powered ∙ is.1)
 ready_not up recorded on (no.Flash flash.Cut) is powered here rests = is
 ready_not up recorded on no.NotOnTrial is powered here rests = is
 ready_not up recorded on (no.RunningDamaged image) is powered here rests = is

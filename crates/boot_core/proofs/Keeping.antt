@@ -1,9 +1,10 @@
 -- What a refused call of uploads leaves of a device as it was.
 use Rattle.std.proofs.Common.{◌≡◌, ◌∙◌, ℕ, Bool, true, false, not, List, Option, Result, Ok, Err, IfErr, IsErrOf, ap, refl, sym, subst}
+use Rattle.std.proofs.Common.{true≢false}
 use Rattle.flash_model.specs.Chip.{Chip}
 use Rattle.flash_model.proofs.Frame.{same_outside_refl}
 use Rattle.sector_map.specs.declared.layout.SectorMap.{SectorMap}
-use Rattle.upload.specs.Ending.{is_flash}
+use Rattle.upload.specs.Ending.{IsClosedAfter, is_flash}
 use Rattle.upload.specs.Finishing.{WritesLastUnit}
 use Rattle.upload.specs.declared.sessions.Upload.{Upload}
 use Rattle.upload.specs.declared.error.UploadError.{UploadError}
@@ -14,9 +15,6 @@ use Rattle.boot_core.specs.Answers.{is_no_session, is_stop, keeps_all}
 use Rattle.boot_core.specs.Device.{seen}
 use Rattle.boot_core.proofs.Stopping.{IsStopped}
 
-true_false : true ≡ false → ⊥
-true_false e = cc
-
 pub if_err_as : {T E : Type 0} {P Q : E → Type 0} (r : Result T E) → ((e : E) → P e → Q e) → IfErr r P → IfErr r Q
 if_err_as (Ok x) more p = tt
 if_err_as (Err e) more p = more e p
@@ -24,16 +22,16 @@ if_err_as (Err e) more p = more e p
 -- a refusal that none is open
 pub no_session : (error : UploadError) → is_no_session error ≡ true → error ≡ upload.NoSession
 no_session upload.NoSession is = refl
-no_session upload.OldSequence is = absurd (true_false (sym is))
-no_session upload.TooBig is = absurd (true_false (sym is))
-no_session upload.TooMuch is = absurd (true_false (sym is))
-no_session upload.SizeWrong is = absurd (true_false (sym is))
-no_session upload.DigestWrong is = absurd (true_false (sym is))
-no_session (upload.NotAnImage fault) is = absurd (true_false (sym is))
-no_session upload.WrongPrecursor is = absurd (true_false (sym is))
-no_session upload.NothingRequested is = absurd (true_false (sym is))
-no_session (upload.Flash error) is = absurd (true_false (sym is))
-no_session upload.NoMemory is = absurd (true_false (sym is))
+no_session upload.OldSequence is = absurd (true≢false (sym is))
+no_session upload.TooBig is = absurd (true≢false (sym is))
+no_session upload.TooMuch is = absurd (true≢false (sym is))
+no_session upload.SizeWrong is = absurd (true≢false (sym is))
+no_session upload.DigestWrong is = absurd (true≢false (sym is))
+no_session (upload.NotAnImage fault) is = absurd (true≢false (sym is))
+no_session upload.WrongPrecursor is = absurd (true≢false (sym is))
+no_session upload.NothingRequested is = absurd (true≢false (sym is))
+no_session (upload.Flash error) is = absurd (true≢false (sym is))
+no_session upload.NoMemory is = absurd (true≢false (sym is))
 
 not_true : (b : Bool) → not b ≡ true → b ≡ false
 not_true true is = cc
@@ -47,7 +45,7 @@ keeps_unstopped closing no.NotOnTrial is = refl
 keeps_unstopped closing no.NotProvisioned is = refl
 keeps_unstopped closing (no.RunningDamaged image) is = refl
 keeps_unstopped closing no.InvalidSet is = refl
-keeps_unstopped closing (no.Flash error) is = absurd (true_false (sym is))
+keeps_unstopped closing (no.Flash error) is = absurd (true≢false (sym is))
 keeps_unstopped closing no.NoMemory is = refl
 keeps_unstopped closing (no.Manifest error) is = refl
 keeps_unstopped true (no.Upload error) is = ap (λ e. is_stop (no.Upload e)) (no_session error is)
@@ -70,10 +68,34 @@ pub own_error : (error : UploadError) (given : Fault) → given ≡ no.Upload er
     → is_flash {T = Unit} (Err error) ≡ false
 own_error error given passed own = sym (ap is_stop passed) ∙ own
 
-pub given_session : (error : UploadError) (given : Fault) → given ≡ no.Upload error → keeps_all true given ≡ true
-    → IsErrOf {T = Unit} (Err error) upload.NoSession
-given_session error given passed keeps =
-    ap (λ e. Err e) (no_session error (sym (ap (λ f. keeps_all true f) passed) ∙ keeps))
+-- What stays of the flash and of the table at a refusal that leaves all: of a call that may close an upload,
+pub kept_by_piece : (old new : Chip) (told tnew : List (Option Upload)) (taken : Result Unit UploadError)
+    → IfErr taken (λ error. is_flash {T = Unit} (Err error) ≡ false → new ≡ old)
+    → (IsErrOf taken upload.NoSession → tnew ≡ told)
+    → IfErr taken (λ error. keeps_all true (no.Upload error) ≡ true → (new ≡ old) × (tnew ≡ told))
+kept_by_piece old new told tnew (Ok done) nothing stays = tt
+kept_by_piece old new told tnew (Err error) nothing stays = λ keeps. (
+  nothing (keeps_unstopped true (no.Upload error) keeps),
+  stays (ap (λ e. Err e) (no_session error keeps)),
+)
+
+-- of one that may, and writes before it is refused,
+pub kept_by_finish : (old new : Chip) (told tnew : List (Option Upload)) (taken : Result Unit UploadError)
+    → (IsErrOf taken upload.NoSession → new ≡ old) → (IsErrOf taken upload.NoSession → tnew ≡ told)
+    → IfErr taken (λ error. keeps_all true (no.Upload error) ≡ true → (new ≡ old) × (tnew ≡ told))
+kept_by_finish old new told tnew (Ok done) same stays = tt
+kept_by_finish old new told tnew (Err error) same stays = λ keeps.
+    let none = ap (λ e. Err e) (no_session error keeps) in
+    (same none, stays none)
+
+-- and of one that may not.
+pub kept_by_withdraw : (old new : Chip) (told tnew : List (Option Upload)) (taken : Result Unit UploadError)
+    → IfErr taken (λ error. is_flash {T = Unit} (Err error) ≡ false → new ≡ old) → IsClosedAfter taken told tnew
+    → IfErr taken (λ error. keeps_all false (no.Upload error) ≡ true → (new ≡ old) × (tnew ≡ told))
+kept_by_withdraw old new told tnew (Ok done) nothing table = tt
+kept_by_withdraw old new told tnew (Err error) nothing table = λ keeps.
+    let own = keeps_unstopped false (no.Upload error) keeps in
+    (nothing own, table.same own)
 
 upload_same : (one other : UploadError) → no.Upload one ≡ no.Upload other → one ≡ other
 upload_same one other is = cc

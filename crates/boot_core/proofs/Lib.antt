@@ -23,3 +23,6 @@ mod OnMap
 mod Passed
 pub mod Measured
 pub mod Wears
+mod Taken
+mod Finished
+mod Opening

@@ -129,11 +129,6 @@ fresh_none map old new mask reply same is = (
   λ sizes moves. let erases : new.erases ≡ old.erases = ap (λ (chip : Chip). chip.erases) same in omega arith,
 )
 
--- a record is all that is written
-pub fresh_one : (map : SectorMap) (old new : Chip) (mask : ℕ) (reply : Reply) → IsSetMoved mask reply
-    → new.erases ≤ old.erases + 1 → IsAfresh map old new 4 reply
-fresh_one map old new mask reply is one = (mask, is, λ sizes moves. omega arith)
-
 -- a record is written first, which moves no image
 pub fresh_after : (map : SectorMap) (old first mid new : Chip) (reply : Reply) → first ≡ old
     → mid.erases ≤ first.erases + 1 → Keeps map (only Log) first mid → IsAfresh map mid new 3 reply

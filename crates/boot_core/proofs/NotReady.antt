@@ -1,11 +1,13 @@
 -- What a call of uploads leaves of a device: one that takes none now, and one that takes them.
 use Rattle.std.proofs.Common.{◌≡◌, Bool, true, false, List, Option, Result, Ok, Err, refl, sym, ◌∙◌, ap, subst}
+use Rattle.std.proofs.Common.{true≢false}
+use Rattle.std.specs.Prelude.{IsErrAnd}
 use Rattle.flash_model.specs.Chip.{Chip}
 use Rattle.flash_model.specs.declared.error.FlashError.TheVariants as flash
 use Rattle.sector_map.specs.declared.layout.SectorMap.{SectorMap}
 use Rattle.sector_map.specs.Map.{IsLaidOut, Keeps}
 use Rattle.sector_map.specs.Part.{Part}
-use Rattle.sector_map.proofs.Parts.{keeps_refl, laid_out_kept}
+use Rattle.sector_map.proofs.Parts.{keeps_refl}
 use Rattle.set_log.specs.declared.state.State.{State}
 use Rattle.set_log.specs.Log.{state_of}
 use Rattle.upload.specs.View.{view}
@@ -18,23 +20,20 @@ use Rattle.machine.specs.Passing.{needs_rest, needs_up}
 use Rattle.machine.specs.Steps.{DeviceEvent}
 use Rattle.machine.specs.declared.error.Fault.{Fault}
 use Rattle.machine.specs.declared.error.Fault.TheVariants as no
-use Rattle.boot_core.specs.Answers.{IsNotBooted, IsOff, is_stop, may_close}
+use Rattle.boot_core.specs.Answers.{IsNotBooted, is_stop, may_close}
 use Rattle.boot_core.proofs.Keeping.{all_stays, keeps_unstopped, up_stays}
 use Rattle.boot_core.specs.Device.{made, seen}
 use Rattle.boot_core.specs.Ready.{IsReadiness}
-use Rattle.boot_core.specs.Taking.{ChecksReady, Stops, TakesHere}
+use Rattle.boot_core.specs.Taking.{AsksReady, ChecksReady, Stops, TakesHere}
 use Rattle.boot_core.proofs.Stopping.{IsStopped, not_ready, not_ready_ends, opens_stopped}
-
-true_false : true ≡ false → ⊥
-true_false e = cc
 
 -- a device that isn't up says so
 not_up : (fault : Fault) (up : Bool) (recorded : Option State) (on : Bool) → IsReadiness (Err fault) up recorded on
     → up ≡ false → fault ≡ no.NotBooted
 not_up no.NotBooted up recorded on is down = refl
-not_up no.OnTrial up recorded on is down = absurd (true_false (sym is.0 ∙ down))
-not_up no.NotProvisioned up recorded on is down = absurd (true_false (sym is.0 ∙ down))
-not_up (no.Flash flash.Off) up recorded on is down = absurd (true_false (sym is.0 ∙ down))
+not_up no.OnTrial up recorded on is down = absurd (true≢false (sym is.0 ∙ down))
+not_up no.NotProvisioned up recorded on is down = absurd (true≢false (sym is.0 ∙ down))
+not_up (no.Flash flash.Off) up recorded on is down = absurd (true≢false (sym is.0 ∙ down))
 not_up (no.Flash flash.Cut) up recorded on is down = absurd is
 not_up no.NotOnTrial up recorded on is down = absurd is
 not_up (no.RunningDamaged image) up recorded on is down = absurd is
@@ -91,29 +90,24 @@ module _ (map : SectorMap) (old mid : Chip) (told tnew : List (Option Upload)) (
         (stops fault given told tnew up upn after);
   }
 
-pub ok_err : {T : Type 0} (done : T) (fault : Fault) → Ok done ≡ Err fault → ⊥
-ok_err done fault is = cc
-
--- uploads are taken on a flash with power alone
-pub ready_on : (map : SectorMap) (old mid new : Chip) (up : Bool) (result : Result Unit Fault)
-    → ChecksReady map up old mid (Ok tt) → up ≡ true → old.is_on ≡ false → IsOff result old new
-ready_on map old mid new up result asked here off = absurd (ok_err tt _ (asked.off here off))
+-- .. by a refusal that is passed on
+pub declined : (map : SectorMap) (old new : DeviceView) (fault : Fault) (result : Result Unit Fault)
+    → AsksReady map old new (Err fault) → IsErrAnd result (λ passed. passed ≡ fault)
+    → (touched : Part → Bool) (happened : DeviceEvent) → needs_up happened ≡ true → needs_rest happened ≡ true
+    → IsLaidOut map old.flash → AllOpenAt (view map old.flash) old.sessions
+    → TakesHere map happened touched old new result
+declined map old new fault (Ok done) asks passed touched happened up rest laid opens = absurd passed
+declined map old new fault (Err given) asks passed touched happened up rest laid opens =
+    subst (λ f. TakesHere map happened touched old new (Err f)) (sym passed)
+    (declines map old.flash new.flash old.sessions new.sessions old.up new.up fault fault asks.asked asks.stops touched
+    happened up rest laid opens)
 
 -- nothing is asked of a device that is up
 pub not_down : (result : Result Unit Fault) (old new : DeviceView) → old.up ≡ true → old.up ≡ false
     → IsNotBooted result old new
-not_down result old new up down = absurd (true_false (sym up ∙ down))
+not_down result old new up down = absurd (true≢false (sym up ∙ down))
 
--- a call after one that left the flash as it was
-module _ (map : SectorMap) (touched : Part → Bool) (old mid new : Chip) (same : mid ≡ old) where
-  pub laid_after : IsLaidOut map old → Keeps map touched mid new → IsLaidOut map new
-  laid_after laid keeps =
-      laid_out_kept map touched mid new (subst (λ chip. IsLaidOut map chip) (sym same) laid) keeps
-
-  pub kept_after : Keeps map touched mid new → Keeps map touched old new
-  kept_after keeps = subst (λ chip. Keeps map touched chip new) same keeps
-
--- .. which is refused, and not by the flash
+-- a call after one that left the flash as it was, which is refused, and not by the flash
 pub refused_after : (old mid new : Chip) (error : UploadError) (given : Fault) → given ≡ no.Upload error → mid ≡ old
     → (is_flash {T = Unit} (Err error) ≡ false → new ≡ mid) → is_stop given ≡ false → new ≡ old
 refused_after old mid new error given is same nothing own = nothing (sym (ap is_stop is) ∙ own) ∙ same

@@ -2,14 +2,11 @@
 use Rattle.std.proofs.Common.{◌≡◌, Result, Ok, Err, IsErrOf, ap, refl}
 use Rattle.flash_model.specs.declared.error.FlashError.{FlashError}
 use Rattle.flash_model.specs.Chip.{Chip, Ends}
-use Rattle.flash_model.proofs.Ending.{ends_after, uncut_refl}
+use Rattle.flash_model.proofs.Ending.{ends_after, no_error, uncut_refl}
 
 err_as : {T U : Type 0} (error other : FlashError) → IsErrOf {T = T} (Err error) other
     → IsErrOf {T = U} (Err error) other
 err_as error other is = let same : error ≡ other = cc in ap (λ e. Err e) same
-
-pub ok_no_err : {T : Type 0} (value : T) (other : FlashError) → IsErrOf (Ok value) other → ⊥
-ok_no_err value other is = cc
 
 -- an error that is passed on
 pub err_ends : {T U : Type 0} {error : FlashError} {old new : Chip} → Ends {T = T} (Err error) old new
@@ -27,8 +24,8 @@ pub ok_ends : {T U : Type 0} {value : T} {other : U} {old new : Chip} → Ends (
 ok_ends {T} {U} {value} {other} last = record {
   asleep = last.asleep;
   uncut = last.uncut;
-  cut = λ is. absurd (ok_no_err other _ is);
-  off = λ is. absurd (ok_no_err other _ is);
+  cut = λ is. absurd (no_error other _ is);
+  off = λ is. absurd (no_error other _ is);
 }
 
 -- no call at all
@@ -36,8 +33,8 @@ pub here_ends : {T : Type 0} {value : T} {chip : Chip} → Ends (Ok value) chip 
 here_ends {T} {value} {chip} = record {
   asleep = λ off. refl;
   uncut = uncut_refl chip;
-  cut = λ is. absurd (ok_no_err value _ is);
-  off = λ is. absurd (ok_no_err value _ is);
+  cut = λ is. absurd (no_error value _ is);
+  off = λ is. absurd (no_error value _ is);
 }
 
 -- the same after a call that came to its end

@@ -3,6 +3,7 @@ use Rattle.std.proofs.Common.{◌≡◌, ◌≢◌, ℕ, ◌+◌, if◌then◌el
 use Rattle.std.proofs.lemmas.Bool.{and_from, and_parts}
 use Rattle.std.proofs.lemmas.Bool.Decides.{leb_tells}
 use Rattle.std.proofs.Math.Nat.{div-le_self}
+use Rattle.std.proofs.lemmas.Option.{none-some}
 use Rattle.flash_model.specs.Chip.{Chip}
 use Rattle.sector_map.specs.declared.layout.SectorMap.{SectorMap}
 use Rattle.sector_map.specs.Map.{IsWithin, Keeps}
@@ -18,12 +19,9 @@ use Rattle.set_log.proofs.Table.{fits_floors, fits_of, fits_within}
 use Rattle.upload.proofs.Views.{view_kept}
 use Rattle.machine.proofs.Preparing.{eqb_no}
 
-none_some : {X : Type 0} (x : X) → None ≡ Some x → ⊥
-none_some x e = cc
-
 said_fits : (images : ℕ) (found : Option (List ℕ)) (s : State) → state_said images found ≡ Some s
     → fits images s ≡ true
-said_fits images None s is = absurd (none_some s is)
+said_fits images None s is = absurd (none-some s is)
 said_fits images (Some body) s is = (spells_of images body s is).kept
 
 -- a state that stands keeps the table ..

@@ -3,6 +3,8 @@
 use Rattle.std.proofs.Common.{◌≡◌, ◌≢◌, ℕ, zero, suc, ◌<◌, ◌==◌, ◌&&◌, Bool, true, false, not, List, Option, Some, None, if◌then◌else◌, arith, refl, sym, ap, subst, ◌∙◌}
 use Rattle.std.proofs.lemmas.Bool.{and_parts, eqb-true}
 use Rattle.std.proofs.lemmas.Bool.Decides.{Decides-eqb}
+use Rattle.std.proofs.Common.{true≢false}
+use Rattle.std.proofs.lemmas.Option.{none-some}
 use Rattle.flash_model.specs.Chip.{Chip}
 use Rattle.sector_map.specs.declared.layout.SectorMap.{SectorMap}
 use Rattle.sector_map.specs.declared.layout.Side.TheVariants.{Primary, Secondary}
@@ -21,23 +23,17 @@ use Rattle.upload.specs.Steady.{IsFront, IsRequested, IsSteadyAt, logged, told_b
 use Rattle.upload.specs.View.{view}
 use Rattle.boot_core.proofs.Records.{kind_of_read}
 
-none_some : {X : Type 0} (x : X) → None ≡ Some x → ⊥
-none_some x e = cc
-
-true_false : true ≡ false → ⊥
-true_false e = cc
-
 some_same : {X : Type 0} (x y : X) → Some x ≡ Some y → x ≡ y
 some_same x y e = cc
 
 -- bytes begin with an intact image, or with none
 front_somehow : (whole : List ℕ) → ((held : Option (List ℕ)) → IsFront whole held → ⊥) → ⊥
 front_somehow whole never = never None (record {
-  image = λ bytes e. absurd (none_some bytes e);
+  image = λ bytes e. absurd (none-some bytes e);
   none = λ e bytes description starts intact. never (Some bytes) (record {
     image = λ other same. subst (λ b. Starts whole b × ((d : Desc) × IsIntact b d)) (some_same bytes other same)
         (starts, (description, intact));
-    none = λ e. absurd (none_some bytes (sym e));
+    none = λ e. absurd (none-some bytes (sym e));
   });
 })
 
@@ -46,7 +42,7 @@ request_told : (fields : Fields) (slot : List ℕ) (told : Option request.Kind) 
     → ((wanted : Option Wanted) → IsRequested fields slot wanted → ⊥) → ⊥
 request_told fields slot None is never = never None (record {
   kind = is;
-  front = λ w e. absurd (none_some w e);
+  front = λ w e. absurd (none-some w e);
 })
 request_told fields slot (Some kind) is never = front_somehow slot (λ held front.
     let asked : Wanted = record { bytes = held; kind = kind } in
@@ -64,7 +60,7 @@ more : {X : Type 0} (P : ℕ → X → Type 0) (f : ℕ → X) (x : X) (n i : �
     → ((j : ℕ) → j < n → P j (f j)) → i < suc n → P i (if b then x else f i)
 more P f x n i true e at below lt = subst (λ k. P k x) (sym (eqb-true i n e)) at
 more P f x n i false e at below lt =
-    let away : i ≢ n = λ is. true_false (sym ((Decides-eqb i n).1 is) ∙ e) in
+    let away : i ≢ n = λ is. true≢false (sym ((Decides-eqb i n).1 is) ∙ e) in
     below i (omega (arith, lt, away))
 
 -- if none lacks a value, not all lack a choice of values

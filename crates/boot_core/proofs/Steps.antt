@@ -1,14 +1,13 @@
 -- Steps as a run takes them: after a cut the device is reset.
 use Rattle.std.proofs.Common.{◌≡◌, refl, sym, subst, ⊎_elim}
-use Rattle.events.specs.declared.event.Event.TheVariants as event
+use Rattle.common.specs.declared.event.Event.TheVariants as event
 use Rattle.upload.specs.Device.{Machine}
 use Rattle.machine.specs.States.{asleep, with_confirmed}
 use Rattle.machine.specs.Intake.{Setup}
 use Rattle.machine.specs.Steps.{DeviceEvent, IsCutTo}
 use Rattle.machine.specs.Holding.{DeviceView, Holds}
 use Rattle.machine.specs.Passing.{StepsTo}
-use Rattle.machine.specs.declared.reply.Reply.{Reply}
-use Rattle.machine.specs.declared.reply.Reply.TheVariants.{Done, Cut}
+use Rattle.machine.specs.declared.reply.Reply.TheVariants.{Cut}
 
 of_kept : (next : Machine) (m : Machine) → next ≡ asleep m.kept → asleep next.kept ≡ next
 of_kept next m is = subst (λ (k : Machine). asleep k.kept ≡ k) (sym is) refl
@@ -41,16 +40,3 @@ cut_step setup other old mid new happened same steps resets m holds =
           (subst (λ (s : Setup). (k : Machine) → Holds s.map mid k → Holds s.map new (asleep k.kept)) same resets
           after.0 after.2),
     )
-
-pub reset_step : (setup : Setup) (old new : DeviceView) (happened : DeviceEvent)
-    → ((m : Machine) → Holds setup.map old m → Holds setup.map new (asleep m.kept)) → happened ≡ event.Reset
-    → StepsTo setup old new happened Done
-reset_step setup old new happened resets is = subst (λ e. StepsTo setup old new e Done) (sym is)
-    (λ m holds. (asleep m.kept, refl, resets m holds))
-
--- a step by another name of the event and of the reply
-pub step_as : (setup : Setup) (old new : DeviceView) (given happened : DeviceEvent) (told reply : Reply)
-    → given ≡ happened → told ≡ reply → StepsTo setup old new happened reply → StepsTo setup old new given told
-step_as setup old new given happened told reply is same steps =
-    subst (λ e. StepsTo setup old new e told) (sym is)
-    (subst (λ r. StepsTo setup old new happened r) (sym same) steps)

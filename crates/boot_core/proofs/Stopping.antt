@@ -2,7 +2,8 @@
 -- left it.
 use Rattle.std.proofs.Common.{rules, ◌≡◌, ℕ, ◌+◌, Bool, true, false, List, Option, Some, Result, Ok, Err, IfOk, IsErrOf, arith, refl, sym, ◌∙◌, ap, subst, ⊎_elim, inl, inr}
 use Rattle.std.specs.Borrow.{Bor}
-use Rattle.events.specs.declared.event.Event.TheVariants as event
+use Rattle.std.proofs.Common.{true≢false}
+use Rattle.common.specs.declared.event.Event.TheVariants as event
 use Rattle.flash_model.specs.Chip.{Chip, Ends, IsCut, IsUncut}
 use Rattle.flash_model.specs.declared.error.FlashError.{FlashError}
 use Rattle.flash_model.specs.declared.error.FlashError.TheVariants as flash
@@ -43,16 +44,13 @@ use Rattle.boot_core.specs.Device.{seen}
 use Rattle.boot_core.specs.Ready.{IsReadiness}
 use Rattle.boot_core.specs.Wear.{IsWorn}
 
-true_false : true ≡ false → ⊥
-true_false e = cc
-
 -- what stands is held by a device that isn't up
 pub holds_down : (map : SectorMap) (chip : Chip) (told : List (Option Upload)) (s : DeviceState) → AllClosed told
     → Stands map chip s → Holds map (seen chip told false) (asleep s)
 holds_down map chip told s none stands = record {
   stands = stands;
-  is_up = refl;
-  rest = λ e. absurd (true_false (sym e));
+  is_booted = refl;
+  rest = λ e. absurd (true≢false (sym e));
   open_ones = sessions_closed (view map chip) told none;
   closed = λ e. none;
 }
@@ -64,13 +62,13 @@ boot_down setup old new told tnew up none cuts m holds =
     let after = cuts m.kept holds.stands in
     (asleep after.0, (after.1, refl), holds_down setup.map new tnew after.0 none after.2)
 
-module _ (setup : Setup) (old new : Chip) (told tnew : List (Option Upload)) (up : Bool) (is_up : up ≡ true)
+module _ (setup : Setup) (old new : Chip) (told tnew : List (Option Upload)) (up : Bool) (is_booted : up ≡ true)
     (none : AllClosed tnew) where
   pub confirm_down : (i : ℕ)
       → ((s : DeviceState) → IsAtRest (view setup.map old) s → CutsConfirm (view setup.map new) s i)
       → StepsTo setup (seen old told up) (seen new tnew false) (event.Confirm i) Cut
   confirm_down i cuts m holds =
-      let here = holds.is_up ∙ is_up in
+      let here = holds.is_booted ∙ is_booted in
       let after = cuts m.kept (holds.rest here) in
       let done = with_confirmed m.kept after.0 i in
       ⊎_elim
@@ -93,7 +91,7 @@ module _ (setup : Setup) (old new : Chip) (told tnew : List (Option Upload)) (up
         → (m : Machine) → Holds setup.map (seen old told up) m
         → (next : Machine) × IsUploadsCut (row m) m next × Holds setup.map (seen new tnew false) next
     row_down row takes m holds =
-        let here = holds.is_up ∙ is_up in
+        let here = holds.is_booted ∙ is_booted in
         let rest = rest_steady setup.map old m.kept state read rests (holds.rest here) in
         let after = takes m (record { up = here; rest = rest; open_ones = holds.open_ones }) in (
           asleep after.0.kept,
@@ -130,13 +128,13 @@ pub boot_stopped : (setup : Setup) (old new : Chip) (told tnew : List (Option Up
     → (error : FlashError) → Ends {T = Reply} (Err error) old new → old.is_on ≡ true
     → StepsTo setup (seen old told up) (seen new tnew false) event.Boot (fault_reply (no.Flash error))
 boot_stopped setup old new told tnew up none cuts flash.Cut ends on = boot_down setup old new told tnew up none cuts
-boot_stopped setup old new told tnew up none cuts flash.Off ends on = absurd (true_false (sym on ∙ ends.off refl))
+boot_stopped setup old new told tnew up none cuts flash.Off ends on = absurd (true≢false (sym on ∙ ends.off refl))
 
 -- .. and where the flash was on it was cut, and something was written
 pub not_uncut : (old new : Chip) (error : FlashError) → Ends {T = Reply} (Err error) old new → old.is_on ≡ true
     → cut_of (fault_reply (no.Flash error)) ≡ 0 → ⊥
 not_uncut old new flash.Cut ends on uncut = omega (arith, uncut)
-not_uncut old new flash.Off ends on uncut = true_false (sym on ∙ ends.off refl)
+not_uncut old new flash.Off ends on uncut = true≢false (sym on ∙ ends.off refl)
 
 pub stopped_worn : (map : SectorMap) (state : State) (old new : Chip) (error : FlashError)
     → Ends {T = Reply} (Err error) old new → old.is_on ≡ true → cut_of (fault_reply (no.Flash error)) ≡ 0
@@ -146,7 +144,7 @@ stopped_worn map state old new error ends on uncut = absurd (not_uncut old new e
 not_idle : (old new : Chip) (error : FlashError) → Ends {T = Reply} (Err error) old new → old.is_on ≡ true
     → new ≡ old → ⊥
 not_idle old new flash.Cut ends on same = omega (arith, (ends.cut refl).cuts, ap (λ (chip : Chip). chip.cuts) same)
-not_idle old new flash.Off ends on same = true_false (sym on ∙ ends.off refl)
+not_idle old new flash.Off ends on same = true≢false (sym on ∙ ends.off refl)
 
 -- so that there was a record
 pub not_empty : (old new : Chip) (error : FlashError) → Ends {T = Reply} (Err error) old new → old.is_on ≡ true
@@ -183,9 +181,9 @@ ended old new told tnew up upn reply none unstopped uncut = record {
   cuts = omega (arith, none, uncut.cuts);
   power = λ e. uncut.on;
   dark = λ e. absurd (omega (arith, none, e));
-  off = λ e. absurd (true_false (sym e ∙ unstopped));
-  down = λ e. absurd (true_false (sym e ∙ unstopped));
-  closed = λ e. absurd (true_false (sym e ∙ unstopped));
+  off = λ e. absurd (true≢false (sym e ∙ unstopped));
+  down = λ e. absurd (true≢false (sym e ∙ unstopped));
+  closed = λ e. absurd (true≢false (sym e ∙ unstopped));
 }
 
 -- .. as a boot does
@@ -206,7 +204,7 @@ unprovisioned result answers is = search rules
 
 -- a fault of the flash is passed on as one
 pub no_own : (error : FlashError) (given : Fault) → given ≡ no.Flash error → is_stop given ≡ false → ⊥
-no_own error given is own = true_false (sym (ap is_stop is) ∙ own)
+no_own error given is own = true≢false (sym (ap is_stop is) ∙ own)
 
 -- a confirmation that the flash stopped
 pub confirm_stopped : (setup : Setup) (old new : Chip) (told tnew : List (Option Upload)) (up upn : Bool) (i : ℕ)
@@ -215,11 +213,11 @@ pub confirm_stopped : (setup : Setup) (old new : Chip) (told tnew : List (Option
     → (IsErrOf {T = Bool} (Err error) flash.Cut → (s : DeviceState) → IsAtRest (view setup.map old) s
     → CutsConfirm (view setup.map new) s i)
     → StepsTo setup (seen old told up) (seen new tnew upn) (event.Confirm i) (fault_reply (no.Flash error))
-confirm_stopped setup old new told tnew up upn i is_up flash.Cut ends on none down cuts =
+confirm_stopped setup old new told tnew up upn i is_booted flash.Cut ends on none down cuts =
     subst (λ b. StepsTo setup (seen old told up) (seen new tnew b) (event.Confirm i) Cut) (sym down)
-    (confirm_down setup old new told tnew up is_up none i (cuts refl))
-confirm_stopped setup old new told tnew up upn i is_up flash.Off ends on none down cuts =
-    absurd (true_false (sym on ∙ ends.off refl))
+    (confirm_down setup old new told tnew up is_booted none i (cuts refl))
+confirm_stopped setup old new told tnew up upn i is_booted flash.Off ends on none down cuts =
+    absurd (true≢false (sym on ∙ ends.off refl))
 
 -- ---- how calls of uploads end
 
@@ -250,7 +248,7 @@ error_says upload.DigestWrong own = refl
 error_says (upload.NotAnImage fault) own = refl
 error_says upload.WrongPrecursor own = refl
 error_says upload.NothingRequested own = refl
-error_says (upload.Flash error) own = absurd (true_false own)
+error_says (upload.Flash error) own = absurd (true≢false own)
 error_says upload.NoMemory own = refl
 
 -- what passing a refusal on leaves
@@ -279,7 +277,7 @@ failed setup old new told tmid tnew up upn happened error on ends stopped down k
     (subst (λ b. StepsTo setup (seen old told up) (seen new tnew b) happened Cut) (sym (stopped.down told_so))
     (down (stopped.closed told_so) cut)))
     (λ (off : error ≡ upload.Flash flash.Off).
-    absurd (true_false (sym on ∙ ends.off (subst (λ e. IsErrOf {T = Unit} (Err e) (upload.Flash flash.Off))
+    absurd (true≢false (sym on ∙ ends.off (subst (λ e. IsErrOf {T = Unit} (Err e) (upload.Flash flash.Off))
     (sym off) refl))))
     (λ (own : is_flash {T = Unit} (Err error) ≡ false).
     subst (λ r. StepsTo setup (seen old told up) (seen new tnew upn) happened r) (sym (error_says error own))
@@ -331,9 +329,9 @@ failed_ends old mid new told tmid tnew up upn error same ends stopped fault is =
       cuts = omega (arith, cuts);
       power = λ e. was.on ∙ ap (λ (chip : Chip). chip.is_on) same;
       dark = λ e. absurd (omega (arith, e));
-      off = λ e. absurd (true_false (sym e ∙ own));
-      down = λ e. absurd (true_false (sym e ∙ own));
-      closed = λ e. absurd (true_false (sym e ∙ own));
+      off = λ e. absurd (true≢false (sym e ∙ own));
+      down = λ e. absurd (true≢false (sym e ∙ own));
+      closed = λ e. absurd (true≢false (sym e ∙ own));
     })))
 
 -- an upload that is done
@@ -346,9 +344,9 @@ done_ends old mid new told tnew up same ends =
       cuts = omega (arith, cuts);
       power = λ e. was.on ∙ ap (λ (chip : Chip). chip.is_on) same;
       dark = λ e. absurd (omega (arith, e));
-      off = λ e. absurd (true_false (sym e));
-      down = λ e. absurd (true_false (sym e));
-      closed = λ e. absurd (true_false (sym e));
+      off = λ e. absurd (true≢false (sym e));
+      down = λ e. absurd (true≢false (sym e));
+      closed = λ e. absurd (true≢false (sym e));
     }
 
 -- the uploads that are left stand
@@ -382,7 +380,7 @@ module _ (setup : Setup) (old mid : Chip) (told tnew : List (Option Upload)) (up
       (steps_on_trial setup (seen old told up) is.1.0 happened is.0 is.1.1 is.1.2 rests)
   refused no.NotProvisioned is on stopped = steps_no_state setup (seen old told up) (seen mid tnew upn) happened
       (Refused no.NotProvisioned) is.1
-  refused (no.Flash flash.Off) is on stopped = absurd (true_false (sym on ∙ is.1))
+  refused (no.Flash flash.Off) is on stopped = absurd (true≢false (sym on ∙ is.1))
   refused (no.Flash flash.Cut) is on stopped = absurd is
   refused no.NotOnTrial is on stopped = absurd is
   refused (no.RunningDamaged image) is on stopped = absurd is
@@ -409,9 +407,9 @@ idle_ends old mid told tnew up upn reply uncut unstopped same =
       cuts = omega (arith, cuts, uncut);
       power = λ e. ap (λ (chip : Chip). chip.is_on) same;
       dark = λ e. absurd (omega (arith, uncut, e));
-      off = λ e. absurd (true_false (sym e ∙ unstopped));
-      down = λ e. absurd (true_false (sym e ∙ unstopped));
-      closed = λ e. absurd (true_false (sym e ∙ unstopped));
+      off = λ e. absurd (true≢false (sym e ∙ unstopped));
+      down = λ e. absurd (true≢false (sym e ∙ unstopped));
+      closed = λ e. absurd (true≢false (sym e ∙ unstopped));
     }
 
 module _ (recorded : Option State) (old mid : Chip) (told tnew : List (Option Upload)) (up upn : Bool)

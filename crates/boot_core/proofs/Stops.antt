@@ -1,5 +1,7 @@
 -- What a reply tells is told of the finding that it comes of.
 use Rattle.std.proofs.Common.{rules, ◌≡◌, ◌∙◌, ℕ, Bool, true, false, List, Some, None, Result, Ok, Err, IfOk, IsErrOf, ap, refl, sym, subst}
+use Rattle.std.proofs.Common.{true≢false}
+use Rattle.std.proofs.lemmas.Option.{none-some}
 use Rattle.flash_model.specs.Chip.{Chip, Ends}
 use Rattle.flash_model.specs.declared.error.FlashError.{FlashError}
 use Rattle.flash_model.specs.declared.error.FlashError.TheVariants as flash
@@ -94,9 +96,6 @@ is_upgrade log.Trial = false
 is_upgrade log.Back = false
 is_upgrade log.BackSettle = false
 
-true_false : true ≡ false → ⊥
-true_false e = cc
-
 swap_settle : log.Swap ≡ log.Settle → ⊥
 swap_settle e = cc
 
@@ -104,8 +103,8 @@ swap_settle e = cc
 pub other_stopped : (map : SectorMap) (state : State) (old new : Chip) (told : Finding)
     → is_upgrade state.kind ≡ false → IsStopped map state old new told
 other_stopped map state old new told other = record {
-  swap = λ e. absurd (true_false (sym (ap is_upgrade e) ∙ other));
-  settle = λ e. absurd (true_false (sym (ap is_upgrade e) ∙ other));
+  swap = λ e. absurd (true≢false (sym (ap is_upgrade e) ∙ other));
+  settle = λ e. absurd (true≢false (sym (ap is_upgrade e) ∙ other));
 }
 
 pub swap_stopped : (map : SectorMap) (state : State) (old new : Chip) (told : Finding) → state.kind ≡ log.Swap
@@ -134,7 +133,7 @@ at_rest log.Back = false
 at_rest log.BackSettle = false
 
 pub not_at_rest : (kind : Kind) → at_rest kind ≡ false → kind ≡ log.Steady → ⊥
-not_at_rest kind other steady = true_false (sym (ap at_rest steady) ∙ other)
+not_at_rest kind other steady = true≢false (sym (ap at_rest steady) ∙ other)
 
 -- whether a record is that of a trial
 abbrev pub on_trial : Kind → Bool
@@ -146,18 +145,15 @@ on_trial log.Back = false
 on_trial log.BackSettle = false
 
 pub not_on_trial : (kind : Kind) → on_trial kind ≡ false → kind ≡ log.Trial → ⊥
-not_on_trial kind other trial = true_false (sym (ap on_trial trial) ∙ other)
+not_on_trial kind other trial = true≢false (sym (ap on_trial trial) ∙ other)
 
 some_same : (x y : State) → Some x ≡ Some y → x ≡ y
 some_same x y e = cc
 
-some_none : (x : State) → Some x ≡ None → ⊥
-some_none x e = cc
-
 -- a record was read, so that one stood
 pub stood_none : (map : SectorMap) (chip : Chip) (read : State) → state_of map chip ≡ Some read
     → state_of map chip ≡ None → ⊥
-stood_none map chip read stood none = some_none read (sym stood ∙ none)
+stood_none map chip read stood none = none-some read (sym (sym stood ∙ none))
 
 -- from the record that was read
 pub read_stopped : (map : SectorMap) (old mid new : Chip) (read state : State) (told : Finding) → mid ≡ old
@@ -207,7 +203,7 @@ pub flash_over : (error : FlashError) (map : SectorMap) (state : State) (old new
     → Ends {T = Reply} (Err error) old new → old.is_on ≡ true
     → DoesNothing (fault_reply (no.Flash error)) → IsOverAlone map state old new
 flash_over flash.Cut map state old new ends on nothing = absurd nothing
-flash_over flash.Off map state old new ends on nothing = absurd (true_false (sym on ∙ ends.off refl))
+flash_over flash.Off map state old new ends on nothing = absurd (true≢false (sym on ∙ ends.off refl))
 
 -- a flash that is off is the answer
 pub flash_off : {S T : Type 0} (error : FlashError) (given : Fault) (old new : Chip) → given ≡ no.Flash error

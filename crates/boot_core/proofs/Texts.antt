@@ -1,7 +1,7 @@
 -- Texts that are no manifests for a device.
 use Rattle.std.proofs.Common.{◌≡◌, ◌≢◌, ℕ, Bool, true, List, Option, Some, refl, sym, subst}
 use Rattle.std.specs.Borrow.{Bor}
-use Rattle.events.specs.declared.event.Event.TheVariants as event
+use Rattle.common.specs.declared.event.Event.TheVariants as event
 use Rattle.flash_model.specs.Chip.{Chip}
 use Rattle.set_log.specs.declared.state.State.{State}
 use Rattle.set_log.specs.declared.state.Kind.TheVariants as log
@@ -37,7 +37,7 @@ text_refused identity bytes text.RepeatedComponent only =
 
 -- a text that is refused, as a step
 module _ (setup : Setup) (old mid : Chip) (told : List (Option Upload)) (up : Bool) (state : State)
-    (is_up : up ≡ true) (read : (view setup.map old).log ≡ Some state) (rests : state.kind ≡ log.Trial → ⊥)
+    (is_booted : up ≡ true) (read : (view setup.map old).log ≡ Some state) (rests : state.kind ≡ log.Trial → ⊥)
     (given : Bor (List ℕ)) (same : mid ≡ old) where
   here : (reply : Reply) → StepsTo setup (seen old told up) (seen old told up) (event.Accept given) reply
       → StepsTo setup (seen old told up) (seen mid told up) (event.Accept given) reply
@@ -47,9 +47,9 @@ module _ (setup : Setup) (old mid : Chip) (told : List (Option Upload)) (up : Bo
   pub text_steps : (fault : Fault) → RefusesText setup.identity given.now fault
       → StepsTo setup (seen old told up) (seen mid told up) (event.Accept given) (fault_reply fault)
   text_steps (no.Manifest error) refused = here (Refused (no.Manifest error))
-      (steps_bad_manifest setup old told up state is_up read rests given error refused)
+      (steps_bad_manifest setup old told up state is_booted read rests given error refused)
   text_steps no.NoMemory refused = here (Refused no.NoMemory)
-      (steps_no_memory setup old told up state is_up read rests given)
+      (steps_no_memory setup old told up state is_booted read rests given)
   text_steps no.NotBooted refused = absurd refused
   text_steps no.OnTrial refused = absurd refused
   text_steps no.NotOnTrial refused = absurd refused

@@ -1,5 +1,6 @@
 -- Whether an image is on trial by the log, and what a confirmation answers then.
 use Rattle.std.proofs.Common.{◌≡◌, ℕ, Bool, true, false, Some, Result, Ok, Err, refl, sym, subst, ◌∙◌}
+use Rattle.std.proofs.Common.{true≢false}
 use Rattle.flash_model.specs.Chip.{Chip, Ends}
 use Rattle.flash_model.specs.declared.error.FlashError.{FlashError}
 use Rattle.flash_model.specs.declared.error.FlashError.TheVariants as flash
@@ -12,9 +13,6 @@ use Rattle.machine.specs.declared.error.Fault.{Fault}
 use Rattle.machine.specs.declared.error.Fault.TheVariants as no
 use Rattle.boot_core.specs.Confirming.{AnswersTrial, IsOfSet}
 use Rattle.boot_core.specs.Ready.{LogsTrialOf}
-
-true_false : true ≡ false → ⊥
-true_false e = cc
 
 some_same : (x y : State) → Some x ≡ Some y → x ≡ y
 some_same x y e = cc
@@ -50,7 +48,7 @@ module _ (map : SectorMap) (image : ℕ) (old : Chip) (state : State) (read : st
 pub stops_tried : (OnTrial : Type 0) (map : SectorMap) (image : ℕ) (old new : Chip) (error : FlashError)
     → AnswersTrial OnTrial map image old new (Err error) → old.is_on ≡ true → (OnTrial → ⊥) → ⊥
 stops_tried OnTrial map image old new flash.Cut tried on never = never tried
-stops_tried OnTrial map image old new flash.Off off on never = true_false (sym on ∙ off)
+stops_tried OnTrial map image old new flash.Off off on never = true≢false (sym on ∙ off)
 
 pub flash_not_tried : (error : FlashError) (given : Fault) (result : Result Unit Fault) → given ≡ no.Flash error
     → result ≡ Err given → result ≡ Err no.NotOnTrial → ⊥

@@ -1,5 +1,5 @@
 -- How many erases a boot makes, from one function to the next.
-use Rattle.std.proofs.Common.{◌≡◌, ℕ, ◌+◌, ◌≤◌, Bool, List, Some, Ok, refl, sym, subst, ◌∙◌}
+use Rattle.std.proofs.Common.{◌≡◌, ℕ, ◌+◌, ◌≤◌, List, Some, Ok, refl, sym, subst, ◌∙◌}
 use Rattle.flash_model.specs.Chip.{Chip}
 use Rattle.sector_map.specs.declared.layout.SectorMap.{SectorMap}
 use Rattle.sector_map.specs.declared.layout.Side.TheVariants.{Secondary}
@@ -14,12 +14,9 @@ use Rattle.upload.specs.View.{view}
 use Rattle.upload.specs.Steady.{IsSteadyAt}
 use Rattle.machine.specs.Holding.{IsTrialAt, IsTrialOpen, Stands}
 use Rattle.machine.specs.Passing.{IsOpenOrAt}
-use Rattle.machine.specs.Reading.{IsFoundAgain, IsPassage}
-use Rattle.machine.specs.Passing.{reply_of}
-use Rattle.machine.specs.declared.finding.Finding.{Finding}
-use Rattle.machine.specs.declared.finding.Finding.TheVariants.{Decided, Damaged, Invalid}
+use Rattle.machine.specs.Reading.{IsPassage}
 use Rattle.machine.specs.States.{IsConfirmed, settled}
-use Rattle.machine.specs.Wear.{members, IsResumed, IsSetFound}
+use Rattle.machine.specs.Wear.{members, IsResumed}
 use Rattle.machine.specs.declared.finding.Passage.{Passage}
 use Rattle.machine.specs.declared.reply.Reply.{Reply}
 use Rattle.machine.proofs.Standing.{stands_trial}
@@ -94,10 +91,3 @@ pub worn_as : (map : SectorMap) (old new : Chip) (state : State) (kind : Kind) (
     → state.kind ≡ kind → IsWorn map kind state.mask old new reply
     → IsWorn map state.kind state.mask old new reply
 worn_as map old new state kind reply is worn = subst (λ k. IsWorn map k state.mask old new reply) (sym is) worn
-
--- what is found again is the set that was moved
-pub found_moved : (s : DeviceState) (mask : ℕ) (finding : Finding) (permanent : Bool) → IsFoundAgain s mask finding
-    → IsSetFound mask finding → IsSetMoved mask (reply_of finding permanent)
-found_moved s mask (Decided table report) permanent found is = is
-found_moved s mask (Damaged i) permanent found is = absurd found
-found_moved s mask Invalid permanent found is = absurd found

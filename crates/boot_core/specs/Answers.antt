@@ -1,6 +1,6 @@
 -- What a device's calls answer, as replies of the machine, and what each answer tells.
 use Rattle.std.specs.Prelude.{◌≡◌, ◌+◌, Bool, true, false, not, Result, Ok, Err}
-use Rattle.events.specs.declared.event.Event.TheVariants as event
+use Rattle.common.specs.declared.event.Event.TheVariants as event
 use Rattle.flash_model.specs.Chip.{Chip}
 use Rattle.flash_model.specs.declared.error.FlashError.TheVariants as flash
 use Rattle.upload.specs.declared.error.UploadError.{UploadError}

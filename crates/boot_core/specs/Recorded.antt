@@ -1,11 +1,14 @@
 -- What a passage of a boot goes on from: the record of the log that stands.
-use Rattle.std.specs.Prelude.{◌≡◌, ◌≢◌, ℕ, Some}
-use Rattle.flash_model.specs.Chip.{Chip}
+use Rattle.std.specs.Prelude.{◌≡◌, ◌≢◌, ◌⊎◌, ℕ, ◌+◌, ◌≤◌, Some, Result, Ok, OnOk, IfOk}
+use Rattle.flash_model.specs.Chip.{Chip, Ends}
+use Rattle.flash_model.specs.declared.error.FlashError.{FlashError}
 use Rattle.sector_map.specs.declared.layout.SectorMap.{SectorMap}
-use Rattle.sector_map.specs.Map.{IsLaidOut, IsWithin}
+use Rattle.sector_map.specs.Map.{IsLaidOut, IsWithin, Keeps}
+use Rattle.sector_map.specs.Part.{Log, only}
 use Rattle.set_log.specs.declared.state.Kind.{Kind}
 use Rattle.set_log.specs.declared.state.State.{State}
 use Rattle.set_log.specs.Log.{state_of}
+use Rattle.set_log.specs.States.{Appends}
 
 -- The map is laid out on the flash, and its log says this state.
 pub record HasRecord (map : SectorMap) (state : State) (chip : Chip) : Type 0 where
@@ -24,3 +27,21 @@ pub record CanTake (map : SectorMap) (state : State) (mask : ℕ) (chip : Chip) 
   pub read : state_of map chip ≡ Some state
   pub some : mask ≢ 0
   pub within : IsWithin map mask
+
+-- A call appends a state to the log, and returns it.
+pub record RecordsState (map : SectorMap) (state : State) (old new : Chip)
+    (result : Result State FlashError) : Type 0 where
+  -- Nothing is written but the log,
+  pub outside : Keeps map (only Log) old new
+  -- which says what it said or, whatever happened, the state.
+  pub either : (state_of map new ≡ state_of map old) ⊎ (state_of map new ≡ Some state)
+  -- It says the state where the call ends,
+  pub ok : OnOk result (state_of map new ≡ Some state)
+  -- which is the one that is returned.
+  pub recorded : IfOk result (λ now. state_of map new ≡ Some now)
+  pub is : IfOk result (λ now. now ≡ state)
+  -- Nothing was done then but an append of it.
+  pub appended : OnOk result (Appends map state old new {T = Unit} (Ok tt))
+  -- One sector is erased at most.
+  pub erases : OnOk result (new.erases ≤ old.erases + 1)
+  pub ends : Ends result old new

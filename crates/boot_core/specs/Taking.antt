@@ -1,8 +1,8 @@
 -- What a call does that takes an event of a device: on the flash, in the table of uploads, and to
 -- whether it is up.
-use Rattle.std.specs.Prelude.{◌≡◌, ℕ, Bool, true, false, List, Option, Some, Result, Err, IfErr, OnOk}
+use Rattle.std.specs.Prelude.{◌≡◌, ℕ, Bool, true, false, List, Option, Some, Result, Ok, Err, IfErr, OnOk}
 use Rattle.std.specs.Borrow.{Bor}
-use Rattle.events.specs.declared.event.Event.TheVariants as event
+use Rattle.common.specs.declared.event.Event.TheVariants as event
 use Rattle.flash_model.specs.Chip.{Chip}
 use Rattle.flash_model.specs.declared.error.FlashError.TheVariants.{Off}
 use Rattle.sector_map.specs.declared.layout.SectorMap.{SectorMap}
@@ -25,6 +25,7 @@ use Rattle.machine.specs.Steps.{DeviceEvent}
 use Rattle.machine.specs.declared.error.Fault.{Fault}
 use Rattle.machine.specs.declared.error.Fault.TheVariants as no
 use Rattle.boot_core.specs.Answers.{EndsCall, IsNotBooted, IsOff, is_stop, keeps_all, may_close, reply_of_result}
+use Rattle.upload.specs.declared.error.UploadError.{UploadError}
 use Rattle.upload.specs.declared.error.UploadError.TheVariants.{SizeWrong}
 use Rattle.upload.specs.Finishing.{WritesLastUnit}
 use Rattle.boot_core.specs.Confirming.{IsOkSet}
@@ -32,28 +33,45 @@ use Rattle.boot_core.specs.Device.{StaysHeld, made}
 use Rattle.boot_core.specs.Ready.{IsReadiness, LogsNoTrial, LogsTrialOf, RefusesManifest}
 
 -- A call asks whether uploads are taken now.
-pub record ChecksReady (map : SectorMap) (is_up : Bool) (old new : Chip)
+pub record ChecksReady (map : SectorMap) (is_booted : Bool) (old new : Chip)
     (result : Result Unit Fault) : Type 0 where
   -- The flash is as it was,
   pub same : new ≡ old
   -- and the answer is the first check that fails.
-  pub ready : IsReadiness result is_up (state_of map old) old.is_on
+  pub ready : IsReadiness result is_booted (state_of map old) old.is_on
   -- A flash that is off is the answer of a device that is up.
-  pub off : is_up ≡ true → old.is_on ≡ false → result ≡ Err (no.Flash Off)
+  pub off : is_booted ≡ true → old.is_on ≡ false → result ≡ Err (no.Flash Off)
 
 -- A call passes a fault on, and stops the device where the flash is its reason.
 pub record Stops (fault : Fault) (old : List (Option Upload)) (was_up : Bool)
-    (new : List (Option Upload)) (is_up : Bool) (result : Fault) : Type 0 where
+    (new : List (Option Upload)) (is_booted : Bool) (result : Fault) : Type 0 where
   -- The fault is passed on.
   pub is : result ≡ fault
   -- Where the call stopped at the flash the device isn't up,
-  pub down : is_stop fault ≡ true → is_up ≡ false
+  pub down : is_stop fault ≡ true → is_booted ≡ false
   -- and no upload is open.
   pub closed : is_stop fault ≡ true → AllClosed new
   -- Else it is up where it was,
-  pub up : is_stop fault ≡ false → is_up ≡ was_up
+  pub up : is_stop fault ≡ false → is_booted ≡ was_up
   -- and the uploads are as they were.
   pub kept : is_stop fault ≡ false → new ≡ old
+
+-- A call asks whether uploads are taken now, and stops the device where the flash didn't answer.
+pub record AsksReady (map : SectorMap) (old new : DeviceView) (result : Result Unit Fault)
+    : Type 0 where
+  pub asked : ChecksReady map old.up old.flash new.flash result
+  -- Where they are taken nothing changes,
+  pub taken : OnOk result (new ≡ old)
+  -- else the refusal is passed on.
+  pub stops : IfErr result (λ fault. Stops fault old.sessions old.up new.sessions new.up fault)
+
+-- A call passes on what the table of uploads answered.
+abbrev pub PassesOn : Result Unit UploadError → List (Option Upload) → Bool → List (Option Upload)
+    → Bool → Result Unit Fault → Type 0
+PassesOn (Ok done) old was_up new is_booted (Ok passed) = (new ≡ old) × (is_booted ≡ was_up)
+PassesOn (Err error) old was_up new is_booted (Err fault) =
+    Stops (no.Upload error) old was_up new is_booted fault
+PassesOn taken old was_up new is_booted result = ⊥
 
 -- A call takes an event of a device that has this map.
 pub record TakesHere (map : SectorMap) (event : DeviceEvent) (touched : Part → Bool)

@@ -7,6 +7,7 @@ ghost use Rattle.boot_core.specs.Recorded.{HasRecord, HasRecordOf};
 ghost use Rattle.sector_map.specs.Map.{HasImages};
 ghost use Rattle.set_log.specs.declared.state.Kind.{Kind};
 
+use crate::recording::append_state;
 use crate::settle::settle_set;
 use flash_model::{Flash, FlashError};
 use machine::Reply;
@@ -36,8 +37,7 @@ fn record_back_settle<F: Flash>(
         kind: Kind::BackSettle,
         ..*state
     };
-    append(flash, map, &settle)?;
-    Ok(settle)
+    append_state(flash, map, settle)
 }
 
 /// From Back to BackSettle: the set is swapped back, and this is recorded.

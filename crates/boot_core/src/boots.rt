@@ -56,10 +56,10 @@ fn boot<F: Flash>(flash: &mut F, map: &SectorMap, left: u8) -> Result<Reply, Fla
 }
 
 /// What a boot answers, and whether the device is up then.
-pub(crate) fn conclude(reply: Reply, is_up: &mut bool) -> Result<Reply, Fault>
+pub(crate) fn conclude(reply: Reply, is_booted: &mut bool) -> Result<Reply, Fault>
     requires { IsBootReply reply }
     ensures is { reply_of_boot result ≡ reply }
-    ensures up { is_up.new ≡ is_answer reply }
+    ensures up { is_booted.new ≡ is_answer reply }
     ensures answers { IfOk result (λ given. is_answer given ≡ true) }
 {
     match reply {
@@ -68,7 +68,7 @@ pub(crate) fn conclude(reply: Reply, is_up: &mut bool) -> Result<Reply, Fault>
             report,
             permanent,
         } => {
-            *is_up = true;
+            *is_booted = true;
             Ok(Reply::Booted {
                 table,
                 report,
@@ -76,15 +76,15 @@ pub(crate) fn conclude(reply: Reply, is_up: &mut bool) -> Result<Reply, Fault>
             })
         }
         Reply::Reverted(set) => {
-            *is_up = true;
+            *is_booted = true;
             Ok(Reply::Reverted(set))
         }
         Reply::TrialAgain { set, left } => {
-            *is_up = true;
+            *is_booted = true;
             Ok(Reply::TrialAgain { set, left })
         }
         Reply::Refused(fault) => {
-            *is_up = false;
+            *is_booted = false;
             Err(fault)
         }
         Reply::Done => unreachable!(),
@@ -97,7 +97,7 @@ pub(crate) fn conclude(reply: Reply, is_up: &mut bool) -> Result<Reply, Fault>
 ///
 /// - `flash`, `map`: the map is laid out on the flash.
 /// - `uploads`: any, of which none is open then.
-/// - `is_up`: whether the device is up.
+/// - `is_booted`: whether the device is up.
 /// - `left`: how many boots a trial that begins has after this one, 0 to 6.
 ///
 /// Does not allocate.
@@ -105,17 +105,17 @@ pub fn boot_device<F: Flash>(
     flash: &mut F,
     map: &SectorMap,
     uploads: &mut Uploads,
-    is_up: &mut bool,
+    is_booted: &mut bool,
     left: u8,
 ) -> Result<Reply, Fault>
     requires laid_out { IsLaidOut map.now (F.chip flash.old) }
     requires few { left ≤ MOST_BOOTS_LEFT }
     ensures { EndsUploadsAndBoots map.now left
-        (seen (F.chip flash.old) uploads.old.sessions is_up.old)
-        (seen (F.chip flash.new) uploads.new.sessions is_up.new) result }
+        (seen (F.chip flash.old) uploads.old.sessions is_booted.old)
+        (seen (F.chip flash.new) uploads.new.sessions is_booted.new) result }
 {
     *uploads = Uploads::new();
-    *is_up = false;
+    *is_booted = false;
     let reply = boot(flash, map, left)?;
-    conclude(reply, is_up)
+    conclude(reply, is_booted)
 }

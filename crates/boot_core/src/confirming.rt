@@ -76,7 +76,7 @@ pub(crate) fn confirm<F: Flash>(
 ///
 /// - `flash`, `map`: the map is laid out on the flash.
 /// - `uploads`: those that are open, which stand on the flash.
-/// - `is_up`: whether the device is up.
+/// - `is_booted`: whether the device is up.
 ///
 /// Where the flash stopped the call no upload is open then, and the device isn't up. Does not
 /// allocate.
@@ -84,21 +84,21 @@ pub fn confirm_on<F: Flash>(
     flash: &mut F,
     map: &SectorMap,
     uploads: &mut Uploads,
-    is_up: &mut bool,
+    is_booted: &mut bool,
     image: u8,
 ) -> Result<(), Fault>
     requires laid_out { IsLaidOut map.now (F.chip flash.old) }
     requires opens { AllOpenAt (view map.now (F.chip flash.old)) uploads.old.sessions }
     ensures { ConfirmsHere map.now image
-        (seen (F.chip flash.old) uploads.old.sessions is_up.old)
-        (seen (F.chip flash.new) uploads.new.sessions is_up.new) result }
+        (seen (F.chip flash.old) uploads.old.sessions is_booted.old)
+        (seen (F.chip flash.new) uploads.new.sessions is_booted.new) result }
 {
-    if !*is_up {
+    if !*is_booted {
         return Err(Fault::NotBooted);
     }
     match confirm(flash, map, image) {
         Ok(true) => Ok(()),
         Ok(false) => Err(Fault::NotOnTrial),
-        Err(error) => Err(stop(uploads, is_up, Fault::Flash(error))),
+        Err(error) => Err(stop(uploads, is_booted, Fault::Flash(error))),
     }
 }

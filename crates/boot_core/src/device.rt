@@ -2,7 +2,7 @@
 
 ghost use Rattle.std.specs.Prelude.{◌≡◌, ◌≤◌};
 ghost use Rattle.common.specs.Limits.{MOST_TRIAL_BOOTS};
-ghost use Rattle.events.specs.declared.event.Event.TheVariants as event;
+ghost use Rattle.common.specs.declared.event.Event.TheVariants as event;
 ghost use Rattle.sector_map.specs.Map.{IsLaidOut};
 ghost use Rattle.sector_map.specs.Part.{Slot, any_part, incoming_of, only};
 ghost use Rattle.sector_map.specs.declared.layout.Side.TheVariants.{Secondary};
@@ -35,7 +35,7 @@ pub struct Device<F: Flash> {
     identity: Identity,
     uploads: Uploads,
     left: u8,
-    is_up: bool,
+    is_booted: bool,
 }
 
 impl<F: Flash> Model for Device<F> {
@@ -46,7 +46,7 @@ impl<F: Flash> Model for Device<F> {
 
     ghost view = { λ d. record {
       setup = made d.map d.identity (d.left + 1);
-      here = seen (F.chip d.flash) d.uploads.sessions d.is_up;
+      here = seen (F.chip d.flash) d.uploads.sessions d.is_booted;
     } };
 
     ghost invariant = { λ d. IsDevice d.map d.identity (F.chip d.flash) d.uploads.sessions d.left };
@@ -69,7 +69,7 @@ impl<F: Flash> Device<F> {
             identity,
             uploads: Uploads::new(),
             left: 0,
-            is_up: false,
+            is_booted: false,
         }
     }
 
@@ -91,7 +91,7 @@ impl<F: Flash> Device<F> {
             identity,
             uploads: Uploads::new(),
             left: boots - 1,
-            is_up: false,
+            is_booted: false,
         }
     }
 
@@ -115,7 +115,7 @@ impl<F: Flash> Device<F> {
             &mut self.flash,
             &self.map,
             &mut self.uploads,
-            &mut self.is_up,
+            &mut self.is_booted,
             self.left,
         )
     }
@@ -140,7 +140,7 @@ impl<F: Flash> Device<F> {
             &self.map,
             &self.identity,
             &mut self.uploads,
-            &mut self.is_up,
+            &mut self.is_booted,
             alloc,
             text,
         )
@@ -164,7 +164,7 @@ impl<F: Flash> Device<F> {
             &self.map,
             &self.identity,
             &mut self.uploads,
-            &mut self.is_up,
+            &mut self.is_booted,
             manifest,
         )
     }
@@ -185,7 +185,7 @@ impl<F: Flash> Device<F> {
             &mut self.flash,
             &self.map,
             &mut self.uploads,
-            &mut self.is_up,
+            &mut self.is_booted,
             image,
             more,
         )
@@ -207,7 +207,7 @@ impl<F: Flash> Device<F> {
             &mut self.flash,
             &self.map,
             &mut self.uploads,
-            &mut self.is_up,
+            &mut self.is_booted,
             image,
         )
     }
@@ -226,7 +226,7 @@ impl<F: Flash> Device<F> {
             &mut self.flash,
             &self.map,
             &mut self.uploads,
-            &mut self.is_up,
+            &mut self.is_booted,
             image,
         )
     }
@@ -245,7 +245,7 @@ impl<F: Flash> Device<F> {
             &mut self.flash,
             &self.map,
             &mut self.uploads,
-            &mut self.is_up,
+            &mut self.is_booted,
             image,
         )
     }
@@ -257,7 +257,7 @@ impl<F: Flash> Device<F> {
     {
         self.flash.restart();
         self.uploads = Uploads::new();
-        self.is_up = false;
+        self.is_booted = false;
     }
 
     /// The flash.
@@ -278,7 +278,7 @@ impl<F: Flash> Device<F> {
             identity: _,
             uploads: _,
             left: _,
-            is_up: _,
+            is_booted: _,
         } = self;
         flash
     }

@@ -2,7 +2,7 @@
 //! one.
 
 ghost use Rattle.std.specs.Prelude.{◌≡◌, ◌↔◌, IfErr, IfOk, IsTrue, true};
-ghost use Rattle.events.specs.declared.event.Event.TheVariants as event;
+ghost use Rattle.common.specs.declared.event.Event.TheVariants as event;
 ghost use Rattle.manifest.specs.Fault.{IsManifest};
 ghost use Rattle.manifest.specs.Manifest.{NamesImages};
 ghost use Rattle.sector_map.specs.Map.{IsLaidOut};
@@ -14,8 +14,9 @@ ghost use Rattle.upload.specs.View.{view};
 ghost use Rattle.boot_core.specs.Answers.{is_stop};
 ghost use Rattle.boot_core.specs.Device.{seen};
 ghost use Rattle.boot_core.specs.Ready.{LogsNoTrial, RefusesText, text_fault};
-ghost use Rattle.boot_core.specs.Taking.{AcceptsHere, ChecksReady, FinishesHere, OpensUploads};
-ghost use Rattle.boot_core.specs.Taking.{Stops, TakesHere, TakesManifestHere};
+ghost use Rattle.boot_core.specs.Taking.{AcceptsHere, AsksReady, ChecksReady, FinishesHere};
+ghost use Rattle.boot_core.specs.Taking.{OpensUploads, PassesOn, Stops, TakesHere};
+ghost use Rattle.boot_core.specs.Taking.{TakesManifestHere};
 
 use crate::confirming::is_trial;
 use flash_model::Flash;
@@ -27,11 +28,11 @@ use std::alloc::Global;
 use upload::{UploadError, Uploads};
 
 /// Whether uploads are taken now: the device is up, the log has a state, and no set is on trial.
-fn check_ready<F: Flash>(flash: &mut F, map: &SectorMap, is_up: bool) -> Result<(), Fault>
+fn check_ready<F: Flash>(flash: &mut F, map: &SectorMap, is_booted: bool) -> Result<(), Fault>
     requires laid_out { IsLaidOut map.now (F.chip flash.old) }
-    ensures { ChecksReady map.now is_up (F.chip flash.old) (F.chip flash.new) result }
+    ensures { ChecksReady map.now is_booted (F.chip flash.old) (F.chip flash.new) result }
 {
-    if !is_up {
+    if !is_booted {
         return Err(Fault::NotBooted);
     }
     match read_state(flash, map) {
@@ -60,15 +61,48 @@ fn is_stop(fault: Fault) -> bool
 
 /// Passes a refusal on. Where the call stopped at the flash all uploads are closed, and the device
 /// isn't up.
-pub(crate) fn stop(uploads: &mut Uploads, is_up: &mut bool, fault: Fault) -> Fault
-    ensures { Stops fault uploads.old.sessions is_up.old uploads.new.sessions is_up.new result }
+pub(crate) fn stop(uploads: &mut Uploads, is_booted: &mut bool, fault: Fault) -> Fault
+    ensures { Stops fault uploads.old.sessions is_booted.old uploads.new.sessions is_booted.new result }
 {
     let stopped = is_stop(fault);
     if stopped {
         *uploads = Uploads::new();
-        *is_up = false;
+        *is_booted = false;
     }
     fault
+}
+
+/// Whether uploads are taken now. Where the flash didn't answer all uploads are closed, and the
+/// device isn't up.
+fn ready<F: Flash>(
+    flash: &mut F,
+    map: &SectorMap,
+    uploads: &mut Uploads,
+    is_booted: &mut bool,
+) -> Result<(), Fault>
+    requires laid_out { IsLaidOut map.now (F.chip flash.old) }
+    ensures { AsksReady map.now (seen (F.chip flash.old) uploads.old.sessions is_booted.old)
+        (seen (F.chip flash.new) uploads.new.sessions is_booted.new) result }
+{
+    match check_ready(flash, map, *is_booted) {
+        Ok(()) => Ok(()),
+        Err(fault) => Err(stop(uploads, is_booted, fault)),
+    }
+}
+
+/// Passes on what the table of uploads answered.
+fn pass_on(
+    taken: Result<(), UploadError>,
+    uploads: &mut Uploads,
+    is_booted: &mut bool,
+) -> Result<(), Fault>
+    ensures { PassesOn taken uploads.old.sessions is_booted.old uploads.new.sessions is_booted.new
+        result }
+{
+    match taken {
+        Ok(()) => Ok(()),
+        Err(error) => Err(stop(uploads, is_booted, Fault::Upload(error))),
+    }
 }
 
 /// The refusal of a text: want of memory is one of the device.
@@ -113,23 +147,20 @@ fn open_uploads<F: Flash>(
     map: &SectorMap,
     identity: &Identity,
     uploads: &mut Uploads,
-    is_up: &mut bool,
+    is_booted: &mut bool,
     manifest: &Manifest,
 ) -> Result<(), Fault>
     requires laid_out { IsLaidOut map.now (F.chip flash.old) }
     requires images { identity.now.images ≡ map.now.images }
     requires opens { AllOpenAt (view map.now (F.chip flash.old)) uploads.old.sessions }
-    requires up { is_up.old ≡ true }
+    requires up { is_booted.old ≡ true }
     requires rests { LogsNoTrial (state_of map.now (F.chip flash.old)) }
     requires names { NamesImages identity.now manifest.now }
     ensures { OpensUploads map.now identity.now manifest.now
-        (seen (F.chip flash.old) uploads.old.sessions is_up.old)
-        (seen (F.chip flash.new) uploads.new.sessions is_up.new) result }
+        (seen (F.chip flash.old) uploads.old.sessions is_booted.old)
+        (seen (F.chip flash.new) uploads.new.sessions is_booted.new) result }
 {
-    match uploads.accept(flash, map, manifest) {
-        Ok(()) => Ok(()),
-        Err(error) => Err(stop(uploads, is_up, Fault::Upload(error))),
-    }
+    pass_on(uploads.accept(flash, map, manifest), uploads, is_booted)
 }
 
 /// Takes a manifest, given by the bytes of its text.
@@ -138,7 +169,7 @@ pub(crate) fn accept<F: Flash>(
     map: &SectorMap,
     identity: &Identity,
     uploads: &mut Uploads,
-    is_up: &mut bool,
+    is_booted: &mut bool,
     alloc: Global,
     text: &[u8],
 ) -> Result<(), Fault>
@@ -146,15 +177,12 @@ pub(crate) fn accept<F: Flash>(
     requires images { identity.now.images ≡ map.now.images }
     requires opens { AllOpenAt (view map.now (F.chip flash.old)) uploads.old.sessions }
     ensures { AcceptsHere map.now identity.now text.entry
-        (seen (F.chip flash.old) uploads.old.sessions is_up.old)
-        (seen (F.chip flash.new) uploads.new.sessions is_up.new) result }
+        (seen (F.chip flash.old) uploads.old.sessions is_booted.old)
+        (seen (F.chip flash.new) uploads.new.sessions is_booted.new) result }
 {
-    match check_ready(flash, map, *is_up) {
-        Ok(()) => {}
-        Err(fault) => return Err(stop(uploads, is_up, fault)),
-    }
+    ready(flash, map, uploads, is_booted)?;
     let manifest = read_manifest(alloc, text, identity)?;
-    open_uploads(flash, map, identity, uploads, is_up, &manifest)
+    open_uploads(flash, map, identity, uploads, is_booted, &manifest)
 }
 
 /// Takes a manifest that was read already, as `Device::accept_manifest`, with its errors.
@@ -162,7 +190,7 @@ pub(crate) fn accept<F: Flash>(
 /// - `flash`, `map`: the map is laid out on the flash.
 /// - `identity`: has as many images as the map.
 /// - `uploads`: those that are open, which stand on the flash.
-/// - `is_up`: whether the device is up.
+/// - `is_booted`: whether the device is up.
 ///
 /// Where the flash stopped the call no upload is open then, and the device isn't up. Does not
 /// allocate.
@@ -171,24 +199,21 @@ pub fn accept_manifest<F: Flash>(
     map: &SectorMap,
     identity: &Identity,
     uploads: &mut Uploads,
-    is_up: &mut bool,
+    is_booted: &mut bool,
     manifest: &Manifest,
 ) -> Result<(), Fault>
     requires laid_out { IsLaidOut map.now (F.chip flash.old) }
     requires images { identity.now.images ≡ map.now.images }
     requires opens { AllOpenAt (view map.now (F.chip flash.old)) uploads.old.sessions }
     ensures { TakesManifestHere map.now identity.now manifest.now
-        (seen (F.chip flash.old) uploads.old.sessions is_up.old)
-        (seen (F.chip flash.new) uploads.new.sessions is_up.new) result }
+        (seen (F.chip flash.old) uploads.old.sessions is_booted.old)
+        (seen (F.chip flash.new) uploads.new.sessions is_booted.new) result }
 {
-    match check_ready(flash, map, *is_up) {
-        Ok(()) => {}
-        Err(fault) => return Err(stop(uploads, is_up, fault)),
-    }
+    ready(flash, map, uploads, is_booted)?;
     if !names_images(manifest, identity) {
         return Err(Fault::Manifest(ManifestError::NoComponent));
     }
-    open_uploads(flash, map, identity, uploads, is_up, manifest)
+    open_uploads(flash, map, identity, uploads, is_booted, manifest)
 }
 
 /// Takes a piece of the upload of an image, told by its number from 0, as `Device::piece`, with its
@@ -197,24 +222,18 @@ pub fn piece<F: Flash>(
     flash: &mut F,
     map: &SectorMap,
     uploads: &mut Uploads,
-    is_up: &mut bool,
+    is_booted: &mut bool,
     image: u8,
     more: &[u8],
 ) -> Result<(), Fault>
     requires laid_out { IsLaidOut map.now (F.chip flash.old) }
     requires opens { AllOpenAt (view map.now (F.chip flash.old)) uploads.old.sessions }
     ensures { TakesHere map.now (event.Piece image more.entry) (only (Slot image Secondary))
-        (seen (F.chip flash.old) uploads.old.sessions is_up.old)
-        (seen (F.chip flash.new) uploads.new.sessions is_up.new) result }
+        (seen (F.chip flash.old) uploads.old.sessions is_booted.old)
+        (seen (F.chip flash.new) uploads.new.sessions is_booted.new) result }
 {
-    match check_ready(flash, map, *is_up) {
-        Ok(()) => {}
-        Err(fault) => return Err(stop(uploads, is_up, fault)),
-    }
-    match uploads.piece(flash, map, image, more) {
-        Ok(()) => Ok(()),
-        Err(error) => Err(stop(uploads, is_up, Fault::Upload(error))),
-    }
+    ready(flash, map, uploads, is_booted)?;
+    pass_on(uploads.piece(flash, map, image, more), uploads, is_booted)
 }
 
 /// Finishes the upload of an image, told by its number from 0, as `Device::finish`, with its errors.
@@ -223,23 +242,17 @@ pub fn finish<F: Flash>(
     flash: &mut F,
     map: &SectorMap,
     uploads: &mut Uploads,
-    is_up: &mut bool,
+    is_booted: &mut bool,
     image: u8,
 ) -> Result<(), Fault>
     requires laid_out { IsLaidOut map.now (F.chip flash.old) }
     requires opens { AllOpenAt (view map.now (F.chip flash.old)) uploads.old.sessions }
     ensures { FinishesHere map.now image
-        (seen (F.chip flash.old) uploads.old.sessions is_up.old)
-        (seen (F.chip flash.new) uploads.new.sessions is_up.new) result }
+        (seen (F.chip flash.old) uploads.old.sessions is_booted.old)
+        (seen (F.chip flash.new) uploads.new.sessions is_booted.new) result }
 {
-    match check_ready(flash, map, *is_up) {
-        Ok(()) => {}
-        Err(fault) => return Err(stop(uploads, is_up, fault)),
-    }
-    match uploads.finish(flash, map, image) {
-        Ok(()) => Ok(()),
-        Err(error) => Err(stop(uploads, is_up, Fault::Upload(error))),
-    }
+    ready(flash, map, uploads, is_booted)?;
+    pass_on(uploads.finish(flash, map, image), uploads, is_booted)
 }
 
 /// Takes the request of an image back, told by its number from 0, as `Device::withdraw`, with its
@@ -248,21 +261,15 @@ pub fn withdraw<F: Flash>(
     flash: &mut F,
     map: &SectorMap,
     uploads: &mut Uploads,
-    is_up: &mut bool,
+    is_booted: &mut bool,
     image: u8,
 ) -> Result<(), Fault>
     requires laid_out { IsLaidOut map.now (F.chip flash.old) }
     requires opens { AllOpenAt (view map.now (F.chip flash.old)) uploads.old.sessions }
     ensures { TakesHere map.now (event.Withdraw image) (incoming_of image)
-        (seen (F.chip flash.old) uploads.old.sessions is_up.old)
-        (seen (F.chip flash.new) uploads.new.sessions is_up.new) result }
+        (seen (F.chip flash.old) uploads.old.sessions is_booted.old)
+        (seen (F.chip flash.new) uploads.new.sessions is_booted.new) result }
 {
-    match check_ready(flash, map, *is_up) {
-        Ok(()) => {}
-        Err(fault) => return Err(stop(uploads, is_up, fault)),
-    }
-    match uploads.withdraw(flash, map, image) {
-        Ok(()) => Ok(()),
-        Err(error) => Err(stop(uploads, is_up, Fault::Upload(error))),
-    }
+    ready(flash, map, uploads, is_booted)?;
+    pass_on(uploads.withdraw(flash, map, image), uploads, is_booted)
 }

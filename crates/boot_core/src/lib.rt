@@ -1,12 +1,14 @@
-//! The device: what it does at each boot, and with each upload, confirmation and withdrawal, over
-//! one flash.
+//! The device: its boots, uploads, confirmations and runs, over one flash.
 //!
-//! Promises: each call is a step of a machine that knows whole images only (`machine`), and leaves
-//! the flash at the state that the step comes to, or at that of a cut step where power failed; so
-//! for every list of events the replies of a run are the machine's, the flash holds the machine's
-//! state at its end, and a boot that answers a report starts exactly the greatest valid set of
-//! images. Nothing but `accept`, `run` and the making of a table of replies allocates. Programs and
-//! bootloaders may call it. Events, replies and faults are those of `events` and `machine`.
+//! - Promises: Events and replies are a run of the machine over whole images, whatever is cut. Each
+//!   call is a step of it.
+//! - Main calls: `run`, `step`, `provision`, `Device::boot`, `accept`, `accept_manifest`, `piece`,
+//!   `finish`, `withdraw`, `confirm`, `reset`
+//! - Allocates: `accept`, to read a manifest, and `run`, for its replies; no boot does.
+//! - Callers: programs and bootloaders.
+//!
+//! A boot that returns a report starts exactly the greatest valid set of images. Events are those
+//! of `common`, replies and faults those of `machine`.
 #![tactic(auto)]
 
 pub mod apart;
@@ -18,14 +20,15 @@ mod device;
 mod intake;
 mod preparing;
 mod provisioning;
+mod recording;
 mod running;
 mod settle;
 mod steady;
 mod swap;
 mod trial;
 
+pub use common::event::Event;
 pub use device::Device;
-pub use events::Event;
 pub use machine::{Fault, Reply};
 pub use provisioning::provision;
 pub use running::{run, step};

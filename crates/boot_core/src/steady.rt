@@ -9,12 +9,13 @@ ghost use Rattle.boot_core.specs.Recorded.{CanTake, HasRecord};
 
 use crate::deciding::{asks_for_good, reply_to, taken_mask};
 use crate::preparing::prepare_set;
+use crate::recording::append_state;
 use crate::swap::finish_swap;
 use decision::find;
 use flash_model::{Flash, FlashError};
 use machine::{Fault, Finding, Reply};
 use sector_map::{SectorMap, Side};
-use set_log::{Kind, State, append};
+use set_log::{Kind, State};
 
 /// From Steady to Swap: the trailers of the set are made ready to count the swap, and then the
 /// decision is recorded, so that no swap begins that no record tells of.
@@ -37,8 +38,7 @@ fn begin_swap<F: Flash>(
         left: 0,
         ..*state
     };
-    append(flash, map, &swap)?;
-    Ok(swap)
+    append_state(flash, map, swap)
 }
 
 /// From Steady: a chosen set is taken.

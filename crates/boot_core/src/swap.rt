@@ -10,11 +10,12 @@ ghost use Rattle.sector_map.specs.Map.{HasImages};
 ghost use Rattle.set_log.specs.declared.state.Kind.{Kind};
 
 use crate::deciding::{find_again, reply_to};
+use crate::recording::append_state;
 use crate::settle::settle_found;
 use flash_model::{Flash, FlashError};
 use machine::{Finding, Reply};
 use sector_map::{SectorMap, Side};
-use set_log::{Kind, State, append};
+use set_log::{Kind, State};
 use swap_scratch::swap_set;
 
 /// In Swap: the set is swapped, from wherever the swap stands.
@@ -38,8 +39,7 @@ fn record_settle<F: Flash>(
         kind: Kind::Settle,
         ..*state
     };
-    append(flash, map, &settle)?;
-    Ok(settle)
+    append_state(flash, map, settle)
 }
 
 /// From Swap to Settle: the swap is done, from wherever it stands, the decision is found again, and

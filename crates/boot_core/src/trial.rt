@@ -14,6 +14,7 @@ ghost use Rattle.set_log.specs.declared.state.Kind.{Kind};
 
 use crate::back::boot_from_back;
 use crate::preparing::prepare_set;
+use crate::recording::append_state;
 use crate::steady::boot_from_steady;
 use common::limits::MOST_IMAGES;
 use decision::read_slot;
@@ -154,8 +155,7 @@ fn record_over<F: Flash>(
         sequence: state.sequence,
         floors,
     };
-    append(flash, map, &steady)?;
-    Ok(steady)
+    append_state(flash, map, steady)
 }
 
 /// From a trial that is wholly confirmed: the set runs on, with raised floors, and the decision is
@@ -201,8 +201,7 @@ fn begin_back<F: Flash>(flash: &mut F, map: &SectorMap, state: &State) -> Result
         left: 0,
         ..*state
     };
-    append(flash, map, &back)?;
-    Ok(back)
+    append_state(flash, map, back)
 }
 
 /// From a trial that goes back.

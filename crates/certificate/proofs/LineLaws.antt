@@ -11,6 +11,7 @@ use Rattle.common.specs.Ascii.{number_of, number_below, cut, LacksByte}
 use Rattle.version_order.specs.VersionText.{IsVersionText, version_of, version_text}
 use Rattle.common.proofs.AsciiLaws.{number_of-decimal, number_of-spelled, number_below-decimal, number_below-spelled, LacksByte-decimal, LacksByte-append, cut-found, cut-parts}
 use Rattle.common.proofs.Options.{option_map-Some}
+use Rattle.common.proofs.Words.{on_word}
 use Rattle.version_order.proofs.VersionTexts.{LacksByte-version, version_of-text, version_of-spelled}
 use Rattle.certificate.specs.declared.report.Reason.{Reason}
 use Rattle.certificate.specs.declared.report.Reason.TheVariants.{Damaged, Older, Counter, NoSuchImage, Needs, NeedsOne}
@@ -210,29 +211,15 @@ request_line_of-spelled fields said read =
 table_line_at-spelled : (word fields : List ℕ) (said : TableLine) → table_line_at word fields ≡ Some said
     → IsTableLineText (word ␣ fields) said
 table_line_at-spelled word fields said read =
-    elim (cases_Bool (bytes_eq word (codes "image"))) [
-      | inl image ↦ rw ((bytes_eq-Decides word (codes "image")).0 image)
-          (image_line_of-spelled fields said (rw image at read))
-      | inr not_image ↦
-          let read = rw not_image at read in
-          elim (cases_Bool (bytes_eq word (codes "needs"))) [
-            | inl needs ↦ rw ((bytes_eq-Decides word (codes "needs")).0 needs)
-                (needs_line_of-spelled fields said (rw needs at read))
-            | inr not_needs ↦
-                let read = rw not_needs at read in
-                elim (cases_Bool (bytes_eq word (codes "needs-one"))) [
-                  | inl needs_one ↦ rw ((bytes_eq-Decides word (codes "needs-one")).0 needs_one)
-                      (needs_one_line-spelled fields said (rw needs_one at read))
-                  | inr not_needs_one ↦
-                      let read = rw not_needs_one at read in
-                      elim (cases_Bool (bytes_eq word (codes "request"))) [
-                        | inl request ↦ rw ((bytes_eq-Decides word (codes "request")).0 request)
-                            (request_line_of-spelled fields said (rw request at read))
-                        | inr not_request ↦ absurd (none-some said (rw not_request at read))
-                      ]
-                ]
-          ]
-    ]
+    let Says = λ (first : List ℕ). IsTableLineText (first ␣ fields) said in
+    on_word word (codes "image") Says (λ is. image_line_of-spelled fields said (rw is at read)) (λ not_image.
+    let read = rw not_image at read in
+    on_word word (codes "needs") Says (λ is. needs_line_of-spelled fields said (rw is at read)) (λ not_needs.
+    let read = rw not_needs at read in
+    on_word word (codes "needs-one") Says (λ is. needs_one_line-spelled fields said (rw is at read)) (λ not_needs_one.
+    let read = rw not_needs_one at read in
+    on_word word (codes "request") Says (λ is. request_line_of-spelled fields said (rw is at read)) (λ not_request.
+    absurd (none-some said (rw not_request at read))))))
 
 -- A text that is read as a line says that line.
 pub table_line_of-spelled : (text : List ℕ) (said : TableLine) → table_line_of text ≡ Some said
@@ -490,22 +477,13 @@ refuse_line_of-spelled fields said read =
 report_line_at-spelled : (word fields : List ℕ) (said : ReportLine) → report_line_at word fields ≡ Some said
     → IsReportLineText (word ␣ fields) said
 report_line_at-spelled word fields said read =
-    elim (cases_Bool (bytes_eq word (codes "run"))) [
-      | inl run ↦ rw ((bytes_eq-Decides word (codes "run")).0 run) (run_line_of-spelled fields said (rw run at read))
-      | inr not_run ↦
-          let read = rw not_run at read in
-          elim (cases_Bool (bytes_eq word (codes "take"))) [
-            | inl take ↦ rw ((bytes_eq-Decides word (codes "take")).0 take)
-                (take_line_of-spelled fields said (rw take at read))
-            | inr not_take ↦
-                let read = rw not_take at read in
-                elim (cases_Bool (bytes_eq word (codes "refuse"))) [
-                  | inl refuse ↦ rw ((bytes_eq-Decides word (codes "refuse")).0 refuse)
-                      (refuse_line_of-spelled fields said (rw refuse at read))
-                  | inr not_refuse ↦ absurd (none-some said (rw not_refuse at read))
-                ]
-          ]
-    ]
+    let Says = λ (first : List ℕ). IsReportLineText (first ␣ fields) said in
+    on_word word (codes "run") Says (λ is. run_line_of-spelled fields said (rw is at read)) (λ not_run.
+    let read = rw not_run at read in
+    on_word word (codes "take") Says (λ is. take_line_of-spelled fields said (rw is at read)) (λ not_take.
+    let read = rw not_take at read in
+    on_word word (codes "refuse") Says (λ is. refuse_line_of-spelled fields said (rw is at read)) (λ not_refuse.
+    absurd (none-some said (rw not_refuse at read)))))
 
 -- A text that is read as a line says that line.
 pub report_line_of-spelled : (text : List ℕ) (said : ReportLine) → report_line_of text ≡ Some said

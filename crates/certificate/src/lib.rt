@@ -1,17 +1,14 @@
-//! The decision's data, and what makes a decision right: tables of running and requested images,
-//! reports of a choice among them, and the reasons for which a request is refused.
+//! Tables of running and requested images, reports of a choice among them, and what makes a report
+//! right.
 //!
-//! It is for whoever has to trust a choice: a report says why, and can be checked without the
-//! program that made it.
+//! - Promises: Tables and reports are read exactly, and a refusal names the first bad line. A yes
+//!   says that a report is right, and the set of a right report is the greatest valid one.
+//! - Main calls: `Table::parse`, `Report::parse`, `is_valid`, `check`
+//! - Allocates: no.
+//! - Callers: any crate.
 //!
-//! Promises: a text is read exactly where it spells a table or a report, and a refusal names the
-//! first line that none goes on from; what is printed is read back; `is_valid` tells whether the
-//! running images fit each other; `check` says yes to a right report and to no other. The set of a
-//! right report is the greatest valid set, there is one at most, and image by image no valid set
-//! has a newer version. A report that is right for a table that was read has a text.
-//!
-//! Does not allocate. Any crate above may call it: the choice, whatever boots by a choice, and
-//! programs that read or print tables and reports.
+//! A report says why each request is refused, so anybody can check a choice without the program
+//! that made it.
 #![tactic(auto)]
 
 mod checking;

@@ -1,11 +1,14 @@
-//! The choice: which of the requests of a table are taken, and why each other one is refused.
+//! The choice: which requests of a table are taken, and why each other one is refused.
 //!
-//! Promises: where the running images fit each other, the report is right for the table, what it
-//! takes is the greatest valid combination, and it lists the refusals in the standard order. It
-//! looks at all requests once, then again only at those that depend on one that was dropped or have
-//! it as an alternative, and counts these steps. Does not allocate, and never fails. Whoever has a
-//! table may call it: a bootloader for the images of its slots, a program for a table that it has
-//! read. Others can check its report without it, by `certificate::check`.
+//! - Promises: The report is right and takes the greatest valid set. It lists the refusals in the
+//!   standard order. Its steps are counted.
+//! - Main calls: `choose`, `choose_counted`
+//! - Allocates: no.
+//! - Callers: anybody who has a table: a bootloader of its slots, a program of its input.
+//!
+//! `choose` never fails. It looks at all requests once, then again only at those that depend on one
+//! that was dropped or have it as an alternative. Others can check its report without it, by
+//! `certificate::check`.
 #![tactic(auto)]
 
 mod choice;

@@ -12,3 +12,4 @@ pub mod Options
 pub mod Printed
 pub mod ReadingLaws
 pub mod Results
+pub mod Words

@@ -1,6 +1,7 @@
 pub mod Ascii
 pub mod Bytes
 pub mod Checks
+pub mod Event
 pub mod Limits
 pub mod Lines
 pub mod Reading

@@ -1,11 +1,14 @@
-//! What belongs to no layer: limits of a device, numbers and lines of ASCII text, and the
-//! definitions and lemmas that crates of different layers cite.
+//! Limits of a device, its events, numbers and lines of ASCII text, and lemmas for several layers.
 //!
-//! Promises: a number is read exactly where the text is what is printed of it; a text is cut at its
-//! first separator; and it is read line by line into a state, up to the first line that the state
-//! doesn't take. Does not allocate. Any crate may call it.
+//! - Promises: A number in ASCII is read exactly. A text is split at its first separator, and is
+//!   read line by line, up to the first line that isn't accepted. An event that holds its bytes is
+//!   borrowed as the same event.
+//! - Main calls: `ascii::number`, `lines::read_lines`, `Event::as_deref`
+//! - Allocates: only to copy an event (`clone`).
+//! - Callers: any crate.
 #![tactic(auto)]
 
 pub mod ascii;
+pub mod event;
 pub mod limits;
 pub mod lines;

@@ -1,5 +1,6 @@
 -- What a slot begins with, by what is described of it.
 use Rattle.std.proofs.Common.{◌≡◌, ℕ, List, length, Option, Some, None, refl, sym, ◌∙◌, ap, append-nil}
+use Rattle.std.proofs.lemmas.Option.{none-some}
 use Rattle.image_reading.specs.declared.desc.Desc.{Desc}
 use Rattle.image_reading.specs.declared.error.ImageError.{ImageError}
 use Rattle.image_reading.specs.Fault.{IsFrontFault}
@@ -25,9 +26,6 @@ fault_front whole fault (Some bytes) failed front =
     let there = front.image bytes refl in
     absurd (front_has_no_fault whole there.1.0 fault (bytes, there.0.0, there.0.1, there.1.1) failed)
 
-none_some : {X : Type 0} (x : X) → None ≡ Some x → ⊥
-none_some x e = cc
-
 -- what is described is held ..
 pub described_held : (whole : List ℕ) (d : Desc) → BeginsIntact whole d → IsFront whole None → ⊥
 described_held whole d begins none =
@@ -36,6 +34,6 @@ described_held whole d begins none =
 -- .. and where a check fails there is nothing
 pub fault_held : (whole : List ℕ) (fault : ImageError) → IsFrontFault whole fault → IsFront whole None
 fault_held whole fault failed = record {
-  image = λ bytes e. absurd (none_some bytes e);
+  image = λ bytes e. absurd (none-some bytes e);
   none = λ e bytes d starts intact. front_has_no_fault whole d fault (bytes, starts.0, starts.1, intact) failed;
 }

@@ -1,10 +1,11 @@
-//! The decision of a device: what its flash says of the images that run and that are requested, and
-//! the greatest valid set of them.
+//! What a flash says of running and requested images, and the choice among them.
 //!
-//! Promises: the table that is read is that of the device's state, or the lowest image is told whose
-//! running bytes are no intact image; and the set is the greatest valid one of that table, with a
-//! reason for each request that it leaves. Nothing is written, and nothing allocates. A boot calls
-//! it, and whatever shows what a boot would decide.
+//! - Promises: The table of a device is read exactly, or the lowest image is reported whose running
+//!   bytes aren't intact. The decision is the right report with the greatest set. Nothing is
+//!   written.
+//! - Main calls: `read_table`, `find`
+//! - Allocates: no.
+//! - Callers: a boot, and whatever shows what a boot would decide.
 #![tactic(auto)]
 
 mod deciding;

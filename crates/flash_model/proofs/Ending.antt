@@ -1,6 +1,8 @@
 -- How calls end that come one after the other.
 use Rattle.std.proofs.Common.{◌≡◌, ◌+◌, true, false, Result, Ok, Err, OnOk, refl, sym, ◌∙◌, ap}
 use Rattle.std.specs.Prelude.{IsErr, IsErrAnd, IsErrOf}
+use Rattle.std.proofs.Common.{true≢false}
+use Rattle.std.proofs.Common.{Bool}
 use Rattle.flash_model.specs.declared.error.FlashError.{FlashError}
 use Rattle.flash_model.specs.declared.error.FlashError.TheVariants.{Cut, Off}
 use Rattle.flash_model.specs.Chip.{Chip, Ends, IsUncut}
@@ -32,16 +34,19 @@ ends_after result old mid new so_far asleep last = record {
   off = λ is. sym so_far.on ∙ last.off is;
 }
 
-true_false : true ≡ false → ⊥
-true_false e = cc
-
 -- What a call promises where it ends, at an error.
 pub at_error : {T E : Type 0} (P : Type 0) (result : Result T E) → IsErr result → OnOk result P
-at_error P (Ok value) is = absurd (true_false (sym is))
+at_error P (Ok value) is = absurd (true≢false (sym is))
 at_error P (Err error) is = tt
 
-no_error : {T : Type 0} (value : T) (error : FlashError) → IsErrOf (Ok value) error → ⊥
+-- A call that ended well gave no error,
+pub no_error : {T E : Type 0} (value : T) (error : E) → IsErrOf (Ok value) error → ⊥
 no_error value error e = cc
+
+-- so the flash was on, where it refuses else.
+pub was_on : {T : Type 0} (value : T) (on : Bool) → (on ≡ false → IsErrOf (Ok value) Off) → on ≡ true
+was_on value true off = refl
+was_on value false off = absurd (no_error value Off (off refl))
 
 same_error : {T U : Type 0} (a b kind : FlashError) → a ≡ b → IsErrOf {T = T} (Err a) kind
     → IsErrOf {T = U} (Err b) kind
@@ -84,7 +89,7 @@ ends_then value result old mid new first last = ends_after result old mid new fi
 pub ends_cut : {T : Type 0} {old new : Chip} → old.is_on ≡ true → new.cuts ≡ old.cuts + 1 → new.is_on ≡ false
     → Ends {T = T} (Err Cut) old new
 ends_cut on cuts off = record {
-  asleep = λ asleep. absurd (true_false (sym on ∙ asleep));
+  asleep = λ asleep. absurd (true≢false (sym on ∙ asleep));
   uncut = tt;
   cut = λ is. record { cuts = cuts; off = off };
   off = λ is. cc;

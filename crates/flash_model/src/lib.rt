@@ -1,22 +1,19 @@
-//! The medium: what a flash is, and what its calls leave, also where power fails in the midst of
-//! one.
+//! What a flash is, and what its calls leave, also if power fails during one.
 //!
-//! All layers above write to the device's flash through the trait `Flash` alone, and each of them
-//! proves what it promises from that trait's contracts, for every flash that keeps them. Contracts
-//! see a flash as a `Chip`: its bytes by address, whether it has power, how many writes it took, how
-//! many of them were cut and how many erases were completed. Two laws of the trait tie these counts
-//! to what happened: there was one cut for each armed write, and the bytes are what exactly the
-//! counted writes made of those that the flash had first (`specs/Written.antt`).
+//! - Promises: A call on a flash is done, cut or refused. A flash in memory keeps this, and is cut
+//!   exactly as armed. Whether a range is erased is answered exactly.
+//! - Main calls: the trait `Flash`, `MemFlash`, `is_erased`, `set_unit`
+//! - Allocates: to make a flash in memory and to arm a cut; no call on a flash does.
+//! - Callers: any crate.
 //!
-//! What the layer promises to those above, on any flash and with any bytes on it:
-//! - `is_erased` and `is_unit_erased` answer exactly whether a range, or a unit, is erased, and
-//!   change nothing.
-//! - `set_unit` sets one unit, and nothing else changes; where power fails, that unit is erased or
-//!   set.
-//! - `MemFlash` is a flash in memory that keeps the trait, and cuts exactly those writes that were
-//!   armed, leaving exactly the bytes that were asked for. Tests and the program run on it.
+//! All layers above write to the device's flash through the trait `Flash` alone. Each proves its
+//! promises from that trait's contracts, for every flash that keeps them. Contracts see a flash as
+//! a `Chip`: its bytes by address, whether it has power, and how many writes it took, how many of
+//! them were cut and how many erases were completed. Two laws of the trait tie these counts to what
+//! happened: there was one cut for each armed write, and the bytes are what exactly the counted
+//! writes made of those that the flash had first (`specs/Written.antt`).
 //!
-//! Of a real flash its driver's author promises what the trait says: no proof can look at the
+//! For a real flash the author of its driver promises what the trait says: no proof sees the
 //! hardware. `sector_map` says where the parts of a device lie on a flash; layers above it name
 //! parts, not addresses.
 #![tactic(auto)]

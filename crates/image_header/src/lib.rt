@@ -1,11 +1,12 @@
-//! Images, first part: the header of MCUboot's image format (MCUboot, design document, "Image
-//! format").
+//! The 32 bytes that an image in MCUboot's format begins with.
 //!
-//! Promises: a header is read exactly where the bytes begin with one that is accepted, and each
-//! refusal is the first check that fails; each header is written as its bytes. So what is written
-//! is read back where the header is accepted: its flags are known and its header size is 32 or
-//! more. Does not allocate. `image_reading` calls it for whole images; whoever reads headers alone
-//! may call it too.
+//! - Promises: A header is read and written exactly, and a refusal is the first check that fails.
+//! - Main calls: `Header::read`, `Header::write`
+//! - Allocates: no.
+//! - Callers: any crate that reads headers alone; whole images are read by the crate above.
+//!
+//! What is written is read back if the header is accepted: its flags are known and its header size
+//! is 32 or more.
 #![tactic(auto)]
 
 mod error;

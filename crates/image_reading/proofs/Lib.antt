@@ -8,7 +8,7 @@ pub mod Fronts
 pub mod GroupLaws
 pub mod Headers
 pub mod ImageLaws
-pub mod Kept
+pub mod Gathered
 pub mod Needs
 pub mod Occurrences
 pub mod Parts

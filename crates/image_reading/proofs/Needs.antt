@@ -7,11 +7,11 @@ use Rattle.version_order.specs.declared.dependency.Dependency.{Dependency}
 use Rattle.version_order.specs.declared.group.Group.{Group}
 use Rattle.image_reading.specs.declared.error.ImageError.TheVariants.{TooManyDependencies, TooManyGroups}
 use Rattle.image_reading.specs.Fields.{HasBadDependency, HasBadGroup, HaveForms, IsDependencyFault, SpellCounter, SpellDependencies, SpellGroups, dependency_bytes}
-use Rattle.image_reading.specs.Gathered.{Kept, Spelling, dependency_spelling, group_spelling}
+use Rattle.image_reading.specs.Gathered.{AreKept, Spelling, dependency_spelling, group_spelling}
 use Rattle.image_reading.specs.Image.{Image, PassesDigest, PassesEntries, PassesGroupCount, counter_values, dependency_values, group_values}
 use Rattle.image_reading.proofs.FieldLaws.{IsDependencyForm-dependency_bytes, SpellCounter-good, dependency_bytes-same}
 use Rattle.image_reading.proofs.GroupLaws.{IsGroupForm-group_bytes, group_bytes-same}
-use Rattle.image_reading.proofs.Kept.{AreSpelled, count_spelled, few_at_end, found_at_end, kept_at_end, many_at_end}
+use Rattle.image_reading.proofs.Gathered.{AreSpelled, count_spelled, few_at_end, found_at_end, kept_at_end, many_at_end}
 
 -- ---- what is spelled
 
@@ -74,8 +74,8 @@ groups-good = spelled-good group_spelling IsGroupForm-group_bytes
 -- Where none is bad, each has its form.
 forms_kept : (values others : List (List ℕ)) (dependencies : List Dependency) (groups : List Group)
     (many_dependencies many_groups : Bool)
-    → Kept dependency_spelling MOST_DEPENDENCIES values [] dependencies many_dependencies
-    → Kept group_spelling MOST_GROUPS others [] groups many_groups → HaveForms values others
+    → AreKept dependency_spelling MOST_DEPENDENCIES values [] dependencies many_dependencies
+    → AreKept group_spelling MOST_GROUPS others [] groups many_groups → HaveForms values others
 forms_kept values others dependencies groups many_dependencies many_groups kept kept_groups = (
   dependencies-good values kept.found
       (found_at_end dependency_spelling 16 values dependencies many_dependencies kept),
@@ -85,8 +85,8 @@ forms_kept values others dependencies groups many_dependencies many_groups kept 
 -- There were too many dependencies ..
 pub too_many_dependencies : (values others : List (List ℕ)) (dependencies : List Dependency) (groups : List Group)
     (many_dependencies many_groups : Bool)
-    → Kept dependency_spelling MOST_DEPENDENCIES values [] dependencies many_dependencies
-    → Kept group_spelling MOST_GROUPS others [] groups many_groups → many_dependencies ≡ true
+    → AreKept dependency_spelling MOST_DEPENDENCIES values [] dependencies many_dependencies
+    → AreKept group_spelling MOST_GROUPS others [] groups many_groups → many_dependencies ≡ true
     → IsDependencyFault values others TooManyDependencies
 too_many_dependencies values others dependencies groups many_dependencies many_groups kept kept_groups many = (
   forms_kept values others dependencies groups many_dependencies many_groups kept kept_groups,
@@ -96,8 +96,8 @@ too_many_dependencies values others dependencies groups many_dependencies many_g
 -- .. or not, but too many groups.
 pub too_many_groups : (values others : List (List ℕ)) (dependencies : List Dependency) (groups : List Group)
     (many_dependencies many_groups : Bool)
-    → Kept dependency_spelling MOST_DEPENDENCIES values [] dependencies many_dependencies
-    → Kept group_spelling MOST_GROUPS others [] groups many_groups → many_dependencies ≡ false → many_groups ≡ true
+    → AreKept dependency_spelling MOST_DEPENDENCIES values [] dependencies many_dependencies
+    → AreKept group_spelling MOST_GROUPS others [] groups many_groups → many_dependencies ≡ false → many_groups ≡ true
     → IsDependencyFault values others TooManyGroups
 too_many_groups values others dependencies groups many_dependencies many_groups kept kept_groups few many = (
   forms_kept values others dependencies groups many_dependencies many_groups kept kept_groups,
@@ -107,14 +107,14 @@ too_many_groups values others dependencies groups many_dependencies many_groups 
 
 -- Where there weren't, all are kept.
 pub SpellDependencies-kept : (values : List (List ℕ)) (items : List Dependency) (too_many : Bool)
-    → Kept dependency_spelling MOST_DEPENDENCIES values [] items too_many → too_many ≡ false
+    → AreKept dependency_spelling MOST_DEPENDENCIES values [] items too_many → too_many ≡ false
     → SpellDependencies values items
 SpellDependencies-kept values items too_many kept few =
     let all = kept_at_end dependency_spelling 16 values items too_many kept few in
     record { fit = all.fit; spelled = all.spelled }
 
 pub SpellGroups-kept : (values : List (List ℕ)) (items : List Group) (too_many : Bool)
-    → Kept group_spelling MOST_GROUPS values [] items too_many → too_many ≡ false → SpellGroups values items
+    → AreKept group_spelling MOST_GROUPS values [] items too_many → too_many ≡ false → SpellGroups values items
 SpellGroups-kept values items too_many kept few =
     let all = kept_at_end group_spelling 4 values items too_many kept few in
     record { fit = all.fit; spelled = all.spelled }

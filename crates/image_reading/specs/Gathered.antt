@@ -44,7 +44,7 @@ abbrev pub group_spelling : Spelling Group
 group_spelling = record { Fits = FitsGroup; bytes = group_bytes; IsForm = IsGroupForm }
 
 -- The values that were met spell things, of which as many are kept as an image may have.
-pub record Kept {X : Type 0} (spelling : Spelling X) (most : ℕ) (values left : List (List ℕ))
+pub record AreKept {X : Type 0} (spelling : Spelling X) (most : ℕ) (values left : List (List ℕ))
     (items : List X) (too_many : Bool) : Type 0 where
   pub found : List X
   pub fit : AllByRecursion spelling.Fits found
@@ -56,7 +56,7 @@ pub record Kept {X : Type 0} (spelling : Spelling X) (most : ℕ) (values left :
 pub record HasMet {X : Type 0} (spelling : Spelling X) (most : ℕ) (values left : List (List ℕ))
     (met : Met X most) : Type 0 where
   pub bad : met.bad ≡ true → Any (λ value. spelling.IsForm value → ⊥) values
-  pub kept : met.bad ≡ false → Kept spelling most values left met.kept.items met.too_many
+  pub kept : met.bad ≡ false → AreKept spelling most values left met.kept.items met.too_many
 
 -- Dependencies were met ..
 abbrev pub HaveMetDependencies : List (List ℕ) → List (List ℕ)

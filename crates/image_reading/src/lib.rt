@@ -1,19 +1,16 @@
-//! Images, second part: the entries of MCUboot's image format, and what a whole image says of
-//! itself (MCUboot, design document, "Image format").
+//! The entries of an image in MCUboot's format, and what a whole image says of itself.
 //!
-//! Promises: an area is walked entry by entry; a file is described exactly where its bytes are an
-//! intact image, and its description ([`Desc`]) lists what that image says of itself; a slot is
-//! described exactly where it begins with an intact image; each refusal is the first check that
-//! fails; a flash that is off is told from a slot without an image, and no flash is changed. Does not
-//! allocate.
+//! - Promises: A file or a slot is described exactly, or the first check that fails is returned. No
+//!   flash is changed, and a flash without power isn't taken for a slot without an image.
+//! - Main calls: `describe`, `describe_file`, `describe_slot`, `digest_file`
+//! - Allocates: no.
+//! - Callers: any crate that reads images.
 //!
-//! One type of entry isn't MCUboot's but bootswap's own: a group (0xA0), which lists dependencies
-//! of which one has to be met.
+//! MCUboot's design document describes the format under "Image format". One type of entry is
+//! bootswap's own: a group (0xA0) lists dependencies of which one has to be met.
 //!
 //! One reader serves bytes in memory, a file in a slot and the front of a slot, and has one proof:
-//! it reads span by span ([`Span`]), and hashes a flash by pieces of 256 bytes. Whoever reads
-//! images may call the crate: all that a device knows of an image comes by it. `tlv` makes images,
-//! and hands these calls on.
+//! it reads span by span ([`Span`]), and hashes a flash in pieces of 256 bytes.
 #![tactic(auto)]
 
 mod desc;

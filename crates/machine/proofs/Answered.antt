@@ -4,7 +4,9 @@ use Rattle.std.proofs.Common.{refl, sym, ◌∙◌, ap, subst, arith, slice_get,
 use Rattle.std.proofs.lemmas.Bool.Decides.{nat_tests}
 use Rattle.std.proofs.Math.Nat.{div-one, div-div-eq-div-mul, pow-succ'}
 use Rattle.std.proofs.Math.Numerals.{add-one}
-use Rattle.events.specs.declared.event.Event.TheVariants as event
+use Rattle.std.proofs.Common.{true≢false}
+use Rattle.std.proofs.lemmas.Option.{none-some}
+use Rattle.common.specs.declared.event.Event.TheVariants as event
 use Rattle.sector_map.specs.Part.{is_member}
 use Rattle.certificate.specs.declared.table.Table.{Table}
 use Rattle.certificate.specs.declared.report.Report.{Report}
@@ -20,12 +22,6 @@ use Rattle.machine.specs.Headline.{StaysForGood, TakesNone, request_by, running_
 use Rattle.machine.specs.declared.error.Fault.TheVariants as no
 use Rattle.machine.specs.declared.reply.Reply.{Reply}
 use Rattle.machine.specs.declared.reply.Reply.TheVariants.{Done, Booted, Reverted, TrialAgain, Refused, Cut}
-
-true_false : true ≡ false → ⊥
-true_false e = cc
-
-some_none : {X : Type 0} (x : X) → None ≡ Some x → ⊥
-some_none x e = cc
 
 the_one : {X : Type 0} (x y : X) → Some x ≡ Some y → x ≡ y
 the_one x y e = cc
@@ -74,10 +70,10 @@ module _ (boots : ℕ) (found read next : DeviceState) (table : Table) (report :
         (λ b. if b then None else read.request i) (sym (none i));
     images = ap (λ (s : DeviceState). s.images) same;
     sequence = ap (λ (s : DeviceState). s.sequence) same;
-    good = λ e. absurd (true_false (sym e ∙ not_good));
+    good = λ e. absurd (true≢false (sym e ∙ not_good));
     only = λ stays. absurd (stays.some none);
-    stays = λ e. absurd (true_false (sym e ∙ not_good));
-    raised = λ e. absurd (true_false (sym e ∙ not_good));
+    stays = λ e. absurd (true≢false (sym e ∙ not_good));
+    raised = λ e. absurd (true≢false (sym e ∙ not_good));
     floors = λ e. ap (λ (s : DeviceState). s.floors) same;
     plain = λ e. ap (λ (s : DeviceState). s.trial) same ∙ steady;
     tries = λ e some. absurd (some none);
@@ -129,9 +125,9 @@ module _ (boots : ℕ) (found read next : DeviceState) (table : Table) (report :
       only = only_of permanent decision;
       stays = λ e. ap (λ (s : DeviceState). s.trial) same;
       raised = λ e. subst (λ (s : DeviceState). IsRaised read.images s.running read.floors s.floors) (sym same) raised;
-      floors = λ e. absurd (true_false (sym good ∙ e));
+      floors = λ e. absurd (true≢false (sym good ∙ e));
       plain = λ none. ap (λ (s : DeviceState). s.trial) same;
-      tries = λ e some. absurd (true_false (sym good ∙ e));
+      tries = λ e some. absurd (true≢false (sym good ∙ e));
     }
 
     tried_of : (permanent : Bool) → IsDecision read table mask permanent → (trial : Trial)
@@ -162,8 +158,8 @@ module _ (boots : ℕ) (found read next : DeviceState) (table : Table) (report :
       sequence = ap (λ (s : DeviceState). s.sequence) same;
       good = stays_of permanent decision;
       only = only_of permanent decision;
-      stays = λ e. absurd (true_false (sym e ∙ tried));
-      raised = λ e. absurd (true_false (sym e ∙ tried));
+      stays = λ e. absurd (true≢false (sym e ∙ tried));
+      raised = λ e. absurd (true≢false (sym e ∙ tried));
       floors = λ e. ap (λ (s : DeviceState). s.floors) same;
       plain = λ none. absurd (takes_some permanent decision none);
       tries = λ e some.
@@ -192,7 +188,7 @@ boot_starts boots s table report permanent next (read, reads, steady, (told, eit
 booted_step : (setup : Setup) (m next : Machine) (happened : DeviceEvent) (table : Table) (report : Report)
     (permanent : Bool) → IsStep setup m happened (Booted table report permanent) next
     → (happened ≡ event.Boot) × StartsGreatest setup.boots m.kept table report permanent next.kept
-    × (next.is_up ≡ true) × ((i : ℕ) → next.session i ≡ None)
+    × (next.is_booted ≡ true) × ((i : ℕ) → next.session i ≡ None)
 booted_step setup m next (event.Accept bytes) table report permanent step = absurd step
 booted_step setup m next (event.Piece i bytes) table report permanent step = absurd step
 booted_step setup m next (event.Finish i) table report permanent step = absurd step
@@ -202,7 +198,7 @@ booted_step setup m next event.Reset table report permanent step = absurd step
 booted_step setup m next event.Boot table report permanent (booted, is) = (
   refl,
   boot_starts setup.boots m.kept table report permanent next.kept booted,
-  ap (λ (k : Machine). k.is_up) is,
+  ap (λ (k : Machine). k.is_booted) is,
   λ i. ap (λ (k : Machine). k.session i) is,
 )
 
@@ -210,8 +206,8 @@ pub booted_at : (setup : Setup) (m : Machine) (events : List DeviceEvent) (repli
     (place : ℕ) (table : Table) (report : Report) (permanent : Bool) → IsRun setup m events replies last
     → slice_get replies place ≡ Some (Booted table report permanent)
     → IsBootedAt setup m events replies last place table report permanent
-booted_at setup m [] [] last zero table report permanent run at = absurd (some_none _ at)
-booted_at setup m [] [] last (suc place) table report permanent run at = absurd (some_none _ at)
+booted_at setup m [] [] last zero table report permanent run at = absurd (none-some _ at)
+booted_at setup m [] [] last (suc place) table report permanent run at = absurd (none-some _ at)
 booted_at setup m [] (r ∷ replies) last place table report permanent run at = absurd run
 booted_at setup m (e ∷ events) [] last place table report permanent run at = absurd run
 booted_at setup m (e ∷ events) (r ∷ replies) last zero table report permanent (next, step, run) at =
@@ -224,7 +220,7 @@ booted_at setup m (e ∷ events) (r ∷ replies) last zero table report permanen
       so_far = refl;
       event = ap (λ happened. Some happened) here.0;
       starts = here.1;
-      is_up = here.2;
+      is_booted = here.2;
       closed = here.3;
       goes_on = run;
     }
@@ -236,7 +232,7 @@ booted_at setup m (e ∷ events) (r ∷ replies) last (suc place) table report p
       so_far = (next, step, later.so_far);
       event = later.event;
       starts = later.starts;
-      is_up = later.is_up;
+      is_booted = later.is_booted;
       closed = later.closed;
       goes_on = subst (λ n. IsRun setup later.after (drop n (e ∷ events)) (drop n (r ∷ replies)) last)
           (sym (add-one (suc place)))
@@ -253,7 +249,7 @@ read_same s t trial tried reads = ⊎_elim
     × ((IsConfirmed s own → ⊥) × (t ≡ s) ⊎ IsOver s own t)). ⊎_elim
     (λ (still : (IsConfirmed s begun.0 → ⊥) × (t ≡ s)). still.1)
     (λ (over : IsOver s begun.0 t).
-    absurd (some_none trial (sym (ap (λ (k : DeviceState). k.trial) over.1.2) ∙ tried)))
+    absurd (none-some trial (sym (ap (λ (k : DeviceState). k.trial) over.1.2) ∙ tried)))
     begun.2)
     reads
 

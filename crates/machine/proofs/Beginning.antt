@@ -2,7 +2,7 @@
 use Rattle.std.proofs.Common.{◌≡◌, ℕ, ◌<◌, ◌≤◌, ◌⊎◌, Bool, true, false, List, length, take, Option, Some, None, refl}
 use Rattle.std.proofs.Common.{sym, ◌∙◌, ap, subst, arith, inl, inr, slice_get, IsSomeAnd}
 use Rattle.std.proofs.Common.{⊎_elim, get_or}
-use Rattle.std.proofs.lemmas.Option.{slice_get_cases}
+use Rattle.std.proofs.lemmas.Option.{slice_get_cases, none-some}
 use Rattle.swap_scratch.proofs.Contents.{begins}
 use Rattle.swap_scratch.proofs.Sizes.{moves_enough}
 use Rattle.sector_map.proofs.Parts.{laid_out_kept}
@@ -34,12 +34,6 @@ use Rattle.machine.proofs.Frames.{same_state, starts_take, swaps_with}
 use Rattle.certificate.specs.declared.table.Request.TheVariants as request
 use Rattle.set_log.specs.declared.state.Kind.TheVariants as log
 
-none_some : (entry : Entry) → None ≡ Some entry → ⊥
-none_some entry e = cc
-
-some_none : (bytes : List ℕ) → Some bytes ≡ None → ⊥
-some_none bytes e = cc
-
 entry_bytes : (held : Option (List ℕ)) (entry : Entry) → IsEntryOf held entry → (bytes : List ℕ) × (held ≡ Some bytes)
 entry_bytes None entry is = absurd is
 entry_bytes (Some bytes) entry is = (bytes, refl)
@@ -68,9 +62,9 @@ running_bytes s table i rows lt =
 request_bytes : (wanted : Option Wanted) (asked : Request) (entry : Entry) → IsRequestOf wanted asked
     → intact_entry asked ≡ Some entry
     → (w : Wanted) × (bytes : List ℕ) × (wanted ≡ Some w) × (w.bytes ≡ Some bytes)
-request_bytes None asked entry is intact = absurd (none_some entry (sym (ap intact_entry is) ∙ intact))
+request_bytes None asked entry is intact = absurd (none-some entry (sym (ap intact_entry is) ∙ intact))
 request_bytes (Some w) request.None entry is intact = absurd is
-request_bytes (Some w) request.Damaged entry is intact = absurd (none_some entry intact)
+request_bytes (Some w) request.Damaged entry is intact = absurd (none-some entry intact)
 request_bytes (Some w) (request.Entry given) entry is intact = let found = entry_bytes w.bytes given is in
     (w, found.0, refl, found.1)
 
@@ -101,7 +95,7 @@ front_take n whole held bytes is front le = record {
       let same : bytes ≡ other = cc in
       let found = front.image other e in
       (starts_take n whole other found.0 (subst (λ (l : List ℕ). length l ≤ n) same le), found.1);
-  none = λ e. absurd (some_none bytes (sym is ∙ e));
+  none = λ e. absurd (none-some bytes (sym (sym is ∙ e)));
 }
 
 pub le_trans : (a b c : ℕ) → a ≤ b → b ≤ c → a ≤ c

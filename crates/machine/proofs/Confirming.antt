@@ -3,6 +3,8 @@ use Rattle.std.proofs.Common.{◌≡◌, ◌⊎◌, ℕ, ◌<◌, ◌≤◌, ◌
 use Rattle.std.proofs.Common.{sym, ◌∙◌, ap, subst, arith, ⊎_elim, inl, inr, if◌then◌else◌, not}
 use Rattle.std.proofs.Math.Bool.{and-false}
 use Rattle.std.proofs.lemmas.Bool.{eqb-true}
+use Rattle.std.proofs.Common.{true≢false}
+use Rattle.std.proofs.lemmas.Option.{none-some}
 use Rattle.flash_model.specs.Chip.{Chip}
 use Rattle.sector_map.specs.declared.layout.SectorMap.{SectorMap}
 use Rattle.sector_map.specs.declared.layout.Side.TheVariants.{Primary, Secondary}
@@ -143,9 +145,6 @@ on_trial map w s trial state i read was lt member =
 one_trial : (a b : Trial) (o : Option Trial) → o ≡ Some a → o ≡ Some b → a ≡ b
 one_trial a b o first second = let e : Some a ≡ Some b = sym first ∙ second in cc
 
-true_false : true ≡ false → ⊥
-true_false e = cc
-
 pub not_on_trial : (map : SectorMap) (w : Chip) (s : DeviceState) (trial : Trial) (state : State) (i : ℕ)
     → (view map w).log ≡ Some state → IsTrialAt (view map w) s trial → ((view map w).images ≤ i)
     ⊎ (is_member state.mask i ≡ false)
@@ -156,7 +155,7 @@ not_on_trial map w s trial state i read was why other on =
     let same = one_trial other trial s.trial on.0 was.opened.trial in
     ⊎_elim (λ (le : (view map w).images ≤ i). let lt : i < (view map w).images = subst (λ n. i < n)
     (sym was.opened.images) on.1 in absurd (omega arith))
-    (λ (outside : is_member state.mask i ≡ false). true_false
+    (λ (outside : is_member state.mask i ≡ false). true≢false
     (sym on.2 ∙ ap (λ (t : Trial). is_member t.set i) same ∙ ap (λ m. is_member m i) (sym mask) ∙ outside))
     why
 
@@ -191,10 +190,8 @@ unset_asks : (trailer : Fields) (slot : List ℕ) → trailer.magic ≡ Unset �
 unset_asks trailer slot unset = record {
   kind = ap (λ m. if is_good m && (not trailer.withdrawn && first_is_set slot) then Some
       (kind_of trailer.image_ok) else None) unset;
-  front = λ w e. absurd (none_some w e);
-} where
-  none_some : (w : Wanted) → None ≡ Some w → ⊥
-  none_some w e = cc
+  front = λ w e. absurd (none-some w e);
+}
 
 -- a trial that is over: with the raised floors the set runs on
 pub trial_over : (map : SectorMap) (old new : Chip) (s : DeviceState) (trial : Trial) (floors : List ℕ)

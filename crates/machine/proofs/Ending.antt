@@ -1,6 +1,9 @@
 -- An upgrade ends.
 use Rattle.std.proofs.Common.{◌≡◌, ℕ, ◌<◌, ◌⊎◌, Bool, true, false, List, Option, Some, None, refl, sym, ◌∙◌, ap}
 use Rattle.std.proofs.Common.{subst, inl, inr, ⊎_elim, if◌then◌else◌}
+use Rattle.std.proofs.Common.{true≢false}
+use Rattle.std.proofs.lemmas.Bool.{false≢true}
+use Rattle.std.proofs.lemmas.Option.{none-some}
 use Rattle.flash_model.specs.Chip.{Chip}
 use Rattle.sector_map.specs.declared.layout.SectorMap.{SectorMap}
 use Rattle.sector_map.specs.declared.layout.Side.TheVariants.{Primary, Secondary}
@@ -45,9 +48,7 @@ old_kept held bytes is = ap (λ h. Some (bytes_or_none h)) is ∙ sym is
 -- an erased trailer asks for nothing
 pub none_asked : (trailer : Fields) (slot : List ℕ) → trailer ≡ erased_fields → IsRequested trailer slot None
 none_asked trailer slot erased = subst (λ t. IsRequested t slot None) (sym erased)
-    (record { kind = refl; front = λ w e. absurd (none_some w e) }) where
-      none_some : (w : Wanted) → None ≡ Some w → ⊥
-      none_some w e = cc
+    (record { kind = refl; front = λ w e. absurd (none-some w e) })
 
 pub trial_begins : (map : SectorMap) (old new : Chip) (s : DeviceState) (table : Table) (mask left : ℕ)
     → Keeps map (only Log) old new → (view map new).log ≡ Some (logged log.Trial mask false left s)
@@ -202,9 +203,7 @@ pub conclude_good : (map : SectorMap) (old mid new : Chip) (mask : ℕ) (permane
     ⊎ IsTakenAt (view map new) s mask permanent left floors
 conclude_good map old mid new mask true left floors e keeps settled ends s table was = ends s table mask
     (settling_kept map old mid mask keeps s table log.Settle true was) settled
-conclude_good map old mid new mask false left floors e keeps settled ends s table was = absurd (false_true e) where
-  false_true : false ≡ true → ⊥
-  false_true e = cc
+conclude_good map old mid new mask false left floors e keeps settled ends s table was = absurd (false≢true e)
 
 pub conclude_trial : (map : SectorMap) (old mid new : Chip) (mask : ℕ) (permanent : Bool) (left : ℕ)
     (floors : List ℕ) → permanent ≡ false → Keeps map (trailers_in mask) old mid
@@ -218,6 +217,4 @@ pub conclude_trial : (map : SectorMap) (old mid new : Chip) (mask : ℕ) (perman
     ⊎ IsTakenAt (view map new) s mask permanent left floors
 conclude_trial map old mid new mask false left floors e keeps settled ends s table was = ends s table mask
     (settling_kept map old mid mask keeps s table log.Settle false was) settled
-conclude_trial map old mid new mask true left floors e keeps settled ends s table was = absurd (true_false e) where
-  true_false : true ≡ false → ⊥
-  true_false e = cc
+conclude_trial map old mid new mask true left floors e keeps settled ends s table was = absurd (true≢false e)

@@ -1,5 +1,6 @@
 -- A decision that is found again.
 use Rattle.std.proofs.Common.{◌≡◌, ℕ, Bool, Some, None, sym, ◌∙◌, subst}
+use Rattle.std.proofs.lemmas.Option.{none-some}
 use mathlib.Core.Path.{fun_ext}
 use Rattle.sector_map.specs.Part.{is_member}
 use Rattle.upload.specs.Device.{DeviceState}
@@ -12,14 +13,11 @@ use Rattle.machine.specs.Boots.{IsTableOf, IsDecision, IsReported, IsLowestDamag
 use Rattle.machine.proofs.Beginning.{running_bytes}
 use Rattle.machine.proofs.Unique.{one_greatest}
 
-none_some : {X : Type 0} (x : X) → None ≡ Some x → ⊥
-none_some x e = cc
-
 -- no running image of a decided state is damaged
 pub none_damaged : (s : DeviceState) (table : Table) (mask : ℕ) (permanent : Bool) (i : ℕ)
     → IsDecision s table mask permanent → IsLowestDamaged s i → ⊥
 none_damaged s table mask permanent i decision damaged =
-    let bytes = running_bytes s table i decision.chosen.rows damaged.there in none_some bytes.0
+    let bytes = running_bytes s table i decision.chosen.rows damaged.there in none-some bytes.0
     (sym damaged.damaged ∙ bytes.1)
 
 pub valid_again : (found table : Table) (s : DeviceState) (mask : ℕ) (permanent : Bool) → found ≡ table

@@ -1,6 +1,7 @@
 -- Floors are raised.
 use Rattle.std.proofs.Common.{◌≡◌, ℕ, ◌<◌, ◌≤◌, Bool, true, false, List, length, Option, Some, None, refl, sym, ◌∙◌}
 use Rattle.std.proofs.Common.{ap, subst, slice_index, max, if◌then◌else◌}
+use Rattle.std.proofs.lemmas.Option.{none-some}
 use Rattle.sector_map.specs.Part.{is_member}
 use Rattle.image_reading.specs.declared.desc.Desc.{Desc}
 use Rattle.image_reading.specs.Image.{IsIntact}
@@ -25,18 +26,15 @@ entry_counter (Some given) entry bytes d (own, intact, same) e image =
     ap (λ (x : Entry). x.counter) (sym same) ∙ ap (λ (x : Desc). x.counter)
     (one_description bytes own d (subst (λ b. IsIntact b own) at intact) image)
 
-none_some : {X : Type 0} (x : X) → None ≡ Some x → ⊥
-none_some x e = cc
-
 request_counter : (wanted : Option Wanted) (row : Image) (bytes : List ℕ) (d : Desc)
     → IsRequestOf wanted row.request → wanted_bytes wanted ≡ Some bytes → IsIntact bytes d
     → (entry_in row true).counter ≡ d.counter
-request_counter None row bytes d is e image = absurd (none_some bytes e)
+request_counter None row bytes d is e image = absurd (none-some bytes e)
 request_counter (Some w) row bytes d is e image = at_request row.request row.running is where
   at_request : (asked : Request) (running : Entry) → IsRequestOf (Some w) asked
       → (entry_in (record { running = running; request = asked; floor = 0 }) true).counter ≡ d.counter
   at_request request.None running is = absurd is
-  at_request request.Damaged running is = absurd (none_some bytes (sym is ∙ e))
+  at_request request.Damaged running is = absurd (none-some bytes (sym is ∙ e))
   at_request (request.Entry entry) running is = entry_counter w.bytes entry bytes d is e image
 
 row_counter : (s : DeviceState) (mask i : ℕ) (row : Image) (least : ℕ) (bytes : List ℕ) (d : Desc) (b : Bool)
@@ -51,10 +49,10 @@ whole_after : (s : DeviceState) (table : Table) (mask : ℕ) (permanent : Bool) 
     → is_member mask i ≡ b → IsDecision s table mask permanent → i < s.images
     → (if b then wanted_bytes (s.request i) else s.running i) ≡ None → ⊥
 whole_after s table mask permanent i true member decision lt e =
-    let found = member_bytes s table mask permanent i decision member in none_some found.1
+    let found = member_bytes s table mask permanent i decision member in none-some found.1
     (sym e ∙ ap wanted_bytes found.2 ∙ found.3)
 whole_after s table mask permanent i false member decision lt e =
-    let bytes = running_bytes s table i decision.chosen.rows lt in none_some bytes.0 (sym e ∙ bytes.1)
+    let bytes = running_bytes s table i decision.chosen.rows lt in none-some bytes.0 (sym e ∙ bytes.1)
 
 pub raised_is : (s : DeviceState) (table found : Table) (mask : ℕ) (permanent : Bool) (n : ℕ)
     (floors new : List ℕ) → IsDecision s table mask permanent → IsTableOf s found → s.floors ≡ floors

@@ -2,7 +2,7 @@
 use Rattle.std.proofs.Common.{◌≡◌, ◌⊎◌, ℕ, ◌+◌, ◌<◌, ◌≤◌, Bool, List, [], ◌∷◌, ◌++◌, length, Option, Some, None, refl}
 use Rattle.std.proofs.Common.{sym, ◌∙◌, ap, subst, arith, slice_get, slice_index, ⊎_elim, inl, inr, zero, suc, get_or}
 use Rattle.std.proofs.Common.{length-append}
-use Rattle.std.proofs.lemmas.Option.{slice_get_cases}
+use Rattle.std.proofs.lemmas.Option.{slice_get_cases, none-some}
 use Rattle.flash_model.specs.Chip.{Chip}
 use Rattle.sector_map.specs.declared.layout.SectorMap.{SectorMap}
 use Rattle.sector_map.specs.declared.layout.Side.TheVariants.{Secondary}
@@ -38,9 +38,6 @@ nothing e = cc
 value_of : {X : Type 0} (y x : X) → Some y ≡ Some x → y ≡ x
 value_of y x e = cc
 
-some_none : {X : Type 0} (x : X) → Some x ≡ None → ⊥
-some_none x e = cc
-
 pub request_read : (map : SectorMap) (old mid : Chip) (i : ℕ) (answer : Option request_kind.Kind)
     (kind : request_kind.Kind) (read : Option Entry) → answer ≡ Some kind
     → answer ≡ told_by ((view map old).trailer i Secondary) ((view map old).slot i Secondary) → mid ≡ old
@@ -48,7 +45,7 @@ pub request_read : (map : SectorMap) (old mid : Chip) (i : ℕ) (answer : Option
     → (wanted : Option Wanted) → IsRequested ((view map old).trailer i Secondary)
     ((view map old).slot i Secondary) wanted → (w : Wanted) × (wanted ≡ Some w) × IsReadOf w.bytes read
 request_read map old mid i answer kind read some is same reads None asked = absurd
-    (some_none kind (sym some ∙ is ∙ asked.kind))
+    (none-some kind (sym (sym some ∙ is ∙ asked.kind)))
 request_read map old mid i answer kind read some is same reads (Some w) asked = (
   w,
   refl,
@@ -107,7 +104,7 @@ rows_more s floors n rows row before next = record {
 
 no_entry : (held : Option (List ℕ)) (entry : Entry) → held ≡ None → IsEntryOf held entry → ⊥
 no_entry None entry e is = is
-no_entry (Some bytes) entry e is = some_none bytes e
+no_entry (Some bytes) entry e is = none-some bytes (sym e)
 
 pub lowest_damaged : (map : SectorMap) (w : Chip) (s : DeviceState) (mask : ℕ) (floors : List ℕ) (i : ℕ)
     (rows : List Image) → CanRead (view map w) s mask floors → AreRowsOf s floors i rows

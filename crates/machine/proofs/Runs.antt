@@ -1,7 +1,7 @@
 -- Runs go on, are joined, and are cut into parts.
 use Rattle.std.proofs.Common.{◌≡◌, ℕ, ◌+◌, List, [], ◌∷◌, ◌++◌, length, take, drop, refl, sym, ◌∙◌, ap, subst, arith}
 use Rattle.std.proofs.Common.{zero, suc, zero-add}
-use Rattle.events.specs.declared.event.Event.TheVariants as event
+use Rattle.common.specs.declared.event.Event.TheVariants as event
 use Rattle.upload.specs.Device.{Machine}
 use Rattle.machine.specs.Intake.{Setup}
 use Rattle.machine.specs.Steps.{Completes, DeviceEvent, IsRun, IsStep, IsUncutRun, cut_of, cuts_in}

@@ -4,6 +4,8 @@ use Rattle.std.proofs.Common.{refl, sym, ◌∙◌, ap, subst, zero, suc, slice_
 use Rattle.std.specs.Prelude.{IfSome, IsTrue, ◌&&◌, ◌||◌}
 use Rattle.std.specs.List.{list_all, list_any}
 use Rattle.std.specs.Option.{option_map_or}
+use Rattle.std.proofs.lemmas.Bool.{false≢true}
+use Rattle.std.proofs.lemmas.Option.{none-some}
 use Rattle.version_order.specs.declared.dependency.Dependency.{Dependency}
 use Rattle.version_order.specs.declared.group.Group.{Group}
 use Rattle.version_order.specs.Order.{is_older}
@@ -16,14 +18,8 @@ use Rattle.certificate.specs.Combination.{running_set}
 use Rattle.upload.specs.Device.{DeviceState}
 use Rattle.machine.specs.Boots.{IsEntryOf, IsRequestOf, IsRowOf, IsSound, IsTableOf}
 
-pub none_some : {X : Type 0} (x : X) → None ≡ Some x → ⊥
-none_some x e = cc
-
 pub the_one : {X : Type 0} (x y : X) → Some x ≡ Some y → x ≡ y
 the_one x y e = cc
-
-false_true : false ≡ true → ⊥
-false_true e = cc
 
 -- ---- lists of rows
 
@@ -78,7 +74,7 @@ if_some None P each = tt
 if_some (Some x) P each = each x refl
 
 of_some : {X : Type 0} (o : Option X) (P : X → Type 0) (x : X) → o ≡ Some x → IfSome o P → P x
-of_some None P x e all = absurd (none_some x e)
+of_some None P x e all = absurd (none-some x e)
 of_some (Some y) P x e all = subst P (the_one y x e) all
 
 same_all : {X : Type 0} (p q : X → Bool) (xs : List X) → ((x : X) → p x ≡ q x) → list_all p xs ≡ list_all q xs
@@ -93,8 +89,8 @@ same_option : (o p : Option Image) (f g : Image → Bool)
     → ((x : Image) → o ≡ Some x → (y : Image) × (p ≡ Some y) × (f x ≡ g y))
     → ((y : Image) → p ≡ Some y → (x : Image) × (o ≡ Some x)) → option_map_or f o false ≡ option_map_or g p false
 same_option None None f g to back = refl
-same_option None (Some y) f g to back = absurd (none_some _ (back y refl).1)
-same_option (Some x) None f g to back = absurd (none_some _ (to x refl).1)
+same_option None (Some y) f g to back = absurd (none-some _ (back y refl).1)
+same_option (Some x) None f g to back = absurd (none-some _ (to x refl).1)
 same_option (Some x) (Some y) f g to back =
     let found = to x refl in
     found.2 ∙ ap g (sym (the_one y found.0 found.1))
@@ -132,7 +128,7 @@ module _ (table : Table) (taken : ℕ → Bool) (t : DeviceState) (ys : List Ima
   valid_after : ((j : ℕ) → HasMetDependencies table taken j)
       → IsValid (record { images = record { items = ys } }) running_set
   valid_after met = record {
-    members = λ j e. absurd (false_true e);
+    members = λ j e. absurd (false≢true e);
     met = λ j. if_some (slice_get ys j)
         (λ y. IsTrue (meets_all (record { images = record { items = ys } }) running_set (entry_in y false)))
         (λ y at.

@@ -2,6 +2,7 @@
 use Rattle.std.proofs.Common.{◌≡◌, ◌⊎◌, ℕ, ◌<◌, ◌≤◌, Bool, true, false, List, [], ◌∷◌, length, Option, Some, None}
 use Rattle.std.proofs.Common.{refl, sym, ◌∙◌, ap, subst, zero, suc, arith, slice_get, ⊎_elim, inl, inr, if◌then◌else◌}
 use Rattle.std.specs.Prelude.{IsSomeAnd, unwrap_or}
+use Rattle.std.proofs.lemmas.Option.{none-some}
 use Rattle.sector_map.specs.Part.{is_member}
 use Rattle.version_order.specs.Order.{IsAtLeast}
 use Rattle.certificate.specs.declared.table.Table.{Table}
@@ -21,13 +22,13 @@ use Rattle.machine.specs.declared.reply.Reply.{Reply}
 use Rattle.machine.specs.declared.reply.Reply.TheVariants.{Done, Booted, Reverted, TrialAgain, Refused, Cut}
 use Rattle.machine.proofs.Answered.{read_same}
 use Rattle.machine.proofs.Beginning.{some_of}
-use Rattle.machine.proofs.Sound.{none_some, sound_to, the_one}
+use Rattle.machine.proofs.Sound.{sound_to, the_one}
 
 -- ---- the same runs, and less is requested
 
 below : {X : Type 0} (xs : List X) (k : ℕ) (x : X) → slice_get xs k ≡ Some x → k < length xs
-below [] zero x e = absurd (none_some x e)
-below [] (suc k) x e = absurd (none_some x e)
+below [] zero x e = absurd (none-some x e)
+below [] (suc k) x e = absurd (none-some x e)
 below (y ∷ xs) zero x e = omega arith
 below (y ∷ xs) (suc k) x e = let rest = below xs k x e in omega arith
 
@@ -48,7 +49,7 @@ sound_alike s t images runs asks (table, rows, valid) = sound_to s t table runni
 
 -- what a state without a trial has to show
 pub all_sound : (s : DeviceState) → s.trial ≡ None → IsSound s → IsAllSound s
-all_sound s none sound = record { now = sound; before = λ trial e. absurd (none_some trial (sym none ∙ e)) }
+all_sound s none sound = record { now = sound; before = λ trial e. absurd (none-some trial (sym none ∙ e)) }
 
 -- ---- reading
 
@@ -84,9 +85,9 @@ all_read s read reads all = record {
 -- the requested entry of a member
 asked_entry : (wanted : Option Wanted) (asked : Request) (running entry : Entry) → IsRequestOf wanted asked
     → intact_entry asked ≡ Some entry → IsEntryOf (wanted_bytes wanted) (unwrap_or (intact_entry asked) running)
-asked_entry None asked running entry is intact = absurd (none_some entry (sym (ap intact_entry is) ∙ intact))
+asked_entry None asked running entry is intact = absurd (none-some entry (sym (ap intact_entry is) ∙ intact))
 asked_entry (Some w) request.None running entry is intact = absurd is
-asked_entry (Some w) request.Damaged running entry is intact = absurd (none_some entry intact)
+asked_entry (Some w) request.Damaged running entry is intact = absurd (none-some entry intact)
 asked_entry (Some w) (request.Entry given) running entry is intact = is
 
 module _ (read : DeviceState) (table : Table) (mask : ℕ) (permanent : Bool)

@@ -2,7 +2,7 @@
 use Rattle.std.proofs.Common.{◌≡◌, ℕ, ◌<◌, ◌≤◌, ◌%◌, ◌^◌, ◌==◌, true, false, length, Some, refl, sym, ◌∙◌, ap, subst}
 use Rattle.std.proofs.Common.{⊎_elim, inl}
 use Rattle.std.proofs.lemmas.Option.{slice_get_past}
-use Rattle.std.proofs.lemmas.Bool.{cases_lt}
+use Rattle.std.proofs.lemmas.Bool.{cases_lt, false≢true}
 use Rattle.std.specs.Option.{option_map_or}
 use mathlib.Core.Path.{fun_ext}
 use Rattle.std.proofs.Math.Nat.{zero-div}
@@ -32,14 +32,11 @@ pub no_member : (i : ℕ) → is_member 0 i ≡ false
 unfolding is_member
 no_member i = ap (λ n. n % 2 == 1) (zero-div (2 ^ i))
 
-false_true : false ≡ true → ⊥
-false_true e = cc
-
 pub taken_below : (report : Report) (n i : ℕ) → length report.images.items ≡ n → taken_in report i ≡ true → i < n
 taken_below report n i long taken = ⊎_elim
     (λ (lt : i < length report.images.items). subst (λ m. i < m) long lt)
     (λ (le : length report.images.items ≤ i). absurd
-    (false_true (sym (ap (λ o. option_map_or (λ image. image.is_taken) o false)
+    (false≢true (sym (ap (λ o. option_map_or (λ image. image.is_taken) o false)
     (slice_get_past report.images.items i le)) ∙ taken)))
     (cases_lt i (length report.images.items))
 

@@ -2,7 +2,9 @@
 use Rattle.std.proofs.Common.{◌≡◌, ℕ, ◌<◌, ◌≤◌, ◌==◌, Bool, true, false, List, length, Option, Some, None, Result, Ok}
 use Rattle.std.proofs.Common.{Err, IfOk, refl, sym, ◌∙◌, ap, subst, ⊎_elim, inl, inr}
 use Rattle.std.proofs.Math.Bool.{and-false}
-use Rattle.events.specs.declared.event.Event.TheVariants as event
+use Rattle.std.proofs.Common.{true≢false}
+use Rattle.std.proofs.lemmas.Option.{none-some}
+use Rattle.common.specs.declared.event.Event.TheVariants as event
 use Rattle.flash_model.specs.Chip.{Chip}
 use Rattle.sector_map.specs.declared.layout.SectorMap.{SectorMap}
 use Rattle.sector_map.specs.declared.layout.Side.TheVariants.{Primary, Secondary}
@@ -16,7 +18,7 @@ use Rattle.upload.specs.View.{View, view}
 use Rattle.upload.specs.Device.{DeviceState, Machine, Session, no_session}
 use Rattle.upload.specs.Sessions.{AllClosed, HasSession, HasSessions, IsWritten, upload_at}
 use Rattle.upload.specs.declared.sessions.Upload.{Upload}
-use Rattle.upload.proofs.Frames.{sessions_closed}
+use Rattle.upload.proofs.Frames.{session_kept, sessions_closed}
 use Rattle.upload.proofs.Views.{view_kept}
 use Rattle.machine.specs.States.{asleep, with_confirmed}
 use Rattle.machine.specs.Boots.{Boots, IsReadSound, is_answer}
@@ -71,17 +73,14 @@ pub powered : (map : SectorMap) (old new : Chip) (s : DeviceState) → IsLaidOut
 powered map old new s laid is = stands_logged map old new s laid (keeps_powered map (only Log) old new is)
     ((view_kept map (λ part. false) old new (keeps_powered map (λ part. false) old new is)).log refl)
 
-true_false : true ≡ false → ⊥
-true_false e = cc
-
 -- a device that is reset, and has power, holds what stands
 pub holds_asleep : (map : SectorMap) (mid new : Chip) (told : List (Option Upload)) (s : DeviceState)
     → IsLaidOut map mid → new ≡ record mid { is_on = true } → AllClosed told → Stands map mid s
     → Holds map (record { flash = new; sessions = told; up = false }) (asleep s)
 holds_asleep map mid new told s laid is none stands = record {
   stands = powered map mid new s laid is stands;
-  is_up = refl;
-  rest = λ e. absurd (true_false (sym e));
+  is_booted = refl;
+  rest = λ e. absurd (true≢false (sym e));
   open_ones = sessions_closed (view map new) told none;
   closed = λ e. none;
 }
@@ -89,7 +88,7 @@ holds_asleep map mid new told s laid is none stands = record {
 -- ---- boots and resets
 
 boot_step : (setup : Setup) (m next : Machine) (reply : Reply) → Boots setup.boots m.kept reply next.kept
-    → next ≡ record { kept = next.kept; session = no_session; is_up = is_answer reply }
+    → next ≡ record { kept = next.kept; session = no_session; is_booted = is_answer reply }
     → IsStep setup m event.Boot reply next
 boot_step setup m next Done booted is = absurd booted
 boot_step setup m next (Booted table report permanent) booted is = (booted, is)
@@ -105,12 +104,12 @@ pub steps_boot : (setup : Setup) (old new : Chip) (told tnew : List (Option Uplo
     (record { flash = new; sessions = tnew; up = answer }) event.Boot reply
 steps_boot setup old new told tnew up answer reply is none ends m holds =
     let after = ends m.kept holds.stands in
-    let next : Machine = record { kept = after.0; session = no_session; is_up = is_answer reply } in (
+    let next : Machine = record { kept = after.0; session = no_session; is_booted = is_answer reply } in (
       next,
       boot_step setup m next reply after.1 refl,
       record {
         stands = after.2;
-        is_up = sym is;
+        is_booted = sym is;
         rest = after.3;
         open_ones = sessions_closed (view setup.map new) tnew none;
         closed = λ e. none;
@@ -159,37 +158,15 @@ steps_no_state setup old new happened reply none m holds =
 
 pub steps_not_up : (setup : Setup) (w : DeviceView) (happened : DeviceEvent) → w.up ≡ false → needs_up happened ≡ true
     → StepsTo setup w w happened (Refused no.NotBooted)
-steps_not_up setup w (event.Accept bytes) down needs m holds = (m, (holds.is_up ∙ down, refl), holds)
-steps_not_up setup w (event.Piece i bytes) down needs m holds = (m, (holds.is_up ∙ down, refl), holds)
-steps_not_up setup w (event.Finish i) down needs m holds = (m, (holds.is_up ∙ down, refl), holds)
-steps_not_up setup w (event.Withdraw i) down needs m holds = (m, (holds.is_up ∙ down, refl), holds)
-steps_not_up setup w (event.Confirm i) down needs m holds = (m, (holds.is_up ∙ down, refl), holds)
-steps_not_up setup w event.Boot down needs m holds = absurd (true_false (sym needs))
-steps_not_up setup w event.Reset down needs m holds = absurd (true_false (sym needs))
+steps_not_up setup w (event.Accept bytes) down needs m holds = (m, (holds.is_booted ∙ down, refl), holds)
+steps_not_up setup w (event.Piece i bytes) down needs m holds = (m, (holds.is_booted ∙ down, refl), holds)
+steps_not_up setup w (event.Finish i) down needs m holds = (m, (holds.is_booted ∙ down, refl), holds)
+steps_not_up setup w (event.Withdraw i) down needs m holds = (m, (holds.is_booted ∙ down, refl), holds)
+steps_not_up setup w (event.Confirm i) down needs m holds = (m, (holds.is_booted ∙ down, refl), holds)
+steps_not_up setup w event.Boot down needs m holds = absurd (true≢false (sym needs))
+steps_not_up setup w event.Reset down needs m holds = absurd (true≢false (sym needs))
 
 -- ---- confirmations
-
--- an open upload depends on the secondary slot and its trailer
-session_kept : (old new : View) (i : ℕ) (o : Option Upload) (s : Option Session) → new.images ≡ old.images
-    → new.slot i Secondary ≡ old.slot i Secondary → new.trailer i Secondary ≡ old.trailer i Secondary
-    → HasSession old i o s → HasSession new i o s
-session_kept old new i None None images slot trailer was = tt
-session_kept old new i None (Some s) images slot trailer was = was
-session_kept old new i (Some u) None images slot trailer was = was
-session_kept old new i (Some u) (Some s) images slot trailer (written, was, is) = (
-  written,
-  record {
-    there = subst (λ n. i < n) (sym images) was.there;
-    units = was.units;
-    slot = subst (λ l. IsWritten l written) (sym slot) was.slot;
-    trailer = trailer ∙ was.trailer;
-    few = was.few;
-    count = was.count;
-    fits = was.fits;
-    room = subst (λ l. u.size ≤ length l) (sym slot) was.room;
-  },
-  is,
-)
 
 pub sessions_kept : (map : SectorMap) (old new : Chip) (j : ℕ) (told : List (Option Upload))
     (session : ℕ → Option Session) → Keeps map (only (TrailerOf j Primary)) old new
@@ -201,20 +178,20 @@ sessions_kept map old new j told session keeps was =
           (kept.slots i Secondary refl) (kept.trailers i Secondary (and-false (i == j))) (was.each i);
     }
 
-module _ (setup : Setup) (old : Chip) (told : List (Option Upload)) (up : Bool) (i : ℕ) (is_up : up ≡ true) where
+module _ (setup : Setup) (old : Chip) (told : List (Option Upload)) (up : Bool) (i : ℕ) (is_booted : up ≡ true) where
   pub steps_confirmed : (new : Chip) (answer : Bool) → answer ≡ true
       → Keeps setup.map (only (TrailerOf i Primary)) old new
       → ((s : DeviceState) → IsAtRest (view setup.map old) s → EndsConfirm (view setup.map new) s i answer)
       → StepsTo setup (record { flash = old; sessions = told; up = up })
       (record { flash = new; sessions = told; up = up }) (event.Confirm i) Done
   steps_confirmed new answer is keeps ends m holds =
-      let here = holds.is_up ∙ is_up in
+      let here = holds.is_booted ∙ is_booted in
       let after = subst (λ b. EndsConfirm (view setup.map new) m.kept i b) is (ends m.kept (holds.rest here)) in (
         record m { kept = with_confirmed m.kept after.0 i },
         (here, (after.0, after.1, refl)),
         record {
           stands = rest_stands setup.map new (with_confirmed m.kept after.0 i) after.2;
-          is_up = holds.is_up;
+          is_booted = holds.is_booted;
           rest = λ e. after.2;
           open_ones = sessions_kept setup.map old new i told m.session keeps holds.open_ones;
           closed = holds.closed;
@@ -227,13 +204,13 @@ module _ (setup : Setup) (old : Chip) (told : List (Option Upload)) (up : Bool) 
       → StepsTo setup (record { flash = old; sessions = told; up = up })
       (record { flash = new; sessions = told; up = up }) (event.Confirm i) (Refused no.NotOnTrial)
   steps_not_on_trial new answer is keeps ends m holds =
-      let here = holds.is_up ∙ is_up in
+      let here = holds.is_booted ∙ is_booted in
       let after = subst (λ b. EndsConfirm (view setup.map new) m.kept i b) is (ends m.kept (holds.rest here)) in (
         m,
         (here, after.0, refl),
         record {
           stands = rest_stands setup.map new m.kept after.1;
-          is_up = holds.is_up;
+          is_booted = holds.is_booted;
           rest = λ e. after.1;
           open_ones = sessions_kept setup.map old new i told m.session keeps holds.open_ones;
           closed = holds.closed;
@@ -246,7 +223,7 @@ module _ (setup : Setup) (old : Chip) (told : List (Option Upload)) (up : Bool) 
       → StepsTo setup (record { flash = old; sessions = told; up = up })
       (record { flash = new; sessions = tnew; up = false }) (event.Confirm i) Cut
   steps_confirm_cut mid new tnew laid none cuts is m holds =
-      let here = holds.is_up ∙ is_up in
+      let here = holds.is_booted ∙ is_booted in
       let after = cuts m.kept (holds.rest here) in
       let done = with_confirmed m.kept after.0 i in
       ⊎_elim
@@ -272,8 +249,8 @@ holds_repowered map old new told m laid keeps holds =
     let kept = view_kept map (λ part. false) old new (keeps (λ part. false)) in
     record {
       stands = stands_logged map old new m.kept laid (keeps (only Log)) (kept.log refl) holds.stands;
-      is_up = holds.is_up;
-      rest = λ e. absurd (true_false (sym e ∙ holds.is_up));
+      is_booted = holds.is_booted;
+      rest = λ e. absurd (true≢false (sym e ∙ holds.is_booted));
       open_ones = record {
         each = λ i. session_kept (view map old) (view map new) i (upload_at told i) (m.session i) kept.images
             (kept.slots i Secondary refl) (kept.trailers i Secondary refl) (holds.open_ones.each i);
@@ -328,9 +305,6 @@ if_ok_both (Err e) P Q S both p q = tt
 
 -- ---- a boot from a sound state answers
 
-none_some : {X : Type 0} (x : X) → None ≡ Some x → ⊥
-none_some x e = cc
-
 pub boots_answer : (boots : ℕ) (s : DeviceState) (reply : Reply) (next : DeviceState) → IsReadSound s
     → Boots boots s reply next → is_answer reply ≡ true
 boots_answer boots s (Booted table report permanent) next sound booted = refl
@@ -339,7 +313,7 @@ boots_answer boots s (TrialAgain set left) next sound booted = refl
 boots_answer boots s (Refused (no.RunningDamaged i)) next sound (reads, rest, damaged) =
     let whole = sound.each next reads in
     let bytes = running_bytes next whole.0 i whole.1 damaged.there in
-    absurd (none_some bytes.0 (sym damaged.damaged ∙ bytes.1))
+    absurd (none-some bytes.0 (sym damaged.damaged ∙ bytes.1))
 boots_answer boots s (Refused no.InvalidSet) next sound (reads, rest, (table, rows, invalid)) =
     let whole = sound.each next reads in
     absurd (invalid (subst (λ t. IsValid t running_set) (one_table next whole.0 table whole.1 rows) whole.2))

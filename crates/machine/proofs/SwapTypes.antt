@@ -1,6 +1,7 @@
 -- The table of swap types tells of trials and of requests.
 use Rattle.std.proofs.Common.{◌≡◌, ℕ, ◌<◌, ◌&&◌, Bool, true, false, not, Some, None, refl, ◌∙◌, ap, if◌then◌else◌}
 use Rattle.std.specs.Prelude.{option_map}
+use Rattle.std.proofs.lemmas.Option.{none-some}
 use Rattle.sector_map.specs.declared.layout.Side.TheVariants.{Primary, Secondary}
 use Rattle.sector_map.specs.Part.{is_member}
 use Rattle.trailer.specs.declared.kinds.Kind.{Kind}
@@ -37,18 +38,15 @@ tells_trial Bad second copied ok asked a b c d = cc
 same_kind : (a b : Kind) → Some a ≡ Some b → a ≡ b
 same_kind a b e = cc
 
-none_some : (k : Kind) → None ≡ Some k → ⊥
-none_some k e = cc
-
 tells_request : (first second : Magic) (copied ok asked gone filled : Bool) (kind : Kind)
     → (if is_good second && (not gone && filled) then Some (kind_of asked) else None) ≡ Some kind
     → by_fields first copied ok second asked ≡ type_of kind
 tells_request first Good copied ok true false true kind e = ap type_of (same_kind _ kind e)
 tells_request first Good copied ok false false true kind e = ap type_of (same_kind _ kind e)
-tells_request first Good copied ok asked false false kind e = absurd (none_some kind e)
-tells_request first Good copied ok asked true filled kind e = absurd (none_some kind e)
-tells_request first Unset copied ok asked gone filled kind e = absurd (none_some kind e)
-tells_request first Bad copied ok asked gone filled kind e = absurd (none_some kind e)
+tells_request first Good copied ok asked false false kind e = absurd (none-some kind e)
+tells_request first Good copied ok asked true filled kind e = absurd (none-some kind e)
+tells_request first Unset copied ok asked gone filled kind e = absurd (none-some kind e)
+tells_request first Bad copied ok asked gone filled kind e = absurd (none-some kind e)
 
 pub trial_type : (w : View) (s : DeviceState) (trial : Trial) (i : ℕ) → IsTrialAt w s trial
     → is_member trial.set i ≡ true → trial.confirmed i ≡ false → swap_type_at w i ≡ type.Revert

@@ -1,6 +1,7 @@
 -- A swap goes on, is settled, and ends.
 use Rattle.std.proofs.Common.{◌≡◌, ℕ, ◌<◌, ◌==◌, ◌&&◌, ◌⊎◌, Bool, true, false, List, Option, Some, None, refl, sym}
 use Rattle.std.proofs.Common.{◌∙◌, ap, subst, inl, inr, ⊎_elim}
+use Rattle.std.proofs.lemmas.Option.{none-some}
 use Rattle.swap_scratch.proofs.Staying.{stays}
 use Rattle.flash_model.specs.Chip.{Chip}
 use Rattle.sector_map.specs.declared.layout.SectorMap.{SectorMap}
@@ -71,10 +72,8 @@ pub front_moved : (whole contents : List ℕ) (held : Option (List ℕ)) (bytes 
     → Starts whole contents → IsFront contents held → IsFront whole held
 front_moved whole contents held bytes is starts front = record {
   image = λ given e. let found = front.image given e in (starts_trans whole contents given starts found.0, found.1);
-  none = λ e. absurd (some_none bytes (sym is ∙ e));
-} where
-  some_none : (bytes : List ℕ) → Some bytes ≡ None → ⊥
-  some_none bytes e = cc
+  none = λ e. absurd (none-some bytes (sym (sym is ∙ e)));
+}
 
 -- a swap is done
 pub swap_done : (map : SectorMap) (old new : Chip) (mask : ℕ) → Keeps map (swap_of mask Primary) old new

@@ -3,6 +3,8 @@ use Rattle.std.proofs.Common.{◌≡◌, ◌≢◌, ◌⊎◌, ℕ, ◌+◌, ◌
 use Rattle.std.proofs.Common.{refl, sym, ◌∙◌, ap, subst, arith, ⊎_elim, inl, inr, max, slice_index, set}
 use Rattle.std.proofs.Common.{length-set, get_or-set_same, get_or-set_other}
 use Rattle.std.proofs.lemmas.Bool.{cases_eq}
+use Rattle.std.proofs.Common.{true≢false}
+use Rattle.std.proofs.lemmas.Option.{none-some}
 use Rattle.flash_model.specs.Chip.{Chip}
 use Rattle.sector_map.specs.declared.layout.SectorMap.{SectorMap}
 use Rattle.sector_map.specs.declared.layout.Side.TheVariants.{Primary, Secondary}
@@ -32,15 +34,6 @@ use Rattle.machine.proofs.Confirming.{trial_over}
 use Rattle.machine.proofs.Raising.{entry_counter}
 use Rattle.machine.proofs.Standing.{stands_trial}
 
-none_some : {X : Type 0} (x : X) → None ≡ Some x → ⊥
-none_some x e = cc
-
-some_none : {X : Type 0} (x : X) → Some x ≡ None → ⊥
-some_none x e = cc
-
-true_false : true ≡ false → ⊥
-true_false e = cc
-
 -- ---- what is read of one slot
 
 pub slot_damaged : (held : Option (List ℕ)) → IsReadOf held None → IsDamagedOr held true
@@ -48,14 +41,14 @@ slot_damaged held is = is
 
 entry_held : (held : Option (List ℕ)) (entry : Entry) → IsEntryOf held entry → held ≡ None → ⊥
 entry_held None entry is e = is
-entry_held (Some bytes) entry is e = some_none bytes e
+entry_held (Some bytes) entry is e = none-some bytes (sym e)
 
 pub slot_whole : (held : Option (List ℕ)) (entry : Entry) → IsReadOf held (Some entry) → IsDamagedOr held false
 slot_whole held entry is = entry_held held entry is
 
 pub floor_stays : (held : Option (List ℕ)) (floor : ℕ) → IsReadOf held None → IsFloorOf held floor floor
 floor_stays held floor is = record {
-  raised = λ bytes d e image. absurd (none_some bytes (sym is ∙ e));
+  raised = λ bytes d e image. absurd (none-some bytes (sym is ∙ e));
   damaged = λ e. refl;
 }
 
@@ -161,24 +154,24 @@ confirmed_if map w s trial mask true is was ok e = record {
   each = λ i lt member. sym (was.tried i member).confirmed
       ∙ ok i (subst (λ n. i < n) (sym was.images) lt) (ap (λ m. is_member m i) is ∙ member);
 }
-confirmed_if map w s trial mask false is was ok e = absurd (true_false (sym e))
+confirmed_if map w s trial mask false is was ok e = absurd (true≢false (sym e))
 
 confirmed_not : (map : SectorMap) (w : Chip) (s : DeviceState) (trial : Trial) (mask : ℕ) (b : Bool)
     → mask ≡ trial.set → IsTrialOpen (view map w) s trial → AreSetOk (view map w) mask b → b ≡ false
     → IsConfirmed s trial → ⊥
-confirmed_not map w s trial mask true is was ok e confirmed = true_false e
+confirmed_not map w s trial mask true is was ok e confirmed = true≢false e
 confirmed_not map w s trial mask false is was (i, lt, member, unset) e confirmed =
     let here : is_member trial.set i ≡ true = sym (ap (λ m. is_member m i) is) ∙ member in
-    true_false (sym (confirmed.each i (subst (λ n. i < n) was.images lt) here)
+    true≢false (sym (confirmed.each i (subst (λ n. i < n) was.images lt) here)
     ∙ sym (was.tried i here).confirmed ∙ unset)
 
 damaged_if : (s : DeviceState) (b : Bool) → IsAnyDamaged s b → b ≡ true → HasDamaged s
 damaged_if s true damaged e = damaged
-damaged_if s false damaged e = absurd (true_false (sym e))
+damaged_if s false damaged e = absurd (true≢false (sym e))
 
 damaged_not : (s : DeviceState) (b : Bool) → IsAnyDamaged s b → b ≡ false → (i : ℕ) → i < s.images
     → s.running i ≡ None → ⊥
-damaged_not s true damaged e = absurd (true_false e)
+damaged_not s true damaged e = absurd (true≢false e)
 damaged_not s false damaged e = damaged
 
 module _ (map : SectorMap) (old : Chip) (state : State) (b : Bool) (read : (view map old).log ≡ Some state)
@@ -408,16 +401,16 @@ read_over s trial floors is confirmed raised = inr (trial, is, inr (confirmed, (
 
 as_read_as : (s read r : DeviceState) → IsReadAs s read → read.trial ≡ None → IsReadAs read r → IsReadAs s r
 as_read_as s read r reads none (inl (rest, same)) = subst (λ t. IsReadAs s t) (sym same) reads
-as_read_as s read r reads none (inr (trial, is, also)) = absurd (none_some trial (sym none ∙ is))
+as_read_as s read r reads none (inr (trial, is, also)) = absurd (none-some trial (sym none ∙ is))
 
 boots_as_read : (boots : ℕ) (s read : DeviceState) (reply : Reply) (next : DeviceState) → IsReadAs s read
     → read.trial ≡ None → Boots boots read reply next → Boots boots s reply next
 boots_as_read boots s read (Booted table report permanent) next reads none (r, also, rest, booted) =
     (r, as_read_as s read r reads none also, rest, booted)
 boots_as_read boots s read (Reverted mask) next reads none (trial, goes, is, same) =
-    absurd (none_some trial (sym none ∙ goes.0))
+    absurd (none-some trial (sym none ∙ goes.0))
 boots_as_read boots s read (TrialAgain set left) next reads none (trial, goes, is, less, same) =
-    absurd (none_some trial (sym none ∙ goes.0))
+    absurd (none-some trial (sym none ∙ goes.0))
 boots_as_read boots s read (Refused (no.RunningDamaged i)) next reads none (also, rest, damaged) =
     (as_read_as s read next reads none also, rest, damaged)
 boots_as_read boots s read (Refused no.InvalidSet) next reads none (also, rest, invalid) =

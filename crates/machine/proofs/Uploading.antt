@@ -3,7 +3,8 @@
 use Rattle.std.proofs.Common.{◌≡◌, ℕ, ◌+◌, Bool, true, false, List, [], ◌∷◌, Option, Some, Result, Ok, Err, refl, sym}
 use Rattle.std.proofs.Common.{◌∙◌, ap, subst, arith, ⊎_elim, inl}
 use Rattle.std.specs.Borrow.{Bor}
-use Rattle.events.specs.declared.event.Event.TheVariants as event
+use Rattle.std.proofs.Common.{true≢false}
+use Rattle.common.specs.declared.event.Event.TheVariants as event
 use Rattle.flash_model.specs.Chip.{Chip}
 use Rattle.flash_model.specs.declared.error.FlashError.TheVariants as flash
 use Rattle.sector_map.specs.declared.layout.SectorMap.{SectorMap}
@@ -40,9 +41,6 @@ use Rattle.machine.proofs.Confirming.{steady_kind, trial_kind}
 use Rattle.machine.proofs.Runs.{complete_step}
 use Rattle.machine.proofs.Stepping.{holds_asleep, sessions_kept}
 
-true_false : true ≡ false → ⊥
-true_false e = cc
-
 -- ---- whether a set is on trial, by the record of the log
 
 pub rest_steady : (map : SectorMap) (w : Chip) (s : DeviceState) (state : State) → (view map w).log ≡ Some state
@@ -67,8 +65,8 @@ rest_tries map w s state read kind rest = ⊎_elim
 pub steps_on_trial : (setup : Setup) (w : DeviceView) (state : State) (happened : DeviceEvent) → w.up ≡ true
     → (view setup.map w.flash).log ≡ Some state → state.kind ≡ log.Trial → needs_rest happened ≡ true
     → StepsTo setup w w happened (Refused no.OnTrial)
-steps_on_trial setup w state happened is_up read kind needs m holds =
-    let up = holds.is_up ∙ is_up in
+steps_on_trial setup w state happened is_booted read kind needs m holds =
+    let up = holds.is_booted ∙ is_booted in
     let trying = rest_tries setup.map w.flash m.kept state read kind (holds.rest up) in
     (m, step happened needs (record { up = up; trial = trying }), holds)
   where
@@ -77,9 +75,9 @@ steps_on_trial setup w state happened is_up read kind needs m holds =
     step (event.Piece i bytes) yet trying = (trying, refl)
     step (event.Finish i) yet trying = (trying, refl)
     step (event.Withdraw i) yet trying = (trying, refl)
-    step (event.Confirm i) yet trying = absurd (true_false (sym yet))
-    step event.Boot yet trying = absurd (true_false (sym yet))
-    step event.Reset yet trying = absurd (true_false (sym yet))
+    step (event.Confirm i) yet trying = absurd (true≢false (sym yet))
+    step event.Boot yet trying = absurd (true≢false (sym yet))
+    step event.Reset yet trying = absurd (true≢false (sym yet))
 
 -- ---- a call of uploads
 
@@ -93,8 +91,8 @@ TakesRow map old new told tnew row result = (m : Machine) → IsUpAt (view map o
 up_at : (setup : Setup) (old : Chip) (told : List (Option Upload)) (up : Bool) (m : Machine) (state : State)
     → up ≡ true → (view setup.map old).log ≡ Some state → (state.kind ≡ log.Trial → ⊥)
     → Holds setup.map (record { flash = old; sessions = told; up = up }) m → IsUpAt (view setup.map old) told m
-up_at setup old told up m state is_up read other holds =
-    let here = holds.is_up ∙ is_up in
+up_at setup old told up m state is_booted read other holds =
+    let here = holds.is_booted ∙ is_booted in
     record {
       up = here;
       rest = rest_steady setup.map old m.kept state read other (holds.rest here);
@@ -108,12 +106,12 @@ ready setup old told m at = record { up = at.up; rest = at.rest.trial }
 holds_up : (setup : Setup) (new : Chip) (tnew : List (Option Upload)) (up : Bool) (next : Machine) → up ≡ true
     → IsUpAt (view setup.map new) tnew next
     → Holds setup.map (record { flash = new; sessions = tnew; up = up }) next
-holds_up setup new tnew up next is_up at = record {
+holds_up setup new tnew up next is_booted at = record {
   stands = Rests at.rest;
-  is_up = at.up ∙ sym is_up;
+  is_booted = at.up ∙ sym is_booted;
   rest = λ e. inl at.rest;
   open_ones = at.open_ones;
-  closed = λ e. absurd (true_false (sym at.up ∙ e));
+  closed = λ e. absurd (true≢false (sym at.up ∙ e));
 }
 
 -- what a row leaves is a complete step of uploads
@@ -130,7 +128,7 @@ uploads_complete row m next (Err (upload.NotAnImage fault)) none is_ready at = (
 uploads_complete row m next (Err upload.WrongPrecursor) none is_ready at = (is_ready, refl, at)
 uploads_complete row m next (Err upload.NothingRequested) none is_ready at = (is_ready, refl, at)
 uploads_complete row m next (Err upload.NoMemory) none is_ready at = (is_ready, refl, at)
-uploads_complete row m next (Err (upload.Flash error)) none is_ready at = absurd (true_false none)
+uploads_complete row m next (Err (upload.Flash error)) none is_ready at = absurd (true≢false none)
 
 -- .. and so of manifests
 text_complete : (setup : Setup) (m next : Machine) (bytes : List ℕ) (result : Result Unit UploadError)
@@ -147,9 +145,9 @@ text_complete setup m next bytes (Err (upload.NotAnImage fault)) none at = at
 text_complete setup m next bytes (Err upload.WrongPrecursor) none at = at
 text_complete setup m next bytes (Err upload.NothingRequested) none at = at
 text_complete setup m next bytes (Err upload.NoMemory) none at = at
-text_complete setup m next bytes (Err (upload.Flash error)) none at = absurd (true_false none)
+text_complete setup m next bytes (Err (upload.Flash error)) none at = absurd (true≢false none)
 
-module _ (setup : Setup) (old : Chip) (told : List (Option Upload)) (up : Bool) (state : State) (is_up : up ≡ true)
+module _ (setup : Setup) (old : Chip) (told : List (Option Upload)) (up : Bool) (state : State) (is_booted : up ≡ true)
     (read : (view setup.map old).log ≡ Some state) (rests : state.kind ≡ log.Trial → ⊥) where
   row_done : (new : Chip) (tnew : List (Option Upload)) (row : Machine → Row) (result : Result Unit UploadError)
       → is_flash result ≡ false → TakesRow setup.map old new told tnew row result
@@ -157,11 +155,11 @@ module _ (setup : Setup) (old : Chip) (told : List (Option Upload)) (up : Bool) 
       → (next : Machine) × Uploads (row m) m (upload_reply result) next
       × Holds setup.map (record { flash = new; sessions = tnew; up = up }) next
   row_done new tnew row result none takes m holds =
-      let at = up_at setup old told up m state is_up read rests holds in
+      let at = up_at setup old told up m state is_booted read rests holds in
       let after = takes m at in (
         after.0,
         uploads_complete (row m) m after.0 result none (ready setup old told m at) after.1,
-        holds_up setup new tnew up after.0 is_up after.2,
+        holds_up setup new tnew up after.0 is_booted after.2,
       )
 
   row_cut : (mid new : Chip) (tmid tnew : List (Option Upload)) (row : Machine → Row)
@@ -172,7 +170,7 @@ module _ (setup : Setup) (old : Chip) (told : List (Option Upload)) (up : Bool) 
       → (next : Machine) × IsUploadsCut (row m) m next
       × Holds setup.map (record { flash = new; sessions = tnew; up = false }) next
   row_cut mid new tmid tnew row result laid none is takes powered m holds =
-      let at = up_at setup old told up m state is_up read rests holds in
+      let at = up_at setup old told up m state is_booted read rests holds in
       let after = takes m at in (
         asleep after.0.kept,
         (
@@ -295,14 +293,14 @@ module _ (setup : Setup) (old : Chip) (told : List (Option Upload)) (up : Bool) 
       → StepsTo setup (record { flash = old; sessions = told; up = up })
       (record { flash = old; sessions = told; up = up }) (event.Accept bytes) (Refused (no.Manifest fault))
   steps_bad_manifest bytes fault refused m holds =
-      let at = up_at setup old told up m state is_up read rests holds in
+      let at = up_at setup old told up m state is_booted read rests holds in
       (m, (ready setup old told m at, refused, refl), holds)
 
   pub steps_no_memory : (bytes : Bor (List ℕ))
       → StepsTo setup (record { flash = old; sessions = told; up = up })
       (record { flash = old; sessions = told; up = up }) (event.Accept bytes) (Refused no.NoMemory)
   steps_no_memory bytes m holds =
-      let at = up_at setup old told up m state is_up read rests holds in
+      let at = up_at setup old told up m state is_booted read rests holds in
       (m, (ready setup old told m at, refl), holds)
 
 -- ---- how a device uses them
@@ -320,7 +318,7 @@ upload_refused (upload.NotAnImage fault) none = refl
 upload_refused upload.WrongPrecursor none = refl
 upload_refused upload.NothingRequested none = refl
 upload_refused upload.NoMemory none = refl
-upload_refused (upload.Flash error) none = absurd (true_false none)
+upload_refused (upload.Flash error) none = absurd (true≢false none)
 
 -- a reply to a call that wasn't cut tells of no cut
 pub upload_uncut : (result : Result Unit UploadError) → is_flash result ≡ false → cut_of (upload_reply result) ≡ 0
@@ -335,7 +333,7 @@ upload_uncut (Err (upload.NotAnImage fault)) none = refl
 upload_uncut (Err upload.WrongPrecursor) none = refl
 upload_uncut (Err upload.NothingRequested) none = refl
 upload_uncut (Err upload.NoMemory) none = refl
-upload_uncut (Err (upload.Flash error)) none = absurd (true_false none)
+upload_uncut (Err (upload.Flash error)) none = absurd (true≢false none)
 
 -- the count of cuts after such a call
 pub upload_cuts : (old new : Chip) (result : Result Unit UploadError) (reply : Reply) → reply ≡ upload_reply result

@@ -167,10 +167,10 @@ IsOnTrial s i trial =
 
 -- A complete confirmation.
 abbrev pub Confirms : Machine → ℕ → Reply → Machine → Type 0
-Confirms m i Done next = (m.is_up ≡ true) × ((trial : Trial) × IsOnTrial m.kept i trial
+Confirms m i Done next = (m.is_booted ≡ true) × ((trial : Trial) × IsOnTrial m.kept i trial
     × (next ≡ record m { kept = with_confirmed m.kept trial i }))
-Confirms m i (Refused no.NotBooted) next = (m.is_up ≡ false) × (next ≡ m)
-Confirms m i (Refused no.NotOnTrial) next = (m.is_up ≡ true)
+Confirms m i (Refused no.NotBooted) next = (m.is_booted ≡ false) × (next ≡ m)
+Confirms m i (Refused no.NotOnTrial) next = (m.is_booted ≡ true)
     × ((trial : Trial) → IsOnTrial m.kept i trial → ⊥) × (next ≡ m)
 Confirms m i other next = ⊥
 

@@ -1,7 +1,7 @@
 -- What every boot that answers a report in a run of a device did, in the words of combinations.
 use Rattle.std.specs.Prelude.{◌≡◌, ℕ, ◌+◌, Bool, true, false, List, replicate, take, drop, Option, Some, None}
 use Rattle.std.specs.Prelude.{slice_get, if◌then◌else◌}
-use Rattle.events.specs.declared.event.Event.TheVariants as event
+use Rattle.common.specs.declared.event.Event.TheVariants as event
 use Rattle.sector_map.specs.Part.{is_member}
 use Rattle.certificate.specs.declared.table.Table.{Table}
 use Rattle.certificate.specs.declared.report.Report.{Report}
@@ -86,7 +86,7 @@ pub record IsBootedAt (setup : Setup) (m : Machine) (events : List DeviceEvent)
   pub so_far : IsRun setup m (take place events) (take place replies) before
   pub event : slice_get events place ≡ Some event.Boot
   pub starts : StartsGreatest setup.boots before.kept table report permanent after.kept
-  pub is_up : after.is_up ≡ true
+  pub is_booted : after.is_booted ≡ true
   pub closed : (i : ℕ) → after.session i ≡ None
   pub goes_on : IsRun setup after (drop (place + 1) events) (drop (place + 1) replies) last
 

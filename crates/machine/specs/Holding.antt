@@ -145,7 +145,7 @@ pub record DeviceView : Type 0 where
 -- and while it isn't no upload is open.
 pub record Holds (map : SectorMap) (d : DeviceView) (m : Machine) : Type 0 where
   pub stands : Stands map d.flash m.kept
-  pub is_up : m.is_up ≡ d.up
-  pub rest : m.is_up ≡ true → IsAtRest (view map d.flash) m.kept
+  pub is_booted : m.is_booted ≡ d.up
+  pub rest : m.is_booted ≡ true → IsAtRest (view map d.flash) m.kept
   pub open_ones : HasSessions (view map d.flash) d.sessions m.session
-  pub closed : m.is_up ≡ false → AllClosed d.sessions
+  pub closed : m.is_booted ≡ false → AllClosed d.sessions

@@ -24,12 +24,12 @@ pub record Setup : Type 0 where
 
 -- A device takes uploads: it is up, and nothing is on trial.
 pub record IsReady (m : Machine) : Type 0 where
-  pub up : m.is_up ≡ true
+  pub up : m.is_booted ≡ true
   pub rest : m.kept.trial ≡ None
 
 -- A device is up, and a set is on trial.
 pub record IsTrying (m : Machine) : Type 0 where
-  pub up : m.is_up ≡ true
+  pub up : m.is_booted ≡ true
   pub trial : (trial : Trial) × (m.kept.trial ≡ Some trial)
 
 -- The step of a call of uploads, by its result.
@@ -39,7 +39,7 @@ Row = Result Unit UploadError → Machine → Type 0
 -- A complete step of uploads: the refusals of the device come first, then those of the upload.
 abbrev pub Uploads : Row → Machine → Reply → Machine → Type 0
 Uploads row m Done next = IsReady m × row (Ok tt) next
-Uploads row m (Refused no.NotBooted) next = (m.is_up ≡ false) × (next ≡ m)
+Uploads row m (Refused no.NotBooted) next = (m.is_booted ≡ false) × (next ≡ m)
 Uploads row m (Refused no.OnTrial) next = IsTrying m × (next ≡ m)
 Uploads row m (Refused (no.Upload error)) next =
     IsReady m × (is_flash {T = Unit} (Err error) ≡ false) × row (Err error) next
@@ -64,7 +64,7 @@ abbrev pub TakesText : Setup → Machine → List ℕ → Reply → Machine → 
 TakesText setup m bytes (Refused (no.Manifest fault)) next =
     IsReady m × IsRefusal setup.identity bytes fault × (next ≡ m)
 TakesText setup m bytes (Refused no.NoMemory) next = IsReady m × (next ≡ m)
-TakesText setup m bytes (Refused no.NotBooted) next = (m.is_up ≡ false) × (next ≡ m)
+TakesText setup m bytes (Refused no.NotBooted) next = (m.is_booted ≡ false) × (next ≡ m)
 TakesText setup m bytes (Refused no.OnTrial) next = IsTrying m × (next ≡ m)
 TakesText setup m bytes (Refused (no.Upload error)) next =
     Uploads (TakesManifest setup m bytes) m (Refused (no.Upload error)) next

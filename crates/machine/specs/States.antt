@@ -18,7 +18,7 @@ entry_of description = record {
 
 -- The sessions are closed, and the device isn't up.
 abbrev pub asleep : DeviceState → Machine
-asleep s = record { kept = s; session = no_session; is_up = false }
+asleep s = record { kept = s; session = no_session; is_booted = false }
 
 -- The bytes of an intact image that is requested.
 abbrev pub wanted_bytes : Option Wanted → Option (List ℕ)

@@ -1,8 +1,8 @@
 -- The steps of the machine: complete ones, cut ones, and whole runs.
 use Rattle.std.specs.Prelude.{◌≡◌, ◌⊎◌, ℕ, ◌+◌, true, List, [], ◌∷◌}
 use Rattle.std.specs.Borrow.{Bor}
-use Rattle.events.specs.declared.event.Event.{Event}
-use Rattle.events.specs.declared.event.Event.TheVariants as event
+use Rattle.common.specs.declared.event.Event.{Event}
+use Rattle.common.specs.declared.event.Event.TheVariants as event
 use Rattle.upload.specs.Device.{Machine, Trial, no_session}
 use Rattle.upload.specs.Piece.{Pieces}
 use Rattle.upload.specs.Finish.{FinishRow}
@@ -30,7 +30,7 @@ Completes setup m (event.Finish i) reply next = Uploads (FinishRow m i) m reply 
 Completes setup m (event.Withdraw i) reply next = Uploads (Withdraws m i) m reply next
 Completes setup m (event.Confirm i) reply next = Confirms m i reply next
 Completes setup m event.Boot reply next = Boots setup.boots m.kept reply next.kept
-    × (next ≡ record { kept = next.kept; session = no_session; is_up = is_answer reply })
+    × (next ≡ record { kept = next.kept; session = no_session; is_booted = is_answer reply })
 Completes setup m event.Reset reply next = Resets m reply next
 
 -- A cut step: the sessions end, and the device isn't up.
@@ -39,7 +39,7 @@ IsCutTo setup m (event.Accept bytes) next = IsUploadsCut (TakesManifest setup m 
 IsCutTo setup m (event.Piece i bytes) next = IsUploadsCut (Pieces m i bytes.now) m next
 IsCutTo setup m (event.Finish i) next = IsUploadsCut (FinishRow m i) m next
 IsCutTo setup m (event.Withdraw i) next = IsUploadsCut (Withdraws m i) m next
-IsCutTo setup m (event.Confirm i) next = (m.is_up ≡ true)
+IsCutTo setup m (event.Confirm i) next = (m.is_booted ≡ true)
     × ((trial : Trial) × IsOnTrial m.kept i trial × ((next ≡ asleep m.kept)
     ⊎ (next ≡ asleep (with_confirmed m.kept trial i))))
 IsCutTo setup m event.Boot next =

@@ -1,7 +1,7 @@
 //! Laws of the machine: what is true of every run of it, and of every state.
 
 ghost use Rattle.std.specs.Prelude.{◌≡◌, ◌⊎◌, ◌+◌, ◌++◌, ◌<◌, ℕ, Bool, true, false, List, Some, length, take, drop, slice_get};
-ghost use Rattle.events.specs.declared.event.Event.TheVariants as event;
+ghost use Rattle.common.specs.declared.event.Event.TheVariants as event;
 ghost use Rattle.certificate.specs.declared.table.Table.{Table};
 ghost use Rattle.certificate.specs.declared.report.Report.{Report};
 ghost use Rattle.certificate.specs.Rightness.{taken_in};

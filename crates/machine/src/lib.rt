@@ -1,12 +1,16 @@
-//! The device, over whole images: what happens to it, what it answers, and what its flash holds at
-//! every moment.
+//! The device over whole images: definitions and laws.
 //!
-//! Promises: nothing runs here but the numbers and the names of faults. The definitions (`specs/`)
-//! say what a device does that knows whole images only, and what ties the bytes of a flash to a
-//! state of it; the lemmas (`proofs/`) say what follows for the passages of a boot and for whole
-//! runs. What follows for every run is promised by functions without a body (`laws`): above all
-//! that each boot which answers a report starts the greatest set. `boot_core` states its contracts
-//! by these definitions, and `device_texts` prints the replies. Any crate above may cite them.
+//! - Promises: In every run over whole images, each boot that returns a report starts the greatest
+//!   set.
+//! - Main calls: `each_boot_that_answers_starts_the_greatest_set`, and further laws
+//! - Allocates: no.
+//! - Callers: any crate above cites it.
+//!
+//! Nothing runs here but the numbers and the names of faults. The definitions (`specs/`) say what a
+//! device does that knows whole images only, and what ties the bytes of a flash to a state of it.
+//! The lemmas (`proofs/`) say what follows for the passages of a boot and for whole runs. What
+//! follows for every run is promised by functions without a body (`laws`). `boot_core` states its
+//! contracts by these definitions, and `device_texts` prints the replies.
 #![tactic(auto)]
 
 mod error;
@@ -14,8 +18,8 @@ mod finding;
 mod laws;
 mod reply;
 
+pub use common::event::Event;
 pub use error::Fault;
-pub use events::Event;
 pub use finding::{Finding, Passage, Reading};
 pub use laws::{
     boots_from_an_intact_and_valid_state_answer, boots_that_were_cut_start_the_same_set,

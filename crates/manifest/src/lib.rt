@@ -1,11 +1,11 @@
-//! Intake, first part: manifests, which say what may come to a device (RFC 9019 and RFC 9124, in a
-//! JSON spelling of this project's own).
+//! Manifests, which say what may come to a device (RFC 9019 and RFC 9124, in a JSON form of this
+//! project).
 //!
-//! Promises: a manifest is read exactly where the bytes are JSON that means it to a device of the
-//! given identity, and a refusal is the lowest one that applies to the JSON value, whatever is met
-//! first. The identifiers of vendors and classes are UUIDs of version 5. Allocates to read a JSON
-//! text, and for nothing else. Whoever takes updates may call it, and `json` is there for other
-//! files of the same kind.
+//! - Promises: A manifest for this device is read exactly. Any other text gets the lowest refusal
+//!   that applies. Identifiers of vendors and classes are UUIDs of version 5.
+//! - Main calls: `Manifest::read`, `vendor_id`, `class_id`
+//! - Allocates: to read a JSON text; not for identifiers.
+//! - Callers: whatever takes updates; `json` is there for other files of the same kind.
 #![tactic(auto)]
 
 mod components;

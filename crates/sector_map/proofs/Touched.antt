@@ -1,7 +1,7 @@
 -- Which tests of parts hold what others do. Each says that a part which the wider test leaves is
 -- left by the narrower one too, as keeps_wider takes it.
 use Rattle.std.proofs.Common.{◌≡◌, ℕ, Bool, true, false, ◌==◌, ◌&&◌, sym, ◌∙◌, ap, refl}
-use Rattle.std.proofs.lemmas.Bool.{eqb-true}
+use Rattle.std.proofs.lemmas.Bool.{eqb-true, false≢true}
 use Rattle.sector_map.specs.declared.layout.Side.{Side}
 use Rattle.sector_map.specs.declared.layout.Side.TheVariants.{Secondary}
 use Rattle.sector_map.specs.Part.{Part, Slot, TrailerOf, Scratch, Log, only, same_side, is_member, trailers_of, trailers_on, trailers_in, incoming_of, swap_one, swap_of}
@@ -10,15 +10,12 @@ use Rattle.sector_map.specs.Part.{Part, Slot, TrailerOf, Scratch, Log, only, sam
 abbrev pub LeavesLess : (Part → Bool) → (Part → Bool) → Type 0
 LeavesLess more less = (part : Part) → more part ≡ false → less part ≡ false
 
-false_true : false ≡ true → ⊥
-false_true e = cc
-
 not_left : (b c : Bool) → (b && c) ≡ false → b ≡ true → c ≡ false
 not_left true c e is = e
-not_left false c e is = absurd (false_true is)
+not_left false c e is = absurd (false≢true is)
 
 left_false : (b c : Bool) → b ≡ false → (b && c) ≡ false
-left_false true c e = absurd (false_true (sym e))
+left_false true c e = absurd (false≢true (sym e))
 left_false false c e = refl
 
 -- a test that is a conjunction

@@ -7,5 +7,5 @@ mod Turns
 mod Moves
 mod Placing
 pub mod Table
-mod Said
-pub mod Kept
+mod LastRecord
+pub mod LogFrame

@@ -1,6 +1,6 @@
 -- Where a record is written, and what stays written.
 use Rattle.std.proofs.Common.{◌≡◌, ◌⊎◌, ℕ, ◌+◌, ◌-◌, ◌*◌, ◌<◌, ◌≤◌, true, false, List, Option, Some, None, MatchOption, length, arith, sym, ◌∙◌, ap, subst, inl, inr, ⊎_elim}
-use Rattle.std.proofs.lemmas.Bool.{cases_lt}
+use Rattle.std.proofs.lemmas.Bool.{cases_lt, false≢true}
 use Rattle.flash_model.specs.Chip.{Chip, IsErased, Reads, SameOutside}
 use Rattle.set_log.specs.Layout.{flag}
 use Rattle.flash_model.proofs.Frame.{products_apart, reads_kept}
@@ -49,16 +49,13 @@ none_found e sector place log below above not_erased =
     let is : place ≡ places_in e = omega arith in
     ap (λ p. reads_erased log (sector * e + 64 * (p - 1)) 64) (sym is) ∙ not_erased
 
-pub false_true : false ≡ true → ⊥
-false_true e = cc
-
 -- .. and its first free place is behind the last one that isn't.
 pub first_found : (e sector place : ℕ) (log : Chip) → place < places_in e
     → IsErased log (sector * e + 64 * place) (64 * (places_in e - place))
     → reads_erased log.bytes (sector * e + 64 * (place - 1)) 64 ≡ false → IsFirstFree e log sector place
 first_found e sector place log lt erased not_erased = record {
   free = record { within = lt; erased = erased };
-  first = λ earlier before free. absurd (false_true (sym not_erased ∙ reads_erased_of log _ 64 (record {
+  first = λ earlier before free. absurd (false≢true (sym not_erased ∙ reads_erased_of log _ 64 (record {
     each = λ k low high. free.erased.each k (omega arith) (omega arith);
   })));
 }
@@ -110,7 +107,7 @@ module _ (map : SectorMap) (old mid new : Chip) (same : mid ≡ old) (a p : ℕ)
       (subst (λ t. IsWritten map.sector_size (log_of map new) a t bytes) (place_is s q is first) written)
 
   pub not_full : is_place_free map old ≡ false → ⊥
-  not_full full = false_true (sym full ∙ free_is map.sector_size (log_bytes map old) a active
+  not_full full = false≢true (sym full ∙ free_is map.sector_size (log_bytes map old) a active
       ∙ room_of_free map.sector_size a p (log_of map old) here.free)
 
 -- A record in the next sector, where the active one is full.
@@ -121,7 +118,7 @@ module _ (map : SectorMap) (old mid new : Chip) (same : mid ≡ old) (a : ℕ)
   no_place full s q is first =
       let one = active_one map.sector_size (log_bytes map old) s a is active in
       let room = room_of_free map.sector_size s q (log_of map old) first.free in
-      false_true (sym full ∙ ap (λ chip. has_room map.sector_size (log_bytes map chip) a) same
+      false≢true (sym full ∙ ap (λ chip. has_room map.sector_size (log_bytes map chip) a) same
       ∙ ap (λ t. has_room map.sector_size (log_bytes map old) t) (sym one) ∙ room)
 
   pub next_beside : IsBesideNext map.sector_size a (log_of map mid) (log_of map new)

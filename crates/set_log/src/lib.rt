@@ -1,11 +1,14 @@
-//! Records on flash, second part: the set log, a register that survives cuts.
+//! The set log: the state of the device, in a register that survives power cuts.
 //!
-//! Promises: the state is a function of the bytes of the log's three sectors, and `read_state` is
-//! that function; an append that power cuts leaves the old state or the new one, over any bytes
-//! that it tears; nothing but the log is touched; how many sectors are erased is known exactly; and
-//! each call on a flash without power answers `Off`. Does not allocate. `upload`, `reading_inputs`,
-//! `boot_core`, `answers` and `device_calls` may call it, and `machine` cites its definitions; a
-//! program changes the log through `boot_core` alone.
+//! - Promises: The log's bytes determine its state. An append that a power cut interrupts leaves
+//!   the old state or the new one, over any bytes that it tears. The number of erased sectors is
+//!   known exactly.
+//! - Main calls: `read_state`, `append`, `start`
+//! - Allocates: no.
+//! - Callers: `upload`, `boot_core`, `inputs`, `inspecting`, `c_interface`; `machine` cites its
+//!   definitions.
+//!
+//! A program changes the log through the device alone.
 #![tactic(auto)]
 
 mod active_sector;

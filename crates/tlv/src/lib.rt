@@ -1,10 +1,10 @@
-//! Images, third part: makes an image of the values that it is to have (MCUboot, design document,
-//! "Image format"), and hands on the calls of `image_reading`, so that whoever makes images has one
-//! crate for both.
+//! Makes an image from given values, and passes on the calls of `image_reading`.
 //!
-//! Promises: of the values that an image is to have ([`ImageSpec`]) the intact image is made that has
-//! them, and a refusal is the lowest that applies. Allocates the image. Tools of a host may call it;
-//! what a device needs to know of images is in `image_reading` alone.
+//! - Promises: The image is intact and has exactly the given values; otherwise the lowest refusal
+//!   that applies is returned.
+//! - Main calls: `make_image`
+//! - Allocates: to make an image.
+//! - Callers: tools of a host. What a device needs to know of images is in the crate below alone.
 #![tactic(auto)]
 
 mod make;

@@ -8,5 +8,5 @@ pub mod Marks
 pub mod SizeUnits
 pub mod StatusUnits
 pub mod BlankFields
-pub mod Told
+pub mod FailedCalls
 pub mod FieldWritten

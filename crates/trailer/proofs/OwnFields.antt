@@ -49,86 +49,73 @@ status_kept map old new image at own size side same fits lt is own_le =
     (omega (arith, trailer_size map image side fits lt, fits.trailers image))
     (inl (omega (arith, fits.trailers image)))
 
+-- the fields whose units lie beside those of `width` bytes at the place `own`, told from the end
+record BesideKept (own width : ℕ) (old new : Fields) : Type 0 where
+  pub magic : (16 + width ≤ own) ⊎ (own + 16 ≤ 16) → new.magic ≡ old.magic
+  pub copy_done : (32 + width ≤ own) ⊎ (own + 8 ≤ 32) → new.copy_done ≡ old.copy_done
+  pub image_ok : (24 + width ≤ own) ⊎ (own + 8 ≤ 24) → new.image_ok ≡ old.image_ok
+  pub withdrawn : (56 + width ≤ own) ⊎ (own + 8 ≤ 56) → new.withdrawn ≡ old.withdrawn
+  pub size : (48 + width ≤ own) ⊎ (own + 8 ≤ 48) → new.size ≡ old.size
+  pub is_fresh : new.is_fresh ≡ old.is_fresh
+
 module _ (map : SectorMap) (old new : Chip) (image at : ℕ) (side : Side) (fits : IsMap map) (lt : image < map.images)
   where
+    beside_kept : (own width : ℕ) → SameOutside at width old new → at ≡ place_of map image side own → width ≤ own
+        → own ≤ 56 → BesideKept own width (fields_at map old image side) (fields_at map new image side)
+    unfolding fields_at fields_in
+    beside_kept own width same is small own_le =
+        let kept = λ (from_end n : ℕ) (n_le : n ≤ from_end) (le : from_end ≤ 56)
+        (apart : (from_end + width ≤ own) ⊎ (own + n ≤ from_end)). unit_kept map old new image at own width from_end n side
+        same fits lt is small own_le n_le le apart in
+        record {
+          magic = λ apart. ap magic_in (kept 16 16 (omega arith) (omega arith) apart);
+          copy_done = λ apart. ap is_set (kept 32 8 (omega arith) (omega arith) apart);
+          image_ok = λ apart. ap is_set (kept 24 8 (omega arith) (omega arith) apart);
+          withdrawn = λ apart. ap is_set (kept 56 8 (omega arith) (omega arith) apart);
+          size = λ apart. ap (size_in (slot_sectors map image * map.sector_size))
+              (kept 48 8 (omega arith) (omega arith) apart);
+          is_fresh = ap are_erased (status_kept map old new image at own width side same fits lt is own_le);
+        }
+
     pub own_withdrawn : SameOutside at 8 old new → at ≡ place_of map image side 56
         → fields_at map new image side ≡ record (fields_at map old image side)
         { withdrawn = (fields_at map new image side).withdrawn }
-    unfolding fields_at fields_in
     own_withdrawn same is =
-        let kept = λ (from_end n : ℕ) (n_le : n ≤ from_end) (le : from_end ≤ 56)
-        (apart : (from_end + 8 ≤ 56) ⊎ (56 + n ≤ from_end)). unit_kept map old new image at 56 8 from_end n side same
-        fits lt is (omega arith) (omega arith) n_le le apart in
-        same_fields _ _ (ap magic_in (kept 16 16 (omega arith) (omega arith) (inl (omega arith))))
-        (ap is_set (kept 32 8 (omega arith) (omega arith) (inl (omega arith))))
-        (ap is_set (kept 24 8 (omega arith) (omega arith) (inl (omega arith))))
-        refl
-        (ap (size_in (slot_sectors map image * map.sector_size))
-        (kept 48 8 (omega arith) (omega arith) (inl (omega arith))))
-        (ap are_erased (status_kept map old new image at 56 8 side same fits lt is (omega arith)))
+        let kept = beside_kept 56 8 same is (omega arith) (omega arith) in
+        same_fields _ _ (kept.magic (inl (omega arith))) (kept.copy_done (inl (omega arith)))
+        (kept.image_ok (inl (omega arith))) refl (kept.size (inl (omega arith))) kept.is_fresh
 
     pub own_size : SameOutside at 8 old new → at ≡ place_of map image side 48
         → fields_at map new image side ≡ record (fields_at map old image side)
         { size = (fields_at map new image side).size }
-    unfolding fields_at fields_in
     own_size same is =
-        let kept = λ (from_end n : ℕ) (n_le : n ≤ from_end) (le : from_end ≤ 56)
-        (apart : (from_end + 8 ≤ 48) ⊎ (48 + n ≤ from_end)). unit_kept map old new image at 48 8 from_end n side same
-        fits lt is (omega arith) (omega arith) n_le le apart in
-        same_fields _ _ (ap magic_in (kept 16 16 (omega arith) (omega arith) (inl (omega arith))))
-        (ap is_set (kept 32 8 (omega arith) (omega arith) (inl (omega arith))))
-        (ap is_set (kept 24 8 (omega arith) (omega arith) (inl (omega arith))))
-        (ap is_set (kept 56 8 (omega arith) (omega arith) (inr (omega arith))))
-        refl
-        (ap are_erased (status_kept map old new image at 48 8 side same fits lt is (omega arith)))
+        let kept = beside_kept 48 8 same is (omega arith) (omega arith) in
+        same_fields _ _ (kept.magic (inl (omega arith))) (kept.copy_done (inl (omega arith)))
+        (kept.image_ok (inl (omega arith))) (kept.withdrawn (inr (omega arith))) refl kept.is_fresh
 
     pub own_copy_done : SameOutside at 8 old new → at ≡ place_of map image side 32
         → fields_at map new image side ≡ record (fields_at map old image side)
         { copy_done = (fields_at map new image side).copy_done }
-    unfolding fields_at fields_in
     own_copy_done same is =
-        let kept = λ (from_end n : ℕ) (n_le : n ≤ from_end) (le : from_end ≤ 56)
-        (apart : (from_end + 8 ≤ 32) ⊎ (32 + n ≤ from_end)). unit_kept map old new image at 32 8 from_end n side same
-        fits lt is (omega arith) (omega arith) n_le le apart in
-        same_fields _ _ (ap magic_in (kept 16 16 (omega arith) (omega arith) (inl (omega arith))))
-        refl
-        (ap is_set (kept 24 8 (omega arith) (omega arith) (inl (omega arith))))
-        (ap is_set (kept 56 8 (omega arith) (omega arith) (inr (omega arith))))
-        (ap (size_in (slot_sectors map image * map.sector_size))
-        (kept 48 8 (omega arith) (omega arith) (inr (omega arith))))
-        (ap are_erased (status_kept map old new image at 32 8 side same fits lt is (omega arith)))
+        let kept = beside_kept 32 8 same is (omega arith) (omega arith) in
+        same_fields _ _ (kept.magic (inl (omega arith))) refl (kept.image_ok (inl (omega arith)))
+        (kept.withdrawn (inr (omega arith))) (kept.size (inr (omega arith))) kept.is_fresh
 
     pub own_image_ok : SameOutside at 8 old new → at ≡ place_of map image side 24
         → fields_at map new image side ≡ record (fields_at map old image side)
         { image_ok = (fields_at map new image side).image_ok }
-    unfolding fields_at fields_in
     own_image_ok same is =
-        let kept = λ (from_end n : ℕ) (n_le : n ≤ from_end) (le : from_end ≤ 56)
-        (apart : (from_end + 8 ≤ 24) ⊎ (24 + n ≤ from_end)). unit_kept map old new image at 24 8 from_end n side same
-        fits lt is (omega arith) (omega arith) n_le le apart in
-        same_fields _ _ (ap magic_in (kept 16 16 (omega arith) (omega arith) (inl (omega arith))))
-        (ap is_set (kept 32 8 (omega arith) (omega arith) (inr (omega arith))))
-        refl
-        (ap is_set (kept 56 8 (omega arith) (omega arith) (inr (omega arith))))
-        (ap (size_in (slot_sectors map image * map.sector_size))
-        (kept 48 8 (omega arith) (omega arith) (inr (omega arith))))
-        (ap are_erased (status_kept map old new image at 24 8 side same fits lt is (omega arith)))
+        let kept = beside_kept 24 8 same is (omega arith) (omega arith) in
+        same_fields _ _ (kept.magic (inl (omega arith))) (kept.copy_done (inr (omega arith))) refl
+        (kept.withdrawn (inr (omega arith))) (kept.size (inr (omega arith))) kept.is_fresh
 
     pub own_magic : SameOutside at 16 old new → at ≡ place_of map image side 16
         → fields_at map new image side ≡ record (fields_at map old image side)
         { magic = (fields_at map new image side).magic }
-    unfolding fields_at fields_in
     own_magic same is =
-        let kept = λ (from_end n : ℕ) (n_le : n ≤ from_end) (le : from_end ≤ 56)
-        (apart : (from_end + 16 ≤ 16) ⊎ (16 + n ≤ from_end)). unit_kept map old new image at 16 16 from_end n side
-        same fits lt is (omega arith) (omega arith) n_le le apart in
-        same_fields _ _ refl
-        (ap is_set (kept 32 8 (omega arith) (omega arith) (inr (omega arith))))
-        (ap is_set (kept 24 8 (omega arith) (omega arith) (inr (omega arith))))
-        (ap is_set (kept 56 8 (omega arith) (omega arith) (inr (omega arith))))
-        (ap (size_in (slot_sectors map image * map.sector_size))
-        (kept 48 8 (omega arith) (omega arith) (inr (omega arith))))
-        (ap are_erased (status_kept map old new image at 16 16 side same fits lt is (omega arith)))
+        let kept = beside_kept 16 16 same is (omega arith) (omega arith) in
+        same_fields _ _ refl (kept.copy_done (inr (omega arith))) (kept.image_ok (inr (omega arith)))
+        (kept.withdrawn (inr (omega arith))) (kept.size (inr (omega arith))) kept.is_fresh
 
 -- a trailer that isn't touched keeps its fields
 pub fields_kept : (map : SectorMap) (touched : Part → Bool) (old new : Chip) (image : ℕ) (side : Side)

@@ -1,11 +1,15 @@
-//! Records on flash, first part: the trailer behind each slot, with MCUboot's fields.
+//! The trailer after each slot, with MCUboot's fields.
 //!
-//! Promises: each field is read as its bytes say; after a call each trailer is as asked, and after
-//! a cut a request, a withdrawal and a confirmation stand as before or as asked, and any other
-//! write leaves its own unit (an erase its sector) with any bytes and all else as it was. Each call
-//! on a flash without power answers `Off`. Does not allocate. `swap_scratch`, `upload`, `decision`,
-//! `boot_core`, `sweep`, `answers` and `device_calls` may call it, and `machine` cites its
-//! definitions; a program changes trailers through `boot_core` alone.
+//! - Promises: Each field is read as its bytes say. A power cut leaves a request, a withdrawal or a
+//!   confirmation as it was or as asked. Settling can be repeated.
+//! - Main calls: `read_trailer`, `standing`, `read_size`, `status_count`, `request`, `withdraw`,
+//!   `set_ok`, `settle`
+//! - Allocates: no.
+//! - Callers: `swap_scratch`, `upload`, `decision`, `boot_core`, `sweep`, `inspecting`,
+//!   `c_interface`; `machine` cites its definitions.
+//!
+//! Any other write that a power cut interrupts leaves its own unit, or an erase its sector, with
+//! any bytes, and all else as it was. A program changes trailers through the device alone.
 #![tactic(auto)]
 
 mod blank;

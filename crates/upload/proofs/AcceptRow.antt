@@ -13,7 +13,7 @@ use Rattle.upload.specs.Withdrawal.{IsKeptOrGone}
 use Rattle.upload.specs.Taking.{LeavesAccept}
 use Rattle.upload.specs.Accepted.{latest, OpenedAt, IsOpening, IsOpened, opened, session_after, request_after, accepted, IsAcceptCut}
 use Rattle.upload.specs.declared.sessions.Upload.{Upload}
-use Rattle.upload.proofs.Frames.{erased_stands, unasked}
+use Rattle.upload.proofs.Frames.{erased_stands, session_kept, unasked}
 use Rattle.upload.proofs.Added.{session_eq}
 use Rattle.upload.proofs.OpenOnes.{open_of_sessions, sessions_of_open}
 
@@ -179,27 +179,6 @@ module _ (mid new : View) (named : ℕ → Option Component) (opening : IsOpenin
     left_steady s q was,
   )
 
-session_as : (old new : View) (j : ℕ) (o : Option Upload) (s : Option Session) → new.images ≡ old.images
-    → new.slot j Secondary ≡ old.slot j Secondary → new.trailer j Secondary ≡ old.trailer j Secondary
-    → HasSession old j o s → HasSession new j o s
-session_as old new j None None images slot trailer was = tt
-session_as old new j None (Some s) images slot trailer was = was
-session_as old new j (Some u) None images slot trailer was = was
-session_as old new j (Some u) (Some s) images slot trailer (written, was, is) = (
-  written,
-  record {
-    there = subst (λ n. j < n) (sym images) was.there;
-    units = was.units;
-    slot = subst (λ l. IsWritten l written) (sym slot) was.slot;
-    trailer = trailer ∙ was.trailer;
-    few = was.few;
-    count = was.count;
-    fits = was.fits;
-    room = subst (λ l. u.size ≤ length l) (sym slot) was.room;
-  },
-  is,
-)
-
 module _ (old mid new : View) (cs : List Component) (told tnew : List (Option Upload))
     (keeps : KeepsView (only Log) old mid)
     (fits : (i : ℕ) (c : Component) → latest cs i ≡ Some c → (i < mid.images)
@@ -209,7 +188,7 @@ module _ (old mid new : View) (cs : List Component) (told tnew : List (Option Up
       → OpenedAt (upload_at tnew i) (upload_at told i) o → HasSession old i (upload_at told i) s
       → HasSession new i (upload_at tnew i) (session_after o s)
   session_at i None s is now was = subst (λ u. HasSession new i u s) (sym now)
-      (session_as old new i (upload_at told i) s (all.opening.images ∙ keeps.images)
+      (session_kept old new i (upload_at told i) s (all.opening.images ∙ keeps.images)
       (all.opening.slots i is ∙ keeps.slots i Secondary refl)
       (all.opening.trailers i is ∙ keeps.trailers i Secondary refl) was)
   session_at i (Some c) s is (u, now, fresh) was =

@@ -1,6 +1,7 @@
 -- How a call ends that makes others.
 use Rattle.std.proofs.Common.{◌≡◌, ◌+◌, ◌↔◌, ℕ, arith, Bool, IsTrue, true, false, refl, Result, Ok, Err, sym, ◌∙◌, ap}
 use Rattle.std.specs.Prelude.{IsErrAnd, IsErrOf}
+use Rattle.std.proofs.Common.{true≢false}
 use Rattle.flash_model.specs.Chip.{Chip, Ends, IsUncut}
 use Rattle.flash_model.proofs.Ending.{ends_well as ended, uncut_trans}
 use Rattle.flash_model.specs.declared.error.FlashError.{FlashError}
@@ -16,15 +17,12 @@ same_error a b e = ap (λ x. Err x) (one a b e) where
   one : {U : Type 0} (a b : FlashError) → IsErrOf {T = U} (Err (no.Flash a)) (no.Flash b) → a ≡ b
   one a b e = cc
 
-pub true_false : true ≡ false → ⊥
-true_false e = cc
-
 -- a call that the flash stopped
 pub ends_flash : {T U : Type 0} (error : FlashError) (old new : Chip) → Ends {T = T} (Err error) old new
     → EndsUpload {T = U} (Err (no.Flash error)) old new
 ends_flash error old new ends = record {
   asleep = ends.asleep;
-  uncut = λ e. absurd (true_false e);
+  uncut = λ e. absurd (true≢false e);
   cut = λ is. ends.cut (same_error error Cut is);
   off = λ is. ends.off (same_error error Off is);
 }
@@ -56,8 +54,8 @@ pub ends_unstopped : {T : Type 0} (result : Result T UploadError) (old new : Chi
 ends_unstopped result old new well asleep uncut = record {
   asleep = asleep;
   uncut = λ e. uncut;
-  cut = λ is. absurd (true_false (sym (ap is_flash is) ∙ well));
-  off = λ is. absurd (true_false (sym (ap is_flash is) ∙ well));
+  cut = λ is. absurd (true≢false (sym (ap is_flash is) ∙ well));
+  off = λ is. absurd (true≢false (sym (ap is_flash is) ∙ well));
 }
 
 -- a call that only read
@@ -116,9 +114,3 @@ not_too_much error e = cc
 
 pub too_much_none : {T : Type 0} → IsErrOf {T = T} (Err no.TooMuch) no.NoSession → ⊥
 too_much_none e = cc
-
-pub state_none : {T : Type 0} (value : T) (error : FlashError) → IsErrOf (Ok value) error → ⊥
-state_none value error e = cc
-
-pub done_none : {T : Type 0} (value : T) (error : UploadError) → IsErrOf (Ok value) error → ⊥
-done_none value error e = cc

@@ -1,6 +1,7 @@
 -- The row of finishing.
 use Rattle.std.proofs.Common.{◌≡◌, ℕ, ◌<◌, ◌==◌, Bool, true, false, List, replicate, Option, Some, None, Result, Ok, Err, refl, sym, ◌∙◌, ap, subst, ⊎_elim, inl, inr, if◌then◌else◌}
 use Rattle.std.proofs.lemmas.Bool.{eq-eqb}
+use Rattle.std.proofs.lemmas.Option.{none-some}
 use Rattle.flash_model.specs.declared.error.FlashError.TheVariants as flash
 use Rattle.sector_map.specs.declared.layout.Side.TheVariants.{Secondary}
 use Rattle.sector_map.specs.Part.{incoming_of}
@@ -35,9 +36,6 @@ some_wanted a b e = cc
 some_bytes : (a b : List ℕ) → Some a ≡ Some b → a ≡ b
 some_bytes a b e = cc
 
-some_none : (a : List ℕ) → Some a ≡ None → ⊥
-some_none a e = cc
-
 -- what stands after a finished upload
 pub asks : (w : View) (i : ℕ) (s : Session) → IsFinishedAt w i s
     → IsRequested (w.trailer i Secondary) (w.slot i Secondary) (Some (asked s))
@@ -52,7 +50,7 @@ asks w i s fin =
           (some_wanted (asked s) wanted is) (record {
             image = λ bytes e. subst (λ l. Starts (w.slot i Secondary) l
                 × IsImage l) (some_bytes s.received bytes e) (starts, fin.good.image);
-            none = λ e. absurd (some_none s.received e);
+            none = λ e. absurd (none-some s.received (sym e));
           });
     }
 

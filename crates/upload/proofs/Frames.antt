@@ -2,6 +2,7 @@
 use Rattle.std.proofs.Common.{◌≡◌, ◌≢◌, ℕ, ◌<◌, ◌≤◌, ◌==◌, ◌&&◌, Bool, true, false, List, length, Option, Some, None, refl, sym, ◌∙◌, ap, subst, if◌then◌else◌}
 use Rattle.std.proofs.Math.Bool.{and-false}
 use Rattle.std.proofs.lemmas.Bool.{eqb-true, ne_eqb}
+use Rattle.std.proofs.lemmas.Option.{none-some}
 use Rattle.sector_map.specs.declared.layout.Side.TheVariants.{Primary, Secondary}
 use Rattle.sector_map.specs.Part.{Slot, only, incoming_of}
 use Rattle.trailer.specs.declared.kinds.Kind.{Kind}
@@ -43,17 +44,35 @@ pub not_asked : (t : Fields) (l : List ℕ) (wanted : Option Wanted) → told_by
     → IsRequested t l wanted → wanted ≡ None
 not_asked t l None none was = refl
 not_asked t l (Some w) none was = let e : None ≡ Some w.kind = sym none ∙ was.kind in absurd
-    (none_some w.kind e) where
-      none_some : (k : Kind) → None ≡ Some k → ⊥
-      none_some k e = cc
+    (none-some w.kind e)
 
 pub unasked : (t : Fields) (l : List ℕ) → told_by t l ≡ None → IsRequested t l None
-unasked t l none = record { kind = none; front = λ w e. absurd (none_some w e) } where
-  none_some : (w : Wanted) → None ≡ Some w → ⊥
-  none_some w e = cc
+unasked t l none = record { kind = none; front = λ w e. absurd (none-some w e) }
 
 pub erased_stands : (t : Fields) (l : List ℕ) → t ≡ erased_fields → told_by t l ≡ None
 erased_stands t l e = ap (λ t. told_by t l) e
+
+-- an open upload depends on the secondary slot and its trailer
+pub session_kept : (old new : View) (i : ℕ) (o : Option Upload) (s : Option Session) → new.images ≡ old.images
+    → new.slot i Secondary ≡ old.slot i Secondary → new.trailer i Secondary ≡ old.trailer i Secondary
+    → HasSession old i o s → HasSession new i o s
+session_kept old new i None None images slot trailer was = tt
+session_kept old new i None (Some s) images slot trailer was = was
+session_kept old new i (Some u) None images slot trailer was = was
+session_kept old new i (Some u) (Some s) images slot trailer (written, was, is) = (
+  written,
+  record {
+    there = subst (λ n. i < n) (sym images) was.there;
+    units = was.units;
+    slot = subst (λ l. IsWritten l written) (sym slot) was.slot;
+    trailer = trailer ∙ was.trailer;
+    few = was.few;
+    count = was.count;
+    fits = was.fits;
+    room = subst (λ l. u.size ≤ length l) (sym slot) was.room;
+  },
+  is,
+)
 
 -- at rest with other requests
 module _ (i : ℕ) (old new : View) (keeps : IsOthersKept i old new) where
@@ -104,23 +123,7 @@ module _ (i : ℕ) (old new : View) (keeps : IsOthersKept i old new) where
   pub session_same : (j : ℕ) (o : Option Upload) (s : Option Session)
       → new.slot j Secondary ≡ old.slot j Secondary → new.trailer j Secondary ≡ old.trailer j Secondary
       → HasSession old j o s → HasSession new j o s
-  session_same j None None slot trailer was = tt
-  session_same j None (Some s) slot trailer was = was
-  session_same j (Some u) None slot trailer was = was
-  session_same j (Some u) (Some s) slot trailer (written, was, is) = (
-    written,
-    record {
-      there = subst (λ n. j < n) (sym keeps.images) was.there;
-      units = was.units;
-      slot = subst (λ l. IsWritten l written) (sym slot) was.slot;
-      trailer = trailer ∙ was.trailer;
-      few = was.few;
-      count = was.count;
-      fits = was.fits;
-      room = subst (λ l. u.size ≤ length l) (sym slot) was.room;
-    },
-    is,
-  )
+  session_same j o s slot trailer was = session_kept old new j o s keeps.images slot trailer was
 
   with_session_at : (told tnew : List (Option Upload)) (o : Option Upload) (s : Option Session) (session : ℕ
       → Option Session) (j : ℕ) (b : Bool) → (j == i) ≡ b

@@ -1,13 +1,11 @@
 -- Open uploads as the sessions of a device, and back.
 use Rattle.std.proofs.Common.{◌≡◌, ℕ, List, Option, Some, None, refl, sym, ◌∙◌, subst}
+use Rattle.std.proofs.lemmas.Option.{none-some}
 use Rattle.upload.specs.View.{View}
 use Rattle.upload.specs.Device.{Session}
 use Rattle.upload.specs.Sessions.{upload_at, AllClosed, AllOpenAt, IsOpenAt, IsWith, HasSession, HasSessions, session_of}
 use Rattle.upload.specs.declared.sessions.Upload.{Upload}
 use Rattle.upload.proofs.Frames.{IsOthersKept, sessions_to}
-
-pub none_some : (u : Upload) → None ≡ Some u → ⊥
-none_some u e = cc
 
 one_upload : (a b : Upload) → Some a ≡ Some b → a ≡ b
 one_upload a b e = cc
@@ -33,7 +31,7 @@ sessions_of_open w sessions opens = (
 
 open_of : (w : View) (i : ℕ) (o : Option Upload) (s : Option Session) (u : Upload) → HasSession w i o s → o ≡ Some u
     → IsOpenAt w i u
-open_of w i None s u has is = absurd (none_some u is)
+open_of w i None s u has is = absurd (none-some u is)
 open_of w i (Some v) None u has is = absurd has
 open_of w i (Some v) (Some s) u has is =
     subst (λ (x : Upload). IsOpenAt w i x) (one_upload v u is) (has.0, has.1)
@@ -45,7 +43,7 @@ open_of_sessions w sessions session has i u is = open_of w i (upload_at sessions
 
 -- no upload stands where none is open
 pub open_none : (w : View) (sessions : List (Option Upload)) → AllClosed sessions → AllOpenAt w sessions
-open_none w sessions none i u is = absurd (none_some u (sym (none i) ∙ is))
+open_none w sessions none i u is = absurd (none-some u (sym (none i) ∙ is))
 
 -- one image has another upload or none, and all others are as they were
 pub open_to : (i : ℕ) (old new : View) (told tnew : List (Option Upload)) (o : Option Upload) → IsOthersKept i old new
@@ -60,4 +58,4 @@ pub open_more : (i : ℕ) (w : View) (v : Upload) → IsOpenAt w i v → (u : Up
 open_more i w v at u is = subst (λ (x : Upload). IsOpenAt w i x) (one_upload v u is) at
 
 pub open_nothing : (i : ℕ) (w : View) (u : Upload) → None ≡ Some u → IsOpenAt w i u
-open_nothing i w u is = absurd (none_some u is)
+open_nothing i w u is = absurd (none-some u is)

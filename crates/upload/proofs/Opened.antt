@@ -1,7 +1,8 @@
 -- Opening the sessions of one component after another.
 use Rattle.std.proofs.Common.{◌≡◌, ◌⊎◌, ℕ, zero, suc, ◌+◌, ◌<◌, ◌==◌, ◌&&◌, Bool, true, false, List, [], ◌∷◌, length, take, get_or, Option, Some, None, refl, sym, ◌∙◌, ap, subst, arith, add-one, ⊎_elim, inl, inr, if◌then◌else◌}
 use Rattle.std.specs.Prelude.{All}
-use Rattle.std.proofs.lemmas.Bool.{eq-eqb, eqb-true}
+use Rattle.std.proofs.lemmas.Bool.{eq-eqb, eqb-true, false≢true}
+use Rattle.std.proofs.lemmas.Option.{none-some}
 use Rattle.flash_model.specs.Chip.{Chip}
 use Rattle.sector_map.specs.declared.layout.SectorMap.{SectorMap}
 use Rattle.sector_map.specs.declared.layout.Side.TheVariants.{Secondary}
@@ -53,16 +54,10 @@ opening_none w named = record { images = refl; log = refl; primary = λ j. refl;
 eqb_sym : (i j : ℕ) (b : Bool) → (j == i) ≡ b → (i == j) ≡ b
 eqb_sym i j true e = eq-eqb i j (sym (eqb-true j i e))
 eqb_sym i j false e = ⊎_elim (λ (yes : (i == j) ≡ true). absurd
-    (false_true (sym e ∙ eq-eqb j i (sym (eqb-true i j yes))))) (λ no. no) (either_bool (i == j)) where
-      false_true : false ≡ true → ⊥
-      false_true e = cc
-
+    (false≢true (sym e ∙ eq-eqb j i (sym (eqb-true i j yes))))) (λ no. no) (either_bool (i == j)) where
       either_bool : (b : Bool) → (b ≡ true) ⊎ (b ≡ false)
       either_bool true = inl refl
       either_bool false = inr refl
-
-some_none : (c : Component) → Some c ≡ None → ⊥
-some_none c e = cc
 
 -- one image is opened, or partly so
 module _ (old mid new : View) (named after : ℕ → Option Component) (x : Component) (next : (j : ℕ)
@@ -75,7 +70,7 @@ module _ (old mid new : View) (named after : ℕ → Option Component) (x : Comp
   other j none = by_case (x.image == j) refl (sym (next j) ∙ none) where
     by_case : (b : Bool) → (x.image == j) ≡ b → (if b then Some x else named j) ≡ None
         → ((j == x.image) ≡ false) × (named j ≡ None)
-    by_case true same e = absurd (some_none x e)
+    by_case true same e = absurd (none-some x (sym e))
     by_case false same e = (eqb_sym j x.image false same, e)
 
   each_long : (j : ℕ) (b : Bool) → (j == x.image) ≡ b → length (new.slot j Secondary) ≡ length (mid.slot j Secondary)
@@ -134,7 +129,7 @@ module _ (old mid new : View) (named after : ℕ → Option Component) (x : Comp
 
 or_none : (o f : Option Component) → or_else o f ≡ None → (o ≡ None) × (f ≡ None)
 or_none None f e = (refl, e)
-or_none (Some c) f e = absurd (some_none c e)
+or_none (Some c) f e = absurd (none-some c (sym e))
 
 -- who isn't named by all isn't named by the first
 pub latest_less : (cs : List Component) (k j : ℕ) → latest cs j ≡ None → latest (take k cs) j ≡ None
@@ -157,15 +152,12 @@ opening_wider old new named more wider was = record {
   either = was.either;
 }
 
-none_some : (c : Component) → None ≡ Some c → ⊥
-none_some c e = cc
-
 pub opened_none : (w : View) (told : List (Option Upload)) (cs : List Component)
     → IsOpened w w told told (latest (take 0 cs))
 opened_none w told cs = record {
   opening = opening_none w (latest (take 0 cs));
   empty = λ j c e. absurd
-      (none_some c (sym (latest_zero cs j) ∙ e));
+      (none-some c (sym (latest_zero cs j) ∙ e));
   table = λ j. subst
       (λ o. OpenedAt (upload_at told j) (upload_at told j) o) (sym (latest_zero cs j)) refl;
 } where
@@ -187,7 +179,7 @@ latest_at cs i d lt j = ap (λ n. latest (take n cs) j) (add-one i) ∙ latest_m
 pub named_has : (P : Component → Type 0) (cs : List Component) (i : ℕ) (c : Component) → All P cs
     → latest cs i ≡ Some c
     → P c × (c.image ≡ i)
-named_has P [] i c all is = absurd (none_some c is)
+named_has P [] i c all is = absurd (none-some c is)
 named_has P (d ∷ cs) i c all is =
     by_rest (latest cs i) refl is (λ also. named_has P cs i c (λ k y lt. all (suc k) y (omega arith)) also) where
       one : (a b : Component) → Some a ≡ Some b → a ≡ b
@@ -196,7 +188,7 @@ named_has P (d ∷ cs) i c all is =
       here : (b : Bool) → (d.image == i) ≡ b → (if b then Some d else None) ≡ Some c → P c × (c.image ≡ i)
       here true same e = subst (λ (x : Component). P x × (x.image ≡ i)) (one d c e)
           (all 0 d (omega arith), eqb-true d.image i same)
-      here false same e = absurd (none_some c e)
+      here false same e = absurd (none-some c e)
 
       by_rest : (o : Option Component) → latest cs i ≡ o → or_else o (if d.image == i then Some d else None) ≡ Some c
           → (latest cs i ≡ Some c → P c × (c.image ≡ i)) → P c × (c.image ≡ i)
@@ -205,20 +197,17 @@ named_has P (d ∷ cs) i c all is =
 
 -- ---- the parts that are touched
 
-false_true : false ≡ true → ⊥
-false_true e = cc
-
 -- a test that is a conjunction, of less
 less_false : (a b c : Bool) → (a ≡ true → b ≡ true) → (b && c) ≡ false → (a && c) ≡ false
 less_false true true c le e = e
-less_false true false c le e = absurd (false_true (le refl))
+less_false true false c le e = absurd (false≢true (le refl))
 less_false false b c le e = refl
 
 some_before : (cs : List Component) (k j : ℕ) → is_named (take k cs) j ≡ true → is_named cs j ≡ true
 some_before cs k j before = by_case (latest cs j) refl where
   by_case : (o : Option Component) → latest cs j ≡ o → is_some o ≡ true
   by_case (Some c) e = refl
-  by_case None e = absurd (false_true (sym (ap is_some (latest_less cs k j e)) ∙ before))
+  by_case None e = absurd (false≢true (sym (ap is_some (latest_less cs k j e)) ∙ before))
 
 -- the first components touch no more than all
 pub first_parts : (cs : List Component) (k : ℕ) (part : Part) → named_parts cs part ≡ false
@@ -269,7 +258,7 @@ pub parts_and_log : (cs : List Component) (part : Part) → accepted_parts cs pa
 parts_and_log cs (Slot i side) e = e
 parts_and_log cs (TrailerOf i side) e = e
 parts_and_log cs Scratch e = refl
-parts_and_log cs Log e = absurd (false_true (sym e))
+parts_and_log cs Log e = absurd (false≢true (sym e))
 
 pub log_of_accepted : (cs : List Component) (part : Part) → accepted_parts cs part ≡ false → only Log part ≡ false
 log_of_accepted cs (Slot i side) e = refl

@@ -15,8 +15,10 @@ use Rattle.upload.specs.Sessions.{IsOpenAt, IsUploadAt, session_of}
 use Rattle.upload.specs.Finish.{EndsFinish, Judges}
 use Rattle.upload.specs.Finishing.{RefusesFinish, WritesLastUnit}
 use Rattle.upload.specs.Slots.{AppendsLast}
-use Rattle.upload.proofs.Ends.{done_none, not_no_session, not_size, true_false}
+use Rattle.upload.proofs.Ends.{not_no_session, not_size}
 use Rattle.std.proofs.lemmas.Option.{same_Some}
+use Rattle.std.proofs.Common.{true≢false}
+use Rattle.flash_model.proofs.Ending.{no_error}
 
 module _ (map : SectorMap) (image : ℕ) (old new : Chip) where
   -- the flash stopped the call
@@ -25,16 +27,16 @@ module _ (map : SectorMap) (image : ℕ) (old new : Chip) where
   stopped_finish upload error = record {
     no_session = λ is. absurd (not_no_session error is);
     size = λ is. absurd (not_size error is);
-    slot = λ plain. absurd (true_false plain);
-    unit = λ plain. absurd (true_false plain);
-    erases = λ plain. absurd (true_false plain);
+    slot = λ plain. absurd (true≢false plain);
+    unit = λ plain. absurd (true≢false plain);
+    erases = λ plain. absurd (true≢false plain);
   }
 
   -- the call ended
   pub done_finish : (upload : Option Upload) → RefusesFinish map image upload old new (Ok tt)
   done_finish upload = record {
-    no_session = λ is. absurd (done_none tt no.NoSession is);
-    size = λ is. absurd (done_none tt no.SizeWrong is);
+    no_session = λ is. absurd (no_error tt no.NoSession is);
+    size = λ is. absurd (no_error tt no.SizeWrong is);
     slot = tt;
     unit = tt;
     erases = tt;

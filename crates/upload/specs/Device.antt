@@ -38,7 +38,7 @@ pub record DeviceState : Type 0 where
 pub record Machine : Type 0 where
   pub kept : DeviceState
   pub session : ℕ → Option Session
-  pub is_up : Bool
+  pub is_booted : Bool
 
 -- No session is open.
 abbrev pub no_session : ℕ → Option Session

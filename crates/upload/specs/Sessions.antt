@@ -70,6 +70,6 @@ pub record HasSessions (w : View) (sessions : List (Option Upload)) (session : �
 
 -- A device that is up, at rest without a trial, with these sessions.
 pub record IsUpAt (w : View) (sessions : List (Option Upload)) (m : Machine) : Type 0 where
-  pub up : m.is_up ≡ true
+  pub up : m.is_booted ≡ true
   pub rest : IsSteadyAt w m.kept
   pub open_ones : HasSessions w sessions m.session

@@ -1,13 +1,15 @@
-//! Intake, second part: uploads. A manifest opens a session for each image that it names, pieces
-//! fill the secondary slot, and a finished upload requests its image.
+//! Uploads: sessions, pieces, and requests for whole images.
 //!
-//! Promises: a request stands only for a whole image that has the digest and the length of its
-//! manifest; each call is a step of a machine that knows whole images only (`specs/`), and where
-//! power fails in the midst of it, a cut step; sessions of different images don't disturb one
-//! another. Does not allocate. The device above, `boot_core`, alone makes the calls that write,
-//! since one that isn't up takes no upload, and `device_calls` keeps the table between calls and
-//! asks whether it stands, while `machine`, `device_texts`, `decision`, `sweep`,
-//! `explaining_commands`, `core_cli` and `answers` use the errors or the definitions alone.
+//! - Promises: Each call is a step over whole images, complete or cut. It requests only a whole
+//!   image that has the digest and the length of its manifest.
+//! - Main calls: `Uploads::accept`, `piece`, `finish`, `withdraw`
+//! - Allocates: no.
+//! - Callers: `boot_core` alone makes the calls that write, and `c_interface` checks saved uploads;
+//!   `machine`, `decision`, `device_texts`, `device_commands`, `sweep`, `inspecting` and
+//!   `explaining` use errors and definitions alone.
+//!
+//! A manifest opens a session for each image that it names, pieces fill the secondary slot, and a
+//! finished upload requests its image. Sessions of different images don't disturb one another.
 #![tactic(auto)]
 
 mod accepting;

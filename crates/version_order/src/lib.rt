@@ -1,9 +1,10 @@
-//! Values, the lowest layer: versions of images, their order and their text, dependencies on them,
-//! and groups of dependencies of which one is enough.
+//! Versions of images, their order and their text, dependencies, and groups of alternatives.
 //!
-//! Promises: two versions are ordered by major, minor, revision and build number, in that order; a
-//! text is read exactly where it spells a version, and what is printed is read back. Does not
-//! allocate. Any crate may call it.
+//! - Promises: Versions have a total order, by major, minor, revision and build number. They are
+//!   read exactly, and a printed version is read back.
+//! - Main calls: `Ord` of `Version`, `Version::parse`, `version_texts_are_read_back`
+//! - Allocates: no.
+//! - Callers: any crate.
 #![tactic(auto)]
 
 mod dependency;

@@ -1,4 +1,4 @@
-use Rattle.std.proofs.Common.{◌≡◌, ◌∙◌, ◌+◌, None, true, false, refl, subst, sym}
+use Rattle.std.proofs.Common.{◌≡◌, ◌∙◌, ◌+◌, None, true, refl, subst, sym, true≢false}
 use Rattle.std.proofs.lemmas.Result.{IfOk-weaker}
 use Rattle.set_log.specs.Log.{state_of}
 use Rattle.machine.specs.Holding.{Stands}
@@ -7,9 +7,6 @@ use Rattle.boot_core.proofs.Wears.{worn_read}
 use Rattle.boot_core.proofs.Stops.{no_log_stopped, read_idle, read_over, read_stopped, stood_none}
 use Rattle.boot_core.proofs.Passed.{here_ends}
 use Rattle.boot_core.proofs.boots.boot.Goals as goal
-
-true_false : true ≡ false → ⊥
-true_false e = cc
 
 pub returns-in-Ok : goal.returns-in-Ok
 returns-in-Ok g c = record {
@@ -36,7 +33,7 @@ returns-in-Ok g c = record {
       c.in-Ok.ensures.answers.0 c.boot_from.ensures.idle;
   over = read_over c.args.map.now _ _ _ _ c.boot_from.result c.read_state.ensures.same
       c.in-Ok.ensures.answers.0 c.boot_from.ensures.over;
-  off = λ off. absurd (true_false (sym c.in-Ok.ensures.answers.1 ∙ off));
+  off = λ off. absurd (true≢false (sym c.in-Ok.ensures.answers.1 ∙ off));
   told = c.boot_from.ensures.boot.told;
   ends = rw c.read_state.ensures.same at c.boot_from.ensures.boot.ends;
 }
@@ -58,7 +55,7 @@ returns-in-Err-NoLog g c =
           no_log_stopped c.args.map.now state _ _ finding permanent is;
       idle = λ state stood. absurd (stood_none c.args.map.now _ state stood none);
       over = λ state stood. absurd (stood_none c.args.map.now _ state stood none);
-      off = λ off. absurd (true_false (sym (rw c.in-Err-NoLog.field-0-is at c.in-Err-NoLog.ensures.answers).1 ∙ off));
+      off = λ off. absurd (true≢false (sym (rw c.in-Err-NoLog.field-0-is at c.in-Err-NoLog.ensures.answers).1 ∙ off));
       told = tt;
       ends = rw c.read_state.ensures.same here_ends;
     }

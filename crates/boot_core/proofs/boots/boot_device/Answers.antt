@@ -1,5 +1,5 @@
 use Rattle.std.proofs.Common.{refl, ◌≡◌, ◌+◌, Err, ap, inl, inr, sym, subst, ◌∙◌}
-use Rattle.events.specs.declared.event.Event.TheVariants as event
+use Rattle.common.specs.declared.event.Event.TheVariants as event
 use Rattle.upload.specs.View.{view}
 use Rattle.upload.proofs.OpenOnes.{open_none}
 use Rattle.upload.proofs.Ends.{err_passed}
@@ -11,7 +11,7 @@ use Rattle.boot_core.specs.Answers.{IsBootReply}
 use Rattle.boot_core.specs.Device.{made, seen}
 use Rattle.boot_core.proofs.Stopping.{boot_stopped, ended_ends, not_empty, not_uncut, stopped_ends, stopped_worn, unprovisioned}
 use Rattle.boot_core.specs.Wear.{DoesNothing, IsWorn}
-use Rattle.boot_core.proofs.Passed.{ok_no_err}
+use Rattle.flash_model.proofs.Ending.{no_error}
 use Rattle.boot_core.proofs.Stops.{flash_idle, flash_off, flash_over, flash_stopped, flash_stopped_it, flash_unanswered}
 use Rattle.boot_core.proofs.boots.boot_device.Goals as goal
 
@@ -23,8 +23,8 @@ returns g c = record {
   closed = c.new.ensures;
   steps = λ identity on. subst
       (λ reply. StepsTo (made c.args.map.now identity (c.args.left + 1))
-      (seen (g.F.Flash.chip c.args.flash.now) c.args.uploads.now.sessions c.args.is_up.now)
-      (seen (g.F.Flash.chip c.boot.new.flash) c.new.result.sessions c.conclude.new.is_up) event.Boot reply)
+      (seen (g.F.Flash.chip c.args.flash.now) c.args.uploads.now.sessions c.args.is_booted.now)
+      (seen (g.F.Flash.chip c.boot.new.flash) c.new.result.sessions c.conclude.new.is_booted) event.Boot reply)
       (sym c.conclude.ensures.is)
       (steps_boot (made c.args.map.now identity (c.args.left + 1)) _ _ _ _ _ _ _ c.conclude.ensures.up c.new.ensures
       c.in_ok-reply.ensures.ok);
@@ -48,7 +48,7 @@ returns g c = record {
       (subst (λ reply. DoesNothing reply) c.conclude.ensures.is takes);
   over = λ on state stood kind nothing. c.in_ok-reply.ensures.over state stood kind
       (subst (λ reply. DoesNothing reply) c.conclude.ensures.is nothing);
-  off = λ off. absurd (ok_no_err _ _ (c.in_ok-reply.ensures.off off));
+  off = λ off. absurd (no_error _ _ (c.in_ok-reply.ensures.off off));
   ends = ended_ends _ _ _ _ _ _ _ _ c.conclude.ensures.is c.in_ok-reply.ensures.told c.in_ok-reply.ensures.ends;
 }
 

@@ -1,11 +1,8 @@
-use Rattle.std.proofs.Common.{◌≡◌, ◌∙◌, true, false, sym}
+use Rattle.std.proofs.Common.{◌∙◌, true, sym, true≢false}
 use Rattle.machine.proofs.Confirming.{confirm_cut, confirm_ends}
 use Rattle.machine.proofs.Stepping.{if_ok_both}
 use Rattle.boot_core.proofs.Trials.{logged_trial}
 use Rattle.boot_core.proofs.confirming.confirm.Goals as goal
-
-true_false : true ≡ false → ⊥
-true_false e = cc
 
 pub returns-then-on_trial : goal.returns-then-on_trial
 returns-then-on_trial g c = record {
@@ -21,7 +18,7 @@ returns-then-on_trial g c = record {
   answers = logged_trial c.args.map.now c.args.image _ c.in-Ok.state c.in-Ok.ensures.answers.0
       (c.is_trial-on_trial.ensures.yes c.if-on_trial.true) _ _ c.confirm_image.result c.read_state.ensures.same
       c.confirm_image.ensures.answers;
-  off = λ off. absurd (true_false (sym c.in-Ok.ensures.answers.1 ∙ off));
+  off = λ off. absurd (true≢false (sym c.in-Ok.ensures.answers.1 ∙ off));
   same = rw c.read_state.ensures.same at c.confirm_image.ensures.same;
   ends = rw c.read_state.ensures.same at c.confirm_image.ensures.ends;
 }

@@ -1,5 +1,6 @@
-use Rattle.std.proofs.Common.{◌≡◌, Ok, Err, ap, refl, subst, sym}
-use Rattle.events.specs.declared.event.Event.TheVariants as event
+use Rattle.std.proofs.Common.{ap, refl, subst, sym}
+use Rattle.flash_model.proofs.Ending.{no_error}
+use Rattle.common.specs.declared.event.Event.TheVariants as event
 use Rattle.sector_map.proofs.Parts.{laid_out_kept}
 use Rattle.upload.proofs.OpenOnes.{open_none}
 use Rattle.machine.specs.Passing.{StepsTo}
@@ -12,15 +13,10 @@ use Rattle.set_log.specs.Log.{state_of}
 use Rattle.boot_core.specs.Device.{made, seen}
 use Rattle.boot_core.specs.Ready.{LogsTrialOf}
 use Rattle.boot_core.proofs.Stopping.{confirm_stopped, ended, no_own, stopped_ends}
-use Rattle.machine.specs.declared.error.Fault.{Fault}
 use Rattle.boot_core.proofs.NotReady.{not_down}
-use Rattle.boot_core.proofs.Passed.{ok_no_err}
 use Rattle.boot_core.proofs.Stops.{flash_off}
 use Rattle.boot_core.proofs.Trials.{flash_not_tried, stops_tried}
 use Rattle.boot_core.proofs.confirming.confirm_on.Goals as goal
-
-ok_err : {T : Type 0} (done : T) (fault : Fault) → Ok done ≡ Err fault → ⊥
-ok_err done fault is = cc
 
 pub returns-in-Ok-true : goal.returns-in-Ok-true
 returns-in-Ok-true g c = record {
@@ -28,16 +24,16 @@ returns-in-Ok-true g c = record {
   opens =
       open_confirmed c.args.map.now _ _ c.args.image _ c.confirm.ensures.outside c.requires.opens;
   steps = λ identity boots on.
-      steps_confirmed (made c.args.map.now identity boots) _ _ _ c.args.image c.if-not-is_up.false _ _ c.in-Ok-true.field-0-test
+      steps_confirmed (made c.args.map.now identity boots) _ _ _ c.args.image c.if-not-is_booted.false _ _ c.in-Ok-true.field-0-test
       c.confirm.ensures.outside c.in-Ok-true.ensures.ok;
   outside = c.confirm.ensures.outside;
-  down = not_down _ _ _ c.if-not-is_up.false;
+  down = not_down _ _ _ c.if-not-is_booted.false;
   refused = tt;
   kept = tt;
   ok = rw c.in-Ok-true.field-0-test at c.in-Ok-true.ensures.answers;
   untried = λ up on never. absurd (never (rw c.in-Ok-true.field-0-test at c.in-Ok-true.ensures.answers).0);
-  tried = λ logged is. ok_err _ _ is;
-  off = λ up off. absurd (ok_no_err _ _ (c.in-Ok-true.ensures.off off));
+  tried = λ logged is. no_error _ _ is;
+  off = λ up off. absurd (no_error _ _ (c.in-Ok-true.ensures.off off));
   ends = ended _ _ _ _ _ _ Done refl refl c.in-Ok-true.ensures.ends.uncut;
 }
 
@@ -47,21 +43,21 @@ returns-in-Ok-false g c = record {
   opens =
       open_confirmed c.args.map.now _ _ c.args.image _ c.confirm.ensures.outside c.requires.opens;
   steps = λ identity boots on.
-      steps_not_on_trial (made c.args.map.now identity boots) _ _ _ c.args.image c.if-not-is_up.false _ _ c.in-Ok-false.field-0-test
+      steps_not_on_trial (made c.args.map.now identity boots) _ _ _ c.args.image c.if-not-is_booted.false _ _ c.in-Ok-false.field-0-test
       c.confirm.ensures.outside c.in-Ok-false.ensures.ok;
   outside = c.confirm.ensures.outside;
-  down = not_down _ _ _ c.if-not-is_up.false;
+  down = not_down _ _ _ c.if-not-is_booted.false;
   refused = λ own. c.in-Ok-false.ensures.same c.in-Ok-false.field-0-test;
-  kept = λ own. ap (λ chip. seen chip c.args.uploads.now.sessions c.args.is_up.now)
+  kept = λ own. ap (λ chip. seen chip c.args.uploads.now.sessions c.args.is_booted.now)
       (c.in-Ok-false.ensures.same c.in-Ok-false.field-0-test);
   ok = tt;
   untried = λ up on never. (
     refl,
-    ap (λ chip. seen chip c.args.uploads.now.sessions c.args.is_up.now)
+    ap (λ chip. seen chip c.args.uploads.now.sessions c.args.is_booted.now)
         (c.in-Ok-false.ensures.same c.in-Ok-false.field-0-test),
   );
   tried = λ logged is. (rw c.in-Ok-false.field-0-test at c.in-Ok-false.ensures.answers) logged;
-  off = λ up off. absurd (ok_no_err _ _ (c.in-Ok-false.ensures.off off));
+  off = λ up off. absurd (no_error _ _ (c.in-Ok-false.ensures.off off));
   ends = ended _ _ _ _ _ _ (Refused no.NotOnTrial) refl refl c.in-Ok-false.ensures.ends.uncut;
 }
 
@@ -71,14 +67,14 @@ returns-in-Err g c = record {
   opens = open_none _ _ (c.stop.ensures.closed refl);
   steps = λ identity boots on.
       subst (λ fault. StepsTo (made c.args.map.now identity boots)
-      (seen (g.F.Flash.chip c.args.flash.now) c.args.uploads.now.sessions c.args.is_up.now)
-      (seen (g.F.Flash.chip c.confirm.new.flash) c.stop.new.uploads.sessions c.stop.new.is_up)
+      (seen (g.F.Flash.chip c.args.flash.now) c.args.uploads.now.sessions c.args.is_booted.now)
+      (seen (g.F.Flash.chip c.confirm.new.flash) c.stop.new.uploads.sessions c.stop.new.is_booted)
       (event.Confirm c.args.image) (fault_reply fault)) (sym c.stop.ensures.is)
-      (confirm_stopped (made c.args.map.now identity boots) _ _ _ _ _ _ c.args.image c.if-not-is_up.false c.in-Err.error
+      (confirm_stopped (made c.args.map.now identity boots) _ _ _ _ _ _ c.args.image c.if-not-is_booted.false c.in-Err.error
       c.in-Err.ensures.ends on (c.stop.ensures.closed refl) (c.stop.ensures.down refl)
       c.in-Err.ensures.cut);
   outside = c.confirm.ensures.outside;
-  down = not_down _ _ _ c.if-not-is_up.false;
+  down = not_down _ _ _ c.if-not-is_booted.false;
   refused = λ own. absurd (no_own c.in-Err.error c.stop.result c.stop.ensures.is own);
   kept = λ own. absurd (no_own c.in-Err.error c.stop.result c.stop.ensures.is own);
   ok = tt;

@@ -1,14 +1,11 @@
-use Rattle.std.proofs.Common.{rules, ◌≡◌, Ok, Err, subst}
+use Rattle.std.proofs.Common.{rules, subst}
+use Rattle.flash_model.proofs.Ending.{no_error}
 use Rattle.flash_model.specs.Chip.{IsUncut}
 use Rattle.sector_map.specs.Map.{Keeps}
-use Rattle.machine.specs.declared.error.Fault.{Fault}
 use Rattle.boot_core.specs.Provisioned.{provided}
 use Rattle.boot_core.specs.Provisions.{IsInOrder}
 use Rattle.boot_core.proofs.Afresh.{made_device, valid_there}
 use Rattle.boot_core.proofs.provisioning.make_device.Goals as goal
-
-ok_err : {T : Type 0} (value : T) (fault : Fault) → Ok value ≡ Err fault → ⊥
-ok_err value fault is = cc
 
 pub returns : goal.returns
 returns g c = record {
@@ -28,6 +25,6 @@ returns g c = record {
   order = subst (λ chip. IsInOrder c.args.map.now chip (g.F.Flash.chip c.begin_afresh.new.flash))
       c.judge.ensures.same c.begin_afresh.ensures.order;
   erased = c.in_ok-begin_afresh.ensures.ok.cleared;
-  off = λ off. absurd (ok_err _ _ (c.in_ok-floors.ensures.off off));
+  off = λ off. absurd (no_error _ _ (c.in_ok-floors.ensures.off off));
   asleep = search rules;
 }

@@ -1,4 +1,4 @@
-use Rattle.set_log.proofs.Kept.{state_kept, place_kept}
+use Rattle.set_log.proofs.LogFrame.{state_kept, place_kept}
 use Rattle.set_log.proofs.laws.a_log_that_is_left_keeps_its_state.Goals as goal
 
 pub returns-clause-state : goal.returns-clause-state

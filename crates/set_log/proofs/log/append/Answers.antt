@@ -1,6 +1,6 @@
 use Rattle.std.proofs.Common.{◌∙◌, Some}
 use Rattle.std.proofs.lemmas.Result.{on_ok_weaker}
-use Rattle.set_log.proofs.Said.{said, said_either, has_record}
+use Rattle.set_log.proofs.LastRecord.{said, said_either, has_record}
 use Rattle.set_log.proofs.log.append.Goals as goal
 
 pub append_record-requires-clause-has_record : goal.append_record-requires-clause-has_record

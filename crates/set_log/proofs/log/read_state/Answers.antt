@@ -1,6 +1,6 @@
 use Rattle.std.proofs.Common.{rules, Some, None, sym, ◌∙◌}
 use Rattle.std.proofs.lemmas.Bool.{false≢true}
-use Rattle.set_log.proofs.Said.{said, state_fits, state_within}
+use Rattle.set_log.proofs.LastRecord.{said, state_fits, state_within}
 use Rattle.set_log.proofs.log.read_state.Goals as goal
 
 pub returns-in_err-body : goal.returns-in_err-body

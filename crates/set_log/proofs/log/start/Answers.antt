@@ -1,6 +1,6 @@
 use Rattle.std.proofs.Common.{◌∙◌, Some}
 use Rattle.std.proofs.lemmas.Result.{on_ok_weaker}
-use Rattle.set_log.proofs.Said.{said}
+use Rattle.set_log.proofs.LastRecord.{said}
 use Rattle.set_log.proofs.log.start.Goals as goal
 
 pub returns : goal.returns

@@ -2,7 +2,7 @@ use Rattle.std.proofs.Common.{arith, sym, ◌∙◌, inl}
 use Rattle.std.proofs.lemmas.Bool.{false≢true}
 use Rattle.std.proofs.lemmas.Result.{on_ok_weaker}
 use Rattle.set_log.proofs.Moves.{has_places, third_open, started}
-use Rattle.set_log.proofs.Placing.{false_true, stays_written, third_still_open}
+use Rattle.set_log.proofs.Placing.{stays_written, third_still_open}
 use Rattle.flash_model.proofs.Ending.{at_error, ends_passed, ends_then}
 use Rattle.sector_map.proofs.Parts.{keeps_trans, laid_out_kept}
 use Rattle.set_log.proofs.writing.start_record.Goals as goal
@@ -15,7 +15,7 @@ returns-in_err-write_record g c = record {
   last = λ three closed.
       let stays = third_still_open _ _ _ (has_places c.args.map.now c.requires.is_map) c.in_ok-erase_log.ensures.ok
       c.write_record.ensures.within in
-      absurd (false_true (sym stays ∙ closed));
+      absurd (false≢true (sym stays ∙ closed));
   erases = at_error _ _ c.from_residual-in_err-write_record.ensures.0;
   off = λ off. absurd (false≢true (sym off ∙ c.in_ok-erase_log.ensures.on));
   ends = ends_then _ _ _ _ _ c.in_ok-erase_log.ensures.ends

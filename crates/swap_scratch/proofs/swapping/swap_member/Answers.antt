@@ -1,6 +1,6 @@
 use Rattle.std.proofs.Common.{rules, ◌≡◌, true}
 use Rattle.sector_map.specs.Part.{is_member}
-use Rattle.trailer.proofs.Told.{refuses_failed, refuses_first}
+use Rattle.trailer.proofs.FailedCalls.{refuses_failed, refuses_first}
 use Rattle.swap_scratch.proofs.Members.{resumed, finished, counted_on}
 use Rattle.flash_model.proofs.Ending.{at_error, ends_passed, ends_done}
 use Rattle.swap_scratch.proofs.swapping.swap_member.Goals as goal

@@ -4,7 +4,7 @@ use Rattle.swap_scratch.specs.Used.{steps_of}
 use Rattle.swap_scratch.specs.Swap.{IsAllCounted, sum_over}
 use Rattle.swap_scratch.proofs.Taking.{rest_refl, rest_trans}
 use Rattle.std.proofs.lemmas.Bool.{false≢true}
-use Rattle.trailer.proofs.Told.{refuses_failed}
+use Rattle.trailer.proofs.FailedCalls.{refuses_failed}
 use Rattle.swap_scratch.proofs.Members.{begun, on_further}
 use Rattle.swap_scratch.proofs.Sums.{sum_none, sum_more, share_same, counts_are}
 use Rattle.swap_scratch.proofs.Contents.{swapped_one}

@@ -1,7 +1,7 @@
 use Rattle.std.proofs.Common.{rules, arith, ap, sym, ◌∙◌, ◌≡◌}
 use Rattle.sector_map.specs.Map.{slot_sectors}
 use Rattle.swap_scratch.specs.Used.{sectors_for, used_of}
-use Rattle.trailer.proofs.Told.{refuses_first}
+use Rattle.trailer.proofs.FailedCalls.{refuses_first}
 use Rattle.swap_scratch.proofs.Sizes.{used_is, used_within}
 use Rattle.swap_scratch.proofs.used.used_sectors.Goals as goal
 

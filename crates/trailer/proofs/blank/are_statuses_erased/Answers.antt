@@ -3,7 +3,7 @@ use Rattle.std.proofs.Common.{◌*◌, ◌↔◌, IsTrue, arith, subst}
 use Rattle.std.proofs.lemmas.Result.{IfOk-weaker}
 use Rattle.flash_model.specs.Chip.{IsErased}
 use Rattle.trailer.proofs.BlankFields.{fresh_told}
-use Rattle.trailer.proofs.Told.{at_any}
+use Rattle.trailer.proofs.FailedCalls.{at_any}
 use Rattle.trailer.proofs.blank.are_statuses_erased.Goals as goal
 
 pub returns : goal.returns

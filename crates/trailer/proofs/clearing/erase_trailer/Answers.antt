@@ -4,7 +4,7 @@ use Rattle.flash_model.specs.Chip.{IsErased}
 use Rattle.sector_map.proofs.Parts.{laid_out_kept}
 use Rattle.trailer.proofs.Erased.{erased_fields_at, trailer_erased}
 use Rattle.trailer.proofs.Places.{trailer_alone, trailer_within}
-use Rattle.trailer.proofs.Told.{refuses}
+use Rattle.trailer.proofs.FailedCalls.{refuses}
 use Rattle.trailer.proofs.clearing.erase_trailer.Goals as goal
 
 pub erase-requires : goal.erase-requires

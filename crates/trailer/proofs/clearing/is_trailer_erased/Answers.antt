@@ -2,7 +2,7 @@ use Rattle.trailer.proofs.Places.{trailer_fits}
 use Rattle.std.proofs.Common.{refl, arith}
 use Rattle.std.proofs.lemmas.Result.{IfOk-weaker}
 use Rattle.trailer.proofs.Erased.{tells_trailer}
-use Rattle.trailer.proofs.Told.{at_any}
+use Rattle.trailer.proofs.FailedCalls.{at_any}
 use Rattle.trailer.proofs.clearing.is_trailer_erased.Goals as goal
 
 pub returns : goal.returns

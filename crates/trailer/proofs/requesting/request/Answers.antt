@@ -11,7 +11,7 @@ use Rattle.trailer.specs.Standing.{is_good, is_permanent, requested_fields}
 use Rattle.trailer.proofs.FieldUnits.{either_magic}
 use Rattle.trailer.proofs.Gone.{stands_or_none}
 use Rattle.trailer.proofs.Marks.{ok_beside_magic}
-use Rattle.trailer.proofs.Told.{refuses_failed}
+use Rattle.trailer.proofs.FailedCalls.{refuses_failed}
 use Rattle.trailer.proofs.requesting.request.Goals as goal
 
 -- a request is whole once its magic is good, and before that the magic isn't

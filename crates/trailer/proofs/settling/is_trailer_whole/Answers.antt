@@ -1,7 +1,7 @@
 use Rattle.std.proofs.lemmas.Grind.{common_steps}
 use Rattle.std.proofs.Common.{◌∙◌, arith}
 use Rattle.flash_model.proofs.Ending.{ends_passed, ends_then}
-use Rattle.trailer.proofs.Told.{decides_nothing}
+use Rattle.trailer.proofs.FailedCalls.{decides_nothing}
 use Rattle.trailer.proofs.settling.is_trailer_whole.Goals as goal
 
 pub returns-in_err-copy_done : goal.returns-in_err-copy_done

@@ -8,7 +8,7 @@ use Rattle.flash_model.specs.Units.{are_erased}
 use Rattle.trailer.proofs.Marks.{settled, secondary_kept, one_of_trailers, both_trailers}
 use Rattle.trailer.proofs.Marks.{beside, across, still_erased, spared_alike}
 use Rattle.flash_model.proofs.Ending.{at_error, ends_passed, ends_then}
-use Rattle.trailer.proofs.Told.{at_any, refuses_failed, refuses_first}
+use Rattle.trailer.proofs.FailedCalls.{at_any, refuses_failed, refuses_first}
 use Rattle.trailer.proofs.settling.settle.Goals as goal
 
 pub returns-in_err-erase_trailer : goal.returns-in_err-erase_trailer

@@ -3,7 +3,7 @@ use Rattle.sector_map.specs.Part.{Slot}
 use Rattle.trailer.proofs.Erased.{tells_range}
 use Rattle.trailer.proofs.Places.{some_slot, sector_of_part, slot_fits}
 use Rattle.flash_model.proofs.Ending.{ends_passed, ends_done}
-use Rattle.trailer.proofs.Told.{refuses_first, tells_nothing}
+use Rattle.trailer.proofs.FailedCalls.{refuses_first, tells_nothing}
 use Rattle.trailer.proofs.standing_request.is_front_set.Goals as goal
 
 pub returns-in_err-erased : goal.returns-in_err-erased

@@ -3,7 +3,7 @@ use Rattle.std.proofs.lemmas.Result.{IfOk-weaker}
 use Rattle.sector_map.specs.Part.{TrailerOf}
 use Rattle.trailer.proofs.Places.{trailer_size, trailer_addressed, trailer_fits}
 use Rattle.trailer.proofs.Erased.{tells_range}
-use Rattle.trailer.proofs.Told.{at_any}
+use Rattle.trailer.proofs.FailedCalls.{at_any}
 use Rattle.trailer.proofs.statuses.is_status_erased.Goals as goal
 
 pub returns : goal.returns

@@ -1,6 +1,6 @@
 use Rattle.std.proofs.Common.{◌+◌, ◌*◌, ◌∙◌, ap, arith}
 use Rattle.std.proofs.lemmas.Result.{on_ok_weaker}
-use Rattle.trailer.proofs.Told.{at_any, refuses_first}
+use Rattle.trailer.proofs.FailedCalls.{at_any, refuses_first}
 use Rattle.trailer.proofs.Places.{trailer_fits, trailer_addressed}
 use Rattle.trailer.proofs.StatusUnits.{status_aligned, status_alone, status_fit, status_is_erased, own_status, pushed}
 use Rattle.flash_model.specs.Chip.{Chip}

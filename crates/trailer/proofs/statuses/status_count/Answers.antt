@@ -3,7 +3,7 @@ use Rattle.flash_model.specs.Units.{are_erased}
 use Rattle.trailer.specs.Fields.{trailer_bytes}
 use Rattle.trailer.specs.Status.{status_unit}
 use Rattle.trailer.proofs.StatusUnits.{units_are}
-use Rattle.trailer.proofs.Told.{refuses_first}
+use Rattle.trailer.proofs.FailedCalls.{refuses_first}
 use Rattle.trailer.proofs.statuses.status_count.Goals as goal
 
 pub returns-then-branch : goal.returns-then-branch

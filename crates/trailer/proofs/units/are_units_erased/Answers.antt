@@ -2,7 +2,7 @@ use Rattle.trailer.proofs.Places.{place_fits}
 use Rattle.std.proofs.Common.{arith}
 use Rattle.std.proofs.lemmas.Result.{IfOk-weaker}
 use Rattle.trailer.proofs.Erased.{tells_units}
-use Rattle.trailer.proofs.Told.{at_any}
+use Rattle.trailer.proofs.FailedCalls.{at_any}
 use Rattle.trailer.proofs.units.are_units_erased.Goals as goal
 
 pub returns : goal.returns

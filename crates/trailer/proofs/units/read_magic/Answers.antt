@@ -1,7 +1,7 @@
 use Rattle.std.proofs.Common.{◌≡◌, arith, length, sym, ap, ◌∙◌}
 use Rattle.flash_model.proofs.Ending.{ends_passed, ends_done}
 use Rattle.trailer.proofs.Places.{read_of_trailer, place_fits}
-use Rattle.trailer.proofs.Told.{refuses, tells_nothing}
+use Rattle.trailer.proofs.FailedCalls.{refuses, tells_nothing}
 use Rattle.trailer.specs.Fields.{magic_in}
 use Rattle.trailer.proofs.units.read_magic.Goals as goal
 

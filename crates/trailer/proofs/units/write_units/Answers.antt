@@ -1,7 +1,7 @@
 use Rattle.std.proofs.Common.{arith, refl}
 use Rattle.std.proofs.lemmas.Result.{on_ok_weaker}
 use Rattle.flash_model.specs.Chip.{Reads}
-use Rattle.trailer.proofs.Told.{at_any, refuses}
+use Rattle.trailer.proofs.FailedCalls.{at_any, refuses}
 use Rattle.sector_map.proofs.Parts.{laid_out_kept}
 use Rattle.trailer.proofs.Erased.{units_erased}
 use Rattle.trailer.proofs.Places.{place_aligned, place_fits, read_of_trailer, units_alone}

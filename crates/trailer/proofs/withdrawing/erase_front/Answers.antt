@@ -5,7 +5,7 @@ use Rattle.flash_model.specs.Chip.{Chip}
 use Rattle.flash_model.proofs.Ending.{ends_then}
 use Rattle.sector_map.proofs.Parts.{laid_out_kept}
 use Rattle.trailer.proofs.Places.{slot_alone, slot_within}
-use Rattle.trailer.proofs.Told.{refuses_first}
+use Rattle.trailer.proofs.FailedCalls.{refuses_first}
 use Rattle.trailer.proofs.Withdrawal.{front_erased, rest_of_erase, sector_erased}
 use Rattle.trailer.proofs.withdrawing.erase_front.Goals as goal
 

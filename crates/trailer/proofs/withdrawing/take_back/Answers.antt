@@ -1,13 +1,11 @@
 use Rattle.std.proofs.Common.{◌≡◌, Some, None, sym, ◌∙◌}
 use Rattle.std.proofs.lemmas.Result.{on_ok_weaker}
+use Rattle.std.proofs.lemmas.Option.{none-some}
 use Rattle.flash_model.proofs.Ending.{ends_then}
 use Rattle.trailer.proofs.Gone.{gone_withdrawn}
-use Rattle.trailer.proofs.Told.{at_any, refuses_first}
+use Rattle.trailer.proofs.FailedCalls.{at_any, refuses_first}
 use Rattle.trailer.proofs.Withdrawal.{still_written, taken_back}
 use Rattle.trailer.proofs.withdrawing.take_back.Goals as goal
-
-none_some : {T : Type 0} (value : T) → None ≡ Some value → ⊥
-none_some value e = cc
 
 pub returns-in-Some : goal.returns-in-Some
 returns-in-Some g c =
@@ -22,7 +20,7 @@ returns-in-Some g c =
       either = taken_back map old new c.args.image _ stood own;
       ok = on_ok_weaker c.set_withdrawn.result (λ set. gone_withdrawn map new c.args.image set)
           c.set_withdrawn.ensures.ok;
-      idle = λ none. absurd (none_some _ (sym none ∙ stood));
+      idle = λ none. absurd (none-some _ (sym none ∙ stood));
       erased = at_any _ _ (still_written map old new c.args.image _ stood own c.requires.laid_out outside
           c.requires.there);
       erases = rw c.standing.ensures.same at c.set_withdrawn.ensures.erases;

@@ -7,7 +7,7 @@ use Rattle.sector_map.specs.Part.{Slot}
 use Rattle.flash_model.proofs.Ending.{at_error, ends_passed, ends_then}
 use Rattle.trailer.specs.Standing.{first_is_set, incoming_slot}
 use Rattle.trailer.proofs.Gone.{gone_without_front}
-use Rattle.trailer.proofs.Told.{at_any, refuses_failed, refuses_first}
+use Rattle.trailer.proofs.FailedCalls.{at_any, refuses_failed, refuses_first}
 use Rattle.trailer.proofs.Withdrawal.{incoming_then_trailer, slot_or_none, trailer_of_withdrawal, trailer_then_slot}
 use Rattle.trailer.proofs.withdrawing.withdraw.Goals as goal
 

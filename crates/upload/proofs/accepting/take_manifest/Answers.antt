@@ -1,11 +1,12 @@
-use Rattle.std.proofs.Common.{◌∙◌, ap, subst, Err, Ok}
+use Rattle.std.proofs.Common.{◌∙◌, ap, subst, Err, Ok, true≢false}
+use Rattle.flash_model.proofs.Ending.{no_error}
 use Rattle.sector_map.specs.Map.{Keeps}
 use Rattle.upload.specs.Accepted.{accepted_parts}
 use Rattle.upload.specs.Ending.{EndsUpload}
 use Rattle.upload.specs.View.{view}
 use Rattle.upload.specs.declared.error.UploadError.TheVariants as no
 use Rattle.upload.specs.Taking.{CutsAccept, IsTaken, LeavesAccept}
-use Rattle.upload.proofs.Ends.{done_none, ends_flash, ends_well, err_passed, same_off, true_false}
+use Rattle.upload.proofs.Ends.{ends_flash, ends_well, err_passed, same_off}
 use Rattle.upload.proofs.TakenRow.{equal_blank, equal_log, stopped}
 use Rattle.upload.proofs.Worn.{worn_of_state}
 use Rattle.upload.proofs.accepting.take_manifest.Goals as goal
@@ -34,7 +35,7 @@ returns g c =
       );
       nothing = tt;
       stays = tt;
-      off = λ off. absurd (done_none _ _ (c.in_ok-state.ensures.off off));
+      off = λ off. absurd (no_error _ _ (c.in_ok-state.ensures.off off));
       equal = λ state read equal.
           equal_log map old judged _ state c.in_ok-state.state sequence c.judge_manifest.ensures.same read
           c.in_ok-state.ensures.ok.newer.read equal c.write_manifest.ensures.equal;
@@ -73,9 +74,9 @@ returns-in_err-write_manifest g c =
           (subst (λ w. CutsAccept w new sequence c.as_slice-components.result.now) same c.write_manifest.ensures.cut))
           (λ is. ap (λ chip. view map chip) (same_off c.in_err-write_manifest.field-0.0 _ _
           c.in_err-write_manifest.ensures.ends is) ∙ same);
-      nothing = λ unstopped. absurd (true_false unstopped);
-      stays = λ unstopped. absurd (true_false unstopped);
-      off = λ off. absurd (done_none _ _ (c.in_ok-state.ensures.off off));
+      nothing = λ unstopped. absurd (true≢false unstopped);
+      stays = λ unstopped. absurd (true≢false unstopped);
+      off = λ off. absurd (no_error _ _ (c.in_ok-state.ensures.off off));
       equal = λ state read equal.
           equal_log map old judged _ state c.in_ok-state.state sequence c.judge_manifest.ensures.same read
           c.in_ok-state.ensures.ok.newer.read equal c.write_manifest.ensures.equal;

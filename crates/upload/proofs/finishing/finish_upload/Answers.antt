@@ -1,6 +1,7 @@
 use Rattle.std.proofs.Common.{◌-◌, arith, ◌∙◌, ap, subst}
 use Rattle.std.proofs.Common.{Err, Ok, length-append, refl, sym}
 use Rattle.std.proofs.lemmas.Grind.{common_steps}
+use Rattle.flash_model.proofs.Ending.{no_error}
 use Rattle.sector_map.specs.declared.layout.Side.TheVariants.{Secondary}
 use Rattle.sector_map.specs.Part.{Slot, incoming_of, only}
 use Rattle.sector_map.specs.Map.{Keeps}
@@ -13,7 +14,7 @@ use Rattle.upload.specs.Sessions.{session_of}
 use Rattle.upload.specs.Ending.{EndsUpload}
 use Rattle.upload.specs.declared.error.UploadError.TheVariants as no
 use Rattle.upload.proofs.Views.{view_kept, slot_then_trailer}
-use Rattle.upload.proofs.Ends.{done_none, ends_flash, ends_later, ends_well, err_passed, off_stops, same_off}
+use Rattle.upload.proofs.Ends.{ends_flash, ends_later, ends_well, err_passed, off_stops, same_off}
 use Rattle.upload.proofs.RefusedFinish.{done_finish, judged_finish, last_unit, stopped_finish}
 use Rattle.upload.proofs.Finished.{refused, finish_refused, finish_done, finish_cut}
 use Rattle.upload.proofs.finishing.finish_upload.Goals as goal
@@ -107,7 +108,7 @@ returns g c =
       erases = c.in_ok-request.ensures.erases ∙ ap (λ chip. chip.erases) c.judge.ensures.same
           ∙ c.write_last.ensures.erases;
       refused = done_finish _ _ _ _ _;
-      off = λ off size. absurd (done_none tt _ (c.in_ok-judge.ensures.off (first.uncut.on ∙ off)));
+      off = λ off size. absurd (no_error tt _ (c.in_ok-judge.ensures.off (first.uncut.on ∙ off)));
       ends = ends_later _ _ (g.F.Flash.chip c.write_last.new.flash) _ first.uncut first.asleep
           (subst (λ chip. EndsUpload (Ok tt) chip (g.F.Flash.chip c.request.new.flash)) c.judge.ensures.same
           (ends_well _ _ _ _ c.in_ok-request.ensures.ends));
@@ -130,7 +131,7 @@ returns-in_err-request g c =
           (λ is. ap (λ chip. view map chip) (same_off c.in_err-request.field-0.0 _ _ c.in_err-request.ensures.ends is));
       erases = tt;
       refused = stopped_finish _ _ _ _ _ c.in_err-request.field-0.0;
-      off = λ off size. absurd (done_none tt _ (c.in_ok-judge.ensures.off (first.uncut.on ∙ off)));
+      off = λ off size. absurd (no_error tt _ (c.in_ok-judge.ensures.off (first.uncut.on ∙ off)));
       ends = ends_later _ _ (g.F.Flash.chip c.write_last.new.flash) _ first.uncut first.asleep
           (subst (λ chip. EndsUpload {T = Unit} (Err (no.Flash c.in_err-request.field-0.0)) chip
           (g.F.Flash.chip c.request.new.flash)) c.judge.ensures.same

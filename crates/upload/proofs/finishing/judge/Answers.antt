@@ -1,4 +1,4 @@
-use Rattle.std.proofs.Common.{rules, Err, ◌∙◌, ap, refl, sym, take, subst}
+use Rattle.std.proofs.Common.{rules, Err, ◌∙◌, ap, refl, sym, take, subst, true≢false}
 use Rattle.std.specs.Cmp.Lexicographic.{same_text}
 use Rattle.std.proofs.lemmas.Bool.{not-false}
 use Rattle.sector_map.specs.Map.{part_of}
@@ -7,7 +7,7 @@ use Rattle.sector_map.specs.declared.layout.Side.TheVariants.{Secondary}
 use Rattle.image_reading.specs.Fault.{IsFirstFault}
 use Rattle.image_reading.specs.Image.{IsIntact}
 use Rattle.upload.specs.declared.error.UploadError.TheVariants as no
-use Rattle.upload.proofs.Ends.{ends_flash, ends_read, err_passed, only_off, true_false}
+use Rattle.upload.proofs.Ends.{ends_flash, ends_read, err_passed, only_off}
 use Rattle.upload.proofs.finishing.judge.Goals as goal
 
 pub returns-in_err-found : goal.returns-in_err-found
@@ -32,7 +32,7 @@ returns-in-Ok g c = record {
           c.in-Ok.field-0) c.digest_incoming.ensures.same c.in-Ok.ensures.described,
     ),
   );
-  off = λ off. absurd (true_false (sym c.in_ok-found.ensures.on ∙ off));
+  off = λ off. absurd (true≢false (sym c.in_ok-found.ensures.on ∙ off));
   ends = ends_read _ _ _ refl (c.describe_file.ensures.same ∙ c.digest_incoming.ensures.same);
 }
 
@@ -46,6 +46,6 @@ returns-in-Err-Image g c =
         subst (λ chip. IsFirstFault (take c.args.size (part_of c.args.map.now chip (Slot c.args.image Secondary)))
             c.in-Err-Image.fault) c.digest_incoming.ensures.same fault.1,
       );
-      off = λ off. absurd (true_false (sym c.in_ok-found.ensures.on ∙ off));
+      off = λ off. absurd (true≢false (sym c.in_ok-found.ensures.on ∙ off));
       ends = ends_read _ _ _ refl (c.describe_file.ensures.same ∙ c.digest_incoming.ensures.same);
     }

@@ -1,10 +1,10 @@
-use Rattle.std.proofs.Common.{◌≡◌, true, Ok, Err, Result, ◌∙◌, ap, sym}
+use Rattle.std.proofs.Common.{◌≡◌, true, Ok, Err, Result, ◌∙◌, ap, sym, true≢false}
 use Rattle.sector_map.specs.Map.{part_of}
 use Rattle.sector_map.specs.Part.{Slot}
 use Rattle.sector_map.specs.declared.layout.Side.TheVariants.{Primary}
 use Rattle.image_reading.specs.declared.desc.Desc.{Desc}
 use Rattle.image_reading.specs.declared.error.SlotError.{SlotError}
-use Rattle.upload.proofs.Ends.{reads_well, true_false}
+use Rattle.upload.proofs.Ends.{reads_well}
 use Rattle.upload.proofs.Precursors.{has_front, front_has}
 use Rattle.upload.proofs.judging.follows.Goals as goal
 
@@ -39,7 +39,7 @@ returns-in-Err-Image g c =
     record {
       same = c.describe_slot.ensures.same;
       ok = (
-        λ e. absurd (true_false (sym e)),
+        λ e. absurd (true≢false (sym e)),
         λ has. absurd (
             let at = front_has slot c.args.component.now.precursor c.in-Some.digest c.in-Some.is has in
             not_both at.0 c.in-Err-Image.field-0 c.describe_slot.result

@@ -1,10 +1,10 @@
-use Rattle.std.proofs.Common.{◌∙◌, Err, ap, refl, subst, sym}
-use Rattle.flash_model.proofs.Ending.{ends_after}
+use Rattle.std.proofs.Common.{◌∙◌, Err, ap, refl, subst, sym, true≢false}
+use Rattle.flash_model.proofs.Ending.{ends_after, no_error}
 use Rattle.upload.specs.View.{view}
 use Rattle.upload.specs.Accepted.{AllFit, AllFollowAt}
 use Rattle.upload.specs.Taking.{Refuses}
 use Rattle.upload.specs.declared.error.UploadError.TheVariants as no
-use Rattle.upload.proofs.Ends.{ends_flash, ends_read, err_passed, only_off, state_none, true_false}
+use Rattle.upload.proofs.Ends.{ends_flash, ends_read, err_passed, only_off}
 use Rattle.upload.proofs.judging.judge_manifest.Goals as goal
 
 pub returns-in_err-state : goal.returns-in_err-state
@@ -27,7 +27,7 @@ returns-then-manifest-state g c = record {
   ok = tt;
   fits = c.last_state.ensures.fits;
   refused = (c.in_ok-state.state, c.in_ok-state.ensures.ok, c.if-manifest-state.true);
-  off = λ off. absurd (state_none _ _ (c.in_ok-state.ensures.off off));
+  off = λ off. absurd (no_error _ _ (c.in_ok-state.ensures.off off));
   ends = ends_read _ _ _ refl c.last_state.ensures.same;
 }
 
@@ -39,10 +39,10 @@ returns-then-not-all_fit g c = record {
   refused = (
     c.in_ok-state.state,
     record { read = c.in_ok-state.ensures.ok; newer = c.if-manifest-state.false },
-    λ fit. true_false (sym (c.all_fit.ensures.1 (subst (λ cs. AllFit c.args.map.now cs)
+    λ fit. true≢false (sym (c.all_fit.ensures.1 (subst (λ cs. AllFit c.args.map.now cs)
         (sym c.as_slice.ensures.value) fit)) ∙ c.if-not-all_fit.true),
   );
-  off = λ off. absurd (state_none _ _ (c.in_ok-state.ensures.off off));
+  off = λ off. absurd (no_error _ _ (c.in_ok-state.ensures.off off));
   ends = ends_read _ _ _ refl c.last_state.ensures.same;
 }
 
@@ -56,7 +56,7 @@ returns-in_err-all_follow g c =
       fits = c.last_state.ensures.fits;
       refused = subst (λ error. Refuses c.args.map.now (view c.args.map.now (g.F.Flash.chip c.args.flash.now))
           c.args.manifest.now.sequence c.args.manifest.now.components.items (no.Flash error)) (sym off) tt;
-      off = λ off. absurd (state_none _ _ (c.in_ok-state.ensures.off off));
+      off = λ off. absurd (no_error _ _ (c.in_ok-state.ensures.off off));
       ends = ends_flash error _ _ (ends_after _ _ (g.F.Flash.chip c.last_state.new.flash) _
           c.in_ok-state.ensures.ends.uncut c.in_ok-state.ensures.ends.asleep c.in_err-all_follow.ensures.ends);
     })
@@ -73,12 +73,12 @@ returns-then-not-branch g c =
         c.in_ok-state.state,
         record { read = c.in_ok-state.ensures.ok; newer = c.if-manifest-state.false },
         subst (λ cs. AllFit map cs) c.as_slice.ensures.value (c.all_fit.ensures.0 c.if-not-all_fit.false),
-        λ follow. true_false (sym (c.in_ok-all_follow.ensures.ok.1
+        λ follow. true≢false (sym (c.in_ok-all_follow.ensures.ok.1
             (subst (λ cs. AllFollowAt (view map (g.F.Flash.chip c.last_state.new.flash)) cs)
             (sym c.as_slice-2.ensures.value) (subst (λ chip. AllFollowAt (view map chip)
             c.args.manifest.now.components.items) (sym was) follow))) ∙ c.if-not-branch.true),
       );
-      off = λ off. absurd (state_none _ _ (c.in_ok-state.ensures.off off));
+      off = λ off. absurd (no_error _ _ (c.in_ok-state.ensures.off off));
       ends = ends_read _ _ _ refl (c.all_follow.ensures.same ∙ was);
     }
 
@@ -97,6 +97,6 @@ returns g c =
       };
       fits = c.last_state.ensures.fits;
       refused = tt;
-      off = λ off. absurd (state_none _ _ (c.in_ok-state.ensures.off off));
+      off = λ off. absurd (no_error _ _ (c.in_ok-state.ensures.off off));
       ends = ends_read _ _ _ refl (c.all_follow.ensures.same ∙ was);
     }

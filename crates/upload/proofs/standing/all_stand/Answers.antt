@@ -2,17 +2,15 @@ use Rattle.std.proofs.Common.{◌≡◌, ◌≢◌, ◌<◌, ◌≤◌, ◌↔�
 use Rattle.std.proofs.Common.{refl, sym, ◌∙◌, ap, subst, arith, ⊎_elim}
 use Rattle.std.proofs.lemmas.Bool.{cases_eq, cases_lt, false≢true}
 use Rattle.std.proofs.lemmas.List.{get_or_default, get_or_past}
+use Rattle.std.proofs.lemmas.Option.{none-some}
+use Rattle.flash_model.proofs.Ending.{no_error}
 use Rattle.upload.specs.Sessions.{AllOpenAt, IsOpenAt, upload_at}
 use Rattle.upload.specs.Standing.{HasCounts}
 use Rattle.upload.specs.View.{view}
 use Rattle.flash_model.specs.Chip.{Chip}
 use Rattle.upload.specs.declared.sessions.Upload.{Upload}
-use Rattle.upload.proofs.Ends.{state_none}
 use Rattle.upload.proofs.StandingLaws.{table_told}
 use Rattle.upload.proofs.standing.all_stand.Goals as goal
-
-none_some : (u : Upload) → None ≡ Some u → ⊥
-none_some u e = cc
 
 pub returns-then-not-is_standing : goal.returns-then-not-is_standing
 returns-then-not-is_standing g c =
@@ -38,14 +36,14 @@ returns-then-not-is_standing g c =
     ⊎_elim
     (λ (lt : i < image). kept.asked off i u lt first)
     (λ (ge : image ≤ i). ⊎_elim
-    (λ (here : i ≡ image). state_none _ _ (c.in_ok-is_standing.ensures.off
+    (λ (here : i ≡ image). no_error _ _ (c.in_ok-is_standing.ensures.off
     (ap (λ (k : Chip). k.is_on) kept.same ∙ off) u first.written
     (sym there ∙ ap (λ k. upload_at sessions k) (sym here) ∙ first.open_here)
     (subst (λ k. HasCounts map k first.written u) here first.counts)))
     (λ (away : i ≢ image).
     let closed = first.first image (omega (arith, ge, away)) in
     let yes : c.in_ok-is_standing.is_standing ≡ true = c.in_ok-is_standing.ensures.ok.1
-    (λ v e. absurd (none_some v (sym closed ∙ there ∙ e))) in
+    (λ v e. absurd (none-some v (sym closed ∙ there ∙ e))) in
     absurd (false≢true (sym c.if-not-is_standing.true ∙ yes)))
     (cases_eq i image))
     (cases_lt i image))
@@ -69,7 +67,7 @@ loop-image-preserved g c =
           (λ (away : i ≢ image). kept.each i u (omega (arith, below, away)) is)
           (cases_eq i image);
       asked = λ off i u below first. ⊎_elim
-          (λ (here : i ≡ image). state_none _ _ (c.in_ok-is_standing.ensures.off
+          (λ (here : i ≡ image). no_error _ _ (c.in_ok-is_standing.ensures.off
           (ap (λ (k : Chip). k.is_on) kept.same ∙ off) u first.written
           (sym there ∙ ap (λ k. upload_at sessions k) (sym here) ∙ first.open_here)
           (subst (λ k. HasCounts map k first.written u) here first.counts)))
@@ -85,12 +83,12 @@ returns g c =
     let ok : IsTrue true ↔ AllOpenAt (view map chip) sessions = (
       λ e i u is. ⊎_elim
           (λ (lt : i < length sessions). c.loop-image.invariant.each i u (omega (arith, c.loop-image-test.false)) is)
-          (λ (ge : length sessions ≤ i). absurd (none_some u (sym (get_or_past sessions i None ge) ∙ is)))
+          (λ (ge : length sessions ≤ i). absurd (none-some u (sym (get_or_past sessions i None ge) ∙ is)))
           (cases_lt i (length sessions)),
       λ all. refl,
     ) in
     table_told map sessions _ _ _ c.loop-image.invariant.same ok
     (λ off i u first. ⊎_elim
     (λ (lt : i < length sessions). c.loop-image.invariant.asked off i u (omega (arith, c.loop-image-test.false)) first)
-    (λ (ge : length sessions ≤ i). absurd (none_some u (sym (get_or_past sessions i None ge) ∙ first.open_here)))
+    (λ (ge : length sessions ≤ i). absurd (none-some u (sym (get_or_past sessions i None ge) ∙ first.open_here)))
     (cases_lt i (length sessions)))

@@ -4,7 +4,7 @@ use Rattle.sector_map.specs.Part.{Slot}
 use Rattle.sector_map.specs.Map.{length_of}
 use Rattle.sector_map.proofs.PartBytes.{part_inside}
 use Rattle.trailer.proofs.Places.{some_slot}
-use Rattle.trailer.proofs.Told.{at_any}
+use Rattle.trailer.proofs.FailedCalls.{at_any}
 use Rattle.sector_map.specs.declared.layout.Side.TheVariants.{Secondary}
 use Rattle.upload.proofs.StandingLaws.{tells_written}
 use Rattle.upload.proofs.standing.is_erased_behind.Goals as goal

@@ -1,12 +1,12 @@
 use Rattle.std.proofs.Common.{rules, ◌≡◌, ◌+◌, sym, subst, ◌∙◌}
 use Rattle.std.specs.Prelude.{if◌then◌else◌}
+use Rattle.flash_model.proofs.Ending.{no_error}
 use Rattle.common.proofs.Options.{some_value}
 use Rattle.flash_model.specs.Chip.{Chip}
 use Rattle.sector_map.specs.declared.layout.Side.TheVariants.{Secondary}
 use Rattle.flash_model.specs.Units.{are_erased}
 use Rattle.trailer.specs.Fields.{trailer_bytes}
 use Rattle.trailer.specs.Standing.{first_is_set, incoming_slot}
-use Rattle.upload.proofs.Ends.{state_none}
 use Rattle.upload.proofs.Requested.{stands_in_units, two}
 use Rattle.upload.proofs.withdrawing.withdraw_standing.Goals as goal
 
@@ -29,6 +29,6 @@ returns g c =
           + (if first_is_set (incoming_slot map before image) then 1 else 0)
           + (if are_erased (trailer_bytes map before image Secondary) then 0 else 1))
           c.standing.ensures.same c.in_ok-withdraw.ensures.erases);
-      off = λ off. absurd (state_none _ _ (c.in_ok-standing.ensures.off off));
+      off = λ off. absurd (no_error _ _ (c.in_ok-standing.ensures.off off));
       ends = search rules;
     }

@@ -1,5 +1,5 @@
 use Rattle.std.proofs.Common.{◌+◌, false, ap, refl, subst}
-use Rattle.events.specs.declared.event.Event.TheVariants as event
+use Rattle.common.specs.declared.event.Event.TheVariants as event
 use Rattle.sector_map.specs.Part.{any_part}
 use Rattle.boot_core.specs.Calls.{Takes}
 use Rattle.boot_core.specs.Taking.{TouchesNamed}
@@ -13,7 +13,7 @@ pub returns-clause-named : goal.returns-clause-named
 returns-clause-named g c =
     let boots = c.self.inside.left + 1 in
     let new = whole_of (made c.self.inside.map c.self.inside.identity boots)
-    (seen (g.F.Flash.chip c.accept.new.flash) c.accept.new.uploads.sessions c.accept.new.is_up) in
+    (seen (g.F.Flash.chip c.accept.new.flash) c.accept.new.uploads.sessions c.accept.new.is_booted) in
     subst (λ (whole : Whole). TouchesNamed whole.setup.map whole.setup.identity c.args.text.now whole.here.flash
     new.here.flash) c.self.view_is c.accept.ensures.named
 
@@ -21,7 +21,7 @@ pub returns-clause-taken : goal.returns-clause-taken
 returns-clause-taken g c =
     let boots = c.self.inside.left + 1 in
     let new = whole_of (made c.self.inside.map c.self.inside.identity boots)
-    (seen (g.F.Flash.chip c.accept.new.flash) c.accept.new.uploads.sessions c.accept.new.is_up) in
+    (seen (g.F.Flash.chip c.accept.new.flash) c.accept.new.uploads.sessions c.accept.new.is_booted) in
     subst (λ (whole : Whole). Takes (event.Accept c.args.text) any_part whole new c.accept.result) c.self.view_is
     (record {
       setup = refl;

@@ -9,7 +9,7 @@ returns g c =
     let boots = c.self.inside.left + 1 in
     let new = whole_of (made c.self.inside.map c.self.inside.identity boots)
     (seen (g.F.Flash.chip c.accept_manifest.new.flash) c.accept_manifest.new.uploads.sessions
-    c.accept_manifest.new.is_up) in
+    c.accept_manifest.new.is_booted) in
     subst (λ (whole : Whole). TakesManifest c.args.manifest.now whole new c.accept_manifest.result) c.self.view_is
     (record {
       setup = refl;

@@ -10,7 +10,7 @@ pub returns : goal.returns
 returns g c =
     let booted = c.boot_device.ensures in
     let new = whole_of (made c.self.inside.map c.self.inside.identity (c.self.inside.left + 1))
-    (seen (g.F.Flash.chip c.boot_device.new.flash) c.boot_device.new.uploads.sessions c.boot_device.new.is_up) in
+    (seen (g.F.Flash.chip c.boot_device.new.flash) c.boot_device.new.uploads.sessions c.boot_device.new.is_booted) in
     subst (λ (whole : Whole). BootsDevice whole new c.boot_device.result) c.self.view_is (record {
       setup = refl;
       steps = booted.steps c.self.inside.identity;

@@ -8,7 +8,7 @@ pub returns : goal.returns
 returns g c =
     let boots = c.self.inside.left + 1 in
     let new = whole_of (made c.self.inside.map c.self.inside.identity boots)
-    (seen (g.F.Flash.chip c.confirm_on.new.flash) c.confirm_on.new.uploads.sessions c.confirm_on.new.is_up) in
+    (seen (g.F.Flash.chip c.confirm_on.new.flash) c.confirm_on.new.uploads.sessions c.confirm_on.new.is_booted) in
     subst (λ (whole : Whole). ConfirmsTried c.args.image whole new c.confirm_on.result) c.self.view_is (record {
       setup = refl;
       steps = c.confirm_on.ensures.steps c.self.inside.identity boots;

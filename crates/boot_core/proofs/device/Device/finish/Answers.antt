@@ -8,7 +8,7 @@ pub returns : goal.returns
 returns g c =
     let boots = c.self.inside.left + 1 in
     let new = whole_of (made c.self.inside.map c.self.inside.identity boots)
-    (seen (g.F.Flash.chip c.finish.new.flash) c.finish.new.uploads.sessions c.finish.new.is_up) in
+    (seen (g.F.Flash.chip c.finish.new.flash) c.finish.new.uploads.sessions c.finish.new.is_booted) in
     subst (λ (whole : Whole). FinishesUpload c.args.image whole new c.finish.result) c.self.view_is (record {
       setup = refl;
       steps = c.finish.ensures.steps c.self.inside.identity boots;

@@ -1,6 +1,6 @@
 -- Events over other bytes.
-use Rattle.events.specs.declared.event.Event.{Event}
-use Rattle.events.specs.declared.event.Event.TheVariants as event
+use Rattle.common.specs.declared.event.Event.{Event}
+use Rattle.common.specs.declared.event.Event.TheVariants as event
 
 -- The same event, with what a function gives in the place of its bytes.
 abbrev pub event_map : {A B : Type 0} → (A → B) → Event A → Event B

@@ -1,7 +1,7 @@
 //! What happens to a device.
 
 ghost use Rattle.std.specs.Prelude.{◌≡◌};
-ghost use Rattle.events.specs.Event.{event_map};
+ghost use Rattle.common.specs.Event.{event_map};
 
 use std::alloc::Allocator;
 

@@ -5,7 +5,7 @@ use Rattle.std.proofs.lemmas.Bool.{false≢true}
 use Rattle.flash_model.specs.declared.error.FlashError.{FlashError}
 use Rattle.flash_model.specs.declared.error.FlashError.TheVariants.{Cut, Off}
 use Rattle.flash_model.specs.Chip.{Chip, Ends}
-use Rattle.flash_model.proofs.Ending.{at_error}
+use Rattle.flash_model.proofs.Ending.{at_error, no_error}
 use Rattle.trailer.specs.Reads.{Decides, Tells}
 
 one_more : (n : ℕ) → n ≡ n + 1 → ⊥
@@ -24,9 +24,6 @@ refuses (Err Cut) old new on ends off = absurd (one_more old.cuts
 pub refuses_failed : {T : Type 0} (result : Result T FlashError) (old new : Chip) → IsErr result
     → Ends result old new → old.is_on ≡ false → IsErrOf result Off
 refuses_failed result old new is ends = refuses result old new (at_error (old.is_on ≡ true) result is) ends
-
-no_error : {T : Type 0} (value : T) (error : FlashError) → IsErrOf (Ok value) error → ⊥
-no_error value error e = cc
 
 -- A call whose first call on the flash ended: a flash without power would have refused that one.
 pub refuses_first : {T U : Type 0} (value : T) (result : Result U FlashError) (P : Type 0)

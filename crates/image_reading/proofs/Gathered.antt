@@ -4,7 +4,18 @@ use Rattle.std.specs.List.{AllByRecursion, Any}
 use Rattle.std.proofs.lemmas.Bool.{le-ltb, lt-ltb, ltb-true, ltb-false}
 use Rattle.std.proofs.lemmas.List.{append-nil, append_assoc, length-map, length-take, length_push, map-append, take_all, take-append-le}
 use Rattle.common.proofs.Items.{AllByRecursion-push, Any-between}
-use Rattle.image_reading.specs.Gathered.{Kept, Spelling}
+use Rattle.image_reading.specs.declared.met.Met.{Met}
+use Rattle.image_reading.specs.Area.{Entry, values_of}
+use Rattle.image_reading.specs.Gathered.{AreKept, HasMet, Spelling}
+use Rattle.image_reading.proofs.FieldLaws.{values_of-same}
+
+-- the next entry has the type that is looked for, so its value is the next one
+pub HasMet-next : {X : Type 0} (spelling : Spelling X) (most : ℕ) (values : List (List ℕ)) (kind : ℕ) (entry : Entry)
+    (left : List Entry) (met : Met X most) → entry.kind ≡ kind
+    → HasMet spelling most values (values_of kind (entry ∷ left)) met
+    → HasMet spelling most values (entry.value ∷ values_of kind left) met
+HasMet-next spelling most values kind entry left met same before =
+    subst (λ (rest : List (List ℕ)). HasMet spelling most values rest met) (values_of-same kind entry left same) before
 
 -- one value more is spelled
 spelled_more : {X : Type 0} (bytes : X → List ℕ) (values left : List (List ℕ)) (value : List ℕ) (found : List X)
@@ -16,9 +27,9 @@ spelled_more bytes values left value found item so_far is =
     ∙ ap (λ (t : List (List ℕ)). t ++ left) (sym (map-append bytes found (item ∷ [])))
 
 -- nothing is read yet
-pub Kept-none : {X : Type 0} (spelling : Spelling X) (most : ℕ) (values : List (List ℕ))
-    → Kept spelling most values values [] false
-Kept-none {X = X} spelling most values = record {
+pub AreKept-none : {X : Type 0} (spelling : Spelling X) (most : ℕ) (values : List (List ℕ))
+    → AreKept spelling most values values [] false
+AreKept-none {X = X} spelling most values = record {
   found = [];
   fit = tt;
   spelled = refl;
@@ -27,11 +38,11 @@ Kept-none {X = X} spelling most values = record {
 }
 
 -- one thing for which there is room
-pub Kept-push : {X : Type 0} (spelling : Spelling X) (most : ℕ) (values left : List (List ℕ)) (value : List ℕ)
-    (items : List X) (too_many : Bool) (item : X) → Kept spelling most values (value ∷ left) items too_many
+pub AreKept-push : {X : Type 0} (spelling : Spelling X) (most : ℕ) (values left : List (List ℕ)) (value : List ℕ)
+    (items : List X) (too_many : Bool) (item : X) → AreKept spelling most values (value ∷ left) items too_many
     → spelling.Fits item → value ≡ spelling.bytes item → length items < most
-    → Kept spelling most values left (items ++ item ∷ []) too_many
-Kept-push {X = X} spelling most values left value items too_many item kept fits is room =
+    → AreKept spelling most values left (items ++ item ∷ []) too_many
+AreKept-push {X = X} spelling most values left value items too_many item kept fits is room =
     let few : length kept.found < most = omega (arith, room, ap length kept.first, length-take most kept.found) in
     let all : items ≡ kept.found = kept.first ∙ take_all most kept.found (omega (arith, few)) in
     let one : length (kept.found ++ item ∷ []) ≡ length kept.found + 1 = length_push kept.found item in
@@ -46,11 +57,11 @@ Kept-push {X = X} spelling most values left value items too_many item kept fits 
     }
 
 -- one for which there is none
-pub Kept-over : {X : Type 0} (spelling : Spelling X) (most : ℕ) (values left : List (List ℕ)) (value : List ℕ)
-    (items : List X) (too_many : Bool) (item : X) → Kept spelling most values (value ∷ left) items too_many
+pub AreKept-over : {X : Type 0} (spelling : Spelling X) (most : ℕ) (values left : List (List ℕ)) (value : List ℕ)
+    (items : List X) (too_many : Bool) (item : X) → AreKept spelling most values (value ∷ left) items too_many
     → spelling.Fits item → value ≡ spelling.bytes item → most ≤ length items
-    → Kept spelling most values left items true
-Kept-over spelling most values left value items too_many item kept fits is full =
+    → AreKept spelling most values left items true
+AreKept-over spelling most values left value items too_many item kept fits is full =
     let many : most ≤ length kept.found = omega (arith, full, ap length kept.first, length-take most kept.found) in
     let one : length (kept.found ++ item ∷ []) ≡ length kept.found + 1 = length_push kept.found item in
     record {
@@ -62,10 +73,10 @@ Kept-over spelling most values left value items too_many item kept fits is full 
     }
 
 -- a value that hasn't the form
-pub Kept-bad : {X : Type 0} (spelling : Spelling X) (most : ℕ) (values left : List (List ℕ)) (value : List ℕ)
-    (items : List X) (too_many : Bool) → Kept spelling most values (value ∷ left) items too_many
+pub AreKept-bad : {X : Type 0} (spelling : Spelling X) (most : ℕ) (values left : List (List ℕ)) (value : List ℕ)
+    (items : List X) (too_many : Bool) → AreKept spelling most values (value ∷ left) items too_many
     → (spelling.IsForm value → ⊥) → Any (λ v. spelling.IsForm v → ⊥) values
-Kept-bad spelling most values left value items too_many kept bad =
+AreKept-bad spelling most values left value items too_many kept bad =
     let Bad = λ (v : List ℕ). spelling.IsForm v → ⊥ in
     subst (Any Bad) (sym kept.spelled) (Any-between Bad (map spelling.bytes kept.found) left value bad)
 
@@ -80,13 +91,13 @@ count_spelled spelling values items all = ap length all.spelled ∙ length-map i
 
 -- At the end all values are spelled by what was found ..
 pub found_at_end : {X : Type 0} (spelling : Spelling X) (most : ℕ) (values : List (List ℕ)) (items : List X)
-    (too_many : Bool) (kept : Kept spelling most values [] items too_many) → AreSpelled spelling values kept.found
+    (too_many : Bool) (kept : AreKept spelling most values [] items too_many) → AreSpelled spelling values kept.found
 found_at_end spelling most values items too_many kept =
     record { fit = kept.fit; spelled = kept.spelled ∙ append-nil (map spelling.bytes kept.found) }
 
 -- .. which is too many, where that was noted ..
 pub many_at_end : {X : Type 0} (spelling : Spelling X) (most : ℕ) (values : List (List ℕ)) (items : List X)
-    (too_many : Bool) → Kept spelling most values [] items too_many → too_many ≡ true → most < length values
+    (too_many : Bool) → AreKept spelling most values [] items too_many → too_many ≡ true → most < length values
 many_at_end spelling most values items too_many kept over =
     let many : most < length kept.found = ltb-true most (length kept.found) (sym kept.over ∙ over) in
     let count = count_spelled spelling values kept.found (found_at_end spelling most values items too_many kept) in
@@ -94,7 +105,7 @@ many_at_end spelling most values items too_many kept over =
 
 -- .. and not where it wasn't ..
 pub few_at_end : {X : Type 0} (spelling : Spelling X) (most : ℕ) (values : List (List ℕ)) (items : List X)
-    (too_many : Bool) → Kept spelling most values [] items too_many → too_many ≡ false → length values ≤ most
+    (too_many : Bool) → AreKept spelling most values [] items too_many → too_many ≡ false → length values ≤ most
 few_at_end spelling most values items too_many kept within =
     let few = ltb-false most (length kept.found) (sym kept.over ∙ within) in
     let count = count_spelled spelling values kept.found (found_at_end spelling most values items too_many kept) in
@@ -102,7 +113,7 @@ few_at_end spelling most values items too_many kept within =
 
 -- .. and then all of it was kept.
 pub kept_at_end : {X : Type 0} (spelling : Spelling X) (most : ℕ) (values : List (List ℕ)) (items : List X)
-    (too_many : Bool) → Kept spelling most values [] items too_many → too_many ≡ false
+    (too_many : Bool) → AreKept spelling most values [] items too_many → too_many ≡ false
     → AreSpelled spelling values items
 kept_at_end spelling most values items too_many kept within =
     let few = ltb-false most (length kept.found) (sym kept.over ∙ within) in
