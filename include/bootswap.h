@@ -1,17 +1,17 @@
 /*
  * bootswap for C: a device whose flash is bytes in memory, for simulators, update servers and tests on a desk.
  *
- * Each call of a device is one step of a machine that knows whole images only, from what the caller's bytes hold to what
- * they hold then. That is proved, for any contents. What a device keeps between two calls stands in a
- * `struct bootswap_kept` of the caller. Bytes there that no call wrote, or that don't fit the flash, are a device that
- * isn't up and has no upload open. No call allocates, and each returns.
+ * Each call of a device is one step of a machine that knows whole images only, from the device in the caller's bytes
+ * before the call to the one in them after it. This is proved for any contents. The caller keeps the state of a device
+ * between two calls in a `struct bootswap_kept`. Bytes there that no call wrote, or that don't match the flash, are a
+ * device that isn't booted and has no open upload. No call allocates, and each returns.
  *
- * The caller answers for this: a pointer that goes with a length leads to so many bytes, every other pointer to a whole
- * struct, and none is null, not even with a length of 0; what is written to overlaps nothing else that is passed. A call
- * reads the slots of the open uploads, so upload in large pieces.
+ * The caller guarantees this: a pointer with a length points to that number of bytes, every other pointer to a complete
+ * struct; no pointer is null, not even with a length of 0; a buffer that is written overlaps nothing else that is
+ * passed. A call reads the slots of the open uploads, so upload in large pieces.
  *
- * The flash is memory. A driver in C can't be called from here. `docs/PORTING.md` says how a device with a flash of its
- * own runs bootswap.
+ * The flash is memory: a driver in C can't be called. `docs/PORTING.md` says how a device with its own flash runs
+ * bootswap.
  */
 #ifndef BOOTSWAP_H
 #define BOOTSWAP_H
@@ -25,14 +25,14 @@ extern "C" {
 
 /* What a call returns. */
 enum bootswap_number {
-    BOOTSWAP_DONE = 0,         /* it is done, the bytes are an intact image, or the report is right */
+    BOOTSWAP_DONE = 0,         /* done, the bytes are an intact image, or the report is right */
     BOOTSWAP_BOOTED = 1,       /* the device booted, and decided what runs */
     BOOTSWAP_REVERTED = 2,     /* it booted, and the old images of a set on trial run again */
     BOOTSWAP_TRIAL_AGAIN = 3,  /* it booted, and the set on trial is tried again */
     BOOTSWAP_REFUSED = 4,      /* the call is refused: `fault` says why */
-    BOOTSWAP_CUT = 5,          /* power failed in it: the device isn't up */
+    BOOTSWAP_CUT = 5,          /* power failed during the call: the device isn't booted */
     /* No call was made, and nothing changed: */
-    BOOTSWAP_NO_MAP = 16,      /* the setup's sizes make no map */
+    BOOTSWAP_NO_MAP = 16,      /* no map has the setup's sizes */
     BOOTSWAP_NO_TRIAL = 17,    /* a trial has 1 to 7 boots */
     BOOTSWAP_NO_FLASH = 18,    /* the flash isn't whole sectors, has fewer than the map, or 2^32 bytes or more */
     BOOTSWAP_NO_IMAGE = 19,    /* there is no such image, or no such side of it */
@@ -42,12 +42,12 @@ enum bootswap_number {
     BOOTSWAP_NO_REPORT = 25,   /* the text is no report */
     BOOTSWAP_INVALID_SET = 26, /* the running images of the table don't fit each other */
     BOOTSWAP_WRONG = 27,       /* the report isn't right for the table */
-    BOOTSWAP_NO_ROOM = 28      /* the text has no room */
+    BOOTSWAP_NO_ROOM = 28      /* the text is longer than its buffer */
 };
 
 /* Why a call is refused: the number of the reason. */
 enum bootswap_fault {
-    BOOTSWAP_NOT_BOOTED = 1,      /* the device isn't up */
+    BOOTSWAP_NOT_BOOTED = 1,      /* the device isn't booted */
     BOOTSWAP_ON_TRIAL = 2,        /* a set of images is on trial */
     BOOTSWAP_NOT_ON_TRIAL = 3,    /* the image isn't on trial */
     BOOTSWAP_NOT_PROVISIONED = 4, /* the flash has no log of a device */
@@ -80,28 +80,28 @@ struct bootswap_setup {
     uint8_t class_id[16]; /* its class of devices, a UUID. No call compares these two with anything. */
 };
 
-/* What a device keeps between two calls. All zero is a device that isn't up. */
+/* The state of a device between two calls. All zero is a device that isn't booted. */
 struct bootswap_kept {
-    uint8_t is_up;     /* 1 where it is up */
+    uint8_t is_booted; /* 1 if it is booted */
     uint8_t unused[3]; /* 0 */
     struct {
-        uint32_t size;       /* how many bytes the file is to have */
-        uint32_t received;   /* how many came */
-        uint8_t is_open;     /* 1 where the upload is open */
-        uint8_t kind;        /* 1 for a test, 2 for good */
+        uint32_t size;       /* the length of the file in bytes */
+        uint32_t received;   /* how many bytes were received */
+        uint8_t is_open;     /* 1 if the upload is open */
+        uint8_t kind;        /* 1 for a test, 2 permanently */
         uint8_t held_length; /* how many bytes are held back, 0 to 7 */
         uint8_t unused;      /* 0 */
-        uint8_t held[8];     /* the last bytes that came, which make no whole unit of 8 yet */
-        uint8_t digest[32];  /* the SHA-256 that the file is to have */
-    } uploads[8];            /* one an image */
+        uint8_t held[8];     /* the last bytes that were received, which don't fill a unit of 8 yet */
+        uint8_t digest[32];  /* the SHA-256 that the file must have */
+    } uploads[8];            /* one for each image */
 };
 
 /* A write that is to be cut in a call. A write is a program or an erase. */
 struct bootswap_cut {
-    uint64_t write;          /* its number, counted from the beginning of the call, from 1 */
-    uint32_t left;           /* what it leaves: 0 what stood there, 1 what it was to leave, 2 the pattern */
-    uint32_t pattern_length; /* how many bytes the pattern has, 0 to 8 */
-    uint8_t pattern[8];      /* put over the range again and again from its first byte on */
+    uint64_t write;          /* its number in the call, counted from 1 */
+    uint32_t left;           /* what it leaves: 0 the old bytes, 1 the new bytes, 2 the pattern */
+    uint32_t pattern_length; /* the length of the pattern in bytes, 0 to 8 */
+    uint8_t pattern[8];      /* repeated over the range from its first byte on */
 };
 
 /* A version of an image, major.minor.revision+build (MCUboot's `struct image_version`). */
@@ -111,7 +111,7 @@ struct bootswap_version {
     uint32_t build;
 };
 
-/* An image in a version at least. */
+/* An image that is needed, in a version at least. */
 struct bootswap_need {
     uint32_t image;
     struct bootswap_version minimum;
@@ -121,40 +121,40 @@ struct bootswap_need {
 struct bootswap_refusal {
     uint32_t image;                /* the image whose request is refused */
     uint32_t reason;               /* 1 damaged, 2 older, 3 counter, 4 no such image, 5 needs, 6 needs one of several */
-    uint32_t count;                /* how many of `needs` are told: 1 for reasons 4 and 5, up to 4 for reason 6 */
-    struct bootswap_need needs[4]; /* what it needs. For reason 4 the image alone counts. */
+    uint32_t count;                /* the number of `needs`: 1 for reasons 4 and 5, up to 4 for reason 6 */
+    struct bootswap_need needs[4]; /* what it needs. For reason 4 only the image counts. */
 };
 
-/* What a call tells. What the returned number doesn't speak of is 0. */
+/* The result of a call. A field that doesn't apply to the returned number is 0. */
 struct bootswap_told {
-    uint64_t writes;                      /* how many writes the call made: the bytes are what exactly these made of those
-                                             before, torn as the rows say. One that is cut is the last. */
+    uint64_t writes;                      /* how many writes the call made. Exactly these, torn as the rows say, change
+                                             the old bytes into the new ones. A write that is cut is the last one. */
     uint32_t fault;                       /* refused: a bootswap_fault */
-    uint32_t detail;                      /* refused: what is behind it */
+    uint32_t detail;                      /* refused: the number of the underlying error */
     uint32_t check;                       /* refused: the first check of an image that fails, 1 to 15 */
-    uint32_t set;                         /* bit i for image i: what is taken, brought back, or tried again */
-    uint32_t left;                        /* how many boots more a trial lasts that is tried again */
-    uint32_t permanent;                   /* 1 where something is taken for good */
+    uint32_t set;                         /* bit i for image i: the set that is taken, reverted, or tried again */
+    uint32_t left;                        /* how many boots are left to a set that is tried again */
+    uint32_t permanent;                   /* 1 if a set is taken permanently */
     uint32_t images;                      /* booted: how many images there are */
     uint32_t refusals;                    /* booted: how many requests are refused */
-    uint32_t table_length;                /* booted: how many bytes of text the table has, 0 where it had no room */
-    uint32_t report_length;               /* booted: the same of the report */
-    struct bootswap_version versions[8];  /* booted: what each image runs */
+    uint32_t table_length;                /* booted: the length of the table's text, 0 if its buffer was too short */
+    uint32_t report_length;               /* booted: the same for the report */
+    struct bootswap_version versions[8];  /* booted: the running version of each image */
     struct bootswap_refusal refused[8];   /* booted: the refusals, in the order of the report */
 };
 
-/* One image that may come. */
+/* One image that may be uploaded. */
 struct bootswap_component {
     uint32_t size;          /* the length of the file in bytes */
     uint8_t image;          /* the number of the image */
-    uint8_t is_permanent;   /* not 0: it is requested for good; 0: for a test */
-    uint8_t has_precursor;  /* not 0: the file is for the image `precursor` alone */
+    uint8_t is_permanent;   /* 0: it is requested for a test; else permanently */
+    uint8_t has_precursor;  /* not 0: the file is only for a device that runs `precursor` */
     uint8_t unused;
     uint8_t digest[32];     /* the SHA-256 of the file (bootswap_digest) */
     uint8_t precursor[32];  /* the digest of the image that has to run (bootswap_describe) */
 };
 
-/* A manifest: what may come. */
+/* A manifest: the images that may be uploaded. */
 struct bootswap_manifest {
     uint32_t sequence; /* rises from manifest to manifest */
     uint32_t count;    /* how many components there are, 1 to 8 */
@@ -167,11 +167,11 @@ struct bootswap_group {
     struct bootswap_need alternatives[4];
 };
 
-/* What an image says of itself. */
+/* The description of an image. */
 struct bootswap_description {
     uint64_t length;                 /* in bytes, from the header to the end of the unprotected area */
     struct bootswap_version version; /* ih_ver */
-    uint32_t counter;                /* the security counter, 0 where it has none */
+    uint32_t counter;                /* the security counter, 0 if it has none */
     uint32_t flags;                  /* ih_flags */
     uint32_t needs_count;            /* 0 to 16 */
     uint32_t groups_count;           /* 0 to 4 */
@@ -185,50 +185,51 @@ struct bootswap_sha256 {
     uint8_t bytes[32];
 };
 
-/* How many bytes are always enough for the text of a table, and for that of a report. */
+/* Buffer sizes that are always enough for the text of a table, and for that of a report. */
 #define BOOTSWAP_TABLE_ROOM 20480
 #define BOOTSWAP_REPORT_ROOM 2048
 
 /*
- * Makes the bytes of a flash a device's: the images that the primary slots begin with run. The primary slots lie at the
- * beginning of the flash, image by image, each with one sector behind it for its trailer. Slots and scratch stay as they
- * are. Returns BOOTSWAP_DONE; BOOTSWAP_REFUSED with BOOTSWAP_RUNNING_DAMAGED or BOOTSWAP_RUNNING_INVALID, where nothing
- * changed; or BOOTSWAP_CUT, after which it may be called again.
+ * Provisions the bytes of a flash: the images at the front of the primary slots run. The primary slots are at the
+ * beginning of the flash, image by image, each followed by one sector for its trailer. Slots and scratch are unchanged.
+ * Returns BOOTSWAP_DONE; BOOTSWAP_REFUSED with BOOTSWAP_RUNNING_DAMAGED or BOOTSWAP_RUNNING_INVALID: then nothing
+ * changed; or BOOTSWAP_CUT: then it may be called again.
  */
 uint32_t bootswap_provision(const struct bootswap_setup *setup, uint8_t *flash, size_t flash_length,
                             const struct bootswap_cut *cuts, size_t cuts_count, struct bootswap_told *told);
 
 /*
- * Boots. Returns BOOTSWAP_BOOTED, BOOTSWAP_REVERTED or BOOTSWAP_TRIAL_AGAIN, and the device is up; BOOTSWAP_REFUSED; or
- * BOOTSWAP_CUT, after which the next boot goes on. A boot that decided puts the texts of its table and its report at the
- * front of the two buffers, without a 0 behind them. A text is left out only if it is longer than its buffer.
+ * Boots. Returns BOOTSWAP_BOOTED, BOOTSWAP_REVERTED or BOOTSWAP_TRIAL_AGAIN, and the device is booted;
+ * BOOTSWAP_REFUSED; or BOOTSWAP_CUT: then the next boot continues. A boot that decides writes the texts of its table
+ * and its report to the front of the two buffers, without a 0 after them. A text is left out only if it is longer than
+ * its buffer.
  */
 uint32_t bootswap_boot(const struct bootswap_setup *setup, uint8_t *flash, size_t flash_length,
                        struct bootswap_kept *kept, const struct bootswap_cut *cuts, size_t cuts_count, char *table,
                        size_t table_room, char *report, size_t report_room, struct bootswap_told *told);
 
 /*
- * Takes a manifest: an upload is opened for each image that it names, and what was requested for these is gone. Returns
+ * Accepts a manifest: opens an upload for each image it lists, and cancels pending requests for those images. Returns
  * BOOTSWAP_DONE, BOOTSWAP_REFUSED or BOOTSWAP_CUT.
  */
 uint32_t bootswap_accept(const struct bootswap_setup *setup, uint8_t *flash, size_t flash_length,
                          struct bootswap_kept *kept, const struct bootswap_cut *cuts, size_t cuts_count,
                          const struct bootswap_manifest *manifest, struct bootswap_told *told);
 
-/* Takes the bytes of an image's upload that follow those before. Returns as bootswap_accept. */
+/* Adds bytes to the upload of an image. Returns as bootswap_accept. */
 uint32_t bootswap_piece(const struct bootswap_setup *setup, uint8_t *flash, size_t flash_length,
                         struct bootswap_kept *kept, const struct bootswap_cut *cuts, size_t cuts_count, uint8_t image,
                         const uint8_t *bytes, size_t bytes_length, struct bootswap_told *told);
 
 /*
- * Finishes the upload of an image: where it is whole, of the manifest's digest and an intact image, it is requested.
- * Returns as bootswap_accept.
+ * Finishes the upload of an image. The image is requested if the upload is complete, has the manifest's digest, and is
+ * an intact image. Returns as bootswap_accept.
  */
 uint32_t bootswap_finish(const struct bootswap_setup *setup, uint8_t *flash, size_t flash_length,
                          struct bootswap_kept *kept, const struct bootswap_cut *cuts, size_t cuts_count, uint8_t image,
                          struct bootswap_told *told);
 
-/* Takes the request of an image back. Returns as bootswap_accept. */
+/* Withdraws the request of an image. Returns as bootswap_accept. */
 uint32_t bootswap_withdraw(const struct bootswap_setup *setup, uint8_t *flash, size_t flash_length,
                            struct bootswap_kept *kept, const struct bootswap_cut *cuts, size_t cuts_count,
                            uint8_t image, struct bootswap_told *told);
@@ -238,32 +239,32 @@ uint32_t bootswap_confirm(const struct bootswap_setup *setup, uint8_t *flash, si
                           struct bootswap_kept *kept, const struct bootswap_cut *cuts, size_t cuts_count,
                           uint8_t image, struct bootswap_told *told);
 
-/* Resets the device: all uploads end, and it isn't up. */
+/* Resets the device: all uploads are closed, and it isn't booted. */
 void bootswap_reset(struct bootswap_kept *kept);
 
 /*
- * Describes the image that a slot begins with: side 0 is the primary slot, 1 the secondary one. No byte changes. Returns
+ * Describes the image at the front of a slot: side 0 is the primary slot, 1 the secondary one. No byte changes. Returns
  * 0, the number of the first check that fails, 1 to 15, or why there is no such slot.
  */
 uint32_t bootswap_slot(const struct bootswap_setup *setup, uint8_t *flash, size_t flash_length, uint8_t image,
                        uint8_t side, struct bootswap_description *description);
 
-/* Describes an image: all of the bytes. Returns 0, or the number of the first check that fails, 1 to 15. */
+/* Describes an image, which is all of the bytes. Returns 0, or the number of the first check that fails, 1 to 15. */
 uint32_t bootswap_describe(const uint8_t *bytes, size_t bytes_length, struct bootswap_description *description);
 
 /* The SHA-256 of bytes (FIPS 180-4). */
 void bootswap_digest(const uint8_t *bytes, size_t bytes_length, struct bootswap_sha256 *digest);
 
 /*
- * Chooses among the requests of the table that a text is, and puts the text of the report at the front of `report`.
- * Returns 0, and in `length` how many bytes it has; BOOTSWAP_NO_TABLE, and in `length` the number of the first line that
- * no table goes on from; BOOTSWAP_INVALID_SET; or BOOTSWAP_NO_ROOM, only if the report is longer than the buffer.
+ * Chooses among the requests of a table, which is a text, and writes the text of the report to the front of `report`.
+ * Returns 0, and in `length` the length of the report in bytes; BOOTSWAP_NO_TABLE, and in `length` the number of the
+ * first bad line; BOOTSWAP_INVALID_SET; or BOOTSWAP_NO_ROOM, only if the report is longer than the buffer.
  */
 uint32_t bootswap_choose(const char *table, size_t table_length, char *report, size_t report_room, uint64_t *length);
 
 /*
  * Checks a report for a table, both texts. Returns 0 where it is right, BOOTSWAP_WRONG, or BOOTSWAP_NO_TABLE or
- * BOOTSWAP_NO_REPORT and in `line` the number of the first line that none goes on from.
+ * BOOTSWAP_NO_REPORT and in `line` the number of the first bad line.
  */
 uint32_t bootswap_check(const char *table, size_t table_length, const char *report, size_t report_length,
                         uint64_t *line);
@@ -272,9 +273,9 @@ uint32_t bootswap_check(const char *table, size_t table_length, const char *repo
 }
 #else
 _Static_assert(sizeof(struct bootswap_setup) == 76, "the setup of a device");
-_Static_assert(sizeof(struct bootswap_kept) == 420, "what a device keeps");
+_Static_assert(sizeof(struct bootswap_kept) == 420, "the saved state of a device");
 _Static_assert(sizeof(struct bootswap_cut) == 24, "a cut");
-_Static_assert(sizeof(struct bootswap_told) == 592, "what a call tells");
+_Static_assert(sizeof(struct bootswap_told) == 592, "the result of a call");
 _Static_assert(sizeof(struct bootswap_manifest) == 584, "a manifest");
 _Static_assert(sizeof(struct bootswap_description) == 464, "a description");
 #endif

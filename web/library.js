@@ -1,8 +1,51 @@
 // The proved library as WebAssembly: what include/bootswap.h declares, over the memory of the module.
 // A `Device` has a flash in that memory and what it keeps between two calls. Nothing here decides.
 
-const SIZES = { setup: 76, kept: 420, told: 592, manifest: 584, cuts: 24 * 16, description: 464 };
+// How many bytes the structs of the header have, and where those of their fields begin that are used here.
+// tests/test_header.py compares both with the header.
+const SIZES = {
+  setup: 76,
+  kept: 420,
+  cut: 24,
+  version: 8,
+  need: 12,
+  refusal: 60,
+  told: 592,
+  component: 72,
+  manifest: 584,
+  description: 464,
+};
+const OFFSETS = {
+  setup: { sector_size: 0, images: 4, sectors: 8, trial_boots: 40 },
+  kept: { is_booted: 0 },
+  cut: { write: 0, left: 8, pattern_length: 12, pattern: 16 },
+  version: { major: 0, minor: 1, revision: 2, build: 4 },
+  need: { image: 0, minimum: 4 },
+  refusal: { image: 0, reason: 4, count: 8, needs: 12 },
+  told: {
+    writes: 0,
+    fault: 8,
+    detail: 12,
+    check: 16,
+    set: 20,
+    left: 24,
+    permanent: 28,
+    images: 32,
+    refusals: 36,
+    table_length: 40,
+    report_length: 44,
+    versions: 48,
+    refused: 112,
+  },
+  component: { size: 0, image: 4, is_permanent: 5, digest: 8 },
+  manifest: { sequence: 0, count: 4, components: 8 },
+  description: { version: 8 },
+};
+
+// What calls are lent: these structs, and buffers of so many bytes.
+const STRUCTS = ["setup", "kept", "cut", "told", "manifest", "description"];
 const ROOM = { table: 20480, report: 2048, bytes: 8192 };
+const DIGEST = 32;
 const PAGE = 65536;
 
 export const NUMBERS = ["done", "booted", "reverted", "trial-again", "refused", "cut"];
@@ -51,7 +94,8 @@ export class Device {
   place() {
     const { memory } = this.library;
     let at = memory.buffer.byteLength;
-    const parts = { ...SIZES, ...ROOM, flash: this.length };
+    const structs = Object.fromEntries(STRUCTS.map((name) => [name, SIZES[name]]));
+    const parts = { ...structs, ...ROOM, flash: this.length };
     const needed = Object.values(parts).reduce((sum, it) => sum + it + 8, 0);
     memory.grow(BigInt(Math.ceil(needed / PAGE)));
     this.at = {};
@@ -65,13 +109,26 @@ export class Device {
     this.kept = this.memory.subarray(this.at.kept, this.at.kept + SIZES.kept);
   }
 
+  /** Writes numbers of 32 bits to fields of a struct that begins at an address. */
+  write(struct, at, values) {
+    for (const [field, value] of Object.entries(values)) this.view.setUint32(at + OFFSETS[struct][field], value, true);
+  }
+
+  /** Reads fields of 32 bits from a struct that begins at an address. */
+  read(struct, at, ...fields) {
+    return fields.map((field) => this.view.getUint32(at + OFFSETS[struct][field], true));
+  }
+
+  /** The addresses of a number of structs that a field of another one lists. */
+  rows(struct, at, field, row, count) {
+    return Array.from({ length: count }, (_, i) => at + OFFSETS[struct][field] + SIZES[row] * i);
+  }
+
   writeSetup() {
     const { sectorSize, sectors, trialBoots } = this.setup;
-    const u32 = (offset, value) => this.view.setUint32(this.at.setup + offset, value, true);
-    u32(0, sectorSize);
-    u32(4, sectors.length);
-    sectors.forEach((count, image) => u32(8 + 4 * image, count));
-    u32(40, trialBoots);
+    const { setup } = this.at;
+    this.write("setup", setup, { sector_size: sectorSize, images: sectors.length, trial_boots: trialBoots });
+    sectors.forEach((count, image) => this.view.setUint32(setup + OFFSETS.setup.sectors + 4 * image, count, true));
   }
 
   pointer(name) {
@@ -86,13 +143,13 @@ export class Device {
 
   /** Writes the list of cuts of a call: at most one here. */
   cuts(cut) {
-    if (!cut) return [this.pointer("cuts"), 0n];
-    this.view.setBigUint64(this.at.cuts, BigInt(cut.write), true);
-    this.view.setUint32(this.at.cuts + 8, { keep: 0, done: 1 }[cut.left] ?? 2, true);
+    if (!cut) return [this.pointer("cut"), 0n];
+    const at = this.at.cut;
     const pattern = Array.isArray(cut.left) ? cut.left : [];
-    this.view.setUint32(this.at.cuts + 12, pattern.length, true);
-    this.memory.set(pattern, this.at.cuts + 16);
-    return [this.pointer("cuts"), 1n];
+    this.view.setBigUint64(at + OFFSETS.cut.write, BigInt(cut.write), true);
+    this.write("cut", at, { left: { keep: 0, done: 1 }[cut.left] ?? 2, pattern_length: pattern.length });
+    this.memory.set(pattern, at + OFFSETS.cut.pattern);
+    return [this.pointer("cut"), 1n];
   }
 
   call(name, cut, ...words) {
@@ -103,29 +160,42 @@ export class Device {
   }
 
   reply(number) {
-    const u32 = (offset) => this.view.getUint32(this.at.told + offset, true);
-    const names = ["fault", "detail", "check", "set", "left", "permanent", "images", "refusals", "tableLength", "reportLength"];
-    const told = Object.fromEntries(names.map((name, i) => [name, u32(8 + 4 * i)]));
-    const writes = Number(this.view.getBigUint64(this.at.told, true));
+    const at = this.at.told;
+    const names = ["fault", "detail", "check", "set", "left", "permanent", "images", "refusals"];
+    const values = this.read("told", at, ...names);
+    const told = Object.fromEntries(names.map((name, i) => [name, values[i]]));
+    [told.tableLength, told.reportLength] = this.read("told", at, "table_length", "report_length");
+    const writes = Number(this.view.getBigUint64(at + OFFSETS.told.writes, true));
     return { number, writes, ...told, ...this.decision(told), why: this.why(told) };
   }
 
   /** The fields and texts of a boot that decided. */
   decision(told) {
-    const versions = Array.from({ length: told.images }, (_, i) => this.version(this.at.told + 48 + 8 * i));
-    const refused = Array.from({ length: told.refusals }, (_, i) => this.refusal(this.at.told + 112 + 60 * i));
+    const at = this.at.told;
+    const versions = this.rows("told", at, "versions", "version", told.images).map((it) => this.version(it));
+    const refused = this.rows("told", at, "refused", "refusal", told.refusals).map((it) => this.refusal(it));
     return { versions, refused, table: this.text("table", told.tableLength), report: this.text("report", told.reportLength) };
   }
 
   version(at) {
-    const [major, minor] = this.memory.subarray(at, at + 2);
-    return { major, minor, revision: this.view.getUint16(at + 2, true), build: this.view.getUint32(at + 4, true) };
+    const { major, minor, revision, build } = OFFSETS.version;
+    return {
+      major: this.view.getUint8(at + major),
+      minor: this.view.getUint8(at + minor),
+      revision: this.view.getUint16(at + revision, true),
+      build: this.view.getUint32(at + build, true),
+    };
   }
 
   refusal(at) {
-    const u32 = (offset) => this.view.getUint32(at + offset, true);
-    const needs = Array.from({ length: u32(8) }, (_, i) => ({ image: u32(12 + 12 * i), minimum: this.version(at + 16 + 12 * i) }));
-    return { image: u32(0), reason: u32(4), needs };
+    const [image, reason, count] = this.read("refusal", at, "image", "reason", "count");
+    const needs = this.rows("refusal", at, "needs", "need", count).map((it) => this.need(it));
+    return { image, reason, needs };
+  }
+
+  need(at) {
+    const [image] = this.read("need", at, "image");
+    return { image, minimum: this.version(at + OFFSETS.need.minimum) };
   }
 
   why(told) {
@@ -150,12 +220,13 @@ export class Device {
   accept(sequence, components) {
     const at = this.at.manifest;
     this.memory.fill(0, at, at + SIZES.manifest);
-    this.view.setUint32(at, sequence, true);
-    this.view.setUint32(at + 4, components.length, true);
-    components.forEach(({ image, file, permanent }, i) => {
-      this.view.setUint32(at + 8 + 72 * i, file.length, true);
-      this.memory.set([image, permanent ? 1 : 0], at + 12 + 72 * i);
-      this.memory.set(this.digest(file), at + 16 + 72 * i);
+    this.write("manifest", at, { sequence, count: components.length });
+    this.rows("manifest", at, "components", "component", components.length).forEach((row, i) => {
+      const { image, file, permanent } = components[i];
+      this.write("component", row, { size: file.length });
+      this.memory[row + OFFSETS.component.image] = image;
+      this.memory[row + OFFSETS.component.is_permanent] = permanent ? 1 : 0;
+      this.memory.set(this.digest(file), row + OFFSETS.component.digest);
     });
     return this.call("accept", null, this.pointer("manifest"));
   }
@@ -180,19 +251,19 @@ export class Device {
     this.library.bootswap_reset(this.pointer("kept"));
   }
 
-  get isUp() {
-    return this.kept[0] === 1;
+  get isBooted() {
+    return this.kept[OFFSETS.kept.is_booted] === 1;
   }
 
   digest(bytes) {
     this.library.bootswap_digest(...this.lend(bytes), this.pointer("description"));
-    return this.memory.slice(this.at.description, this.at.description + 32);
+    return this.memory.slice(this.at.description, this.at.description + DIGEST);
   }
 
   /** The version of the image that a slot begins with, or nothing where it is none. */
   slot(image, side) {
     const words = [this.pointer("setup"), this.pointer("flash"), BigInt(this.length), image, side, this.pointer("description")];
-    return this.library.bootswap_slot(...words) ? null : this.version(this.at.description + 8);
+    return this.library.bootswap_slot(...words) ? null : this.version(this.at.description + OFFSETS.description.version);
   }
 
   /** Whether a report is right for a table, both texts. */

@@ -45,7 +45,7 @@ function hint() {
   const { action, reply } = scene.events.at(-1);
   if (reply.number === 5) return "Power failed in a write of this boot. Step through the next boot: it goes on where this one was cut. Then press Boot.";
   if (reply.number === 4) return "The device refused that and changed nothing. The list of events says why.";
-  if (!scene.device.isUp) return action === "provision" ? "The device is new. Press Boot." : "The device is off. Press Boot.";
+  if (!scene.device.isBooted) return action === "provision" ? "The device is new. Press Boot." : "The device is off. Press Boot.";
   if (reply.number === 2) return "The images weren't all confirmed, so the device reverted all of them. Upload again, or make another device.";
   if (action === "upload") return "The new images are in their secondary slots. Step through the next boot, cut the power in it, or press Boot.";
   if (action === "confirm") return "When every image on trial is confirmed, the next boot keeps them. Otherwise it reverts all of them.";
@@ -133,7 +133,7 @@ function drawScene() {
   drawEvents();
   drawPerImage();
   drawRunning();
-  $("up").textContent = scene.device.isUp ? "The device is booted." : "The device isn't booted.";
+  $("up").textContent = scene.device.isBooted ? "The device is booted." : "The device isn't booted.";
   $("next").textContent = hint();
   $("link").href = scene.hash;
   history.replaceState(null, "", scene.hash);

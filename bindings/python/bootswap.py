@@ -1,8 +1,8 @@
-"""bootswap for Python: a device whose flash is bytes in memory, by way of the proved library's C names.
+"""bootswap for Python: a device whose flash is bytes in memory, over the C interface of the proved library.
 
-A `Device` has a flash (`flash`, a bytearray that the caller may look at and change) and what it keeps between two calls.
-Each of its calls is one step of a machine that knows whole images only, which is proved. `choose`, `check`, `describe`
-and `digest` need no device. `include/bootswap.h` says of each call what it returns, and this module what it raises.
+A `Device` has a flash (`flash`, a bytearray that the caller may read and change) and its saved state. Each of its calls
+is proved to be one step of a machine that knows whole images only. `choose`, `check`, `describe` and `digest` need no
+device. `include/bootswap.h` says what each call returns, and this module what it raises.
 
 The library is `out/libbootswap.so` of the repository, which `bindings/build` makes, or the file that the environment
 names in BOOTSWAP_LIBRARY.
@@ -80,8 +80,7 @@ class Kind(enum.IntEnum):
 
 
 class BootswapError(Exception):
-    """A call that couldn't be made: nothing changed. `number` says why, and `line` the bad line of a text, if it is
-    one."""
+    """A call that couldn't be made, and changed nothing. `number` says why, and `line` is the bad line of a text."""
 
     def __init__(self, number: Number, line: int = 0) -> None:
         super().__init__(f"{number.name}{f' at line {line}' if line else ''}")
@@ -93,13 +92,13 @@ class _Setup(ctypes.Structure):
     _fields_ += [("trial_boots", c_uint32), ("vendor", c_uint8 * 16), ("class_id", c_uint8 * 16)]
 
 
-class _KeptUpload(ctypes.Structure):
+class _SavedUpload(ctypes.Structure):
     _fields_ = [("size", c_uint32), ("received", c_uint32), ("is_open", c_uint8), ("kind", c_uint8)]
     _fields_ += [("held_length", c_uint8), ("unused", c_uint8), ("held", c_uint8 * 8), ("digest", c_uint8 * 32)]
 
 
-class _Kept(ctypes.Structure):
-    _fields_ = [("is_up", c_uint8), ("unused", c_uint8 * 3), ("uploads", _KeptUpload * MOST_IMAGES)]
+class _SavedState(ctypes.Structure):
+    _fields_ = [("is_booted", c_uint8), ("unused", c_uint8 * 3), ("uploads", _SavedUpload * MOST_IMAGES)]
 
 
 class _Cut(ctypes.Structure):
@@ -118,7 +117,7 @@ class _Refusal(ctypes.Structure):
     _fields_ = [("image", c_uint32), ("reason", c_uint32), ("count", c_uint32), ("needs", _Need * 4)]
 
 
-class _Told(ctypes.Structure):
+class _CallResult(ctypes.Structure):
     _fields_ = [("writes", c_uint64)]
     _fields_ += [(name, c_uint32) for name in ("fault", "detail", "check", "set", "left", "permanent", "images")]
     _fields_ += [(name, c_uint32) for name in ("refusals", "table_length", "report_length")]
@@ -151,19 +150,19 @@ class _Sha256(ctypes.Structure):
 def _load() -> ctypes.CDLL:
     root = os.path.dirname(os.path.dirname(os.path.dirname(os.path.realpath(__file__))))
     library = ctypes.CDLL(os.environ.get("BOOTSWAP_LIBRARY", f"{root}/out/libbootswap.so"))
-    flash, cuts, told = [POINTER(c_uint8), c_size_t], [POINTER(_Cut), c_size_t], [POINTER(_Told)]
+    flash, cuts, result = [POINTER(c_uint8), c_size_t], [POINTER(_Cut), c_size_t], [POINTER(_CallResult)]
     text = [POINTER(c_char), c_size_t]
-    device = [POINTER(_Setup), *flash, POINTER(_Kept), *cuts]
-    of_image = [*device, c_uint8, *told]
+    device = [POINTER(_Setup), *flash, POINTER(_SavedState), *cuts]
+    of_image = [*device, c_uint8, *result]
     arguments = {
-        "provision": [POINTER(_Setup), *flash, *cuts, *told],
-        "boot": [*device, *text, *text, *told],
-        "accept": [*device, POINTER(_Manifest), *told],
-        "piece": [*device, c_uint8, POINTER(c_uint8), c_size_t, *told],
+        "provision": [POINTER(_Setup), *flash, *cuts, *result],
+        "boot": [*device, *text, *text, *result],
+        "accept": [*device, POINTER(_Manifest), *result],
+        "piece": [*device, c_uint8, POINTER(c_uint8), c_size_t, *result],
         "finish": of_image,
         "withdraw": of_image,
         "confirm": of_image,
-        "reset": [POINTER(_Kept)],
+        "reset": [POINTER(_SavedState)],
         "slot": [POINTER(_Setup), *flash, c_uint8, c_uint8, POINTER(_Description)],
         "describe": [*flash, POINTER(_Description)],
         "digest": [*flash, POINTER(_Sha256)],
@@ -194,7 +193,7 @@ class Version:
 
 @dataclass(frozen=True)
 class Need:
-    """An image in a version at least."""
+    """An image that is needed, in a version at least."""
 
     image: int
     minimum: Version
@@ -203,7 +202,7 @@ class Need:
 @dataclass(frozen=True)
 class Refusal:
     """A request that a boot refuses: the image, the number of the reason (1 damaged, 2 older, 3 counter, 4 no such
-    image, 5 needs, 6 needs one of several), and what it needs."""
+    image, 5 needs, 6 needs one of several), and what the image needs."""
 
     image: int
     reason: int
@@ -212,9 +211,8 @@ class Refusal:
 
 @dataclass(frozen=True)
 class Cut:
-    """A write that is to be cut in a call: its number, counted from the beginning of the call, from 1, and what it
-    leaves: `"keep"` what stood there, `"done"` what it was to leave, or up to 8 bytes that are put over its range again
-    and again."""
+    """A write that is to be cut in a call: its number in the call, counted from 1, and what it leaves: `"keep"` the old
+    bytes, `"done"` the new bytes, or up to 8 bytes that are repeated over its range."""
 
     write: int
     left: str | bytes = "keep"
@@ -222,8 +220,8 @@ class Cut:
 
 @dataclass(frozen=True)
 class Component:
-    """One image that may come: its number, how it is requested, and how its file is known. `precursor` is the digest of
-    the image that has to run, where the file is for that image alone."""
+    """One image that may be uploaded: its number, the kind of its request, and the size and digest of its file.
+    `precursor` is the digest of the image that has to run, if the file is for that image only."""
 
     image: int
     size: int
@@ -239,7 +237,7 @@ class Component:
 
 @dataclass(frozen=True)
 class Description:
-    """What an image says of itself."""
+    """The description of an image."""
 
     version: Version
     length: int
@@ -252,14 +250,14 @@ class Description:
 
 @dataclass(frozen=True)
 class Reply:
-    """What a device replies to a call. `number` is DONE, BOOTED, REVERTED, TRIAL_AGAIN, REFUSED or CUT.
+    """The reply of a device to a call. `number` is DONE, BOOTED, REVERTED, TRIAL_AGAIN, REFUSED or CUT.
 
-    - `writes`: how many writes the call began
-    - `fault`, `detail`, `check`: of REFUSED, why
-    - `images`: which images a boot takes, brings back or tries again
-    - `left`: of TRIAL_AGAIN, how many boots more the trial lasts
-    - `permanent`: of BOOTED, whether what is taken stays without a trial
-    - `versions`, `refusals`, `table`, `report`: of BOOTED, the decision
+    - `writes`: the number of writes that the call began
+    - `fault`, `detail`, `check`: the reason, if REFUSED
+    - `images`: the images that a boot takes, reverts or tries again
+    - `left`: the number of boots that are left to the trial, if TRIAL_AGAIN
+    - `permanent`: whether the set is taken without a trial, if BOOTED
+    - `versions`, `refusals`, `table`, `report`: the decision, if BOOTED
     """
 
     number: Number
@@ -276,23 +274,23 @@ class Reply:
     report: str = ""
 
 
-def _version(told: _Version) -> Version:
-    return Version(told.major, told.minor, told.revision, told.build)
+def _version(given: _Version) -> Version:
+    return Version(given.major, given.minor, given.revision, given.build)
 
 
-def _needs(told: Sequence[_Need], count: int) -> tuple[Need, ...]:
-    return tuple(Need(it.image, _version(it.minimum)) for it in told[:count])
+def _needs(given: Sequence[_Need], count: int) -> tuple[Need, ...]:
+    return tuple(Need(it.image, _version(it.minimum)) for it in given[:count])
 
 
-def _description(told: _Description) -> Description:
-    groups = tuple(_needs(it.alternatives, it.count) for it in told.groups[: told.groups_count])
-    needs = _needs(told.needs, told.needs_count)
+def _description(given: _Description) -> Description:
+    groups = tuple(_needs(it.alternatives, it.count) for it in given.groups[: given.groups_count])
+    needs = _needs(given.needs, given.needs_count)
     return Description(
-        _version(told.version), told.length, told.counter, told.flags, bytes(told.digest), needs, groups
+        _version(given.version), given.length, given.counter, given.flags, bytes(given.digest), needs, groups
     )
 
 
-def _lent(given: bytes) -> ctypes.Array[c_uint8]:
+def _bytes_of(given: bytes) -> ctypes.Array[c_uint8]:
     return (c_uint8 * max(len(given), 1)).from_buffer_copy(given or b"\0")
 
 
@@ -316,8 +314,8 @@ def _byte(image: int) -> int:
 
 @dataclass
 class Device:
-    """A device in memory, of `len(sectors)` images with so many sectors a slot. Its flash is erased at first, and
-    exactly as long as it has to be."""
+    """A device in memory with `len(sectors)` images, and these numbers of sectors for each slot. Its flash is erased at
+    first, and has exactly the length that the device needs."""
 
     sector_size: int
     sectors: Sequence[int]
@@ -334,7 +332,7 @@ class Device:
         self._setup = _Setup(self.sector_size, len(self.sectors), trial_boots=self.trial_boots)
         self._setup.sectors[: len(self.sectors)] = self.sectors
         self._setup.vendor[:], self._setup.class_id[:] = self.vendor.bytes, self.class_id.bytes
-        self._kept = _Kept()
+        self._saved = _SavedState()
 
     def place(self, image: int, side: int = 0) -> int:
         """The address of an image's slot: side 0 is the primary one."""
@@ -346,12 +344,12 @@ class Device:
         self.flash[self.place(image, side) : self.place(image, side) + len(file)] = file
 
     @property
-    def is_up(self) -> bool:
-        """Whether a boot answered, and neither a cut nor a reset came since."""
-        return self._kept.is_up == 1
+    def is_booted(self) -> bool:
+        """Whether the device is booted: no cut and no reset came after its last boot."""
+        return self._saved.is_booted == 1
 
     def provision(self, cuts: Sequence[Cut] = ()) -> Reply:
-        """Makes the flash the device's: what the primary slots begin with runs."""
+        """Provisions the flash: the images at the front of the primary slots run."""
         return self._call("provision", cuts)
 
     def boot(self, cuts: Sequence[Cut] = ()) -> Reply:
@@ -360,7 +358,7 @@ class Device:
         return self._call("boot", cuts, table, TABLE_ROOM, report, REPORT_ROOM, texts=(table, report))
 
     def accept(self, sequence: int, components: Iterable[Component], cuts: Sequence[Cut] = ()) -> Reply:
-        """Takes a manifest."""
+        """Accepts a manifest."""
         rows = list(components)
         if len(rows) > MOST_IMAGES:
             raise BootswapError(Number.TOO_MANY)
@@ -374,15 +372,15 @@ class Device:
         return self._call("accept", cuts, byref(manifest))
 
     def piece(self, image: int, more: bytes, cuts: Sequence[Cut] = ()) -> Reply:
-        """Takes the bytes of an image's upload that follow those before."""
-        return self._call("piece", cuts, _byte(image), _lent(more), len(more))
+        """Adds bytes to the upload of an image."""
+        return self._call("piece", cuts, _byte(image), _bytes_of(more), len(more))
 
     def finish(self, image: int, cuts: Sequence[Cut] = ()) -> Reply:
-        """Finishes the upload of an image, which is requested then."""
+        """Finishes the upload of an image, and requests the image."""
         return self._call("finish", cuts, _byte(image))
 
     def withdraw(self, image: int, cuts: Sequence[Cut] = ()) -> Reply:
-        """Takes the request of an image back."""
+        """Withdraws the request of an image."""
         return self._call("withdraw", cuts, _byte(image))
 
     def confirm(self, image: int, cuts: Sequence[Cut] = ()) -> Reply:
@@ -390,46 +388,46 @@ class Device:
         return self._call("confirm", cuts, _byte(image))
 
     def reset(self) -> None:
-        """Resets the device: all uploads end, and it isn't up."""
-        _LIBRARY.bootswap_reset(byref(self._kept))
+        """Resets the device: all uploads are closed, and it isn't booted."""
+        _LIBRARY.bootswap_reset(byref(self._saved))
 
     def slot(self, image: int, side: int = 0) -> Description | int:
-        """What the image says of itself that a slot begins with, or the number of the first check that fails."""
-        told, flash = _Description(), (c_uint8 * len(self.flash)).from_buffer(self.flash)
-        number = _LIBRARY.bootswap_slot(byref(self._setup), flash, len(flash), _byte(image), _byte(side), byref(told))
+        """The description of the image at the front of a slot, or the number of the first check that fails."""
+        result, flash = _Description(), (c_uint8 * len(self.flash)).from_buffer(self.flash)
+        number = _LIBRARY.bootswap_slot(byref(self._setup), flash, len(flash), _byte(image), _byte(side), byref(result))
         if number >= Number.NO_MAP:
             raise BootswapError(Number(number))
-        return number or _description(told)
+        return number or _description(result)
 
     def _call(self, name: str, cuts: Sequence[Cut], *words: object, texts: tuple = ()) -> Reply:
         if len(cuts) > MOST_CUTS:
             raise BootswapError(Number.TOO_MANY)
-        told, flash = _Told(), (c_uint8 * len(self.flash)).from_buffer(self.flash)
-        kept = [] if name == "provision" else [byref(self._kept)]
+        result, flash = _CallResult(), (c_uint8 * len(self.flash)).from_buffer(self.flash)
+        saved = [] if name == "provision" else [byref(self._saved)]
         call = getattr(_LIBRARY, f"bootswap_{name}")
         number = Number(
-            call(byref(self._setup), flash, len(flash), *kept, _cuts(cuts), len(cuts), *words, byref(told))
+            call(byref(self._setup), flash, len(flash), *saved, _cuts(cuts), len(cuts), *words, byref(result))
         )
         if number >= Number.NO_MAP:
             raise BootswapError(number)
-        return _reply(number, told, texts)
+        return _reply(number, result, texts)
 
 
-def _reply(number: Number, told: _Told, texts: tuple) -> Reply:
-    images = tuple(i for i in range(MOST_IMAGES) if told.set >> i & 1)
-    refusals = (Refusal(it.image, it.reason, _needs(it.needs, it.count)) for it in told.refused[: told.refusals])
-    lengths = zip(texts, (told.table_length, told.report_length))
+def _reply(number: Number, result: _CallResult, texts: tuple) -> Reply:
+    images = tuple(i for i in range(MOST_IMAGES) if result.set >> i & 1)
+    refusals = (Refusal(it.image, it.reason, _needs(it.needs, it.count)) for it in result.refused[: result.refusals])
+    lengths = zip(texts, (result.table_length, result.report_length))
     table, report = [it.raw[:length].decode() for it, length in lengths] or ("", "")
     return Reply(
         number,
-        told.writes,
-        told.fault,
-        told.detail,
-        told.check,
+        result.writes,
+        result.fault,
+        result.detail,
+        result.check,
         images,
-        told.left,
-        bool(told.permanent),
-        tuple(map(_version, told.versions[: told.images])),
+        result.left,
+        bool(result.permanent),
+        tuple(map(_version, result.versions[: result.images])),
         tuple(refusals),
         table,
         report,
@@ -437,34 +435,34 @@ def _reply(number: Number, told: _Told, texts: tuple) -> Reply:
 
 
 def describe(image: bytes) -> Description | int:
-    """What an image says of itself that some bytes are, all of them, or the number of the first check that fails."""
-    told = _Description()
-    return _LIBRARY.bootswap_describe(_lent(image), len(image), byref(told)) or _description(told)
+    """The description of the image that these bytes are, or the number of the first check that fails."""
+    result = _Description()
+    return _LIBRARY.bootswap_describe(_bytes_of(image), len(image), byref(result)) or _description(result)
 
 
 def digest(file: bytes) -> bytes:
     """The SHA-256 of a file, by which a manifest names it."""
-    told = _Sha256()
-    _LIBRARY.bootswap_digest(_lent(file), len(file), byref(told))
-    return bytes(told.bytes)
+    result = _Sha256()
+    _LIBRARY.bootswap_digest(_bytes_of(file), len(file), byref(result))
+    return bytes(result.bytes)
 
 
 def choose(table: str) -> str:
-    """The report of the choice among the requests of a table. Raises BootswapError where the text is no table, or the
+    """The report of the choice among the requests of a table. Raises BootswapError if the text is no table, or the
     running images don't fit each other."""
     given, report, length = table.encode(), ctypes.create_string_buffer(REPORT_ROOM), c_uint64()
-    lent = ctypes.create_string_buffer(given, len(given) + 1)
-    number = Number(_LIBRARY.bootswap_choose(lent, len(given), report, REPORT_ROOM, byref(length)))
+    text = ctypes.create_string_buffer(given, len(given) + 1)
+    number = Number(_LIBRARY.bootswap_choose(text, len(given), report, REPORT_ROOM, byref(length)))
     if number != Number.DONE:
         raise BootswapError(number, length.value)
     return report.raw[: length.value].decode()
 
 
 def check(table: str, report: str) -> bool:
-    """Whether a report is right for a table. Raises BootswapError where a text is none."""
+    """Whether a report is right for a table. Raises BootswapError if a text isn't what it should be."""
     first, second, line = table.encode(), report.encode(), c_uint64()
-    lent = [ctypes.create_string_buffer(it, len(it) + 1) for it in (first, second)]
-    number = Number(_LIBRARY.bootswap_check(lent[0], len(first), lent[1], len(second), byref(line)))
+    texts = [ctypes.create_string_buffer(it, len(it) + 1) for it in (first, second)]
+    number = Number(_LIBRARY.bootswap_check(texts[0], len(first), texts[1], len(second), byref(line)))
     if number not in (Number.DONE, Number.WRONG):
         raise BootswapError(number, line.value)
     return number == Number.DONE

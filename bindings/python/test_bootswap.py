@@ -151,15 +151,15 @@ class Devices(unittest.TestCase):
 
     def test_a_boot_that_is_cut_at_any_write_ends_with_the_same_set(self):
         before = self.requested()
-        kept, flash = bytes(before._kept), bytes(before.flash)
+        kept, flash = bytes(before._saved), bytes(before.flash)
         writes = before.boot().writes
         self.assertGreater(writes, 20)
         new = Version(2)
         for write in range(1, writes + 1):
             device = Device(512, [2, 2], flash=bytearray(flash))
-            device._kept = type(device._kept).from_buffer_copy(kept)
+            device._saved = type(device._saved).from_buffer_copy(kept)
             self.assertEqual(device.boot([Cut(write, b"\x5a\x00")]).number, Number.CUT)
-            self.assertFalse(device.is_up)
+            self.assertFalse(device.is_booted)
             reply = device.boot()
             self.assertEqual((reply.number, reply.versions), (Number.BOOTED, (new, new)), write)
             self.assertEqual([device.slot(image).version for image in (0, 1)], [new, new])
@@ -181,7 +181,7 @@ class Devices(unittest.TestCase):
         device.flash[device.place(0, 1) + 40] = 0
         self.assertEqual(device.piece(0, file[13:]).fault, bootswap.Fault.NotBooted)
         device.flash[device.place(0, 1) + 40] = 0xFF
-        self.assertFalse(device.is_up)
+        self.assertFalse(device.is_booted)
 
     def test_any_contents_are_answered(self):
         numbers, device = random.Random(7), device_of("pair")
@@ -189,7 +189,7 @@ class Devices(unittest.TestCase):
             kept = bytes([numbers.choice((0, 1, 2)), 0, 0, 0]) + numbers.randbytes(416)
             if numbers.random() < 0.5:
                 kept = kept[:4] + bytes(numbers.choice((0, 0, 1, 255)) for _ in range(416))
-            device._kept = type(device._kept).from_buffer_copy(kept)
+            device._saved = type(device._saved).from_buffer_copy(kept)
             device.flash[numbers.randrange(len(device.flash))] = numbers.randrange(256)
             call = numbers.choice((device.boot, lambda: device.piece(0, b"abcdefgh"), lambda: device.finish(1)))
             self.assertIn(call().number, (Number.BOOTED, Number.DONE, Number.REFUSED))

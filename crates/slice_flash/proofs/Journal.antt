@@ -1,11 +1,10 @@
--- A flash over lent bytes keeps what its writes made through one write more.
+-- A flash over borrowed bytes keeps what its writes made through one write more.
 use Rattle.std.proofs.Common.{◌≡◌, ℕ, ◌+◌, ◌-◌, ◌^◌, ◌<◌, ◌≤◌, ◌==◌, true, false, List, [], ◌∷◌, map, length, min, slice_range}
 use Rattle.std.proofs.Common.{Option, Some, None, refl, sym, ◌∙◌, ap, arith, ⊎_elim}
 use Rattle.std.specs.List.{list_any}
 use Rattle.std.specs.Option.{is_some}
 use Rattle.std.proofs.lemmas.Bool.{cases_Bool, cases_lt, le-ltb, lt-ltb}
 use Rattle.std.proofs.lemmas.Option.{none-some}
-use Rattle.flash_model.specs.Chip.{Fixed}
 use Rattle.flash_model.specs.Memory.{one_more}
 use Rattle.flash_model.specs.Torn.{left_at, left_by, replaced}
 use Rattle.flash_model.specs.Written.{IsWrite, IsWrittenBy, leaves}
@@ -14,7 +13,7 @@ use Rattle.slice_flash.specs.declared.table.Cut as row
 use Rattle.slice_flash.specs.declared.table.Left.{Left}
 use Rattle.slice_flash.specs.declared.table.Left.TheVariants.{Keep, Done, Bytes}
 use Rattle.slice_flash.specs.Rows.{cutting_of, fixed_by, left_after, left_for, left_of, numbers_in, torn_bytes}
-use Rattle.slice_flash.proofs.Told.{any_number}
+use Rattle.slice_flash.proofs.Reaching.{any_number}
 
 -- The cut of a row leaves what the row says.
 cutting_leaves : (cut : row.Cut) (old done : List ℕ) (left : Left) → cut.left ≡ left
@@ -40,11 +39,11 @@ leaves_at table first name k old done (Some left) below is =
     leaves_torn (fixed_by table first name) k old done below (any_number k table ∙ ap is_some is)
     ∙ left_in table k old done ∙ ap (λ (l : Option Left). left_of l old done) is
 
--- A write leaves what the table says of the next one after so many.
-leaves_told : (table : List row.Cut) (first : List ℕ) (name writes : ℕ) (left : Option Left) (old done : List ℕ)
+-- A write leaves what the table says of the next one after this number.
+leaves_by_table : (table : List row.Cut) (first : List ℕ) (name writes : ℕ) (left : Option Left) (old done : List ℕ)
     → left_after writes table ≡ left → (k : ℕ) → writes ≡ min k (2 ^ 64 - 1)
     → leaves (fixed_by table first name) (k + 1) old done ≡ left_of left old done
-leaves_told table first name writes left old done is k counted = ⊎_elim
+leaves_by_table table first name writes left old done is k counted = ⊎_elim
     (λ (some : k < 2 ^ 64 - 1).
     let same : writes ≡ k = omega (arith, counted, some) in
     let next : left_for (k + 1) table ≡ left = rw (lt-ltb k (2 ^ 64 - 1) some) at rw same at is in
@@ -57,21 +56,21 @@ leaves_told table first name writes left old done is k counted = ⊎_elim
     (cases_lt k (2 ^ 64 - 1))
 
 -- A write of these bytes that was done or torn, as the table says.
-pub written_told : (table : List row.Cut) (first : List ℕ) (name size at n : ℕ) (range bytes after : List ℕ)
+pub written_by_table : (table : List row.Cut) (first : List ℕ) (name size at n : ℕ) (range bytes after : List ℕ)
     (writes next : ℕ) (left : Option Left) → IsWrite size (record { at = at; done = range }) bytes
     → next ≡ one_more writes → left_after writes table ≡ left → length range ≡ n
     → after ≡ replaced at (left_of left (slice_range bytes at (at + n)) range) bytes
     → ∥ IsWrittenBy size (fixed_by table first name) bytes writes ∥₁
     → ∥ IsWrittenBy size (fixed_by table first name) after next ∥₁
-written_told table first name size at n range bytes after writes next left is counts told long put was =
+written_by_table table first name size at n range bytes after writes next left is counts torn long put was =
     written_more size (fixed_by table first name) bytes after _ writes next (record { at = at; done = range }) is
-    (leaves_told table first name writes left (slice_range bytes at (at + length range)) range told)
+    (leaves_by_table table first name writes left (slice_range bytes at (at + length range)) range torn)
     (put ∙ ap (λ (m : ℕ). replaced at (left_of left (slice_range bytes at (at + m)) range) bytes) (sym long)) counts was
 
 -- The number of a write that the table cuts is in it.
-pub number_told : (table : List row.Cut) (writes next : ℕ) (left : Left) → next ≡ one_more writes
+pub number_of_cut : (table : List row.Cut) (writes next : ℕ) (left : Left) → next ≡ one_more writes
     → left_after writes table ≡ Some left → list_any (λ number. number == next) (numbers_in table) ≡ true
-number_told table writes next left is some = ⊎_elim
+number_of_cut table writes next left is some = ⊎_elim
     (λ (counts : writes < 2 ^ 64 - 1).
     let same : next ≡ writes + 1 = omega (arith, is) in
     let row : left_for (writes + 1) table ≡ Some left = rw (lt-ltb writes (2 ^ 64 - 1) counts) at some in

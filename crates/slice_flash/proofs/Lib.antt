@@ -1,3 +1,3 @@
-pub mod Told
+pub mod Reaching
 mod Journal
 mod Writes

@@ -41,7 +41,7 @@ blank_pattern sector sectors n bytes below whole =
     let long = length_range bytes (sector * n) (sector * n + n) in
     pattern_of_one 255 n _ (long ∙ omega (arith, whole, product_le sector sectors n below))
 
--- An erase that was done, which is counted behind the write that it is, ..
+-- An erase that was done, which is counted after its write, ..
 pub erase_done : (sector m : ℕ) (old new : Chip) → m ≡ new.erases + 1
     → Programs (sector * old.sector_size) (replicate old.sector_size 255) old new {T = Unit {0}} (Ok tt)
     → Erases sector old (record new { erases = m }) {T = Unit {0}} (Ok tt)
@@ -88,11 +88,11 @@ erase_failed sector error old new write = record {
 }
 
 -- An erase that was done ..
-pub told_done : (at : ℕ) (range : List ℕ) (old mid new : Slice)
+pub erase_is_done : (at : ℕ) (range : List ℕ) (old mid new : Slice)
     → Writes (Ok tt) at range (done at range old) old mid
     → new ≡ record mid { chip = record (mid.chip) { erases = mid.chip.erases + 1 } }
     → Writes (Ok tt) at range (erased at range old) old new
-told_done at range old mid new write counted = record {
+erase_is_done at range old mid new write counted = record {
   off = λ off. absurd (false≢true (sym (ap is_ok (write.off off).0)));
   on = λ on none.
       let more : Slice → Slice = λ s. record s { chip = record (s.chip) { erases = s.chip.erases + 1 } } in
@@ -101,18 +101,18 @@ told_done at range old mid new write counted = record {
 }
 
 -- .. or wasn't, by the table.
-pub told_failed : (at : ℕ) (range : List ℕ) (error : FlashError) (old new : Slice)
+pub erase_is_failed : (at : ℕ) (range : List ℕ) (error : FlashError) (old new : Slice)
     → Writes (Err error) at range (done at range old) old new
     → Writes (Err error) at range (erased at range old) old new
-told_failed at range error old new write = record {
+erase_is_failed at range error old new write = record {
   off = write.off;
   on = λ on none. absurd (false≢true (write.on on none).0);
   cut = write.cut;
 }
 
--- ---- a range that was lent and is put back
+-- ---- a range that was borrowed and is put back
 
--- Where a range was lent, all bytes are those with what it has now.
+-- After a range was borrowed, the bytes are those with the range's new contents.
 pub put_back : (at n : ℕ) (bytes new range : List ℕ) → new ≡ range → length range ≡ n
     → take at bytes ++ (new ++ drop (at + n - at) (drop at bytes)) ≡ replaced at range bytes
 put_back at n bytes new range is long =

@@ -15,8 +15,8 @@ numbers_in table = map (λ cut. cut.write) table
 abbrev pub left_for : ℕ → List row.Cut → Option Left
 left_for number table = option_map (λ cut. cut.left) (find (λ cut. cut.write == number) table)
 
--- What the cut of the next write leaves, after so many writes, where it is to be cut. Numbers end
--- at 2 ^ 64 - 1, and no write behind that one is cut.
+-- What the cut of the next write leaves, after this number of writes, if it is to be cut. Numbers
+-- end at 2 ^ 64 - 1, and no write after that one is cut.
 abbrev pub left_after : ℕ → List row.Cut → Option Left
 left_after writes table =
     if nat_lt writes (2 ^ 64 - 1) then left_for (writes + 1) table else None
@@ -49,8 +49,8 @@ cutting_of cut = record {
   pattern = pattern_of cut.left;
 }
 
--- What no call changes of a flash of this table, that was made of these bytes. They are lent, by a
--- borrow of this name.
+-- What no call changes of a flash with this table that was made of these bytes. They are borrowed,
+-- by a borrow of this name.
 abbrev pub fixed_by : List row.Cut → List ℕ → ℕ → Fixed
 fixed_by table first name = record unarmed {
   numbers = numbers_in table;

@@ -1,4 +1,4 @@
--- A flash over lent bytes: what a contract sees of it, and what a write of it leaves.
+-- A flash over borrowed bytes: what a contract sees of it, and what a write of it leaves.
 use Rattle.std.specs.Prelude.{◌≡◌, ℕ, ◌+◌, ◌*◌, ◌/◌, List, true, false, length, replicate}
 use Rattle.std.specs.Prelude.{Option, Some, None, slice_range, Result, IsOk, IsErrOf}
 use Rattle.std.specs.Borrow.{MutBor}
@@ -14,7 +14,7 @@ use Rattle.slice_flash.specs.declared.flash.SliceFlash.{SliceFlash}
 use Rattle.slice_flash.specs.declared.table.Cut as row
 use Rattle.slice_flash.specs.declared.table.Left.{Left}
 
--- A flash over lent bytes: the flash itself, and which writes of it are to be cut.
+-- A flash over borrowed bytes: the flash itself, and the writes of it that are to be cut.
 pub record Slice : Type 0 where
   pub chip : Chip
   pub table : List row.Cut
@@ -40,9 +40,9 @@ slice_of flash = record { chip = chip_of flash; table = flash.table.now }
 
 -- A flash that was just made over these bytes, in sectors of this size.
 abbrev pub new_slice : ℕ → MutBor (List ℕ) → List row.Cut → Slice
-new_slice size lent table = record {
-  chip = record (new_chip size (length lent.now / size) lent.now) {
-    fixed = fixed_by table lent.now lent.ghost_name;
+new_slice size borrowed table = record {
+  chip = record (new_chip size (length borrowed.now / size) borrowed.now) {
+    fixed = fixed_by table borrowed.now borrowed.ghost_name;
   };
   table = table;
 }
@@ -80,7 +80,7 @@ torn at range left old =
     }
 
 -- A write of these bytes ends as the table says. A flash that is off refuses it, and doesn't count
--- it; one that isn't in the table is done; one that is in it is cut, and leaves what stands there.
+-- it; one that isn't in the table is done; one that is in it is cut, and leaves what the row says.
 pub record Writes (result : Result Unit FlashError) (at : ℕ) (range : List ℕ) (done old new : Slice)
     : Type 0 where
   pub off : old.chip.is_on ≡ false → IsErrOf result Off × (new ≡ old)
@@ -89,12 +89,12 @@ pub record Writes (result : Result Unit FlashError) (at : ℕ) (range : List ℕ
       → IsErrOf result Cut × (new ≡ torn at range left old)
 
 -- A program of these bytes ends so.
-abbrev pub ProgramsAsTold : ℕ → List ℕ → Slice → Slice → Result Unit FlashError → Type 0
-ProgramsAsTold at range old new result = Writes result at range (done at range old) old new
+abbrev pub ProgramsByTable : ℕ → List ℕ → Slice → Slice → Result Unit FlashError → Type 0
+ProgramsByTable at range old new result = Writes result at range (done at range old) old new
 
 -- An erase of a sector ends so.
-abbrev pub ErasesAsTold : ℕ → Slice → Slice → Result Unit FlashError → Type 0
-ErasesAsTold sector old new result =
+abbrev pub ErasesByTable : ℕ → Slice → Slice → Result Unit FlashError → Type 0
+ErasesByTable sector old new result =
     let at = sector * old.chip.sector_size in
     let blank = replicate old.chip.sector_size 0xff in
     Writes result at blank (erased at blank old) old new
@@ -106,7 +106,7 @@ CanPut at n pattern chip = (range : List ℕ) → length range ≡ n
     → range ≡ with_pattern pattern (slice_range chip.bytes at (at + n))
     → IsWrite chip.sector_size (record { at = at; done = range }) chip.bytes
 
--- A call puts a pattern over so many bytes, as a write of the bytes that it gives there.
+-- A call repeats a pattern over this number of bytes, as a write of the bytes that result there.
 pub record Puts (at n : ℕ) (pattern : List ℕ) (old new : Slice) (result : Result Unit FlashError)
     : Type 0 where
   pub chip : (range : List ℕ) → length range ≡ n

@@ -1,4 +1,4 @@
-//! A flash over bytes that somebody else lends.
+//! A flash over borrowed bytes.
 
 ghost use Rattle.std.specs.Prelude.{◌≡◌, ◌==◌, ◌+◌, ◌*◌, ◌%◌, ◌^◌, ◌<◌, ◌≤◌, ℕ, false, true};
 ghost use Rattle.std.specs.Prelude.{length, slice_index, slice_range};
@@ -11,23 +11,23 @@ use crate::table::{Cut, Left, left_after, repeat, tear};
 use flash_model::{Flash, FlashError, Origin};
 use std::sync::ledger::{Blank, Book, Ledger, Share};
 
-/// A flash over bytes that somebody else lends, of which any write can be cut.
+/// A flash over borrowed bytes, of which any write can be cut.
 ///
-/// A *write* is a program or an erase. The k-th one, counted from the making of the flash, from 1,
-/// is cut where the table has a row for it, and the first such row counts: it answers `Cut`, leaves
-/// in its range exactly what the row says and all else as it was, and the flash is off until
-/// `restart`. No other write is cut. A write that a flash refuses since it is off isn't counted.
+/// A *write* is a program or an erase. Writes are counted from 1 since the flash was made. A write
+/// is cut if the table has a row for it, and the first such row counts. The write returns `Cut`,
+/// leaves in its range exactly what the row says and all else unchanged, and the flash is off until
+/// `restart`. No other write is cut. A write that a flash refuses because it is off isn't counted.
 ///
-/// No call allocates. Once the flash is dropped, the bytes lent are those of the flash. The lender
-/// knows that where calls borrowed the flash; where it was moved into another struct it knows the
-/// length alone.
+/// No call allocates. When the flash is dropped, the borrowed bytes are those of the flash. The
+/// caller knows this if functions borrowed the flash. If the flash was moved into another struct,
+/// the caller knows only the length.
 ///
-/// Contracts see it as a `Slice` (`slice_of`): the chip and the table. Whoever calls the flash, its
-/// bytes are what exactly the counted writes made of those that were lent, torn where the table
-/// says and as it says. A flash that is off was cut in the last of these writes.
+/// Contracts see it as a `Slice` (`slice_of`): the chip and the table. Its bytes are what exactly
+/// the counted writes made of the borrowed bytes, torn where the table says and as it says. A flash
+/// that is off was cut in the last of these writes.
 ///
-/// It is made in a function that is generic in the ledger, as a `MemFlash` is, whose page says what
-/// the caller of that function writes:
+/// It is made in a function that is generic in the ledger, like a `MemFlash`. The page of
+/// `MemFlash` says what the caller of that function writes:
 ///
 /// ```text
 /// fn helper<L: Ledger>(blank: Blank, bytes: &mut [u8])
@@ -60,15 +60,15 @@ pub struct SliceFlash<'a, L: Ledger> {
     ghost counts_cuts: { 0 < cuts.parts },
     ghost counts_erases: { 0 < erases.parts },
     ghost fits: { writes < 2 ^ 64 },
-    ghost cut_as_told: { cuts.amount ≡ reached (numbers_in table.now) writes },
-    ghost off_as_told: { is_on ≡ false
+    ghost cut_by_table: { cuts.amount ≡ reached (numbers_in table.now) writes },
+    ghost off_by_table: { is_on ≡ false
         → list_any (λ number. number == writes) (numbers_in table.now) ≡ true },
     ghost written: { ∥ IsWrittenBy sector_size
         (fixed_by table.now origin.first bytes.ghost_name) bytes.now writes ∥₁ },
 }
 
-// Written out for its clause, by which the lender knows the bytes again: a derived `drop` of a
-// struct that owns more than the borrow tells nothing of it.
+// Written out for its clause, by which the caller knows the bytes again: a derived `drop` of a
+// struct that owns more than the borrow has no clause about it.
 impl<'a, L: Ledger> Drop for SliceFlash<'a, L> {
     ghost use Rattle.slice_flash.specs.SliceFlash.{chip_of};
 
@@ -90,8 +90,8 @@ impl<'a, L: Ledger> Drop for SliceFlash<'a, L> {
     }
 }
 
-/// Reads from an address on. The bytes are borrowed as `&mut`, since a field that is a `&mut` and
-/// is lent as `&` isn't known to be as it was.
+/// Reads from an address on. The bytes are borrowed as `&mut`: a field that is a `&mut` and is
+/// passed as `&` isn't known to be unchanged.
 fn read_from(bytes: &mut [u8], at: usize, out: &mut [u8])
     requires { at + length out.old ≤ length bytes.old }
     ensures same { bytes.new ≡ bytes.old }
@@ -103,9 +103,9 @@ fn read_from(bytes: &mut [u8], at: usize, out: &mut [u8])
 impl<'a, L: Ledger> SliceFlash<'a, L> {
     ghost use Rattle.slice_flash.specs.SliceFlash.{chip_of, new_slice, slice_of, CanPut, Puts};
 
-    /// A flash that holds the bytes lent, whole sectors of `sector_size` bytes each, and is on.
+    /// A flash that holds the borrowed bytes, whole sectors of `sector_size` bytes each, and is on.
     ///
-    /// It has 4294967295 bytes at most. The ledger's token has two parts, as `Blank::new(2)` makes
+    /// It has at most 4294967295 bytes. The ledger's token has two parts, as `Blank::new(2)` makes
     /// it.
     pub fn new(blank: Blank, bytes: &'a mut [u8], sector_size: u32, table: &'a [Cut<'a>]) -> Self
         requires name { blank.name ≡ L.name }
@@ -134,15 +134,15 @@ impl<'a, L: Ledger> SliceFlash<'a, L> {
         }
     }
 
-    /// How many writes were counted so far, up to 2^64 - 1.
+    /// The number of writes so far, up to 2^64 - 1.
     pub fn writes(&self) -> u64
         ensures { result ≡ (chip_of self.now).writes }
     {
         self.writes
     }
 
-    /// A write: puts a pattern over `n` bytes from `at` on, or cuts that. It is counted while its
-    /// range is borrowed, so that count and bytes change together for what is known of the struct.
+    /// A write: repeats a pattern over `n` bytes from `at` on, or is cut. It is counted while its
+    /// range is borrowed, so that count and bytes change together for the struct's invariants.
     fn write(&mut self, at: usize, n: usize, pattern: &[u8]) -> Result<(), FlashError>
         requires inside { at + n ≤ length (chip_of self.old).bytes }
         requires taken { CanPut at n pattern.now (chip_of self.old) }
@@ -173,7 +173,7 @@ impl<'a, L: Ledger> Flash for SliceFlash<'a, L> {
     ghost use Rattle.std.specs.Prelude.{◌≡◌, ◌+◌, ◌<◌, ◌≤◌, length, true};
     ghost use Rattle.flash_model.specs.Chip.{size_of};
     ghost use Rattle.flash_model.specs.Calls.{CanProgram, Erases, Programs, ReadsBytes};
-    ghost use Rattle.slice_flash.specs.SliceFlash.{chip_of, slice_of, ErasesAsTold, ProgramsAsTold};
+    ghost use Rattle.slice_flash.specs.SliceFlash.{chip_of, slice_of, ErasesByTable, ProgramsByTable};
     ghost use Rattle.std.proofs.Common.{sym, ◌∙◌};
     ghost use Rattle.std.proofs.Math.Nat.{add-zero};
 
@@ -185,7 +185,7 @@ impl<'a, L: Ledger> Flash for SliceFlash<'a, L> {
 
     ghost bytes = { λ f. f.are_bytes };
 
-    ghost armed = { λ f. f.cut_as_told ∙ sym (add-zero _) };
+    ghost armed = { λ f. f.cut_by_table ∙ sym (add-zero _) };
 
     ghost written = { λ f. f.written };
 
@@ -212,7 +212,8 @@ impl<'a, L: Ledger> Flash for SliceFlash<'a, L> {
     fn program(&mut self, at: u32, bytes: &[u8]) -> Result<(), FlashError>
         requires { CanProgram at (length bytes.now) (chip_of self.old) }
         ensures chip { Programs at bytes.now (chip_of self.old) (chip_of self.new) result }
-        ensures slice { ProgramsAsTold at bytes.now (slice_of self.old) (slice_of self.new) result }
+        ensures slice { ProgramsByTable at bytes.now (slice_of self.old) (slice_of self.new)
+            result }
     {
         self.write(at as usize, bytes.len(), bytes)
     }
@@ -220,7 +221,7 @@ impl<'a, L: Ledger> Flash for SliceFlash<'a, L> {
     fn erase(&mut self, sector: u32) -> Result<(), FlashError>
         requires { sector < (chip_of self.old).sectors }
         ensures chip { Erases sector (chip_of self.old) (chip_of self.new) result }
-        ensures slice { ErasesAsTold sector (slice_of self.old) (slice_of self.new) result }
+        ensures slice { ErasesByTable sector (slice_of self.old) (slice_of self.new) result }
     {
         let n = self.sector_size as usize;
         self.write(sector as usize * n, n, &[0xff])?;

@@ -1,10 +1,14 @@
-//! A flash over bytes that somebody else lends: the driver to read before one writes one's own.
+//! A flash over bytes of its caller, without a heap: the driver to read before writing one.
 //!
-//! `SliceFlash` keeps the trait `Flash` and allocates nothing, neither to be made nor to have its
-//! writes cut: the bytes are lent to it, and so is the table of the writes that are to be cut. It
-//! cuts exactly those, and leaves exactly what the table says. Once it is dropped, its lender knows
-//! of the bytes what the flash's contracts said of them, also where generic calls borrowed it in
-//! between. A program without a heap may call it, and a test that has bytes of its own.
+//! - Promises: A flash over the caller's bytes keeps the trait `Flash`, and is cut exactly as its
+//!   table says. The caller knows the bytes afterwards.
+//! - Main calls: `SliceFlash`
+//! - Allocates: no.
+//! - Callers: any program without a heap, and tests.
+//!
+//! The caller lends the bytes, and the table of the writes that are to be cut. Once the flash is
+//! dropped, the caller knows of the bytes what the flash's contracts said of them, also if generic
+//! calls borrowed it in between.
 //!
 //! What a driver is made of, by the example of this one:
 //! - a `Chip` for contracts, `chip_of`, and the laws of `Flash`: ghost fields of the struct;

@@ -1,4 +1,4 @@
-//! Which writes are to be cut, and the bytes that are put over a range.
+//! The table of the writes that are to be cut, and the bytes that a write leaves in its range.
 
 ghost use Rattle.std.specs.Prelude.{◌≡◌, ◌<◌, ℕ, slice_index};
 ghost use Rattle.flash_model.specs.Torn.{with_pattern};
@@ -7,26 +7,24 @@ ghost use Rattle.slice_flash.specs.Rows.{left_after, left_for, torn_bytes};
 /// What a cut leaves in its range.
 #[derive(Clone, Copy, Debug, PartialEq, Eq)]
 pub enum Left<'a> {
-    /// What was there before.
+    /// The old bytes.
     Keep,
-    /// What the write was to leave.
+    /// The new bytes.
     Done,
-    /// These bytes over the range, again and again from its first byte on. No bytes at all are
-    /// `Keep`.
+    /// These bytes, repeated over the range from its first byte on. An empty pattern is `Keep`.
     Bytes(&'a [u8]),
 }
 
 /// A write that is to be cut.
 #[derive(Clone, Copy, Debug, PartialEq, Eq)]
 pub struct Cut<'a> {
-    /// Its number, counted from the making of the flash, from 1.
+    /// Its number, counted from 1 since the flash was made.
     pub write: u64,
     /// What the cut leaves.
     pub left: Left<'a>,
 }
 
-/// What the cut of write `number` leaves, where that write is to be cut: the first row for it
-/// counts.
+/// What the cut of write `number` leaves, if that write is to be cut. The first row for it counts.
 fn left_for<'a>(table: &[Cut<'a>], number: u64) -> Option<Left<'a>>
     ensures { result ≡ left_for number table.now }
 {
@@ -36,7 +34,7 @@ fn left_for<'a>(table: &[Cut<'a>], number: u64) -> Option<Left<'a>>
         .map(|cut| cut.left)
 }
 
-/// What the cut of the next write leaves, after so many, where it is to be cut.
+/// What the cut of the next write leaves, after this number of writes, if it is to be cut.
 pub(crate) fn left_after<'a>(table: &[Cut<'a>], writes: u64) -> Option<Left<'a>>
     ensures { result ≡ left_after writes table.now }
 {
@@ -46,7 +44,7 @@ pub(crate) fn left_after<'a>(table: &[Cut<'a>], writes: u64) -> Option<Left<'a>>
     left_for(table, writes + 1)
 }
 
-/// Puts a pattern over a range, again and again from its first byte on.
+/// Repeats a pattern over a range from its first byte on.
 #[tactic(auto, using(flash_model::proofs::TornBytes::with_pattern_none, flash_model::proofs::TornBytes::with_pattern_each))]
 pub(crate) fn repeat(range: &mut [u8], pattern: &[u8])
     ensures bytes { range.new ≡ with_pattern pattern.now range.old }
@@ -60,7 +58,7 @@ pub(crate) fn repeat(range: &mut [u8], pattern: &[u8])
     }
 }
 
-/// Leaves of a range what a cut leaves, of a write that was to put a pattern over it.
+/// Leaves in a range what the cut of a write leaves that was to repeat a pattern over it.
 pub(crate) fn tear(range: &mut [u8], pattern: &[u8], left: Left<'_>)
     ensures bytes { range.new
         ≡ torn_bytes left.entry range.old (with_pattern pattern.now range.old) }

@@ -1,17 +1,17 @@
-use Rattle.std.proofs.Common.{◌≡◌, ◌+◌, ℕ, List, length, slice_range, None, Some, refl, sym, ◌∙◌, ap, arith}
+use Rattle.std.proofs.Common.{◌≡◌, ◌+◌, length, slice_range, None, Some, refl, sym, ◌∙◌, ap, arith}
 use Rattle.flash_model.specs.Torn.{with_pattern}
 use Rattle.flash_model.proofs.Ranges.{length_range}
 use Rattle.flash_model.proofs.TornBytes.{length-with_pattern}
-use Rattle.slice_flash.proofs.Journal.{number_told, written_told}
-use Rattle.slice_flash.proofs.Told.{reached_told, reached_untold}
+use Rattle.slice_flash.proofs.Journal.{number_of_cut, written_by_table}
+use Rattle.slice_flash.proofs.Reaching.{reached_cut, reached_uncut}
 use Rattle.slice_flash.specs.Rows.{torn_bytes}
 use Rattle.slice_flash.proofs.Writes.{bytes_back, length-torn, put_back}
 use Rattle.slice_flash.proofs.flash.SliceFlash.write.Goals as goal
 
-pub invariant_of-self-clause-cut_as_told : goal.invariant_of-self-clause-cut_as_told
-invariant_of-self-clause-cut_as_told g c =
+pub invariant_of-self-clause-cut_by_table : goal.invariant_of-self-clause-cut_by_table
+invariant_of-self-clause-cut_by_table g c =
     let flash = c.args.self.now in
-    flash.cut_as_told ∙ sym (reached_untold flash.table.now flash.writes _ flash.fits c.saturating_add-self.ensures
+    flash.cut_by_table ∙ sym (reached_uncut flash.table.now flash.writes _ flash.fits c.saturating_add-self.ensures
     (sym c.left_after-left.ensures ∙ c.in-None.is))
 
 pub invariant_of-self-clause-written : goal.invariant_of-self-clause-written
@@ -20,21 +20,21 @@ invariant_of-self-clause-written g c =
     let old = slice_range flash.bytes.now c.args.at (c.args.at + c.args.n) in
     let long : length (with_pattern c.args.pattern.now old) ≡ c.args.n =
     length-with_pattern c.args.pattern.now old ∙ length_range flash.bytes.now c.args.at _ ∙ omega (arith, c.requires.inside) in
-    written_told flash.table.now _ _ _ c.args.at c.args.n (with_pattern c.args.pattern.now old) flash.bytes.now _ flash.writes _ None
+    written_by_table flash.table.now _ _ _ c.args.at c.args.n (with_pattern c.args.pattern.now old) flash.bytes.now _ flash.writes _ None
     (c.requires.taken _ long refl) c.saturating_add-self.ensures (sym c.left_after-left.ensures ∙ c.in-None.is) long
     (put_back c.args.at c.args.n flash.bytes.now _ _ c.repeat.ensures.bytes long) flash.written
 
-pub invariant_of-self-in-Some-clause-cut_as_told : goal.invariant_of-self-in-Some-clause-cut_as_told
-invariant_of-self-in-Some-clause-cut_as_told g c =
+pub invariant_of-self-in-Some-clause-cut_by_table : goal.invariant_of-self-in-Some-clause-cut_by_table
+invariant_of-self-in-Some-clause-cut_by_table g c =
     let flash = c.args.self.now in
-    c.add.ensures.amount ∙ ap (λ n. n + 1) flash.cut_as_told
-    ∙ sym (reached_told flash.table.now flash.writes _ c.in-Some.left c.saturating_add-self.ensures
+    c.add.ensures.amount ∙ ap (λ n. n + 1) flash.cut_by_table
+    ∙ sym (reached_cut flash.table.now flash.writes _ c.in-Some.left c.saturating_add-self.ensures
     (sym c.left_after-left.ensures ∙ c.in-Some.is))
 
-pub invariant_of-self-in-Some-clause-off_as_told : goal.invariant_of-self-in-Some-clause-off_as_told
-invariant_of-self-in-Some-clause-off_as_told g c off =
+pub invariant_of-self-in-Some-clause-off_by_table : goal.invariant_of-self-in-Some-clause-off_by_table
+invariant_of-self-in-Some-clause-off_by_table g c off =
     let flash = c.args.self.now in
-    number_told flash.table.now flash.writes _ c.in-Some.left c.saturating_add-self.ensures
+    number_of_cut flash.table.now flash.writes _ c.in-Some.left c.saturating_add-self.ensures
     (sym c.left_after-left.ensures ∙ c.in-Some.is)
 
 pub invariant_of-self-in-Some-clause-written : goal.invariant_of-self-in-Some-clause-written
@@ -45,7 +45,7 @@ invariant_of-self-in-Some-clause-written g c =
     length-with_pattern c.args.pattern.now old ∙ length_range flash.bytes.now c.args.at _ ∙ omega (arith, c.requires.inside) in
     let torn : length (torn_bytes c.in-Some.left old (with_pattern c.args.pattern.now old)) ≡ c.args.n =
     length-torn c.in-Some.left old _ (length_range flash.bytes.now c.args.at _ ∙ omega (arith, c.requires.inside)) long in
-    written_told flash.table.now _ _ _ c.args.at c.args.n (with_pattern c.args.pattern.now old) flash.bytes.now _ flash.writes _
+    written_by_table flash.table.now _ _ _ c.args.at c.args.n (with_pattern c.args.pattern.now old) flash.bytes.now _ flash.writes _
     (Some c.in-Some.left) (c.requires.taken _ long refl) c.saturating_add-self.ensures
     (sym c.left_after-left.ensures ∙ c.in-Some.is) long (put_back c.args.at c.args.n flash.bytes.now _ _ c.tear.ensures.bytes torn) flash.written
 

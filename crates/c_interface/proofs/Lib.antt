@@ -1,0 +1,8 @@
+mod SameBytes
+mod Leaving
+mod StepLaws
+mod Provisioned
+mod ShortReports
+mod TextLengths
+mod Asked
+mod Counting

@@ -1,0 +1,301 @@
+-- A call on a device in bytes, from the old bytes to the new ones.
+use Rattle.std.proofs.Common.{◌≡◌, ℕ, ◌+◌, ◌-◌, ◌*◌, ◌/◌, ◌<◌, ◌≤◌, Bool, true, false, List, [], length, slice_index_or, Option, Some, None, Result, refl, sym, ◌∙◌, ap, subst, arith}
+use Rattle.std.proofs.Math.Nat.{div-mul-le_self, le-div_iff_mul-le, mod-eq-sub-div-mul, mul-div_cancel}
+use Rattle.std.proofs.lemmas.Bool.{true≢false}
+use Rattle.std.proofs.lemmas.Option.{none-some}
+use Rattle.common.specs.declared.event.Event.TheVariants as event
+use Rattle.flash_model.specs.Chip.{Chip, Fixed, size_of}
+use Rattle.flash_model.specs.Memory.{new_chip}
+use Rattle.sector_map.specs.declared.layout.SectorMap.{SectorMap}
+use Rattle.sector_map.specs.Map.{IsLaidOut, IsMap, sectors_of}
+use Rattle.sector_map.specs.Part.{any_part}
+use Rattle.sector_map.proofs.Parts.{keeps_refl, laid_out_by}
+use Rattle.manifest.specs.declared.identity.Identity.{Identity}
+use Rattle.trailer.specs.declared.kinds.Kind.{Kind}
+use Rattle.upload.specs.View.{view}
+use Rattle.upload.specs.Device.{Machine}
+use Rattle.upload.specs.Sessions.{AllClosed, AllOpenAt, upload_at}
+use Rattle.upload.specs.declared.sessions.Upload.{Upload}
+use Rattle.machine.specs.Holding.{DeviceView, Holds}
+use Rattle.machine.specs.Intake as device
+use Rattle.machine.specs.Passing.{StepsTo}
+use Rattle.machine.specs.Steps.{DeviceEvent}
+use Rattle.machine.specs.declared.error.Fault.{Fault}
+use Rattle.machine.specs.declared.reply.Reply.{Reply}
+use Rattle.boot_core.specs.Answers.{reply_of_boot}
+use Rattle.boot_core.specs.Booting.{EndsUploadsAndBoots}
+use Rattle.boot_core.specs.Device.{StaysHeld, made, seen}
+use Rattle.c_interface.specs.declared.dispatch.DeviceCall.{DeviceCall}
+use Rattle.c_interface.specs.declared.dispatch.DeviceCall.TheVariants.{Accept, Piece, Finish, Withdraw, Confirm, Boot}
+use Rattle.c_interface.specs.declared.saved_state.SavedState.{SavedState}
+use Rattle.c_interface.specs.declared.saved_state.SavedUpload.{SavedUpload}
+use Rattle.c_interface.specs.declared.setup.CheckedSetup.{CheckedSetup}
+use Rattle.c_interface.specs.Calls.{IsCallOf, IsStepOf, MakesCall, StepsOn}
+use Rattle.c_interface.specs.Cuts.{IsCutAsAsked, WritesAsAsked}
+use Rattle.c_interface.specs.Setup.{HasRoom}
+use Rattle.c_interface.specs.SavedState.{IsDeviceOf, IsFlashOf, IsSaved, SavesDevice, SavesUpload, no_row, Booted, NotBooted}
+use Rattle.c_interface.proofs.Leaving.{leaves_of}
+use Rattle.c_interface.proofs.SameBytes.{SameFlash, SameIfOpen, same_holds, upload_moved, upload_same}
+
+zero_one : (n : ℕ) → n ≡ 0 → n ≡ 1 → ⊥
+zero_one n zero one = omega (arith, zero, one)
+
+-- ---- what rows save
+
+some_is : (a b : Kind) → Some a ≡ Some b → a ≡ b
+some_is a b e = cc
+
+same_row : (row : SavedUpload) (a b : Option Upload) → SavesUpload row a → SavesUpload row b → SameIfOpen a b
+same_row row None None first second = tt
+same_row row None (Some b) first second = absurd (zero_one row.is_open first second.is_open)
+same_row row (Some a) None first second = absurd (zero_one row.is_open second first.is_open)
+same_row row (Some a) (Some b) first second = record {
+  size = second.size ∙ sym first.size;
+  digest = second.digest ∙ sym first.digest;
+  kind = some_is b.kind a.kind (sym second.kind ∙ first.kind);
+  received = second.received ∙ sym first.received;
+  held = second.held ∙ sym first.held;
+}
+
+same_refl : (u : Option Upload) → SameIfOpen u u
+same_refl None = tt
+same_refl (Some u) = upload_same u
+
+-- open uploads match another flash of the same bytes
+moved : (map : SectorMap) (old new : Chip) → new.bytes ≡ old.bytes → (sessions : List (Option Upload))
+    → AllOpenAt (view map old) sessions → AllOpenAt (view map new) sessions
+moved map old new same sessions all i upload is =
+    let stands = all i upload is in (stands.0, upload_moved map old new same i upload upload (upload_same upload) stands.0 stands.1)
+
+-- ---- flashes
+
+-- a flash of these bytes
+flash_made : (map : SectorMap) (bytes : List ℕ) (chip : Chip) → IsMap map → HasRoom map bytes
+    → chip.sector_size ≡ map.sector_size → chip.sectors ≡ length bytes / map.sector_size → chip.bytes ≡ bytes
+    → chip.is_on ≡ true → IsFlashOf map bytes chip
+flash_made map bytes chip is_map room size count has on =
+    let e = map.sector_size in
+    let some : 0 < e = omega (arith, is_map.sector.least) in
+    let all : length bytes / e * e ≡ length bytes = omega (arith, room.whole, mod-eq-sub-div-mul (length bytes) e, div-mul-le_self (length bytes) e) in
+    let whole : size_of chip ≡ length bytes =
+    ap (λ n. n * chip.sector_size) count ∙ ap (λ s. length bytes / e * s) size ∙ all in
+    record {
+      laid_out = laid_out_by map chip is_map size
+          (subst (λ n. sectors_of map ≤ n) (sym count) ((le-div_iff_mul-le {k = e} some).1 room.room))
+          (ap (λ (l : List ℕ). length l) has ∙ sym whole) (omega (arith, whole, room.addressed));
+      has = has;
+      on = on;
+    }
+
+one_count : (a b e : ℕ) → 0 < e → a * e ≡ b * e → a ≡ b
+one_count a b e some same = sym (mul-div_cancel a some) ∙ ap (λ n. n / e) same ∙ mul-div_cancel b some
+
+-- two flashes of the same bytes
+pub laid_same : (map : SectorMap) (a b : Chip) → IsLaidOut map a → IsLaidOut map b → b.bytes ≡ a.bytes → SameFlash a b
+laid_same map a b first second same = record {
+  sector_size = second.sector_size ∙ sym first.sector_size;
+  sectors = one_count b.sectors a.sectors map.sector_size (omega (arith, first.is_map.sector.least)) (
+      ap (λ e. b.sectors * e) (sym second.sector_size) ∙ sym second.whole
+      ∙ ap (λ (l : List ℕ). length l) same ∙ first.whole
+      ∙ ap (λ e. a.sectors * e) first.sector_size);
+  bytes = same;
+}
+
+flash_same : (map : SectorMap) (bytes : List ℕ) (a b : Chip) → IsFlashOf map bytes a → IsFlashOf map bytes b
+    → SameFlash a b
+flash_same map bytes a b first second =
+    laid_same map a b first.laid_out second.laid_out (second.has ∙ sym first.has)
+
+-- ---- which device the saved state is
+
+booted_same : (map : SectorMap) (bytes : List ℕ) (saved : SavedState) (d e : DeviceView) → IsFlashOf map bytes d.flash
+    → IsFlashOf map bytes e.flash → IsSaved map saved d → IsSaved map saved e → e.up ≡ d.up
+booted_same map bytes saved d e first second (Booted on_is was) (Booted also is) = also ∙ sym on_is
+booted_same map bytes saved d e first second (Booted on_is was) (NotBooted off_is closed never) = absurd (never d.sessions (record {
+  booted = was.booted;
+  each = was.each;
+  stands = moved map d.flash e.flash (second.has ∙ sym first.has) d.sessions was.stands;
+}))
+booted_same map bytes saved d e first second (NotBooted off_is closed never) (Booted on_is is) = absurd (never e.sessions (record {
+  booted = is.booted;
+  each = is.each;
+  stands = moved map e.flash d.flash (first.has ∙ sym second.has) e.sessions is.stands;
+}))
+booted_same map bytes saved d e first second (NotBooted off_is closed never) (NotBooted also shut nowhere) = also ∙ sym off_is
+
+sessions_same : (map : SectorMap) (saved : SavedState) (d e : DeviceView) → IsSaved map saved d → IsSaved map saved e
+    → e.up ≡ d.up → d.up ≡ true → (i : ℕ) → SameIfOpen (upload_at d.sessions i) (upload_at e.sessions i)
+sessions_same map saved d e (Booted on_is was) (Booted also is) up on i =
+    same_row (slice_index_or saved.uploads i no_row) (upload_at d.sessions i) (upload_at e.sessions i) (was.each i)
+    (is.each i)
+sessions_same map saved d e (Booted on_is was) (NotBooted off_is closed never) up on i = absurd (true≢false (sym on ∙ sym up ∙ off_is))
+sessions_same map saved d e (NotBooted off_is closed never) other up on i = absurd (true≢false (sym on ∙ off_is))
+
+closed_down : (map : SectorMap) (saved : SavedState) (e : DeviceView) → IsSaved map saved e → e.up ≡ false → AllClosed e.sessions
+closed_down map saved e (Booted on_is is) off_is = absurd (true≢false (sym on_is ∙ off_is))
+closed_down map saved e (NotBooted also closed never) off_is = closed
+
+-- what one device of the bytes holds, any other one holds
+saved_holds : (map : SectorMap) (bytes : List ℕ) (saved : SavedState) (d e : DeviceView) → IsDeviceOf map bytes saved d
+    → IsDeviceOf map bytes saved e → (m : Machine) → Holds map d m → Holds map e m
+saved_holds map bytes saved d e first second =
+    let up = booted_same map bytes saved d e first.flash second.flash first.saved second.saved in
+    same_holds map d e first.flash.laid_out (flash_same map bytes d.flash e.flash first.flash second.flash) up
+    (sessions_same map saved d e first.saved second.saved up)
+    (λ off_is. closed_down map saved e second.saved (up ∙ off_is))
+
+-- ---- the saved state after a call
+
+abbrev powered : Chip → Chip
+powered chip = record chip { is_on = true }
+
+laid_powered : (map : SectorMap) (chip : Chip) → IsLaidOut map chip → IsLaidOut map (powered chip)
+laid_powered map chip laid = record {
+  sector_size = laid.sector_size;
+  sectors = laid.sectors;
+  is_map = laid.is_map;
+  whole = laid.whole;
+  size = laid.size;
+}
+
+flash_powered : (map : SectorMap) (bytes : List ℕ) (chip : Chip) → IsLaidOut map chip → chip.bytes ≡ bytes
+    → IsFlashOf map bytes (powered chip)
+flash_powered map bytes chip laid is = record { laid_out = laid_powered map chip laid; has = is; on = refl }
+
+same_powered : (chip : Chip) → SameFlash chip (powered chip)
+same_powered chip = record { sector_size = refl; sectors = refl; bytes = refl }
+
+-- the device after a call: its flash has power again
+abbrev after : Chip → List (Option Upload) → Bool → DeviceView
+after chip sessions true = seen (powered chip) sessions true
+after chip sessions false = seen (powered chip) [] false
+
+none_open : AllClosed []
+none_open j = refl
+
+saved_after : (map : SectorMap) (bytes : List ℕ) (chip : Chip) (sessions : List (Option Upload)) (is_booted : Bool)
+    (saved : SavedState) → IsLaidOut map chip → chip.bytes ≡ bytes → AllOpenAt (view map chip) sessions
+    → SavesDevice saved sessions is_booted → IsDeviceOf map bytes saved (after chip sessions is_booted)
+saved_after map bytes chip sessions true saved laid is opens keeps = record {
+  flash = flash_powered map bytes chip laid is;
+  saved = Booted refl (record {
+    booted = keeps.booted refl;
+    each = keeps.each refl;
+    stands = moved map chip (powered chip) refl sessions opens;
+  });
+}
+saved_after map bytes chip sessions false saved laid is opens keeps = record {
+  flash = flash_powered map bytes chip laid is;
+  saved = NotBooted refl none_open (λ others was. zero_one saved.is_booted (ap (λ (k : SavedState). k.is_booted) (keeps.not_booted refl)) was.booted);
+}
+
+holds_after : (map : SectorMap) (chip : Chip) (sessions : List (Option Upload)) (is_booted : Bool) → IsLaidOut map chip
+    → (m : Machine) → Holds map (seen chip sessions is_booted) m → Holds map (after chip sessions is_booted) m
+holds_after map chip sessions true laid =
+    same_holds map (seen chip sessions true) (seen (powered chip) sessions true) laid (same_powered chip) refl
+    (λ on i. same_refl (upload_at sessions i)) (λ off_is. absurd (true≢false off_is))
+holds_after map chip sessions false laid =
+    same_holds map (seen chip sessions false) (seen (powered chip) [] false) laid (same_powered chip) refl
+    (λ on. absurd (true≢false (sym on))) (λ off_is. none_open)
+
+-- ---- steps
+
+module _ (setup : device.Setup) (d a b e : DeviceView)
+    (before : (m : Machine) → Holds setup.map d m → Holds setup.map a m)
+    (behind : (m : Machine) → Holds setup.map b m → Holds setup.map e m) where
+  steps_moved : (happened : DeviceEvent) (reply : Reply) → StepsTo setup a b happened reply
+      → StepsTo setup d e happened reply
+  steps_moved happened reply steps m holds =
+      let next = steps m (before m holds) in (next.0, next.1, behind next.0 next.2)
+
+  held_moved : StaysHeld setup.map a b → StaysHeld setup.map d e
+  held_moved stays m holds = let next = stays m (before m holds) in (next.0, behind next.0 next.1)
+
+  step_moved : (call : DeviceCall) (reply : Reply) → IsStepOf setup call a b reply → IsStepOf setup call d e reply
+  step_moved (Accept manifest) reply step =
+      (λ text means. steps_moved (event.Accept text) reply (step.0 text means), held_moved step.1)
+  step_moved (Piece image more) reply step = steps_moved (event.Piece image more) reply step
+  step_moved (Finish image) reply step = steps_moved (event.Finish image) reply step
+  step_moved (Withdraw image) reply step = steps_moved (event.Withdraw image) reply step
+  step_moved (Confirm image) reply step = steps_moved (event.Confirm image) reply step
+  step_moved Boot reply step = steps_moved event.Boot reply step
+
+-- a call on one device in these bytes is a step of each device in them
+pub steps_on : (checked : CheckedSetup) (call : DeviceCall) (old new : List ℕ) (was is : SavedState) (before behind : Chip)
+    (sessions left : List (Option Upload)) (was_up is_booted : Bool) (reply : Reply)
+    → IsFlashOf checked.map old before → IsSaved checked.map was (seen before sessions was_up)
+    → MakesCall checked.map checked.identity checked.boots call (seen before sessions was_up) (seen behind left is_booted) reply
+    → behind.bytes ≡ new → SavesDevice is left is_booted → (asked : Fixed) (writes : ℕ)
+    → IsCutAsAsked asked.numbers before behind reply writes
+    → WritesAsAsked asked checked.map.sector_size old new writes → StepsOn checked asked call old was new is reply writes
+steps_on checked call old new was is before behind sessions left was_up is_booted reply flash saved makes bytes keeps asked
+    writes cut torn = record {
+      before = seen before sessions was_up;
+      is_before = record { flash = flash; saved = saved };
+      left = seen behind left is_booted;
+      is_left = record { laid_out = makes.laid; has = bytes; saves = keeps };
+      makes = makes;
+      cut_as_asked = cut;
+      writes_as_asked = torn;
+      leaves = leaves_of checked.map checked.identity checked.boots (seen before sessions was_up) (seen behind left is_booted) reply
+          call old new flash.on flash.has bytes makes.is;
+      each = λ device given. (
+        after behind left is_booted,
+        saved_after checked.map new behind left is_booted is makes.laid bytes makes.opens keeps,
+        step_moved (made checked.map checked.identity checked.boots) device (seen before sessions was_up)
+            (seen behind left is_booted) (after behind left is_booted)
+            (saved_holds checked.map old was device (seen before sessions was_up) given (record { flash = flash; saved = saved }))
+            (holds_after checked.map behind left is_booted makes.laid) call reply makes.steps,
+      );
+    }
+
+-- a call by another name of it and of its reply
+pub makes : (map : SectorMap) (identity : Identity) (boots : ℕ) (call given : DeviceCall) (old new : DeviceView)
+    (reply answered : Reply) → call ≡ given → reply ≡ answered → new.flash.fixed ≡ old.flash.fixed → IsLaidOut map new.flash
+    → AllOpenAt (view map new.flash) new.sessions → IsStepOf (made map identity boots) given old new answered
+    → IsCallOf map identity boots given old new answered → MakesCall map identity boots call old new reply
+makes map identity boots call given old new reply answered is same fixed laid opens step all = record {
+  fixed = fixed;
+  laid = laid;
+  opens = opens;
+  steps = subst (λ k. IsStepOf (made map identity boots) k old new reply) (sym is)
+      (subst (λ r. IsStepOf (made map identity boots) given old new r) (sym same) step);
+  is = subst (λ k. IsCallOf map identity boots k old new reply) (sym is)
+      (subst (λ r. IsCallOf map identity boots given old new r) (sym same) all);
+}
+
+-- a boot
+pub makes_boot : (map : SectorMap) (identity : Identity) (boots : ℕ) (call : DeviceCall) (old new : DeviceView)
+    (reply : Reply) (result : Result Reply Fault) → 1 ≤ boots → call ≡ Boot → reply ≡ reply_of_boot result
+    → old.flash.is_on ≡ true → EndsUploadsAndBoots map (boots - 1) old new result
+    → MakesCall map identity boots call old new reply
+makes_boot map identity boots call old new reply result some is same on all =
+    let count : boots - 1 + 1 ≡ boots = omega (arith, some) in
+    let step : StepsTo (made map identity boots) old new event.Boot (reply_of_boot result) =
+    subst (λ n. StepsTo (made map identity n) old new event.Boot (reply_of_boot result)) count (all.steps identity on) in
+    makes map identity boots call Boot old new reply (reply_of_boot result) is same
+    (all.on_map old.flash (keeps_refl map any_part old.flash)).fixed all.laid all.opens step
+    (boots - 1, count, result, refl, all)
+
+-- the uploads of a saved device match its flash
+pub saved_opens : (map : SectorMap) (saved : SavedState) (d : DeviceView) → IsSaved map saved d
+    → AllOpenAt (view map d.flash) d.sessions
+saved_opens map saved d (Booted on_is is) = is.stands
+saved_opens map saved d (NotBooted off_is closed never) =
+    λ i upload is. absurd (none-some upload (sym (closed i) ∙ is))
+
+-- a flash over borrowed bytes that was just made
+pub borrowed_flash : (map : SectorMap) (bytes : List ℕ) (chip : Chip) (fixed : Fixed) → IsMap map → HasRoom map bytes
+    → chip ≡ record (new_chip map.sector_size (length bytes / map.sector_size) bytes) { fixed = fixed }
+    → IsFlashOf map bytes chip
+borrowed_flash map bytes chip fixed is_map room is = flash_made map bytes chip is_map room
+    (ap (λ (c : Chip). c.sector_size) is) (ap (λ (c : Chip). c.sectors) is) (ap (λ (c : Chip). c.bytes) is)
+    (ap (λ (c : Chip). c.is_on) is)
+
+-- a step by other names of the bytes
+pub steps_over : (checked : CheckedSetup) (call : DeviceCall) (a b old new : List ℕ) (was is : SavedState) (reply : Reply)
+    (asked : Fixed) (writes : ℕ) → a ≡ old → b ≡ new → StepsOn checked asked call a was b is reply writes
+    → StepsOn checked asked call old was new is reply writes
+steps_over checked call a b old new was is reply asked writes first second steps =
+    subst (λ l. StepsOn checked asked call old was l is reply writes) second
+    (subst (λ l. StepsOn checked asked call l was b is reply writes) first steps)

@@ -1,0 +1,148 @@
+-- What a call does to a device, and to the bytes that hold it.
+use Rattle.std.specs.Prelude.{◌≡◌, ◌⊎◌, ℕ, ◌+◌, ◌<◌, ◌≤◌, List, length, slice_index, Result}
+use Rattle.std.specs.Borrow.{Bor}
+use Rattle.common.specs.declared.event.Event.TheVariants as event
+use Rattle.flash_model.specs.Chip.{Fixed}
+use Rattle.sector_map.specs.declared.layout.SectorMap.{SectorMap}
+use Rattle.sector_map.specs.declared.layout.Side.TheVariants.{Secondary}
+use Rattle.sector_map.specs.Map.{IsLaidOut, end_of_map}
+use Rattle.sector_map.specs.Part.{Slot, incoming_of, only}
+use Rattle.manifest.specs.declared.identity.Identity.{Identity}
+use Rattle.manifest.specs.Fault.{IsManifest}
+use Rattle.upload.specs.View.{view}
+use Rattle.upload.specs.Sessions.{AllOpenAt}
+use Rattle.machine.specs.Holding.{DeviceView}
+use Rattle.machine.specs.Intake as device
+use Rattle.machine.specs.Passing.{StepsTo}
+use Rattle.machine.specs.declared.error.Fault.{Fault}
+use Rattle.machine.specs.declared.reply.Reply.{Reply}
+use Rattle.machine.specs.declared.reply.Reply.TheVariants.{Refused}
+use Rattle.boot_core.specs.Answers.{reply_of_boot, reply_of_result}
+use Rattle.boot_core.specs.Booting.{EndsUploadsAndBoots}
+use Rattle.boot_core.specs.Device.{StaysHeld, made}
+use Rattle.boot_core.specs.Taking.{ConfirmsHere, FinishesHere, TakesHere, TakesManifestHere}
+use Rattle.c_interface.specs.declared.dispatch.DeviceCall.{DeviceCall}
+use Rattle.c_interface.specs.declared.dispatch.DeviceCall.TheVariants.{Accept, Piece, Finish, Withdraw, Confirm, Boot}
+use Rattle.c_interface.specs.declared.cuts.CutRow.{CutRow}
+use Rattle.c_interface.specs.declared.saved_state.SavedState.{SavedState}
+use Rattle.c_interface.specs.declared.setup.CheckedSetup.{CheckedSetup}
+use Rattle.c_interface.specs.declared.setup.Setup.{Setup}
+use Rattle.c_interface.specs.Cuts.{IsCutAsAsked, WritesAsAsked, asked_by}
+use Rattle.c_interface.specs.SavedState.{IsDeviceOf, IsLeftIn}
+use Rattle.c_interface.specs.Numbers.{MOST_CUTS, TOO_MANY}
+use Rattle.c_interface.specs.Setup.{IsCheckedSetup, IsRefusedSetup}
+
+-- A call is a step of the machine. One that takes a manifest is the step that takes any text which
+-- means the manifest to this device; whatever the manifest asks for, a device that held a state
+-- holds one then.
+abbrev pub IsStepOf : device.Setup → DeviceCall → DeviceView → DeviceView → Reply → Type 0
+IsStepOf setup (Accept manifest) old new reply =
+    ((text : Bor (List ℕ)) → IsManifest setup.identity text.now manifest.now
+    → StepsTo setup old new (event.Accept text) reply)
+    × StaysHeld setup.map old new
+IsStepOf setup (Piece image more) old new reply =
+    StepsTo setup old new (event.Piece image more) reply
+IsStepOf setup (Finish image) old new reply = StepsTo setup old new (event.Finish image) reply
+IsStepOf setup (Withdraw image) old new reply =
+    StepsTo setup old new (event.Withdraw image) reply
+IsStepOf setup (Confirm image) old new reply = StepsTo setup old new (event.Confirm image) reply
+IsStepOf setup Boot old new reply = StepsTo setup old new event.Boot reply
+
+-- A call has a result that this is the reply to, and of which something is so.
+abbrev pub HasResult : Reply → (Result Unit Fault → Type 0) → Type 0
+HasResult reply says = (result : Result Unit Fault) × (reply ≡ reply_of_result result) × says result
+
+-- A boot has one, with the number of boots that are left to a new trial.
+abbrev pub HasBootResult : Reply → ℕ → (ℕ → Result Reply Fault → Type 0) → Type 0
+HasBootResult reply boots says = (left : ℕ) × (left + 1 ≡ boots)
+    × (result : Result Reply Fault) × (reply ≡ reply_of_boot result) × says left result
+
+-- Each call does all that the call of a device in Rust promises: which parts of the flash it
+-- touches, what a refusal leaves, how it ends.
+abbrev pub IsCallOf : SectorMap → Identity → ℕ → DeviceCall → DeviceView → DeviceView → Reply → Type 0
+IsCallOf map identity boots (Accept manifest) old new reply =
+    HasResult reply (TakesManifestHere map identity manifest.now old new)
+IsCallOf map identity boots (Piece image more) old new reply =
+    HasResult reply (TakesHere map (event.Piece image more) (only (Slot image Secondary)) old new)
+IsCallOf map identity boots (Finish image) old new reply =
+    HasResult reply (FinishesHere map image old new)
+IsCallOf map identity boots (Withdraw image) old new reply =
+    HasResult reply (TakesHere map (event.Withdraw image) (incoming_of image) old new)
+IsCallOf map identity boots (Confirm image) old new reply =
+    HasResult reply (ConfirmsHere map image old new)
+IsCallOf map identity boots Boot old new reply =
+    HasBootResult reply boots (λ left. EndsUploadsAndBoots map left old new)
+
+-- A call is made on a device whose flash has power.
+pub record MakesCall (map : SectorMap) (identity : Identity) (boots : ℕ) (call : DeviceCall)
+    (old new : DeviceView) (reply : Reply) : Type 0 where
+  -- What is fixed of the flash stays,
+  pub fixed : new.flash.fixed ≡ old.flash.fixed
+  -- the map is still laid out on it,
+  pub laid : IsLaidOut map new.flash
+  -- the open uploads match it,
+  pub opens : AllOpenAt (view map new.flash) new.sessions
+  -- the call is a step of the machine,
+  pub steps : IsStepOf (made map identity boots) call old new reply
+  -- and keeps the other promises of its counterpart in Rust.
+  pub is : IsCallOf map identity boots call old new reply
+
+-- A refusal leaves the bytes unchanged, with two exceptions: `finish` writes the last bytes of an
+-- upload before they are checked, and the result of a boot says what it wrote.
+abbrev pub RefusesUnchanged : DeviceCall → List ℕ → List ℕ → Reply → Type 0
+RefusesUnchanged (Finish image) old new reply = Unit {0}
+RefusesUnchanged Boot old new reply = Unit {0}
+RefusesUnchanged other old new reply = (fault : Fault) → reply ≡ Refused fault → new ≡ old
+
+-- What a call changes of the bytes.
+pub record LeavesBytes (map : SectorMap) (call : DeviceCall) (old new : List ℕ) (reply : Reply)
+    : Type 0 where
+  -- Their number stays, and so does each byte after the map.
+  pub size : length new ≡ length old
+  pub behind : (k : ℕ) → end_of_map map ≤ k → slice_index new k ≡ slice_index old k
+  pub refused : RefusesUnchanged call old new reply
+
+-- A call is made on the device in the caller's bytes, with cuts for some of its writes. It makes
+-- this number of writes.
+pub record StepsOn (checked : CheckedSetup) (asked : Fixed) (call : DeviceCall) (old : List ℕ)
+    (was : SavedState) (new : List ℕ) (is : SavedState) (reply : Reply) (writes : ℕ) : Type 0 where
+  -- It is made on a device that is in the bytes, whose flash has power,
+  pub before : DeviceView
+  pub is_before : IsDeviceOf checked.map old was before
+  -- and leaves one that is in the new bytes, whose flash may be off after a cut.
+  pub left : DeviceView
+  pub is_left : IsLeftIn checked.map new is left
+  -- Between these two it keeps every promise of a call.
+  pub makes : MakesCall checked.map checked.identity checked.boots call before left reply
+  pub leaves : LeavesBytes checked.map call old new reply
+  -- It is cut exactly where the caller asks for it.
+  pub cut_as_asked : IsCutAsAsked asked.numbers before.flash left.flash reply writes
+  -- The new bytes are what exactly these writes make of the old ones, torn as the caller asks.
+  pub writes_as_asked : WritesAsAsked asked checked.map.sector_size old new writes
+  -- From each device in the old bytes it is a step to one in the new bytes. The flash of that one
+  -- has power, also after a cut.
+  pub each : (device : DeviceView) → IsDeviceOf checked.map old was device
+      → (next : DeviceView) × IsDeviceOf checked.map new is next
+      × IsStepOf (made checked.map checked.identity checked.boots) call device next reply
+
+-- A call is made on the device of a setup, with no more cuts than a call takes. It makes this
+-- number of writes.
+pub record CallsOn (setup : Setup) (cuts : List CutRow) (call : DeviceCall) (old : List ℕ)
+    (was : SavedState) (new : List ℕ) (is : SavedState) (reply : Reply) (writes : ℕ) : Type 0 where
+  pub checked : CheckedSetup
+  pub is_checked : IsCheckedSetup setup old checked
+  pub few : length cuts ≤ MOST_CUTS
+  pub steps : StepsOn checked (asked_by cuts) call old was new is reply writes
+
+-- The setup passes its check, but there are more cuts than a call takes.
+pub record AsksTooMuch (setup : Setup) (cuts : List CutRow) (bytes : List ℕ) (number : ℕ)
+    : Type 0 where
+  pub number_is : number ≡ TOO_MANY
+  pub many : MOST_CUTS < length cuts
+  pub checked : CheckedSetup
+  pub is_checked : IsCheckedSetup setup bytes checked
+
+-- Why no call is made: the setup is refused for these bytes, or there are too many cuts.
+abbrev pub IsRefusedBefore : Setup → List CutRow → List ℕ → ℕ → Type 0
+IsRefusedBefore setup cuts bytes number =
+    IsRefusedSetup setup bytes number ⊎ AsksTooMuch setup cuts bytes number

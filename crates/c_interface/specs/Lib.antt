@@ -1,0 +1,14 @@
+pub mod Numbers
+pub mod Setup
+pub mod SavedState
+pub mod Cuts
+pub mod Calls
+pub mod CallResult
+pub mod Sinks
+pub mod Texts
+pub mod Manifests
+pub mod Answers
+pub mod Provisioning
+pub mod Description
+pub mod Choosing
+pub mod Slots

@@ -1,0 +1,61 @@
+-- The numbers that the calls return, as C has them in its `enum bootswap_number`.
+use Rattle.std.specs.Prelude.{ℕ}
+
+-- Of a call that was made.
+abbrev pub DONE : ℕ
+DONE = 0
+
+abbrev pub BOOTED : ℕ
+BOOTED = 1
+
+abbrev pub REVERTED : ℕ
+REVERTED = 2
+
+abbrev pub TRIAL_AGAIN : ℕ
+TRIAL_AGAIN = 3
+
+abbrev pub REFUSED : ℕ
+REFUSED = 4
+
+abbrev pub CUT : ℕ
+CUT = 5
+
+-- Why no call was made.
+abbrev pub NO_MAP : ℕ
+NO_MAP = 16
+
+abbrev pub NO_TRIAL : ℕ
+NO_TRIAL = 17
+
+abbrev pub NO_FLASH : ℕ
+NO_FLASH = 18
+
+abbrev pub NO_IMAGE : ℕ
+NO_IMAGE = 19
+
+abbrev pub TOO_MANY : ℕ
+TOO_MANY = 20
+
+-- Of texts.
+abbrev pub NO_TABLE : ℕ
+NO_TABLE = 24
+
+abbrev pub NO_REPORT : ℕ
+NO_REPORT = 25
+
+abbrev pub INVALID_SET : ℕ
+INVALID_SET = 26
+
+abbrev pub WRONG : ℕ
+WRONG = 27
+
+abbrev pub NO_ROOM : ℕ
+NO_ROOM = 28
+
+-- The largest number of cuts that a call takes.
+abbrev pub MOST_CUTS : ℕ
+MOST_CUTS = 16
+
+-- How many components a manifest has at most.
+abbrev pub MOST_COMPONENTS : ℕ
+MOST_COMPONENTS = 8

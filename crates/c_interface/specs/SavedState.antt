@@ -1,0 +1,102 @@
+-- The saved state of a device, and which device it is.
+use Rattle.std.specs.Prelude.{◌≡◌, ℕ, ◌≤◌, ◌==◌, Bool, true, false, List, replicate, take, slice_index_or}
+use Rattle.std.specs.Prelude.{Option, Some, None, if◌then◌else◌}
+use Rattle.flash_model.specs.Chip.{Chip}
+use Rattle.sector_map.specs.declared.layout.SectorMap.{SectorMap}
+use Rattle.sector_map.specs.Map.{IsLaidOut}
+use Rattle.trailer.specs.declared.kinds.Kind.{Kind}
+use Rattle.trailer.specs.declared.kinds.Kind.TheVariants.{Test, Permanent}
+use Rattle.upload.specs.View.{view}
+use Rattle.upload.specs.Sessions.{AllClosed, AllOpenAt, upload_at}
+use Rattle.upload.specs.declared.sessions.Upload.{Upload}
+use Rattle.machine.specs.Holding.{DeviceView}
+use Rattle.c_interface.specs.declared.saved_state.SavedState.{SavedState}
+use Rattle.c_interface.specs.declared.saved_state.SavedUpload.{SavedUpload}
+
+-- The kind of a number.
+abbrev pub saved_kind : ℕ → Option Kind
+saved_kind number =
+    if number == 1 then Some Test else if number == 2 then Some Permanent else None
+
+-- A row saves an open upload.
+pub record IsSavedIn (row : SavedUpload) (upload : Upload) : Type 0 where
+  pub is_open : row.is_open ≡ 1
+  pub size : upload.size ≡ row.size
+  pub digest : upload.digest ≡ row.digest
+  pub kind : saved_kind row.kind ≡ Some upload.kind
+  pub received : upload.received ≡ row.received
+  pub few : row.held_length ≤ 8
+  pub held : upload.held.items ≡ take row.held_length row.held
+
+-- A row saves an upload, or that none is open.
+abbrev pub SavesUpload : SavedUpload → Option Upload → Type 0
+SavesUpload row None = row.is_open ≡ 0
+SavesUpload row (Some upload) = IsSavedIn row upload
+
+-- A row of no upload: all zero.
+abbrev pub no_row : SavedUpload
+no_row = record {
+  size = 0;
+  received = 0;
+  is_open = 0;
+  kind = 0;
+  held_length = 0;
+  unused = 0;
+  held = replicate 8 0;
+  digest = replicate 32 0;
+}
+
+-- Rows save a table of uploads.
+abbrev pub SaveUploads : List SavedUpload → List (Option Upload) → Type 0
+SaveUploads rows sessions =
+    (i : ℕ) → SavesUpload (slice_index_or rows i no_row) (upload_at sessions i)
+
+-- The saved state is a booted device with these uploads, and they match the flash.
+pub record IsSavedBooted (map : SectorMap) (chip : Chip) (saved : SavedState)
+    (sessions : List (Option Upload)) : Type 0 where
+  pub booted : saved.is_booted ≡ 1
+  pub each : SaveUploads saved.uploads sessions
+  pub stands : AllOpenAt (view map chip) sessions
+
+-- The saved state over a flash is this device: a booted one with the saved uploads, if they match
+-- the flash; else one that isn't booted and has no uploads.
+pub data IsSaved (map : SectorMap) (saved : SavedState) (device : DeviceView) : Type 0 where
+  Booted : device.up ≡ true → IsSavedBooted map device.flash saved device.sessions
+      → IsSaved map saved device
+  NotBooted : device.up ≡ false → AllClosed device.sessions
+      → ((sessions : List (Option Upload)) → IsSavedBooted map device.flash saved sessions → ⊥)
+      → IsSaved map saved device
+
+-- A flash with power that has these bytes, in sectors of the map's size.
+pub record IsFlashOf (map : SectorMap) (bytes : List ℕ) (chip : Chip) : Type 0 where
+  pub laid_out : IsLaidOut map chip
+  pub has : chip.bytes ≡ bytes
+  pub on : chip.is_on ≡ true
+
+-- Bytes and a saved state are this device.
+pub record IsDeviceOf (map : SectorMap) (bytes : List ℕ) (state : SavedState) (device : DeviceView)
+    : Type 0 where
+  pub flash : IsFlashOf map bytes device.flash
+  pub saved : IsSaved map state device
+
+-- The saved state of a device that isn't booted: all zero.
+abbrev pub no_device : SavedState
+no_device = record { is_booted = 0; unused = replicate 3 0; uploads = replicate 8 no_row }
+
+-- A saved state is that of a device with these uploads.
+pub record SavesDevice (saved : SavedState) (sessions : List (Option Upload)) (is_booted : Bool)
+    : Type 0 where
+  pub booted : is_booted ≡ true → saved.is_booted ≡ 1
+  pub each : is_booted ≡ true → SaveUploads saved.uploads sessions
+  pub not_booted : is_booted ≡ false → saved ≡ no_device
+
+-- A saved state is that of a device that isn't booted.
+abbrev pub IsNotBooted : SavedState → Type 0
+IsNotBooted saved = saved ≡ no_device
+
+-- The device that a call left is in these bytes and in this saved state. Its flash may be off.
+pub record IsLeftIn (map : SectorMap) (bytes : List ℕ) (state : SavedState) (device : DeviceView)
+    : Type 0 where
+  pub laid_out : IsLaidOut map device.flash
+  pub has : device.flash.bytes ≡ bytes
+  pub saves : SavesDevice state device.sessions device.up

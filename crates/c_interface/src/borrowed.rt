@@ -1,0 +1,182 @@
+//! A call on a device in the caller's memory: the bytes of its flash, and its saved state.
+
+ghost use Rattle.std.specs.Prelude.{◌≡◌, ℕ, ◌+◌, [], IfErr, IfOk, IfSome, List, None, Option, false, true};
+ghost use Rattle.flash_model.specs.Chip.{Fixed};
+ghost use Rattle.sector_map.specs.Map.{IsLaidOut};
+ghost use Rattle.machine.specs.Steps.{cut_of};
+ghost use Rattle.boot_core.specs.Device.{seen};
+ghost use Rattle.slice_flash.specs.Rows.{fixed_by};
+ghost use Rattle.upload.specs.declared.sessions.Upload.{Upload};
+ghost use Rattle.c_interface.specs.Calls.{CallsOn, IsRefusedBefore, StepsOn};
+ghost use Rattle.c_interface.specs.Cuts.{IsCutAsAsked, WritesAsAsked};
+ghost use Rattle.c_interface.specs.SavedState.{IsSaved, IsSavedBooted, SavesDevice};
+ghost use Rattle.c_interface.specs.Setup.{HasRoom, IsTrial};
+
+use crate::cuts::{CutRow, MOST_CUTS, table_of};
+use crate::dispatch::{DeviceCall, dispatch};
+use crate::numbers::TOO_MANY;
+use crate::saved_state::{NOT_BOOTED, SavedState, load_uploads, upload_rows};
+use crate::setup::{CheckedSetup, Setup, check_setup};
+use flash_model::Flash;
+use machine::Reply;
+use sector_map::SectorMap;
+use slice_flash::{Cut, SliceFlash};
+use std::marker::Brand;
+use std::sync::ledger::{Blank, Ledger};
+use upload::Uploads;
+
+/// The state of a device that its flash doesn't hold.
+#[derive(Drop)]
+struct VolatileState {
+    uploads: Uploads,
+    is_booted: bool,
+}
+
+/// How a call ended: the device's reply, and the number of writes that it began.
+#[derive(Drop)]
+pub(crate) struct CallOutcome {
+    pub(crate) reply: Reply,
+    pub(crate) writes: u64,
+}
+
+/// The saved uploads, if the saved state is a booted device and the uploads match the flash.
+fn valid_uploads<F: Flash>(flash: &mut F, map: &SectorMap, saved: &SavedState) -> Option<Uploads>
+    requires laid_out { IsLaidOut map.now (F.chip flash.old) }
+    requires on { (F.chip flash.old).is_on ≡ true }
+    ensures same { F.chip flash.new ≡ F.chip flash.old }
+    ensures some { IfSome result (λ uploads.
+        IsSavedBooted map.now (F.chip flash.old) saved.now uploads.sessions) }
+    ensures none { result ≡ None → (sessions : List (Option Upload))
+        → IsSavedBooted map.now (F.chip flash.old) saved.now sessions → ⊥ }
+{
+    if saved.is_booted != 1 {
+        return None;
+    }
+    let uploads = load_uploads(&saved.uploads)?;
+    match uploads.stand(flash, map) {
+        Ok(true) => Some(uploads),
+        _ => None,
+    }
+}
+
+/// The state that was saved, or that of a device that isn't booted if the saved state isn't valid.
+fn restore<F: Flash>(flash: &mut F, map: &SectorMap, saved: &SavedState) -> VolatileState
+    requires laid_out { IsLaidOut map.now (F.chip flash.old) }
+    requires on { (F.chip flash.old).is_on ≡ true }
+    ensures same { F.chip flash.new ≡ F.chip flash.old }
+    ensures restored { IsSaved map.now saved.now
+        (seen (F.chip flash.old) result.uploads.sessions result.is_booted) }
+{
+    match valid_uploads(flash, map, saved) {
+        Some(uploads) => VolatileState {
+            uploads,
+            is_booted: true,
+        },
+        None => VolatileState {
+            uploads: Uploads::new(),
+            is_booted: false,
+        },
+    }
+}
+
+/// The form in which the caller keeps a state until the next call.
+fn save(state: &VolatileState) -> SavedState
+    ensures { SavesDevice result state.now.uploads.sessions state.now.is_booted }
+{
+    if !state.is_booted {
+        return NOT_BOOTED;
+    }
+    SavedState {
+        is_booted: 1,
+        unused: [0; 3],
+        uploads: upload_rows(&state.uploads.sessions),
+    }
+}
+
+/// Restores the state of the device over a flash with power, makes the call, and saves the state.
+fn resume_and_run<F: Flash>(
+    flash: &mut F,
+    checked: &CheckedSetup,
+    saved: &mut SavedState,
+    call: &DeviceCall<'_>,
+) -> Reply
+    requires laid_out { IsLaidOut checked.now.map (F.chip flash.old) }
+    requires on { (F.chip flash.old).is_on ≡ true }
+    requires images { checked.now.identity.images ≡ checked.now.map.images }
+    requires trial { IsTrial checked.now.boots }
+    ensures fixed { (F.chip flash.new).fixed ≡ (F.chip flash.old).fixed }
+    ensures cuts { (F.chip flash.new).cuts ≡ (F.chip flash.old).cuts + cut_of result }
+    ensures dark { cut_of result ≡ 1 → (F.chip flash.new).is_on ≡ false }
+    ensures laid { IsLaidOut checked.now.map (F.chip flash.new) }
+    ensures steps { (asked : Fixed) (writes : ℕ)
+        → IsCutAsAsked asked.numbers (F.chip flash.old) (F.chip flash.new) result writes
+        → WritesAsAsked asked checked.now.map.sector_size (F.chip flash.old).bytes
+        (F.chip flash.new).bytes writes
+        → StepsOn checked.now asked call.now (F.chip flash.old).bytes saved.old
+        (F.chip flash.new).bytes saved.new result writes }
+{
+    let mut state = restore(flash, &checked.map, saved);
+    let reply = dispatch(
+        flash,
+        &checked.map,
+        &checked.identity,
+        &mut state.uploads,
+        &mut state.is_booted,
+        checked.boots,
+        call,
+    );
+    *saved = save(&state);
+    reply
+}
+
+/// Makes a flash of these bytes, of which the writes in the table are cut, and runs a call on it.
+fn run_over_bytes<L: Ledger>(
+    blank: Blank,
+    checked: &CheckedSetup,
+    bytes: &mut [u8],
+    table: &[Cut<'_>],
+    saved: &mut SavedState,
+    call: &DeviceCall<'_>,
+) -> CallOutcome
+    requires name { blank.name ≡ L.name }
+    requires parts { blank.parts ≡ L.parts }
+    requires two { L.parts ≡ 2 }
+    requires room { HasRoom checked.now.map bytes.old }
+    requires images { checked.now.identity.images ≡ checked.now.map.images }
+    requires trial { IsTrial checked.now.boots }
+    ensures { StepsOn checked.now (fixed_by table.now [] 0) call.now bytes.old saved.old bytes.new
+        saved.new result.reply result.writes }
+{
+    let mut flash = SliceFlash::<L>::new(blank, bytes, checked.map.sector_size, table);
+    let reply = resume_and_run(&mut flash, checked, saved, call);
+    let writes = flash.writes();
+    CallOutcome { reply, writes }
+}
+
+/// Checks the setup and the number of cuts, then makes a call on the device in these bytes.
+///
+/// # Errors
+/// The number to return. Nothing has changed then.
+pub(crate) fn call_device(
+    setup: &Setup,
+    bytes: &mut [u8],
+    saved: &mut SavedState,
+    cuts: &[CutRow],
+    call: &DeviceCall<'_>,
+) -> Result<CallOutcome, u32>
+    ensures outcome { IfOk result (λ outcome. CallsOn setup.now cuts.now call.now bytes.old
+        saved.old bytes.new saved.new outcome.reply outcome.writes) }
+    ensures refused { IfErr result (λ number. IsRefusedBefore setup.now cuts.now bytes.old number
+        × (bytes.new ≡ bytes.old) × (saved.new ≡ saved.old)) }
+{
+    let checked = match check_setup(setup, bytes) {
+        Ok(checked) => checked,
+        Err(number) => return Err(number),
+    };
+    if cuts.len() > MOST_CUTS {
+        return Err(TOO_MANY);
+    }
+    let table = table_of(cuts);
+    let rows = &table[..cuts.len()];
+    Ok(run_over_bytes::<Brand>(Blank::new(2), &checked, bytes, rows, saved, call))
+}

@@ -1,0 +1,190 @@
+//! The calls of a device, as C makes them.
+
+ghost use Rattle.c_interface.specs.Answers.{Accepts, Answers, HasTexts, no_more};
+ghost use Rattle.c_interface.specs.SavedState.{IsNotBooted};
+ghost use Rattle.c_interface.specs.declared.dispatch.DeviceCall.TheVariants as call;
+
+use crate::borrowed::{CallOutcome, call_device};
+use crate::call_result::{CallResult, NO_RESULT, number_of, result_of};
+use crate::cuts::CutRow;
+use crate::dispatch::DeviceCall;
+use crate::manifests::{ManifestRow, manifest_in};
+use crate::numbers::TOO_MANY;
+use crate::saved_state::{NOT_BOOTED, SavedState};
+use crate::setup::Setup;
+use crate::texts::{NO_TEXTS, put_texts};
+
+/// Makes a call on the device of a setup, reports its outcome, and returns the number of its reply.
+fn call_and_report(
+    setup: &Setup,
+    flash: &mut [u8],
+    saved: &mut SavedState,
+    cuts: &[CutRow],
+    asked: &DeviceCall<'_>,
+    call_result: &mut CallResult,
+) -> u32
+    ensures { Answers setup.now cuts.now asked.now flash.old saved.old flash.new saved.new
+        call_result.new no_more result }
+{
+    match call_device(setup, flash, saved, cuts, asked) {
+        Ok(outcome) => {
+            let CallOutcome { reply, writes } = outcome;
+            *call_result = result_of(&reply, writes, NO_TEXTS);
+            number_of(&reply)
+        }
+        Err(number) => {
+            *call_result = NO_RESULT;
+            number
+        }
+    }
+}
+
+/// Boots the device. A boot that decides also writes its table and its report as texts. A text that
+/// is longer than its buffer is left out, and its length is 0.
+///
+/// Returns `BOOTED`, `REVERTED` or `TRIAL_AGAIN`, and the device is booted; or `REFUSED`, `CUT`, or
+/// why no call was made: then nothing changed.
+#[unsafe(no_mangle)]
+pub extern "C" fn bootswap_boot(
+    setup: &Setup,
+    flash: &mut [u8],
+    saved: &mut SavedState,
+    cuts: &[CutRow],
+    table: &mut [u8],
+    report: &mut [u8],
+    call_result: &mut CallResult,
+) -> u32
+    ensures { Answers setup.now cuts.now call.Boot flash.old saved.old flash.new saved.new
+        call_result.new (HasTexts call_result.new.table_length call_result.new.report_length
+        table.old table.new report.old report.new) result }
+{
+    match call_device(setup, flash, saved, cuts, &DeviceCall::Boot) {
+        Ok(outcome) => {
+            let CallOutcome { reply, writes } = outcome;
+            let lengths = put_texts(&reply, table, report);
+            *call_result = result_of(&reply, writes, lengths);
+            number_of(&reply)
+        }
+        Err(number) => {
+            *call_result = NO_RESULT;
+            number
+        }
+    }
+}
+
+/// Accepts a manifest, given by its fields: opens an upload for each image it lists, and cancels
+/// pending requests for those images. If two components name the same image, the last one counts.
+///
+/// Returns `DONE`, `REFUSED`, `CUT`, or why no call was made, which includes `TOO_MANY` components:
+/// then nothing changed.
+#[unsafe(no_mangle)]
+pub extern "C" fn bootswap_accept(
+    setup: &Setup,
+    flash: &mut [u8],
+    saved: &mut SavedState,
+    cuts: &[CutRow],
+    manifest: &ManifestRow,
+    call_result: &mut CallResult,
+) -> u32
+    ensures { Accepts setup.now cuts.now manifest.now flash.old saved.old flash.new saved.new
+        call_result.new result }
+{
+    match manifest_in(manifest) {
+        Some(manifest) => {
+            let call = DeviceCall::Accept(&manifest);
+            call_and_report(setup, flash, saved, cuts, &call, call_result)
+        }
+        None => {
+            *call_result = NO_RESULT;
+            TOO_MANY
+        }
+    }
+}
+
+/// Adds bytes to the upload of an image, after those that were received before. Images are numbered
+/// from 0.
+///
+/// Returns `DONE`, `REFUSED`, `CUT`, or why no call was made: then nothing changed.
+#[unsafe(no_mangle)]
+pub extern "C" fn bootswap_piece(
+    setup: &Setup,
+    flash: &mut [u8],
+    saved: &mut SavedState,
+    cuts: &[CutRow],
+    image: u8,
+    bytes: &[u8],
+    call_result: &mut CallResult,
+) -> u32
+    ensures { Answers setup.now cuts.now (call.Piece image bytes.entry) flash.old saved.old
+        flash.new saved.new call_result.new no_more result }
+{
+    let call = DeviceCall::Piece(image, bytes);
+    call_and_report(setup, flash, saved, cuts, &call, call_result)
+}
+
+/// Finishes the upload of an image. The image is requested if the upload is complete, has the
+/// digest that the manifest names, and is an intact image. Images are numbered from 0.
+///
+/// Returns `DONE`, `REFUSED`, `CUT`, or why no call was made: then nothing changed.
+#[unsafe(no_mangle)]
+pub extern "C" fn bootswap_finish(
+    setup: &Setup,
+    flash: &mut [u8],
+    saved: &mut SavedState,
+    cuts: &[CutRow],
+    image: u8,
+    call_result: &mut CallResult,
+) -> u32
+    ensures { Answers setup.now cuts.now (call.Finish image) flash.old saved.old flash.new
+        saved.new call_result.new no_more result }
+{
+    let call = DeviceCall::Finish(image);
+    call_and_report(setup, flash, saved, cuts, &call, call_result)
+}
+
+/// Withdraws the request of an image. Images are numbered from 0.
+///
+/// Returns `DONE`, `REFUSED`, `CUT`, or why no call was made: then nothing changed.
+#[unsafe(no_mangle)]
+pub extern "C" fn bootswap_withdraw(
+    setup: &Setup,
+    flash: &mut [u8],
+    saved: &mut SavedState,
+    cuts: &[CutRow],
+    image: u8,
+    call_result: &mut CallResult,
+) -> u32
+    ensures { Answers setup.now cuts.now (call.Withdraw image) flash.old saved.old flash.new
+        saved.new call_result.new no_more result }
+{
+    let call = DeviceCall::Withdraw(image);
+    call_and_report(setup, flash, saved, cuts, &call, call_result)
+}
+
+/// Confirms an image of the set on trial. Images are numbered from 0.
+///
+/// Returns `DONE`, `REFUSED`, `CUT`, or why no call was made: then nothing changed.
+#[unsafe(no_mangle)]
+pub extern "C" fn bootswap_confirm(
+    setup: &Setup,
+    flash: &mut [u8],
+    saved: &mut SavedState,
+    cuts: &[CutRow],
+    image: u8,
+    call_result: &mut CallResult,
+) -> u32
+    ensures { Answers setup.now cuts.now (call.Confirm image) flash.old saved.old flash.new
+        saved.new call_result.new no_more result }
+{
+    let call = DeviceCall::Confirm(image);
+    call_and_report(setup, flash, saved, cuts, &call, call_result)
+}
+
+/// Resets the device: all uploads are closed, and it isn't booted. It also makes the first saved
+/// state of a device that was just provisioned.
+#[unsafe(no_mangle)]
+pub extern "C" fn bootswap_reset(saved: &mut SavedState)
+    ensures { IsNotBooted saved.new }
+{
+    *saved = NOT_BOOTED;
+}

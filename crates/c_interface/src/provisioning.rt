@@ -1,0 +1,74 @@
+//! Provisioning: making the flash of a device.
+
+ghost use Rattle.std.specs.Prelude.{◌≡◌, []};
+ghost use Rattle.slice_flash.specs.Rows.{fixed_by};
+ghost use Rattle.c_interface.specs.Provisioning.{AnswersProvision, ProvisionsOn};
+ghost use Rattle.c_interface.specs.Setup.{HasRoom};
+
+use crate::call_result::{CallResult, NO_RESULT, number_of, result_of};
+use crate::cuts::{CutRow, MOST_CUTS, table_of};
+use crate::numbers::TOO_MANY;
+use crate::setup::{Setup, check_setup};
+use crate::texts::NO_TEXTS;
+use boot_core::apart::answer;
+use boot_core::provision;
+use machine::Reply;
+use sector_map::SectorMap;
+use slice_flash::{Cut, SliceFlash};
+use std::marker::Brand;
+use std::sync::ledger::{Blank, Ledger};
+
+/// Provisions bytes as the flash of a device of this map, and counts the writes that it began.
+fn provision_on<L: Ledger>(
+    blank: Blank,
+    map: &SectorMap,
+    bytes: &mut [u8],
+    table: &[Cut<'_>],
+    writes: &mut u64,
+) -> Reply
+    requires name { blank.name ≡ L.name }
+    requires parts { blank.parts ≡ L.parts }
+    requires two { L.parts ≡ 2 }
+    requires room { HasRoom map.now bytes.old }
+    ensures { ProvisionsOn map.now (fixed_by table.now [] 0) bytes.old bytes.new result writes.new }
+{
+    let mut flash = SliceFlash::<L>::new(blank, bytes, map.sector_size, table);
+    let reply = answer(provision(&mut flash, map));
+    *writes = flash.writes();
+    reply
+}
+
+/// Provisions bytes as the flash of a device. The images at the front of the primary slots run,
+/// nothing is requested, no set is on trial, the sequence number is 0, and the floors are the
+/// security counters of the running images. Slots and scratch are unchanged.
+///
+/// Returns `DONE`; or `CUT`, after which it may be called again. Nothing has changed if it returns
+/// why no call was made, or `REFUSED`: with reason 5 and the lowest image whose primary slot begins
+/// with no intact image, or with reason 6 if the images don't fit each other.
+#[unsafe(no_mangle)]
+pub extern "C" fn bootswap_provision(
+    setup: &Setup,
+    flash: &mut [u8],
+    cuts: &[CutRow],
+    call_result: &mut CallResult,
+) -> u32
+    ensures { AnswersProvision setup.now cuts.now flash.old flash.new call_result.new result }
+{
+    let checked = match check_setup(setup, flash) {
+        Ok(checked) => checked,
+        Err(number) => {
+            *call_result = NO_RESULT;
+            return number;
+        }
+    };
+    if cuts.len() > MOST_CUTS {
+        *call_result = NO_RESULT;
+        return TOO_MANY;
+    }
+    let table = table_of(cuts);
+    let mut writes = 0;
+    let rows = &table[..cuts.len()];
+    let reply = provision_on::<Brand>(Blank::new(2), &checked.map, flash, rows, &mut writes);
+    *call_result = result_of(&reply, writes, NO_TEXTS);
+    number_of(&reply)
+}

@@ -1,6 +1,0 @@
-use Rattle.std.proofs.Common.{◌≡◌, map, take}
-use Rattle.device_calls.specs.Manifests.{component_in}
-use Rattle.device_calls.proofs.manifests.components_in.Given as goal
-
-abbrev pub invariant-loop-row : goal.invariant-loop-row
-invariant-loop-row l = l.components.items ≡ map component_in (take l.row-index l.rows)

@@ -1,4 +1,0 @@
-use Rattle.device_calls.proofs.provisioning.bootswap_provision.Given as goal
-
-abbrev pub ghosts-provision_on : goal.ghosts-provision_on
-ghosts-provision_on a = record { name = a.blank.name; parts = a.blank.parts }

@@ -1,0 +1,48 @@
+-- How many writes of the table a flash took, one write further.
+use Rattle.std.proofs.Common.{◌≡◌, ℕ, suc, ◌+◌, ◌-◌, ◌^◌, ◌<◌, ◌≤◌, ◌==◌, true, false, List, [], ◌∷◌}
+use Rattle.std.proofs.Common.{Some, None, refl, ◌∙◌, ap, arith, ⊎_elim}
+use Rattle.std.specs.List.{list_any}
+use Rattle.std.specs.Option.{is_some}
+use Rattle.std.proofs.lemmas.Bool.{cases_Bool, cases_lt, le-ltb, lt-ltb}
+use Rattle.std.proofs.lemmas.Option.{none-some}
+use Rattle.flash_model.specs.Chip.{reached}
+use Rattle.flash_model.specs.Memory.{one_more}
+use Rattle.flash_model.proofs.Reached.{reached_none, reached_one}
+use Rattle.slice_flash.specs.declared.table.Cut as row
+use Rattle.slice_flash.specs.declared.table.Left.{Left}
+use Rattle.slice_flash.specs.Rows.{left_after, left_for, numbers_in}
+
+-- A number is among those of the table where a cut of that write leaves something.
+pub any_number : (number : ℕ) (table : List row.Cut)
+    → list_any (λ n. n == number) (numbers_in table) ≡ is_some (left_for number table)
+any_number number [] = refl
+any_number number (cut ∷ table) = ⊎_elim
+    (λ (is : (cut.write == number) ≡ true). rw is refl)
+    (λ (isnt : (cut.write == number) ≡ false). rw isnt (any_number number table))
+    (cases_Bool (cut.write == number))
+
+-- A write that isn't in the table ..
+pub reached_uncut : (table : List row.Cut) (writes next : ℕ) → writes < 2 ^ 64 → next ≡ one_more writes
+    → left_after writes table ≡ None → reached (numbers_in table) next ≡ reached (numbers_in table) writes
+reached_uncut table writes next below is none = ⊎_elim
+    (λ (counts : writes < 2 ^ 64 - 1).
+    let same : next ≡ suc writes = omega (arith, is) in
+    let left : left_for (writes + 1) table ≡ None = rw (lt-ltb writes (2 ^ 64 - 1) counts) at none in
+    let number : writes + 1 ≡ suc writes = omega arith in
+    rw same (reached_none (numbers_in table) writes (any_number (suc writes) table ∙ ap is_some (rw number at left))))
+    (λ (stopped : 2 ^ 64 - 1 ≤ writes). ap (λ n. reached (numbers_in table) n) (omega (arith, is)))
+    (cases_lt writes (2 ^ 64 - 1))
+
+-- .. and one that is.
+pub reached_cut : (table : List row.Cut) (writes next : ℕ) (left : Left) → next ≡ one_more writes
+    → left_after writes table ≡ Some left
+    → reached (numbers_in table) next ≡ reached (numbers_in table) writes + 1
+reached_cut table writes next left is some = ⊎_elim
+    (λ (counts : writes < 2 ^ 64 - 1).
+    let same : next ≡ suc writes = omega (arith, is) in
+    let number : writes + 1 ≡ suc writes = omega arith in
+    let is_left : left_for (writes + 1) table ≡ Some left = rw (lt-ltb writes (2 ^ 64 - 1) counts) at some in
+    rw same (reached_one (numbers_in table) writes (any_number (suc writes) table ∙ ap is_some (rw number at is_left))))
+    (λ (stopped : 2 ^ 64 - 1 ≤ writes).
+    absurd (none-some left (rw (le-ltb writes (2 ^ 64 - 1) stopped) at some)))
+    (cases_lt writes (2 ^ 64 - 1))
