@@ -10,7 +10,7 @@ use Rattle.boot_core.specs.Calls.{Steps}
 use Rattle.boot_core.specs.CutEvents.{IsCutByWrite}
 use Rattle.boot_core.specs.Device.{Whole}
 use Rattle.boot_core.proofs.CutEvents.{cut_by_due, steps_join}
-use Rattle.sweep.specs.Living.{RunsCut, StepsCut}
+use Rattle.sweep.specs.Scenario.{RunsCut, StepsCut}
 
 -- What a device does is one, on a flash that has no faults.
 pub step_cut : {happened : DeviceEvent} {old new : Whole} {reply : Reply} → Steps happened old new reply
@@ -21,7 +21,7 @@ step_cut {happened} {old} {new} {reply} taken sound still = record {
   cut = cut_by_due old.here.flash new.here.flash reply sound still taken.due;
 }
 
--- no event came yet
+-- no event yet
 pub runs_none : (setup : Setup) (here : DeviceView) → RunsCut setup here here [] []
 runs_none setup here = record { runs = machine.runs_none setup here; cuts = refl }
 

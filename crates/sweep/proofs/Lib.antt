@@ -1,2 +1,2 @@
 mod CutRuns
-mod LivingLaws
+mod ScenarioLaws

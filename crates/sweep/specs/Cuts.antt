@@ -36,7 +36,7 @@ pub record IsArmedFor (cut : Cut) (armed : Armed) : Type 0 where
 abbrev pub AreArmedFor : List Cut → List Armed → Type 0
 AreArmedFor cuts armed = AllZip IsArmedFor cuts armed
 
--- A call arms these writes of a flash, behind those that were armed before.
+-- A call arms these writes of a flash, after those that were armed before.
 pub record ArmsAll (cuts : List Cut) (old new : Chip) : Type 0 where
   pub armed : List Armed
   pub are_armed : AreArmedFor cuts armed

@@ -1,4 +1,4 @@
-//! The writes that are cut in a run, and what the cuts leave.
+//! The writes that are cut in a run, and the bytes that the cuts leave.
 
 ghost use Rattle.std.specs.Prelude.{IfOk};
 ghost use Rattle.sweep.specs.Cuts.{IsCopies, IsTorn};
@@ -11,17 +11,17 @@ use trailer::MAGIC;
 /// What a cut leaves in its range.
 #[derive(Clone, Copy)]
 pub enum Tear {
-    /// What was there before.
+    /// The old bytes.
     Keep,
-    /// What the write was to leave.
+    /// The new bytes.
     Done,
     /// 0xff throughout.
     Ones,
     /// 0x00 throughout.
     Zeros,
-    /// Copies of a trailer's magic, as of a write that came to the wrong place.
+    /// Copies of a trailer's magic, like a write to the wrong place.
     Magic,
-    /// The first half of what the write was to leave, and behind it what was there before.
+    /// The first half of the new bytes, then the old ones.
     Half,
 }
 
@@ -36,11 +36,10 @@ pub const TEARS: [Tear; 6] = [
 ];
 
 impl Tear {
-    /// What a flash in memory is armed with for it. The bytes that are put over the range stand in
-    /// memory of `alloc`.
+    /// The form in which a flash in memory is armed with it. The pattern is in memory of `alloc`.
     ///
     /// # Errors
-    /// `AllocError` where that memory is refused.
+    /// `AllocError` if that memory is refused.
     pub fn torn(self, alloc: Global) -> Result<Torn, AllocError>
         ensures { IfOk result (IsTorn self) }
     {
@@ -54,8 +53,8 @@ impl Tear {
         }
     }
 
-    /// Its name: what stands behind the number of the write in a line `cut` of a script. Of the
-    /// half no script has a line.
+    /// Its name in a line `cut` of a script, after the number of the write. No script has a line
+    /// for `Half`.
     pub fn name(self) -> &'static str {
         match self {
             Tear::Keep => "keep",
@@ -78,7 +77,7 @@ fn copies_of(alloc: Global, bytes: &[u8]) -> Result<Torn, AllocError>
 /// A write that is cut.
 #[derive(Clone, Copy)]
 pub struct Cut {
-    /// Its number, counted from the first event on, from 1.
+    /// Its number since the first event, counted from 1.
     pub write: u32,
     /// What the cut leaves.
     pub tear: Tear,
@@ -89,7 +88,7 @@ pub struct Cut {
 pub enum Cuts {
     /// This one.
     One(Cut),
-    /// Two, of which the second is a write of the boot behind the first.
+    /// Two, of which the second is a write of the boot after the first.
     Two(Cut, Cut),
 }
 
@@ -106,7 +105,7 @@ impl fmt::Display for Cuts {
     }
 }
 
-/// Writes a cut as the line of a script says it.
+/// Writes a cut as a line of a script has it.
 fn write_cut<W: fmt::Write>(f: &mut fmt::Formatter<W>, cut: Cut) -> fmt::Result {
     let Cut { write, tear } = cut;
     let name = tear.name();

@@ -1,68 +1,68 @@
-//! What a sweep finds, counted over its runs.
+//! The findings of a sweep, counted over its runs.
 
 use crate::cuts::Cuts;
-use crate::notes::{LifeEnd, Said};
+use crate::notes::{BootOutcome, ScenarioEnd};
 use arrayvec::ArrayVec;
 use common::limits::MOST_IMAGES;
 use std::alloc::AllocError;
 use version_order::Version;
 
-/// What the boots behind the cuts of one write said.
+/// The outcomes of the boots after the cuts of one write.
 #[derive(Clone, Copy)]
 pub enum Mark {
     /// No run cut it.
     NotTried,
-    /// All of them said this.
-    All(Said),
-    /// They said one thing and another, by what the cut left.
+    /// All boots had this outcome.
+    All(BootOutcome),
+    /// The outcome depended on what the cut left.
     Several,
 }
 
-/// So many runs.
+/// A number of runs.
 #[derive(Clone, Copy)]
 pub struct Tally {
     /// How many.
     pub runs: u64,
-    /// The cuts of the first of them; none where that is the run without a cut.
+    /// The cuts of the first of them. `None` if that is the run without a cut.
     pub first: Option<Cuts>,
 }
 
-/// How many runs ended with these images.
+/// The runs that ended with these images.
 #[derive(Drop)]
 pub struct SetTally {
-    /// The versions of the images, in their order; none where one is damaged.
+    /// The running versions, image by image. `None` if an image is damaged.
     pub versions: Option<ArrayVec<Version, MOST_IMAGES>>,
-    /// How many runs ended so.
+    /// The number of these runs.
     pub tally: Tally,
 }
 
-/// What a sweep finds.
+/// The findings of a sweep.
 #[derive(Drop)]
 pub struct Found {
-    /// For each event the number of writes that were made when it was over, without a cut.
+    /// For each event the number of writes up to its end, without a cut.
     pub writes: Vec<u32>,
-    /// What was said of each write.
+    /// The mark of each write.
     pub marks: Vec<Mark>,
     /// The sets that ran at the end of a run, in the order in which they were found. The first is
     /// that of the run without a cut.
     pub sets: Vec<SetTally>,
     /// All runs.
     pub all: Tally,
-    /// The runs that ended neither as the run without a cut nor as if power had failed beside the
-    /// event in which a write was cut, or that event were left out.
+    /// The runs that ended neither like the run without a cut, nor like one in which power fails
+    /// next to the event of the first cut, or which leaves out that event.
     pub others: Tally,
-    /// The runs in which a boot gave no answer.
+    /// The runs in which a boot was refused.
     pub refused: Tally,
 }
 
 impl Mark {
-    /// What was said where the boot behind one cut more said this.
-    fn and(self, said: Said) -> Self {
+    /// The mark with the outcome of the boot after one more cut.
+    fn and(self, outcome: BootOutcome) -> Self {
         match self {
-            Mark::NotTried => Mark::All(said),
+            Mark::NotTried => Mark::All(outcome),
             Mark::All(before) => {
-                if before == said {
-                    Mark::All(said)
+                if before == outcome {
+                    Mark::All(outcome)
                 } else {
                     Mark::Several
                 }
@@ -91,14 +91,33 @@ impl Tally {
 }
 
 impl Found {
-    /// Whether each boot gave an answer, and each run ended as the run without a cut, or as if power
-    /// had failed beside the event in which a write was cut, or that event were left out.
+    /// Whether no boot was refused, and each run ended like the run without a cut, or like one in
+    /// which power fails next to the event of the first cut, or which leaves out that event.
     pub fn is_good(&self) -> bool {
         self.others.runs == 0 && self.refused.runs == 0
     }
 
-    /// Counts a run with these cuts that ended so, and lets go of it.
-    pub(crate) fn count_run(&mut self, cuts: Option<Cuts>, end: LifeEnd) -> Result<(), AllocError> {
+    /// The number of writes before this event, which is counted from 0.
+    pub(crate) fn writes_before(&self, event: usize) -> u32 {
+        match event.checked_sub(1) {
+            Some(last) => self.writes.get(last).copied().unwrap_or(0),
+            None => 0,
+        }
+    }
+
+    /// The marks of the writes of this event, which is counted from 0.
+    pub(crate) fn marks_of(&self, event: usize) -> Option<&[Mark]> {
+        let before = self.writes_before(event);
+        let end = self.writes.get(event).copied().unwrap_or(before);
+        self.marks.get(before as usize..end as usize)
+    }
+
+    /// Counts a run with these cuts and this end.
+    pub(crate) fn count_run(
+        &mut self,
+        cuts: Option<Cuts>,
+        end: ScenarioEnd,
+    ) -> Result<(), AllocError> {
         self.all.count(cuts);
         if end.is_refused {
             self.refused.count(cuts);
@@ -126,12 +145,12 @@ impl Found {
         }
     }
 
-    /// Notes what the boot behind the cut of this write said.
-    pub(crate) fn mark(&mut self, write: u32, said: Said) {
+    /// Notes the outcome of the boot after the cut of this write.
+    pub(crate) fn mark(&mut self, write: u32, outcome: BootOutcome) {
         let Some(mark) = self.marks.get_mut((write as usize).wrapping_sub(1)) else {
             return;
         };
-        *mark = mark.and(said);
+        *mark = mark.and(outcome);
     }
 }
 

@@ -1,30 +1,36 @@
-//! A sweep: what comes to a device, once for each write of its flash and each way to tear that
-//! write, and what became of it.
+//! A script, run once for each write of the flash and each way to tear that write, and what becomes
+//! of it.
 //!
-//! Promises: each run of a sweep is a run of the machine of whole images (`machine`), from the
-//! flash that is given, with those writes of it cut that are asked for and no others, to what comes
-//! with boots put in behind what was cut; and the versions that are told of its end are those of
-//! what the primary slots hold then, and none where one of them begins with no intact image, and
-//! there alone. What is counted of the runs, and what is printed and drawn of that, is tested.
-//! Programs that have provisioned a flash in memory may call it.
+//! - Promises: Each run of a sweep is a run of the machine over whole images, with exactly the
+//!   writes cut that are asked for. The versions that are reported to run at its end are those in
+//!   the primary slots.
+//! - Main calls: `run_scenario`
+//! - Allocates: a copy of the flash for each run, a few numbers for each write and event, the text
+//!   of the answer.
+//! - Callers: any program that has provisioned a flash in memory.
+//!
+//! What is counted of the runs, printed and drawn is tested.
 #![tactic(auto)]
 
 mod cuts;
 mod device;
 mod found;
-mod living;
 mod notes;
 mod picture;
 mod plan;
+mod random_numbers;
 mod running;
+mod scenario;
+mod scenario_run;
 mod sweeping;
 mod text;
 
 pub use cuts::{Cut, Cuts, TEARS, Tear};
 pub use found::{Found, Mark, SetTally, Tally};
-pub use living::{Life, live};
-pub use notes::{CutNote, LifeEnd, Said};
+pub use notes::{BootOutcome, CutNote, ScenarioEnd};
 pub use picture::picture_of;
 pub use plan::{Plan, Step, Watch};
+pub use scenario::Scenario;
+pub use scenario_run::run_scenario;
 pub use sweeping::sweep;
 pub use text::found_text;

@@ -1,4 +1,4 @@
-//! What is noted of a run of a sweep.
+//! Notes on a run of a sweep.
 
 use arrayvec::ArrayVec;
 use common::limits::MOST_IMAGES;
@@ -7,88 +7,88 @@ use manifest::ManifestError;
 use std::alloc::AllocError;
 use version_order::Version;
 
-/// What a boot said.
+/// The outcome of a boot.
 #[derive(Clone, Copy, PartialEq, Eq)]
-pub enum Said {
+pub enum BootOutcome {
     /// It took nothing.
     Plain,
     /// It took a set on trial.
     Trial,
-    /// It took a set for good.
+    /// It took a set permanently.
     Permanent,
-    /// It went back to the set before.
+    /// It reverted to the old set.
     Reverted,
     /// It tried the set on trial again.
     TrialAgain,
-    /// It gave no answer: it was refused, or cut.
+    /// It decided nothing: it was refused, or cut.
     Refused,
 }
 
-/// What came of the first write that was cut.
+/// The outcome of the first write that was cut.
 #[derive(Clone, Copy)]
 pub struct CutNote {
     /// The event in which it was cut, from 0.
     pub event: usize,
-    /// What the boot said that was not cut any more.
-    pub said: Said,
-    /// How many writes there were from the one behind it to the end of that boot.
+    /// The outcome of the first boot that wasn't cut.
+    pub outcome: BootOutcome,
+    /// The number of writes after it, up to the end of that boot.
     pub writes: u64,
 }
 
 /// How a run ended.
 #[derive(Drop)]
-pub struct LifeEnd {
-    /// The versions of the images that run then, in their order; none where one is damaged.
+pub struct ScenarioEnd {
+    /// The running versions, image by image. `None` if an image is damaged.
     pub versions: Option<ArrayVec<Version, MOST_IMAGES>>,
-    /// What came of the first write that was cut; none where no write was.
+    /// The outcome of the first write that was cut. `None` if no write was.
     pub cut: Option<CutNote>,
-    /// Whether a boot gave no answer that was not cut.
+    /// Whether a boot that wasn't cut was refused.
     pub is_refused: bool,
 }
 
-/// What is noted while a run goes on.
+/// The notes on a run in progress.
 #[derive(Default, Drop)]
 pub struct Notes {
-    /// How many events are over.
+    /// The number of events so far.
     pub events: usize,
-    /// What came of the first write that was cut.
+    /// The outcome of the first write that was cut.
     pub cut: Option<CutNote>,
-    /// Whether a boot gave no answer that was not cut.
+    /// Whether a boot that wasn't cut was refused.
     pub is_refused: bool,
 }
 
 impl Notes {
-    /// Notes what a boot of the script, or one behind a cut, said.
+    /// Notes the outcome of a boot of the script, or of one after a cut.
     pub fn note_boot(&mut self, reply: &Reply) {
-        self.is_refused |= said_by(reply) == Said::Refused;
+        self.is_refused |= boot_outcome(reply) == BootOutcome::Refused;
     }
 
-    /// Notes what came of a write that was cut: what the boot said that was not cut any more, and
-    /// how many writes there were up to its end.
+    /// Notes the outcome of a write that was cut: that of the first boot that wasn't cut, and the
+    /// number of writes up to its end.
     pub fn note_cut(&mut self, reply: &Reply, writes: u64) {
         if self.cut.is_none() {
             self.cut = Some(CutNote {
                 event: self.events,
-                said: said_by(reply),
+                outcome: boot_outcome(reply),
                 writes,
             });
         }
     }
 
-    /// Notes that an event is over, with this reply.
+    /// Notes the end of an event with this reply.
     ///
     /// # Errors
-    /// `AllocError` where the device had no memory for it.
+    /// `AllocError` if the device had no memory for it.
     pub fn end_event(&mut self, reply: &Reply) -> Result<(), AllocError> {
         self.events = self.events.saturating_add(1);
         had_memory(reply)
     }
 }
 
-/// Whether the device had memory for what it replies to.
+/// Checks that the device had memory for the event with this reply.
 ///
 /// # Errors
-/// `AllocError` where it had none.
+/// `AllocError` if it had none.
 pub fn had_memory(reply: &Reply) -> Result<(), AllocError> {
     match reply {
         Reply::Refused(Fault::NoMemory)
@@ -97,8 +97,8 @@ pub fn had_memory(reply: &Reply) -> Result<(), AllocError> {
     }
 }
 
-/// What a boot of this reply said.
-fn said_by(reply: &Reply) -> Said {
+/// The outcome of a boot with this reply.
+fn boot_outcome(reply: &Reply) -> BootOutcome {
     match reply {
         Reply::Booted {
             table: _,
@@ -106,15 +106,15 @@ fn said_by(reply: &Reply) -> Said {
             permanent,
         } => {
             if !report.images.iter().any(|image| image.is_taken) {
-                Said::Plain
+                BootOutcome::Plain
             } else if *permanent {
-                Said::Permanent
+                BootOutcome::Permanent
             } else {
-                Said::Trial
+                BootOutcome::Trial
             }
         }
-        Reply::Reverted(_) => Said::Reverted,
-        Reply::TrialAgain { set: _, left: _ } => Said::TrialAgain,
-        Reply::Done | Reply::Refused(_) | Reply::Cut => Said::Refused,
+        Reply::Reverted(_) => BootOutcome::Reverted,
+        Reply::TrialAgain { set: _, left: _ } => BootOutcome::TrialAgain,
+        Reply::Done | Reply::Refused(_) | Reply::Cut => BootOutcome::Refused,
     }
 }

@@ -1,27 +1,27 @@
 //! The picture of a sweep: a row for each event, with a square for each write of it.
 
 use crate::found::{Found, Mark};
-use crate::living::Life;
-use crate::notes::Said;
+use crate::notes::BootOutcome;
+use crate::scenario::Scenario;
 use crate::text::write_event;
-use events::Event;
+use common::event::Event;
 use std::alloc::{AllocError, Global};
 
-/// How far right the squares begin, how wide one is and how high a row, in pixels.
+/// Where the squares begin from the left, the width of a square and the height of a row, in pixels.
 const LEFT: u64 = 150;
 
 const SQUARE: u64 = 8;
 
 const ROW: u64 = 22;
 
-/// What a square can stand for, in the order in which the picture explains them.
+/// The marks, in the order of the legend.
 const MARKS: [Mark; 8] = [
-    Mark::All(Said::Plain),
-    Mark::All(Said::Trial),
-    Mark::All(Said::Permanent),
-    Mark::All(Said::TrialAgain),
-    Mark::All(Said::Reverted),
-    Mark::All(Said::Refused),
+    Mark::All(BootOutcome::Plain),
+    Mark::All(BootOutcome::Trial),
+    Mark::All(BootOutcome::Permanent),
+    Mark::All(BootOutcome::TrialAgain),
+    Mark::All(BootOutcome::Reverted),
+    Mark::All(BootOutcome::Refused),
     Mark::Several,
     Mark::NotTried,
 ];
@@ -29,11 +29,15 @@ const MARKS: [Mark; 8] = [
 /// A sweep as a picture in SVG, in memory of `alloc`.
 ///
 /// # Errors
-/// `AllocError` where that memory is refused.
-pub fn picture_of(alloc: Global, life: &Life<'_>, found: &Found) -> Result<String, AllocError> {
+/// `AllocError` if that memory is refused.
+pub fn picture_of(
+    alloc: Global,
+    scenario: &Scenario<'_>,
+    found: &Found,
+) -> Result<String, AllocError> {
     let mut text = String::new(alloc);
     let width = width_of(&found.writes);
-    let rows = life.events.len() as u64;
+    let rows = scenario.events.len() as u64;
     let height = height_of(rows.saturating_add(MARKS.len() as u64 + 1));
     writeln!(
         text,
@@ -41,13 +45,13 @@ pub fn picture_of(alloc: Global, life: &Life<'_>, found: &Found) -> Result<Strin
          font-family=\"sans-serif\" font-size=\"12\">\n\
          <rect width=\"100%\" height=\"100%\" fill=\"white\"/>"
     )?;
-    draw_events(&mut text, life.events, found)?;
+    draw_events(&mut text, scenario.events, found)?;
     draw_legend(&mut text, rows.saturating_add(1))?;
     text.push_str("</svg>\n")?;
     Ok(text)
 }
 
-/// How wide the picture is: as the event with the most writes, and with room for the words.
+/// The width of the picture: that of the event with the most writes, and of the words.
 fn width_of(writes: &[u32]) -> u64 {
     let mut before = 0;
     let mut most = 0;
@@ -60,7 +64,7 @@ fn width_of(writes: &[u32]) -> u64 {
         .saturating_add(LEFT + SQUARE)
 }
 
-/// Where a row begins, from the top.
+/// The distance of a row from the top.
 fn height_of(row: u64) -> u64 {
     row.saturating_mul(ROW).saturating_add(ROW / 2)
 }
@@ -71,7 +75,6 @@ fn draw_events(
     events: &[Event<Vec<u8>>],
     found: &Found,
 ) -> Result<(), AllocError> {
-    let mut before = 0;
     for (place, event) in events.iter().enumerate() {
         let number = place.saturating_add(1);
         let top = height_of(place as u64);
@@ -79,25 +82,15 @@ fn draw_events(
         write!(text, "<text x=\"8\" y=\"{base}\">{number} ")?;
         write_event(text, event)?;
         text.push_str("</text>\n")?;
-        let end = found.writes.get(place).copied().unwrap_or(before);
-        draw_writes(text, &found.marks, before, end, top)?;
-        before = end;
+        if let Some(marks) = found.marks_of(place) {
+            draw_writes(text, marks, found.writes_before(place), top)?;
+        }
     }
     Ok(())
 }
 
-/// Draws a square for each write behind the first `before` of all, up to the one of the number
-/// `end`.
-fn draw_writes(
-    text: &mut String,
-    marks: &[Mark],
-    before: u32,
-    end: u32,
-    top: u64,
-) -> Result<(), AllocError> {
-    let Some(marks) = marks.get(before as usize..end as usize) else {
-        return Ok(());
-    };
+/// Draws a square for each write of an event. `before` writes were made before the event.
+fn draw_writes(text: &mut String, marks: &[Mark], before: u32, top: u64) -> Result<(), AllocError> {
     let mut left = LEFT;
     let mut write = u64::from(before);
     for mark in marks {
@@ -120,7 +113,7 @@ fn draw_square(text: &mut String, mark: Mark, left: u64, top: u64) -> Result<(),
     )
 }
 
-/// Draws what the squares stand for, from this row on.
+/// Draws the legend of the squares, from this row on.
 fn draw_legend(text: &mut String, row: u64) -> Result<(), AllocError> {
     let mut row = row;
     for mark in &MARKS {
@@ -134,17 +127,17 @@ fn draw_legend(text: &mut String, row: u64) -> Result<(), AllocError> {
     Ok(())
 }
 
-/// What the next boot said, in words.
+/// The outcome of the next boot, in words.
 fn name_of(mark: Mark) -> &'static str {
     match mark {
         Mark::NotTried => "not tried",
         Mark::Several => "the next boot said one thing or another",
-        Mark::All(Said::Plain) => "the next boot took nothing",
-        Mark::All(Said::Trial) => "the next boot took a set on trial",
-        Mark::All(Said::Permanent) => "the next boot took a set for good",
-        Mark::All(Said::Reverted) => "the next boot went back",
-        Mark::All(Said::TrialAgain) => "the next boot tried the set again",
-        Mark::All(Said::Refused) => "the next boot gave no answer",
+        Mark::All(BootOutcome::Plain) => "the next boot took nothing",
+        Mark::All(BootOutcome::Trial) => "the next boot took a set on trial",
+        Mark::All(BootOutcome::Permanent) => "the next boot took a set for good",
+        Mark::All(BootOutcome::Reverted) => "the next boot went back",
+        Mark::All(BootOutcome::TrialAgain) => "the next boot tried the set again",
+        Mark::All(BootOutcome::Refused) => "the next boot gave no answer",
     }
 }
 
@@ -153,11 +146,11 @@ fn color_of(mark: Mark) -> &'static str {
     match mark {
         Mark::NotTried => "white",
         Mark::Several => "#444444",
-        Mark::All(Said::Plain) => "#d5dae1",
-        Mark::All(Said::Trial) => "#f0b429",
-        Mark::All(Said::Permanent) => "#3d9a57",
-        Mark::All(Said::Reverted) => "#4a7fd0",
-        Mark::All(Said::TrialAgain) => "#f7dc9b",
-        Mark::All(Said::Refused) => "#d63333",
+        Mark::All(BootOutcome::Plain) => "#d5dae1",
+        Mark::All(BootOutcome::Trial) => "#f0b429",
+        Mark::All(BootOutcome::Permanent) => "#3d9a57",
+        Mark::All(BootOutcome::Reverted) => "#4a7fd0",
+        Mark::All(BootOutcome::TrialAgain) => "#f7dc9b",
+        Mark::All(BootOutcome::Refused) => "#d63333",
     }
 }

@@ -1,43 +1,41 @@
-//! What a sweep tries, and who is told what it does.
+//! What a sweep tries, and who watches it.
 
 /// Which writes a sweep cuts.
 #[derive(Clone, Copy)]
 pub struct Plan {
-    /// Whether, behind each cut, each write of the boot that comes then is cut too.
+    /// Whether, after each cut, each write of the next boot is cut too.
     pub is_twice: bool,
-    /// How many runs are made, of writes that are drawn at random; without it each write is cut in
-    /// each way.
+    /// The number of runs with random cuts. `None` cuts each write in each way.
     pub sample: Option<u32>,
-    /// What the numbers that are drawn begin with. Two sweeps of one seed draw the same.
+    /// The seed of the random numbers. Two sweeps with the same seed make the same cuts.
     pub seed: u32,
 }
 
-/// What a sweep does.
+/// A step of a sweep.
 #[derive(Clone, Copy)]
 pub enum Step {
-    /// It runs the script for the first time, without a cut, and counts the writes: the event of
-    /// this number comes, from 1, of so many.
+    /// The sweep runs the script for the first time, without a cut, and counts the writes.
     Counting {
-        /// The number of the event.
+        /// The number of the event, from 1.
         event: usize,
-        /// How many events there are.
+        /// The number of events.
         events: usize,
     },
-    /// It runs the script once more without a cut, to see what runs at its end.
+    /// The sweep runs the script again without a cut, to see what runs at its end.
     Uncut,
-    /// It makes the runs with cuts.
+    /// The sweep makes the runs with cuts.
     Cutting {
-        /// How many parts are done. A part is all runs of one write, or one draw of a sample.
+        /// The number of finished parts. A part is all runs of one write, or one run of a sample.
         done: u32,
-        /// How many parts there are.
+        /// The number of parts.
         all: u32,
-        /// How many runs were made.
+        /// The number of runs so far.
         runs: u64,
     },
 }
 
-/// Who is told what a sweep does.
+/// Something that watches a sweep.
 pub trait Watch {
-    /// The sweep does this now.
+    /// Called at the start of a step, and after each run with cuts.
     fn see(&mut self, step: Step);
 }

@@ -1,8 +1,8 @@
-//! What runs at the end of a run.
+//! The versions that run at the end of a run.
 
 ghost use Rattle.std.specs.Prelude.{◌≡◌, option_map, true};
 ghost use Rattle.sector_map.specs.Map.{IsLaidOut};
-ghost use Rattle.sweep.specs.Living.{HaveVersions};
+ghost use Rattle.sweep.specs.Scenario.{HaveVersions};
 
 use arrayvec::ArrayVec;
 use common::limits::MOST_IMAGES;
@@ -11,10 +11,7 @@ use flash_model::Flash;
 use sector_map::{SectorMap, Side};
 use version_order::Version;
 
-/// The versions of the images that run on a flash, in their order. There are none where one of them
-/// is damaged.
-///
-/// The map is laid out on the flash, which has power.
+/// The versions that run on a flash with power, image by image. `None` if an image is damaged.
 pub(crate) fn running_versions<F: Flash>(
     flash: &mut F,
     map: &SectorMap,

@@ -1,19 +1,24 @@
-//! What is printed of a sweep.
+//! The text of a sweep's findings.
 
 use crate::found::{Found, Mark, SetTally, Tally};
-use crate::living::Life;
-use crate::notes::Said;
-use events::Event;
+use crate::notes::BootOutcome;
+use crate::scenario::Scenario;
+use common::event::Event;
 use std::alloc::{AllocError, Global};
 
-/// What a sweep prints, in memory of `alloc`: a line for each event, with a character for each write
-/// of it; how many runs there were; the sets that ran at the end of one; and what went wrong.
+/// The text of a sweep, in memory of `alloc`: a line for each event, with a character for each of
+/// its writes; the number of runs; the sets that ran at the end of a run; and the runs that went
+/// wrong.
 ///
 /// # Errors
-/// `AllocError` where that memory is refused.
-pub fn found_text(alloc: Global, life: &Life<'_>, found: &Found) -> Result<String, AllocError> {
+/// `AllocError` if that memory is refused.
+pub fn found_text(
+    alloc: Global,
+    scenario: &Scenario<'_>,
+    found: &Found,
+) -> Result<String, AllocError> {
     let mut text = String::new(alloc);
-    write_events(&mut text, life.events, found)?;
+    write_events(&mut text, scenario.events, found)?;
     let runs = found.all.runs;
     writeln!(text, "runs {runs}")?;
     write_sets(&mut text, &found.sets)?;
@@ -28,20 +33,19 @@ fn write_events(
     events: &[Event<Vec<u8>>],
     found: &Found,
 ) -> Result<(), AllocError> {
-    let mut before = 0;
     for (place, event) in events.iter().enumerate() {
         let number = place.saturating_add(1);
         write!(text, "{number} ")?;
         write_event(text, event)?;
-        let end = found.writes.get(place).copied().unwrap_or(before);
-        write_marks(text, &found.marks, before, end)?;
+        if let Some(marks) = found.marks_of(place) {
+            write_marks(text, marks, found.writes_before(place))?;
+        }
         text.push_str("\n")?;
-        before = end;
     }
     Ok(())
 }
 
-/// Adds the words of an event, as the line of a script has them, but for its files.
+/// Adds an event as a line of a script has it, without its files.
 pub(crate) fn write_event(text: &mut String, event: &Event<Vec<u8>>) -> Result<(), AllocError> {
     let (word, image) = match event {
         Event::Accept(_) => return text.push_str("accept"),
@@ -55,12 +59,9 @@ pub(crate) fn write_event(text: &mut String, event: &Event<Vec<u8>>) -> Result<(
     write!(text, "{word} {image}")
 }
 
-/// Adds the number of the first write of an event, and a character for each of them, where there
-/// are any: those behind the first `before` of all, up to the one of the number `end`.
-fn write_marks(text: &mut String, marks: &[Mark], before: u32, end: u32) -> Result<(), AllocError> {
-    let Some(marks) = marks.get(before as usize..end as usize) else {
-        return Ok(());
-    };
+/// Adds the number of the first write of an event and a character for each write, if there are any.
+/// `before` writes were made before the event.
+fn write_marks(text: &mut String, marks: &[Mark], before: u32) -> Result<(), AllocError> {
     if marks.is_empty() {
         return Ok(());
     }
@@ -72,22 +73,22 @@ fn write_marks(text: &mut String, marks: &[Mark], before: u32, end: u32) -> Resu
     Ok(())
 }
 
-/// The character for what the boots behind the cuts of a write said.
+/// The character of a mark.
 fn character_of(mark: Mark) -> &'static str {
     match mark {
         Mark::NotTried => "_",
         Mark::Several => "*",
-        Mark::All(Said::Plain) => ".",
-        Mark::All(Said::Trial) => "t",
-        Mark::All(Said::Permanent) => "p",
-        Mark::All(Said::Reverted) => "r",
-        Mark::All(Said::TrialAgain) => "a",
-        Mark::All(Said::Refused) => "x",
+        Mark::All(BootOutcome::Plain) => ".",
+        Mark::All(BootOutcome::Trial) => "t",
+        Mark::All(BootOutcome::Permanent) => "p",
+        Mark::All(BootOutcome::Reverted) => "r",
+        Mark::All(BootOutcome::TrialAgain) => "a",
+        Mark::All(BootOutcome::Refused) => "x",
     }
 }
 
-/// Adds the sets that ran at the end of a run, each with the number of runs and the first cuts that
-/// lead to it.
+/// Adds the sets that ran at the end of a run, each with its number of runs and the cuts of the
+/// first one.
 fn write_sets(text: &mut String, sets: &[SetTally]) -> Result<(), AllocError> {
     for set in sets {
         write_tally(text, "end", &set.tally)?;
@@ -107,7 +108,7 @@ fn write_versions(text: &mut String, set: &SetTally) -> Result<(), AllocError> {
     Ok(())
 }
 
-/// Adds a line of runs that went wrong, where there are any.
+/// Adds a line for runs that went wrong, if there are any.
 fn write_wrong(text: &mut String, word: &str, tally: &Tally) -> Result<(), AllocError> {
     if tally.runs == 0 {
         return Ok(());

@@ -1,5 +1,5 @@
 use Rattle.std.proofs.Common.{refl, rules, ◌∙◌}
-use Rattle.sweep.proofs.LivingLaws.{versions_more}
+use Rattle.sweep.proofs.ScenarioLaws.{versions_more}
 use Rattle.sweep.proofs.running.running_versions.Goals as goal
 
 -- The version of one image more.

@@ -1,7 +1,7 @@
 use Rattle.std.proofs.Common.{◌≡◌, ◌≤◌, length, true}
 use Rattle.std.specs.List.{AllZip, range_with_len}
 use Rattle.sector_map.specs.Map.{IsLaidOut}
-use Rattle.sweep.specs.Living.{HasVersion}
+use Rattle.sweep.specs.Scenario.{HasVersion}
 use Rattle.sweep.proofs.running.running_versions.Given as goal
 
 -- the flash is as it was, and the images so far run in these versions

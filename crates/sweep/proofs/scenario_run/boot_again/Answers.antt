@@ -1,6 +1,6 @@
 use Rattle.std.proofs.Common.{rules}
-use Rattle.sweep.proofs.LivingLaws.{reboots_more}
-use Rattle.sweep.proofs.living.boot_again.Goals as goal
+use Rattle.sweep.proofs.ScenarioLaws.{reboots_more}
+use Rattle.sweep.proofs.scenario_run.boot_again.Goals as goal
 
 -- A boot wasn't cut.
 pub returns-then-not-is_cut-clause-reboots : goal.returns-then-not-is_cut-clause-reboots

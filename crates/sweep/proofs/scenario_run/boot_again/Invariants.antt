@@ -1,6 +1,6 @@
 use Rattle.std.proofs.Common.{◌≡◌, true}
-use Rattle.sweep.specs.Living.{Reboots}
-use Rattle.sweep.proofs.living.boot_again.Given as goal
+use Rattle.sweep.specs.Scenario.{Reboots}
+use Rattle.sweep.proofs.scenario_run.boot_again.Given as goal
 
 -- the device is what it was made as, with power, and booted some times
 abbrev pub invariant-loop : goal.invariant-loop

@@ -1,7 +1,7 @@
 use Rattle.std.proofs.Common.{take}
 use Rattle.flash_model.specs.Memory.{chip_of}
 use Rattle.sweep.specs.Cuts.{ArmsAll}
-use Rattle.sweep.proofs.living.arm_all.Given as goal
+use Rattle.sweep.proofs.scenario_run.arm_all.Given as goal
 
 -- the cuts so far are armed
 abbrev pub invariant-loop-cut : goal.invariant-loop-cut

@@ -1,12 +1,12 @@
--- What a device goes through in a run of a sweep, one event more at a time.
+-- A run of a scenario, one event more at a time.
 use Rattle.std.proofs.Common.{◌≡◌, ℕ, zero, suc, ◌+◌, ◌<◌, List, [], ◌∷◌, ◌++◌, ap, append-nil, append_assoc, arith, get_or, length, length-append, map, refl, replicate, subst, sym, take, ◌∙◌}
 use Rattle.std.specs.Prelude.{Vec}
 use Rattle.std.specs.List.{AllZip, range_with_len}
 use Rattle.std.proofs.lemmas.List.{map-append, replicate-append-replicate, take-map, take_more}
 use Rattle.common.proofs.Mapped.{AllZip-push}
-use Rattle.events.specs.declared.event.Event.{Event}
-use Rattle.events.specs.declared.event.Event.TheVariants as event
-use Rattle.events.specs.Event.{event_map}
+use Rattle.common.specs.declared.event.Event.{Event}
+use Rattle.common.specs.declared.event.Event.TheVariants as event
+use Rattle.common.specs.Event.{event_map}
 use Rattle.flash_model.specs.declared.torn.Armed.{Armed}
 use Rattle.flash_model.specs.declared.torn.Torn.{Torn}
 use Rattle.flash_model.specs.Chip.{Chip, Fixed}
@@ -22,7 +22,7 @@ use Rattle.device_texts.proofs.TextLaws.{range-more}
 use Rattle.sweep.specs.Cuts.{AreArmedFor, ArmsAll, IsArmedFor, IsTorn}
 use Rattle.sweep.specs.declared.cuts.Cut.{Cut}
 use Rattle.sweep.proofs.CutRuns.{runs_join, runs_more, runs_none, runs_one}
-use Rattle.sweep.specs.Living.{HasVersion, Lives, LivesOne, Reboots, RunsCut, StepsCut, held_in, lent_in, with_boots}
+use Rattle.sweep.specs.Scenario.{HasVersion, RunsEvents, RunsEvent, Reboots, RunsCut, StepsCut, held_in, borrowed_in, with_boots}
 
 -- ---- boots
 
@@ -45,18 +45,18 @@ reboots_more setup same old mid new reply before is steps =
 -- ---- one event
 
 -- an event without a cut
-pub lives_one : (setup : Setup) (old new : DeviceView) (happened : DeviceEvent) (reply : Reply)
-    → StepsCut setup old new happened reply → LivesOne setup old new happened
-lives_one setup old new happened reply steps = record {
+pub event_uncut : (setup : Setup) (old new : DeviceView) (happened : DeviceEvent) (reply : Reply)
+    → StepsCut setup old new happened reply → RunsEvent setup old new happened
+event_uncut setup old new happened reply steps = record {
   count = 0;
   replies = reply ∷ [];
   runs = runs_one setup old new happened reply steps;
 }
 
--- an event with boots behind it
-pub lives_and_reboots : (setup same : Setup) (old mid new : DeviceView) (happened : DeviceEvent) (reply : Reply)
-    → StepsCut setup old mid happened reply → same ≡ setup → Reboots same mid new → LivesOne setup old new happened
-lives_and_reboots setup same old mid new happened reply steps is reboots = record {
+-- an event with boots after it
+pub event_and_reboots : (setup same : Setup) (old mid new : DeviceView) (happened : DeviceEvent) (reply : Reply)
+    → StepsCut setup old mid happened reply → same ≡ setup → Reboots same mid new → RunsEvent setup old new happened
+event_and_reboots setup same old mid new happened reply steps is reboots = record {
   count = reboots.count;
   replies = reply ∷ reboots.replies;
   runs = runs_join setup old mid new (happened ∷ []) (replicate reboots.count event.Boot) (reply ∷ []) reboots.replies
@@ -66,21 +66,21 @@ lives_and_reboots setup same old mid new happened reply steps is reboots = recor
 
 -- ---- many events
 
-boots_lent : (count : ℕ) → lent_in (replicate count event.Boot) ≡ replicate count event.Boot
-boots_lent zero = refl
-boots_lent (suc count) = ap (λ boots. event.Boot ∷ boots) (boots_lent count)
+boots_borrowed : (count : ℕ) → borrowed_in (replicate count event.Boot) ≡ replicate count event.Boot
+boots_borrowed zero = refl
+boots_borrowed (suc count) = ap (λ boots. event.Boot ∷ boots) (boots_borrowed count)
 
-with_boots-append : (came more : List (Event (List ℕ))) (counts others : List ℕ) → length counts ≡ length came
-    → with_boots (came ++ more) (counts ++ others) ≡ with_boots came counts ++ with_boots more others
+with_boots-append : (given more : List (Event (List ℕ))) (counts others : List ℕ) → length counts ≡ length given
+    → with_boots (given ++ more) (counts ++ others) ≡ with_boots given counts ++ with_boots more others
 with_boots-append [] more [] others same = refl
 with_boots-append [] more (n ∷ counts) others same = absurd (omega (arith, same))
-with_boots-append (c ∷ came) more [] others same = absurd (omega (arith, same))
-with_boots-append (c ∷ came) more (n ∷ counts) others same =
-    ap (λ rest. c ∷ (replicate n event.Boot ++ rest)) (with_boots-append came more counts others (omega (arith, same)))
-    ∙ ap (λ rest. c ∷ rest) (sym (append_assoc (replicate n event.Boot) (with_boots came counts) (with_boots more others)))
+with_boots-append (c ∷ given) more [] others same = absurd (omega (arith, same))
+with_boots-append (c ∷ given) more (n ∷ counts) others same =
+    ap (λ rest. c ∷ (replicate n event.Boot ++ rest)) (with_boots-append given more counts others (omega (arith, same)))
+    ∙ ap (λ rest. c ∷ rest) (sym (append_assoc (replicate n event.Boot) (with_boots given counts) (with_boots more others)))
 
-pub lives_none : (setup : Setup) (here : DeviceView) → Lives setup here here []
-lives_none setup here = record {
+pub events_none : (setup : Setup) (here : DeviceView) → RunsEvents setup here here []
+events_none setup here = record {
   counts = [];
   events = [];
   replies = [];
@@ -89,35 +89,35 @@ lives_none setup here = record {
   runs = runs_none setup here;
 }
 
-pub lives_join : (setup same : Setup) (old mid new : DeviceView) (came more : List (Event (List ℕ)))
-    → Lives setup old mid came → same ≡ setup → Lives same mid new more → Lives setup old new (came ++ more)
-lives_join setup same old mid new came more before is after = record {
+pub events_join : (setup same : Setup) (old mid new : DeviceView) (given more : List (Event (List ℕ)))
+    → RunsEvents setup old mid given → same ≡ setup → RunsEvents same mid new more → RunsEvents setup old new (given ++ more)
+events_join setup same old mid new given more before is after = record {
   counts = before.counts ++ after.counts;
   events = before.events ++ after.events;
   replies = before.replies ++ after.replies;
   each = length-append before.counts after.counts ∙ ap (λ n. n + length after.counts) before.each
-      ∙ ap (λ n. length came + n) after.each ∙ sym (length-append came more);
+      ∙ ap (λ n. length given + n) after.each ∙ sym (length-append given more);
   come = map-append (event_map (λ bytes. bytes.now)) before.events after.events
-      ∙ ap (λ l. l ++ lent_in after.events) before.come
-      ∙ ap (λ l. with_boots came before.counts ++ l) after.come
-      ∙ sym (with_boots-append came more before.counts after.counts before.each);
+      ∙ ap (λ l. l ++ borrowed_in after.events) before.come
+      ∙ ap (λ l. with_boots given before.counts ++ l) after.come
+      ∙ sym (with_boots-append given more before.counts after.counts before.each);
   runs = runs_join setup old mid new before.events after.events before.replies after.replies before.runs
       (subst (λ s. RunsCut s mid new after.events after.replies) is after.runs);
 }
 
-lives_of_one : (setup : Setup) (old new : DeviceView) (happened : DeviceEvent) (came : Event (List ℕ))
-    → event_map (λ bytes. bytes.now) happened ≡ came → LivesOne setup old new happened → Lives setup old new (came ∷ [])
-lives_of_one setup old new happened came is one = record {
+events_of_one : (setup : Setup) (old new : DeviceView) (happened : DeviceEvent) (given : Event (List ℕ))
+    → event_map (λ bytes. bytes.now) happened ≡ given → RunsEvent setup old new happened → RunsEvents setup old new (given ∷ [])
+events_of_one setup old new happened given is one = record {
   counts = one.count ∷ [];
   events = happened ∷ replicate one.count event.Boot;
   replies = one.replies;
   each = refl;
-  come = ap (λ c. c ∷ lent_in (replicate one.count event.Boot)) is
-      ∙ ap (λ boots. came ∷ boots) (boots_lent one.count ∙ sym (append-nil (replicate one.count event.Boot)));
+  come = ap (λ c. c ∷ borrowed_in (replicate one.count event.Boot)) is
+      ∙ ap (λ boots. given ∷ boots) (boots_borrowed one.count ∙ sym (append-nil (replicate one.count event.Boot)));
   runs = one.runs;
 }
 
--- what comes by one event more of those that hold their bytes
+-- one event more of those that hold their bytes
 held_in-more : {A : Type 0} (all : List (Event (Vec ℕ A))) (i : ℕ) (read : Event (Vec ℕ A)) → i < length all
     → read ≡ get_or all i read
     → take (i + 1) (held_in all) ≡ take i (held_in all) ++ event_map (λ bytes. bytes.items) read ∷ []
@@ -129,15 +129,15 @@ held_in-more all i read below is =
     ∙ map-append (event_map (λ bytes. bytes.items)) (take i all) (read ∷ [])
     ∙ ap (λ l. l ++ event_map (λ bytes. bytes.items) read ∷ []) (sym (take-map (event_map (λ bytes. bytes.items)) i all))
 
-pub lives_more : {A : Type 0} (setup same : Setup) (old mid new : DeviceView) (all : List (Event (Vec ℕ A))) (i : ℕ)
-    (read : Event (Vec ℕ A)) (happened : DeviceEvent) → Lives setup old mid (take i (held_in all)) → i < length all
+pub events_more : {A : Type 0} (setup same : Setup) (old mid new : DeviceView) (all : List (Event (Vec ℕ A))) (i : ℕ)
+    (read : Event (Vec ℕ A)) (happened : DeviceEvent) → RunsEvents setup old mid (take i (held_in all)) → i < length all
     → read ≡ get_or all i read
     → event_map (λ bytes. bytes.now) happened ≡ event_map (λ bytes. bytes.items) read
-    → same ≡ setup → LivesOne same mid new happened → Lives setup old new (take (i + 1) (held_in all))
-lives_more setup same old mid new all i read happened before below is lent stays one =
-    subst (λ came. Lives setup old new came) (sym (held_in-more all i read below is))
-    (lives_join setup same old mid new (take i (held_in all)) _ before stays
-    (lives_of_one same mid new happened _ lent one))
+    → same ≡ setup → RunsEvent same mid new happened → RunsEvents setup old new (take (i + 1) (held_in all))
+events_more setup same old mid new all i read happened before below is lent stays one =
+    subst (λ given. RunsEvents setup old new given) (sym (held_in-more all i read below is))
+    (events_join setup same old mid new (take i (held_in all)) _ before stays
+    (events_of_one same mid new happened _ lent one))
 
 -- ---- cuts
 

@@ -1,82 +1,66 @@
-//! One run of a sweep: all that comes to a device, with some writes of its flash cut.
+//! One run of a scenario, with some writes of the flash cut.
 
 ghost use Rattle.std.specs.Prelude.{◌≡◌, IfOk, true};
 ghost use Rattle.flash_model.specs.Memory.{chip_of};
-ghost use Rattle.device_texts.specs.DeviceFile.{IsOfFile};
-ghost use Rattle.device_texts.specs.FlashOf.{IsFlashOf};
 ghost use Rattle.sweep.specs.Cuts.{ArmsAll};
-ghost use Rattle.sweep.specs.Living.{IsLived, Lives, LivesOne, Reboots, StepsCut, all_of, held_in};
+ghost use Rattle.sweep.specs.Scenario.{IsScenarioRun, Reboots, RunsEvent, RunsEvents, StepsCut, all_of, held_in};
 
 use crate::cuts::Cut;
 use crate::device::device_over;
-use crate::notes::{LifeEnd, Notes};
+use crate::notes::{Notes, ScenarioEnd};
 use crate::running::running_versions;
+use crate::scenario::Scenario;
 use boot_core::{Device, step};
-use device_texts::{DeviceFile, flash_of};
-use events::Event;
+use common::event::Event;
+use device_texts::flash_of;
 use flash_model::MemFlash;
 use machine::Reply;
 use std::alloc::{AllocError, Global};
 use std::marker::Brand;
 use std::sync::ledger::{Blank, Ledger};
 
-/// What comes to a device.
-#[derive(Drop)]
-pub struct Life<'a> {
-    /// The device, which isn't up before the first event.
-    pub device: &'a DeviceFile,
-    /// The bytes of its flash then, as many as its map has.
-    pub bytes: &'a [u8],
-    /// What comes, in order,
-    pub events: &'a [Event<Vec<u8>>],
-    /// what is put in behind that,
-    pub between: &'a [Event<Vec<u8>>],
-    /// and what comes then.
-    pub more: &'a [Event<Vec<u8>>],
-}
-
-/// Lives this life with these writes cut, and boots the device behind each cut until a boot isn't
-/// cut. The copy of its flash stands in memory of `alloc`.
+/// Runs a scenario with these writes cut. After each cut the device boots until a boot isn't cut.
+/// The copy of its flash is in memory of `alloc`.
 ///
 /// # Errors
-/// `AllocError` where memory is refused.
-pub fn live(alloc: Global, life: &Life<'_>, cuts: &[Cut]) -> Result<LifeEnd, AllocError>
-    requires device { IsOfFile life.now.device.now }
-    requires whole { IsFlashOf life.now.device.now.map life.now.bytes.now }
-    ensures { IfOk result (IsLived life.now cuts.now) }
+/// `AllocError` if memory is refused.
+pub fn run_scenario(
+    alloc: Global,
+    scenario: &Scenario<'_>,
+    cuts: &[Cut],
+) -> Result<ScenarioEnd, AllocError>
+    ensures { IfOk result (IsScenarioRun scenario.now cuts.now) }
 {
-    live_on::<Brand>(alloc, Blank::new(2), life, cuts)
+    run_on_flash::<Brand>(alloc, Blank::new(2), scenario, cuts)
 }
 
-/// The same, with the token that the flash counts by.
-fn live_on<L: Ledger>(
+/// The same, with the token of the ledger that the flash counts by.
+fn run_on_flash<L: Ledger>(
     alloc: Global,
     blank: Blank,
-    life: &Life<'_>,
+    scenario: &Scenario<'_>,
     cuts: &[Cut],
-) -> Result<LifeEnd, AllocError>
+) -> Result<ScenarioEnd, AllocError>
     requires name { blank.name ≡ L.name }
     requires parts { blank.parts ≡ L.parts }
     requires two { L.parts ≡ 2 }
-    requires device { IsOfFile life.now.device.now }
-    requires whole { IsFlashOf life.now.device.now.map life.now.bytes.now }
-    ensures { IfOk result (IsLived life.now cuts.now) }
+    ensures { IfOk result (IsScenarioRun scenario.now cuts.now) }
 {
-    let bytes = Vec::from_slice(alloc, life.bytes)?;
-    let mut flash = flash_of::<L>(alloc, blank, &life.device.map, bytes);
+    let bytes = Vec::from_slice(alloc, scenario.bytes)?;
+    let mut flash = flash_of::<L>(alloc, blank, &scenario.device.map, bytes);
     arm_all(alloc, &mut flash, cuts)?;
-    let mut device = device_over(flash, life.device);
-    let notes = go_through_all(alloc, &mut device, life, cuts.len())?;
+    let mut device = device_over(flash, scenario.device);
+    let notes = run_all_events(alloc, &mut device, scenario, cuts.len())?;
     let mut flash = device.into_flash();
-    let versions = running_versions(&mut flash, &life.device.map);
-    Ok(LifeEnd {
+    let versions = running_versions(&mut flash, &scenario.device.map);
+    Ok(ScenarioEnd {
         versions,
         cut: notes.cut,
         is_refused: notes.is_refused,
     })
 }
 
-/// Has these writes of a flash cut, of which none is to be cut yet. It took none yet.
+/// Arms cuts for these writes of a flash, which has taken no write yet.
 fn arm_all<L: Ledger>(
     alloc: Global,
     flash: &mut MemFlash<L>,
@@ -92,30 +76,30 @@ fn arm_all<L: Ledger>(
     Ok(())
 }
 
-/// Has all that comes in a life come to a device whose flash has power, in order. Behind each event
-/// in which a write is cut the device boots until a boot isn't cut, at most so many times.
-fn go_through_all<L: Ledger>(
+/// Passes all events of a scenario to a device whose flash has power, in order. After each event in
+/// which a write is cut the device boots until a boot isn't cut, at most `most` times.
+fn run_all_events<L: Ledger>(
     alloc: Global,
     device: &mut Device<MemFlash<L>>,
-    life: &Life<'_>,
+    scenario: &Scenario<'_>,
     most: usize,
 ) -> Result<Notes, AllocError>
     requires { device.old.here.flash.is_on ≡ true }
     ensures setup { device.new.setup ≡ device.old.setup }
     ensures on { device.new.here.flash.is_on ≡ true }
-    ensures lives { IfOk result (λ _. Lives device.old.setup device.old.here device.new.here
-        (all_of life.now)) }
+    ensures runs { IfOk result (λ _. RunsEvents device.old.setup device.old.here device.new.here
+        (all_of scenario.now)) }
 {
     let mut notes = Notes::default();
-    go_through(alloc, device, life.events, most, &mut notes)?;
-    go_through(alloc, device, life.between, most, &mut notes)?;
-    go_through(alloc, device, life.more, most, &mut notes)?;
+    run_events(alloc, device, scenario.events, most, &mut notes)?;
+    run_events(alloc, device, scenario.between, most, &mut notes)?;
+    run_events(alloc, device, scenario.more, most, &mut notes)?;
     Ok(notes)
 }
 
-/// Has these events come to a device whose flash has power, in order. Behind each in which a write
-/// is cut the device boots until a boot isn't cut, at most so many times.
-fn go_through<L: Ledger>(
+/// Passes events to a device whose flash has power, in order. After each event in which a write is
+/// cut the device boots until a boot isn't cut, at most `most` times.
+fn run_events<L: Ledger>(
     alloc: Global,
     device: &mut Device<MemFlash<L>>,
     events: &[Event<Vec<u8>>],
@@ -125,18 +109,18 @@ fn go_through<L: Ledger>(
     requires { device.old.here.flash.is_on ≡ true }
     ensures setup { device.new.setup ≡ device.old.setup }
     ensures on { device.new.here.flash.is_on ≡ true }
-    ensures lives { IfOk result (λ _. Lives device.old.setup device.old.here device.new.here
+    ensures runs { IfOk result (λ _. RunsEvents device.old.setup device.old.here device.new.here
         (held_in events.now)) }
 {
     for event in events {
         let event = event.as_deref();
-        go_on(alloc, device, &event, most, notes)?;
+        run_event(alloc, device, &event, most, notes)?;
     }
     Ok(())
 }
 
-/// Has an event come to a device whose flash has power, and boots behind it where a write is cut.
-fn go_on<L: Ledger>(
+/// Passes an event to a device whose flash has power, and boots after it if a write is cut.
+fn run_event<L: Ledger>(
     alloc: Global,
     device: &mut Device<MemFlash<L>>,
     event: &Event<&[u8]>,
@@ -146,7 +130,7 @@ fn go_on<L: Ledger>(
     requires { device.old.here.flash.is_on ≡ true }
     ensures setup { device.new.setup ≡ device.old.setup }
     ensures on { device.new.here.flash.is_on ≡ true }
-    ensures lives { LivesOne device.old.setup device.old.here device.new.here event.now }
+    ensures runs { RunsEvent device.old.setup device.old.here device.new.here event.now }
 {
     let reply = reply_to(alloc, device, event);
     if let Reply::Cut = reply {
@@ -163,8 +147,8 @@ fn go_on<L: Ledger>(
     notes.end_event(&reply)
 }
 
-/// Boots a device whose flash has power until a boot isn't cut, at most so many times, but once in
-/// any case. The answer is that of the last boot.
+/// Boots a device whose flash has power until a boot isn't cut, at most `most` times, but at least
+/// once. Returns the reply of the last boot.
 fn boot_again<L: Ledger>(alloc: Global, device: &mut Device<MemFlash<L>>, most: usize) -> Reply
     requires { device.old.here.flash.is_on ≡ true }
     ensures setup { device.new.setup ≡ device.old.setup }
@@ -180,8 +164,8 @@ fn boot_again<L: Ledger>(alloc: Global, device: &mut Device<MemFlash<L>>, most: 
     reply_to(alloc, device, &Event::Boot)
 }
 
-/// What a device whose flash has power answers to an event: `Cut` exactly where the flash took a
-/// write in it that is to be cut.
+/// The reply of a device whose flash has power to an event: `Cut` exactly if the flash took a write
+/// in it that is to be cut.
 fn reply_to<L: Ledger>(
     alloc: Global,
     device: &mut Device<MemFlash<L>>,
@@ -192,10 +176,10 @@ fn reply_to<L: Ledger>(
     ensures on { device.new.here.flash.is_on ≡ true }
     ensures steps { StepsCut device.old.setup device.old.here device.new.here event.now result }
 {
-    // A flash in memory has no faults, here and behind the step.
+    // A flash in memory has no faults, before the step and after it.
     let _before = device.flash();
     let reply = step(alloc, device, event);
-    let _behind = device.flash();
+    let _after = device.flash();
     reply
 }
 

@@ -2,8 +2,8 @@ use Rattle.std.proofs.Common.{◌≡◌, ◌∙◌, ap, arith, refl}
 use Rattle.std.proofs.lemmas.List.{get_or_default}
 use Rattle.flash_model.specs.Chip.{Chip}
 use Rattle.flash_model.specs.Memory.{chip_of}
-use Rattle.sweep.proofs.LivingLaws.{arms_more, arms_none}
-use Rattle.sweep.proofs.living.arm_all.Goals as goal
+use Rattle.sweep.proofs.ScenarioLaws.{arms_more, arms_none}
+use Rattle.sweep.proofs.scenario_run.arm_all.Goals as goal
 
 -- None is armed yet.
 pub loop-cut-init : goal.loop-cut-init
