@@ -1,4 +1,0 @@
-pub mod Doings
-pub mod Input
-pub mod Inputs
-pub mod Status

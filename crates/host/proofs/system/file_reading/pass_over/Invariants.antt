@@ -1,0 +1,13 @@
+use Rattle.std.proofs.Common.{◌≤◌, ◌-◌}
+use Rattle.host.specs.Passing.{Passes}
+use Rattle.host.proofs.system.file_reading.pass_over.Given as goal
+
+-- what isn't left to pass over is gone
+abbrev pub invariant-loop-left : goal.invariant-loop-left
+invariant-loop-left g l = record {
+  within : l.left ≤ l.count;
+  passed : Passes (g.I.Read.remaining l.fn.input) (g.I.Read.remaining l.input) (l.count - l.left);
+}
+
+abbrev pub decreases-loop-left : goal.decreases-loop-left
+decreases-loop-left g l = l.left

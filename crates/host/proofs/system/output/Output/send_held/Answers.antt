@@ -1,0 +1,49 @@
+use Rattle.std.proofs.Common.{◌≡◌, ◌+◌, ◌-◌, ◌++◌, ℕ, List, Option, None, Some, ap, drop, length, refl, subst, sym, take, ◌∙◌}
+use Rattle.std.proofs.KnownBytes.{Keeps-trans, append_known-moved}
+use Rattle.std.proofs.lemmas.List.{drop-drop, take-append-drop, take_rest}
+use Rattle.std.specs.Io.KnownBytes.{Appends, Keeps, append_known}
+use Rattle.host.specs.Held.{held_contents}
+use Rattle.host.proofs.system.output.Output.send_held.Goals as goal
+use Rattle.host.proofs.system.output.Output.send_held.Goals.{in-Ok, in-Err}
+
+-- what was taken of what is held stands behind it
+Keeps-sent : (whole before after : Option (List ℕ)) (held : List ℕ) (sent count more : ℕ)
+    → more ≡ sent + count → Keeps whole (append_known before (drop sent held))
+    → Appends before after (take count (take (length held - sent) (drop sent held)))
+    → Keeps whole (append_known after (drop more held))
+Keeps-sent whole before after held sent count more sum kept taken =
+    let rest : drop sent held ≡ take count (drop sent held) ++ drop more held =
+    sym (take-append-drop count (drop sent held))
+    ∙ ap (λ l. take count (drop sent held) ++ l) (drop-drop count sent held ∙ ap (λ n. drop n held) (sym sum)) in
+    let same : Appends before after (take count (drop sent held)) =
+    subst (λ l. Appends before after (take count l)) (take_rest held sent) taken in
+    Keeps-trans whole (append_known before (drop sent held)) (append_known after (drop more held)) kept
+    (append_known-moved before after (take count (drop sent held)) (drop more held) (drop sent held) same rest)
+
+-- where nothing was taken all stays
+Keeps-unsent : (whole before after : Option (List ℕ)) (rest : List ℕ) → Keeps whole (append_known before rest)
+    → Keeps before after → Keeps whole (append_known after rest)
+Keeps-unsent None before after rest kept same = tt
+Keeps-unsent (Some xs) None after rest kept same = absurd kept
+Keeps-unsent (Some xs) (Some ys) None rest kept same = absurd same
+Keeps-unsent (Some xs) (Some ys) (Some zs) rest kept same = ap (λ l. l ++ rest) same ∙ kept
+
+pub loop-preserved : goal.loop-preserved
+loop-preserved g c =
+    let whole = held_contents g.W.Write.contents c.args.self.now.to c.args.self.now.held.items c.args.self.now.sent in
+    elim c.match-write_within.branch [
+      | in-Ok w ↦ record {
+        kept = subst (λ s. Keeps whole (held_contents g.W.Write.contents s.to s.held.items s.sent)) (sym w.self-is)
+            (Keeps-sent whole (g.W.Write.contents c.loop.self.to) (g.W.Write.contents c.write_within.new.to)
+            c.loop.self.held.items c.loop.self.sent w.in-Ok.count (c.loop.self.sent + w.in-Ok.count) refl
+            c.loop.invariant.kept
+            (subst (λ held. Appends (g.W.Write.contents c.loop.self.to) (g.W.Write.contents c.write_within.new.to)
+            (take w.in-Ok.count (take (length held - c.loop.self.sent) (drop c.loop.self.sent held))))
+            c.deref.ensures.0 w.in-Ok.ensures.bytes));
+      }
+      | in-Err w ↦ record {
+        kept = subst (λ s. Keeps whole (held_contents g.W.Write.contents s.to s.held.items s.sent)) (sym w.self-is)
+            (Keeps-unsent whole (g.W.Write.contents c.loop.self.to) (g.W.Write.contents c.write_within.new.to)
+            (drop c.loop.self.sent c.loop.self.held.items) c.loop.invariant.kept w.in-Err.ensures.bytes);
+      }
+    ]

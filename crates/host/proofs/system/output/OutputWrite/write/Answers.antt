@@ -1,0 +1,50 @@
+use Rattle.std.proofs.Common.{◌≡◌, ℕ, List, [], ◌++◌, Option, None, Some, Result, Ok, Err, ap, append-nil, arith, drop, refl, subst, sym, take, ◌∙◌}
+use Rattle.std.proofs.lemmas.List.{drop_all}
+use Rattle.std.specs.Io.KnownBytes.{Appends, Keeps, WriteAppends, append_known}
+use Rattle.host.specs.Held.{held_contents}
+use Rattle.host.proofs.system.output.OutputWrite.write.Goals as goal
+
+-- behind nothing that is held bytes go on at once
+Appends-passed : (whole before after : Option (List ℕ)) (rest bytes : List ℕ) → rest ≡ []
+    → Keeps whole (append_known before rest) → Appends before after bytes
+    → Appends whole (append_known after rest) bytes
+Appends-passed None before after rest bytes none kept more = tt
+Appends-passed (Some xs) None after rest bytes none kept more = absurd kept
+Appends-passed (Some xs) (Some ys) None rest bytes none kept more = absurd more
+Appends-passed (Some xs) (Some ys) (Some zs) rest bytes none kept more =
+    let old : ys ≡ xs = sym (append-nil ys) ∙ sym (ap (λ l. ys ++ l) none) ∙ kept in
+    ap (λ l. zs ++ l) none ∙ append-nil zs ∙ more ∙ ap (λ l. l ++ bytes) old
+
+Keeps-passed : (whole before after : Option (List ℕ)) (rest : List ℕ)
+    → Keeps whole (append_known before rest) → Keeps before after
+    → Keeps whole (append_known after rest)
+Keeps-passed None before after rest kept same = tt
+Keeps-passed (Some xs) None after rest kept same = absurd kept
+Keeps-passed (Some xs) (Some ys) None rest kept same = absurd same
+Keeps-passed (Some xs) (Some ys) (Some zs) rest kept same = ap (λ l. l ++ rest) same ∙ kept
+
+WriteAppends-passed : {E : Type 0} (whole before after : Option (List ℕ)) (rest bytes : List ℕ)
+    (result : Result ℕ E) → rest ≡ [] → Keeps whole (append_known before rest)
+    → WriteAppends before after result bytes → WriteAppends whole (append_known after rest) result bytes
+WriteAppends-passed whole before after rest bytes (Ok count) none kept more =
+    Appends-passed whole before after rest (take count bytes) none kept more
+WriteAppends-passed whole before after rest bytes (Err error) none kept more =
+    Keeps-passed whole before after rest kept more
+
+pub returns-clause-bytes : goal.returns-clause-bytes
+returns-clause-bytes g c =
+    let whole = held_contents g.W.Write.contents c.args.self.now.to c.args.self.now.held.items c.args.self.now.sent in
+    let start = c.send_held.new.self in
+    let kept : Keeps whole (held_contents g.W.Write.contents start.to start.held.items start.sent) =
+    subst (λ s. Keeps (held_contents g.W.Write.contents s.to s.held.items s.sent)
+    (held_contents g.W.Write.contents start.to start.held.items start.sent)) (c.if-hold.ensures.full refl)
+    c.send_held.ensures.kept in
+    let none : drop start.sent start.held.items ≡ [] =
+    subst (λ l. drop start.sent l ≡ []) (sym c.in_ok-send_held.ensures.sent) (drop_all start.sent [] (omega arith)) in
+    let same = c.if-hold-2.ensures.full refl in
+    subst (λ s. WriteAppends whole (held_contents g.W.Write.contents c.write_within.new.to s.held.items s.sent)
+    c.write_within.result c.args.bytes.now) (sym same)
+    (WriteAppends-passed whole (g.W.Write.contents start.to) (g.W.Write.contents c.write_within.new.to)
+    (drop start.sent start.held.items) c.args.bytes.now c.write_within.result none kept
+    (subst (λ s. WriteAppends (g.W.Write.contents s.to) (g.W.Write.contents c.write_within.new.to)
+    c.write_within.result c.args.bytes.now) same c.write_within.ensures.bytes))

@@ -1,0 +1,20 @@
+-- What several words name, and what their sources give.
+use Rattle.std.specs.Prelude.{ℕ, List, [], ◌∷◌, Option, map}
+use Rattle.std.specs.Borrow.{Bor}
+use Rattle.host.specs.declared.source.Source.{Source}
+use Rattle.host.specs.declared.source.Source.TheVariants.{StandardInput, File}
+use Rattle.host.specs.Input.{FileBytes, Gives}
+
+-- The words that these references are to.
+abbrev pub names_of : List (Bor (List ℕ)) → List (List ℕ)
+names_of words = map (λ word. word.now) words
+
+-- These are the bytes of sources that are read one after the other. What a file holds once standard
+-- input was read is not said.
+abbrev pub GiveEach : List Source → Option (List ℕ) → FileBytes → List (List ℕ) → Type 0
+GiveEach [] input file [] = Unit {0}
+GiveEach [] input file (bytes ∷ more) = ⊥
+GiveEach (source ∷ rest) input file [] = ⊥
+GiveEach (StandardInput ∷ rest) input file (bytes ∷ more) = Gives StandardInput input file bytes
+GiveEach (File name ∷ rest) input file (bytes ∷ more) =
+    Gives (File name) input file bytes × GiveEach rest input file more

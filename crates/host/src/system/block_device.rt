@@ -1,0 +1,240 @@
+//! A block device as the system knows it: by its number, whatever the name of its node. The system
+//! lets a program write to a device that is mounted, so this asks first whether it uses the device.
+//!
+//! What it sees is what `/proc` and `/sys` say: what is mounted where this program sees it, swap, and
+//! what device mapper and the like hold. It doesn't see what is mounted for other containers alone,
+//! the further devices of a file system that has several, or a program that has the device open.
+
+use crate::system::file_reading;
+use crate::system::holding::{fault_of, lock};
+use crate::{Access, FlashFault};
+use std::alloc::Global;
+use std::fs::{File, Metadata};
+use std::io::{ErrorKind, Read};
+use std::os::unix::fs::{FileTypeExt, MetadataExt};
+use std::rt::Files;
+use std::{fs, io, str};
+
+/// The file systems that are mounted, one a line.
+const MOUNTS: &str = "/proc/self/mountinfo";
+
+/// The files and devices that memory is swapped to, one a line.
+const SWAPS: &str = "/proc/swaps";
+
+/// How many bytes of these are read at most.
+const MOST: u32 = 1 << 24;
+
+/// The number of a block device.
+#[derive(Clone, Copy, PartialEq, Eq)]
+struct Number {
+    major: u64,
+    minor: u64,
+}
+
+/// A block device, and the whole disk if it is a part of one.
+#[derive(Clone, Copy)]
+struct Device {
+    number: Number,
+    disk: Option<Number>,
+}
+
+/// Has this program hold what the system has under the number of a block device, which all its nodes
+/// have in common, for `access`. The lock of a node doesn't bind the others. One that is to be
+/// written and that the system uses itself is in use. Of a plain file there is nothing to hold, nor
+/// on a system without `/sys`.
+pub fn hold_number<R: Files<File = File>>(
+    runtime: &R,
+    alloc: Global,
+    found: &Metadata,
+    access: Access,
+) -> Result<Option<File>, FlashFault> {
+    let Some(number) = number_of(found) else {
+        return Ok(None);
+    };
+    let path = path_of(alloc, number, "dev").map_err(fault_of)?;
+    let common = File::open(runtime, path.as_str()).ok();
+    if let Some(common) = &common {
+        lock(common, access)?;
+    }
+    if access != Access::Read && is_in_use(runtime, alloc, number).map_err(fault_of)? {
+        return Err(FlashFault::InUse);
+    }
+    Ok(common)
+}
+
+/// The number of a block device.
+fn number_of(found: &Metadata) -> Option<Number> {
+    if !found.file_type().is_block_device() {
+        return None;
+    }
+    let device = found.rdev();
+    Some(Number {
+        major: (device >> 8 & 0xfff) | (device >> 32 & 0xffff_f000),
+        minor: (device & 0xff) | (device >> 12 & 0xffff_ff00),
+    })
+}
+
+/// Where Linux tells of the device of this number, and in a file of this name.
+fn path_of(alloc: Global, number: Number, name: &str) -> io::Result<String> {
+    let Number { major, minor } = number;
+    Ok(format!(in alloc; "/sys/dev/block/{major}:{minor}/{name}")?)
+}
+
+/// Whether the system uses the device of this number, its disk or a part of it.
+fn is_in_use<R: Files<File = File>>(
+    runtime: &R,
+    alloc: Global,
+    number: Number,
+) -> io::Result<bool> {
+    let disk = disk_of(runtime, alloc, number)?;
+    let device = Device { number, disk };
+    Ok(
+        is_mounted(runtime, alloc, device)?
+            || is_swapped_to(runtime, alloc, device)?
+            || is_held(runtime, alloc, device)?,
+    )
+}
+
+/// The disk that the device of this number is a part of.
+fn disk_of<R: Files<File = File>>(
+    runtime: &R,
+    alloc: Global,
+    number: Number,
+) -> io::Result<Option<Number>> {
+    let partition = path_of(alloc, number, "partition")?;
+    if fs::metadata(runtime, partition.as_str()).is_err() {
+        return Ok(None);
+    }
+    let path = path_of(alloc, number, "../dev")?;
+    Ok(number_in(lines_of(runtime, alloc, path.as_str())?.trim_ascii()))
+}
+
+/// The number that these bytes spell, as in `8:1`.
+fn number_in(bytes: &[u8]) -> Option<Number> {
+    let (major, minor) = str::from_utf8(bytes).ok()?.split_once(':')?;
+    Some(Number {
+        major: major.parse().ok()?,
+        minor: minor.parse().ok()?,
+    })
+}
+
+/// What a file says in which the system tells something: nothing where there is none.
+fn lines_of<R: Files<File = File>>(runtime: &R, alloc: Global, name: &str) -> io::Result<Vec<u8>> {
+    match file_reading::read_start(runtime, alloc, name, MOST) {
+        Ok(bytes) if bytes.len() > MOST as usize => Err(io::Error::from(ErrorKind::FileTooLarge)),
+        Err(error) if error.kind() == ErrorKind::NotFound => Ok(Vec::new(alloc)),
+        read => read,
+    }
+}
+
+/// Whether this is the device, its disk or a part of it.
+fn is_of_device<R: Files<File = File>>(
+    runtime: &R,
+    alloc: Global,
+    device: Device,
+    other: Option<Number>,
+) -> io::Result<bool> {
+    let Some(other) = other else {
+        return Ok(false);
+    };
+    if other == device.number || device.disk == Some(other) {
+        return Ok(true);
+    }
+    Ok(disk_of(runtime, alloc, other)? == Some(device.number))
+}
+
+/// Whether the device is mounted. Its number is the third word of a line. Some file systems have
+/// none there, and tell the name of their node behind the word `-`.
+fn is_mounted<R: Files<File = File>>(
+    runtime: &R,
+    alloc: Global,
+    device: Device,
+) -> io::Result<bool> {
+    let mounts = lines_of(runtime, alloc, MOUNTS)?;
+    for line in mounts.split(|byte| *byte == b'\n') {
+        let mut words = line.split(|byte| *byte == b' ');
+        let number = words.nth(2).and_then(number_in);
+        let node = words.skip_while(|word| *word != b"-".as_slice()).nth(2);
+        if is_of_device(runtime, alloc, device, number)?
+            || is_of_device(runtime, alloc, device, number_at(runtime, node))?
+        {
+            return Ok(true);
+        }
+    }
+    Ok(false)
+}
+
+/// The number of the block device that a node of this name is of.
+fn number_at<R: Files>(runtime: &R, name: Option<&[u8]>) -> Option<Number> {
+    let name = str::from_utf8(name?).ok()?;
+    if !name.starts_with("/dev/") {
+        return None;
+    }
+    number_of(&fs::metadata(runtime, name).ok()?)
+}
+
+/// Whether memory is swapped to the device. Its node is the first word of a line.
+fn is_swapped_to<R: Files<File = File>>(
+    runtime: &R,
+    alloc: Global,
+    device: Device,
+) -> io::Result<bool> {
+    let swaps = lines_of(runtime, alloc, SWAPS)?;
+    for line in swaps.split(|byte| *byte == b'\n') {
+        let node = line.split(|byte| *byte == b' ' || *byte == b'\t').next();
+        if is_of_device(runtime, alloc, device, number_at(runtime, node))? {
+            return Ok(true);
+        }
+    }
+    Ok(false)
+}
+
+/// Whether device mapper or the like holds the device, its disk or a part of it.
+fn is_held<R: Files>(runtime: &R, alloc: Global, device: Device) -> io::Result<bool> {
+    let own = path_of(alloc, device.number, "")?;
+    if has_holders(runtime, alloc, own.as_str(), "")? {
+        return Ok(true);
+    }
+    if let Some(disk) = device.disk {
+        let disk = path_of(alloc, disk, "")?;
+        if has_holders(runtime, alloc, disk.as_str(), "")? {
+            return Ok(true);
+        }
+    }
+    for name in names_in(runtime, alloc, own.as_str())?.split(|byte| *byte == 0) {
+        let Ok(name) = str::from_utf8(name) else {
+            continue;
+        };
+        let part = format!(in alloc; "{own}{name}/partition")?;
+        if fs::metadata(runtime, part.as_str()).is_ok()
+            && has_holders(runtime, alloc, own.as_str(), name)?
+        {
+            return Ok(true);
+        }
+    }
+    Ok(false)
+}
+
+/// Whether something holds what has this folder, or the part of it that has this name.
+fn has_holders<R: Files>(runtime: &R, alloc: Global, folder: &str, part: &str) -> io::Result<bool> {
+    let path = format!(in alloc; "{folder}{part}/holders")?;
+    let names = names_in(runtime, alloc, path.as_str())?;
+    Ok(
+        names
+            .split(|byte| *byte == 0)
+            .any(|name| !matches!(name, b"" | b"." | b"..")),
+    )
+}
+
+/// The names in a folder, each ended by a zero: none where there is no folder.
+fn names_in<R: Files>(runtime: &R, alloc: Global, folder: &str) -> io::Result<Vec<u8>> {
+    let mut names = Vec::new(alloc);
+    match runtime.open_dir(folder) {
+        Ok(mut open) => {
+            open.read_to_end(&mut names)?;
+            Ok(names)
+        }
+        Err(error) if error.kind() == ErrorKind::NotFound => Ok(names),
+        Err(error) => Err(error),
+    }
+}
