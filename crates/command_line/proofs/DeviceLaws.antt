@@ -1,9 +1,9 @@
 -- Which orders are none to a device.
 use Rattle.std.proofs.Common.{List, codes, rules}
 use Rattle.clap.specs.Words.{Row}
-use Rattle.command_words.specs.DeviceOrders as of_device
-use Rattle.command_words.specs.declared.device_orders.DeviceOrder.{DeviceOrder}
-use Rattle.command_words.specs.declared.device_orders.DeviceOrder.TheVariants as device_order
+use Rattle.command_line.specs.DeviceOrders as of_device
+use Rattle.command_line.specs.declared.device_orders.DeviceOrder.{DeviceOrder}
+use Rattle.command_line.specs.declared.device_orders.DeviceOrder.TheVariants as device_order
 use Rattle.command_line.specs.Orders.{Asks}
 use Rattle.command_line.specs.declared.orders.Order.{Order}
 use Rattle.command_line.specs.declared.orders.Order.TheVariants.{Choose, Check, Image, Manifest, MakeDevice, MakeImage, MakeManifest, Provision, Extract, Show, Slots, Run, Sweep, Codes}

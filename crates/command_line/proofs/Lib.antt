@@ -1,5 +1,10 @@
+pub mod Aliases
 pub mod ComponentLaws
 pub mod DeviceLaws
+pub mod Folds
 pub mod Names
 pub mod NeedLaws
+pub mod OrderNames
+pub mod OrderRefusals
+pub mod Program
 pub mod Refusals

@@ -1,25 +1,44 @@
--- What is answered where words give no order.
-use Rattle.std.specs.Prelude.{◌≡◌, ◌≢◌, ◌⊎◌, List, [], Some, ⊤}
+-- The answers to arguments that give no order.
+use Rattle.std.specs.Prelude.{◌≡◌, ◌≢◌, List, [], Some, ⊤}
 use Rattle.clap.specs.Words.{IsAmong, Text, fault_of, kind_of}
+use Rattle.clap.specs.declared.error.Error.{Error}
 use Rattle.clap.specs.declared.error.kind.ErrorKind.{ErrorKind}
-use Rattle.clap.specs.declared.error.kind.ErrorKind.TheVariants.{InvalidValue, MissingSubcommand, OutOfMemory}
-use Rattle.command_words.specs.Commands.{bootswap}
-use Rattle.command_line.specs.Orders.{IsOrder, misuse_of}
-use Rattle.command_words.specs.declared.error.OrderError.{OrderError}
-use Rattle.command_words.specs.declared.error.OrderError.TheVariants.{Usage, NoMemory}
-use Rattle.command_line.specs.declared.orders.Order.{Order}
+use Rattle.clap.specs.declared.error.kind.ErrorKind.TheVariants.{OutOfMemory}
+use Rattle.command_line.specs.Commands.{bootswap}
+use Rattle.command_line.specs.DeviceOrders.{IsOrder, misuse_of}
+use Rattle.command_line.specs.declared.error.OrderError.{OrderError}
+use Rattle.command_line.specs.declared.error.OrderError.TheVariants.{Usage, NoMemory}
+use Rattle.command_line.specs.declared.device_orders.DeviceOrder.{DeviceOrder}
 
--- Why words are answered by an error of this kind: `clap` has a fault with them, or they ask for
--- help or the version; or it takes them, and they ask for no order, or their order misuses standard
--- input.
-pub data IsFault (words : List Text) (kind : ErrorKind) : Type 0 where
-  of_clap : IsAmong kind (fault_of bootswap words) → IsFault words kind
-  no_order : fault_of bootswap words ≡ [] → ((order : Order) → IsOrder words order → ⊥)
-      → (kind ≡ InvalidValue) ⊎ (kind ≡ MissingSubcommand) → IsFault words kind
-  misuse : (order : Order) → fault_of bootswap words ≡ [] → IsOrder words order
-      → misuse_of order ≡ Some kind → IsFault words kind
+-- Why arguments that may ask for an order to a device are answered by an error of this kind: `clap`
+-- has a fault with them, or they ask for help or the version; or it takes them, and their order
+-- misuses standard input.
+pub data IsDeviceFault (words : List Text) (kind : ErrorKind) : Type 0 where
+  of_clap : IsAmong kind (fault_of bootswap words) → IsDeviceFault words kind
+  misuse : (order : DeviceOrder) → fault_of bootswap words ≡ [] → IsOrder words order
+      → misuse_of order ≡ Some kind → IsDeviceFault words kind
 
--- The answer to words that give no order. An answer of `clap` is never want of memory.
-abbrev pub IsRefusal : List Text → OrderError → Type 0
-IsRefusal words (Usage answer) = (kind_of answer ≢ OutOfMemory) × IsFault words (kind_of answer)
-IsRefusal words NoMemory = ⊤
+-- The answer to arguments that give no order. An answer of `clap` is never lack of memory.
+abbrev pub IsDeviceRefusal : List Text → OrderError → Type 0
+IsDeviceRefusal words (Usage answer) =
+    (kind_of answer ≢ OutOfMemory) × IsDeviceFault words (kind_of answer)
+IsDeviceRefusal words NoMemory = ⊤
+
+-- An answer of `clap` of this kind, or lack of memory.
+abbrev pub IsUsage : ErrorKind → OrderError → Type 0
+IsUsage kind (Usage answer) = kind_of answer ≡ kind
+IsUsage kind NoMemory = ⊤
+
+-- An answer of `clap` is never lack of memory.
+abbrev pub IsTold : OrderError → Type 0
+IsTold (Usage answer) = kind_of answer ≢ OutOfMemory
+IsTold NoMemory = ⊤
+
+-- The error says what `clap` answers: lack of memory, or else that very answer.
+abbrev pub Says : Error → OrderError → Type 0
+Says answer (Usage error) = (error ≡ answer) × (kind_of answer ≢ OutOfMemory)
+Says answer NoMemory = kind_of answer ≡ OutOfMemory
+
+-- Memory ran out.
+abbrev pub IsNoMemory : OrderError → Type 0
+IsNoMemory error = error ≡ NoMemory

@@ -1,3 +1,9 @@
+pub mod Codes
+pub mod Commands
+pub mod DeviceOrders
 pub mod Faults
+pub mod Given
 pub mod Needs
+pub mod OrderFaults
 pub mod Orders
+pub mod Status

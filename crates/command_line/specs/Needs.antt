@@ -1,4 +1,4 @@
--- Which dependencies the words of a text say.
+-- The dependencies that the words of a text say.
 use Rattle.std.specs.Prelude.{◌≡◌, ◌==◌, ◌-◌, ◌&&◌, ℕ, Bool, List, [], ◌∷◌, Option, Some, None, drop, if◌then◌else◌, length, nat_le, option_and_then, option_map, slice_index, take}
 use Rattle.std.specs.List.{slice_split}
 use Rattle.clap.specs.Words.{Text}
@@ -7,7 +7,7 @@ use Rattle.version_order.specs.declared.dependency.Dependency.{Dependency}
 use Rattle.version_order.specs.declared.version.Version.{Version}
 use Rattle.version_order.specs.VersionText.{version_of}
 
--- The words of a text, parted by spaces.
+-- The words of a text, separated by spaces.
 abbrev pub spaced : Text → List Text
 spaced text = slice_split (λ byte. byte == 32) text
 
@@ -21,7 +21,7 @@ need_of image minimum =
     option_and_then (λ number. option_map (dependency_on number) (version_of minimum))
     (number_below 256 image)
 
--- The dependencies that words say, two words each.
+-- The dependencies that words say, two words for each.
 unfoldable pub needs_of : List Text → Option (List Dependency)
 needs_of [] = Some []
 needs_of (image ∷ []) = None
@@ -42,7 +42,7 @@ abbrev pub without_space : Text → Text
 without_space [] = []
 without_space (byte ∷ text) = if byte == 32 then text else byte ∷ text
 
--- The dependency that stands between brackets: the number of an image, a comma, which a space may
+-- The dependency between brackets: the number of an image, a comma, which a space may
 -- follow, and the lowest version that will do.
 abbrev pub need_between : Text → Option Dependency
 need_between text =
@@ -53,7 +53,7 @@ abbrev pub is_bracketed : Text → Bool
 is_bracketed text =
     nat_le 2 (length text) && slice_index text 0 == 40 && slice_index text (length text - 1) == 41
 
--- What stands between the brackets of a text.
+-- The text between brackets.
 abbrev pub between_brackets : Text → Option Text
 between_brackets text =
     if is_bracketed text then Some (take (length text - 2) (drop 1 text)) else None

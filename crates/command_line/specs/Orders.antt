@@ -1,4 +1,4 @@
--- What an order says, by the matches that `clap` gives for the words.
+-- What an order says, by the matches that `clap` gives for the arguments.
 use Rattle.std.specs.Prelude.{◌≡◌, ℕ, ◌==◌, ◌^◌, ◌<◌, ◌≤◌, Bool, false, true, IsSomeAnd, List, [], ◌∷◌, ◌++◌, Option, Some, None, codes, if◌then◌else◌, length, map, nat_lt, option_and_then, option_map, option_to_list, unwrap_or, ⊤}
 use Rattle.std.specs.Borrow.{Bor}
 use Rattle.std.specs.List.{AllZip, after_first, before_first, position_or_len, slice_split}
@@ -14,11 +14,11 @@ use Rattle.sector_map.specs.declared.layout.Side.TheVariants.{Primary, Secondary
 use Rattle.version_order.specs.declared.dependency.Dependency.{Dependency}
 use Rattle.version_order.specs.declared.version.Version.{Version}
 use Rattle.version_order.specs.VersionText.{version_of}
-use Rattle.command_words.specs.Commands.{bootswap}
-use Rattle.command_words.specs.DeviceOrders as of_device
-use Rattle.command_words.specs.declared.device_orders.DeviceOrder.{DeviceOrder}
-use Rattle.command_words.specs.declared.device_orders.DeviceOrder.TheVariants as device_order
-use Rattle.command_words.specs.Given.{IsNamed, is_given, is_standard_input, standard_inputs}
+use Rattle.command_line.specs.Commands.{bootswap}
+use Rattle.command_line.specs.DeviceOrders as of_device
+use Rattle.command_line.specs.declared.device_orders.DeviceOrder.{DeviceOrder}
+use Rattle.command_line.specs.declared.device_orders.DeviceOrder.TheVariants as device_order
+use Rattle.command_line.specs.Given.{IsNamed, is_given, is_standard_input, standard_inputs}
 use Rattle.command_line.specs.Needs.{AreNeeds, IsBracketed, IsNeed}
 use Rattle.command_line.specs.declared.orders.NewDevice.{NewDevice}
 use Rattle.command_line.specs.declared.orders.NewComponent.{NewComponent}
@@ -59,11 +59,11 @@ IsNumber word number = number_of word ≡ Some number
 abbrev pub number_at : Text → List Row → Option ℕ
 number_at argument rows = option_and_then number_of (first_of argument rows)
 
--- The words of a text, parted by commas.
+-- The words of a text, separated by commas.
 abbrev pub words_of : Text → List Text
 words_of text = slice_split (λ byte. byte == 44) text
 
--- How many boots a trial has by the matches, where they say it.
+-- The number of boots of a trial that the matches have, if they have one.
 abbrev pub HasTrialBoots : List Row → Option ℕ → Type 0
 HasTrialBoots rows None = first_of (codes "trial-boots") rows ≡ None
 HasTrialBoots rows (Some boots) =
@@ -79,7 +79,7 @@ pub record SaysDevice (rows : List Row) (device : NewDevice) : Type 0 where
   pub class : IsNamed rows (codes "class") device.class.now
   pub trial_boots : HasTrialBoots rows device.trial_boots
 
--- The number below a limit that the matches have for an argument, where they have one.
+-- The number below a limit that the matches have for an argument, if they have one.
 abbrev pub HasNumber : Text → ℕ → List Row → Option ℕ → Type 0
 HasNumber argument limit rows None = first_of argument rows ≡ None
 HasNumber argument limit rows (Some number) =
@@ -93,7 +93,7 @@ version_at rows = option_and_then version_of (first_of (codes "version") rows)
 abbrev pub texts_at : Text → List Row → List Text
 texts_at argument rows = unwrap_or (all_of argument rows) []
 
--- The matches of `make-image` say these dependencies: those in brackets behind the others.
+-- The matches of `make-image` say these dependencies: those in brackets after the others.
 pub record SaysDependencies (rows : List Row) (dependencies : List Dependency) : Type 0 where
   pub needs : List Dependency
   pub bracketed : List Dependency
@@ -112,19 +112,19 @@ pub record SaysImage (rows : List Row) (image : NewImage) : Type 0 where
   pub load_address : HasNumber (codes "load-address") (2 ^ 32) rows image.load_address
   pub flags : HasNumber (codes "flags") (2 ^ 32) rows image.flags
 
--- `=`, which parts the number of an image from the name of a file.
+-- `=`, which separates the number of an image from the name of a file.
 abbrev pub is_equals_sign : ℕ → Bool
 is_equals_sign byte = byte == 61
 
--- A word says this file and its image, of a kind: the number of the image, `=`, and the name of the
--- file, which is all that follows the first `=`.
+-- A value says this file and its image, of a kind: the number of the image, `=`, and the name of
+-- the file, which is all that follows the first `=`.
 pub record IsComponent (kind : Bool) (word : Text) (component : NewComponent) : Type 0 where
   pub parted : position_or_len is_equals_sign word < length word
   pub image : number_below 256 (before_first is_equals_sign word) ≡ Some component.image
   pub file : component.file.now ≡ after_first is_equals_sign word
   pub permanent : component.permanent ≡ kind
 
--- Words say these files, each one.
+-- Values say these files, one each.
 abbrev pub AreComponents : Bool → List Text → List NewComponent → Type 0
 AreComponents kind words components = AllZip (IsComponent kind) words components
 
@@ -163,7 +163,7 @@ pub record IsNewFile (rows : List Row) (file : NewFile) : Type 0 where
 abbrev pub image_at : List Row → Option ℕ
 image_at rows = option_and_then (number_below 256) (first_of (codes "IMAGE") rows)
 
--- The side of a slot that a word says.
+-- The side of a slot that a value says.
 abbrev pub side_of : Text → Option Side
 side_of word =
     if bytes_eq word (codes "primary") then Some Primary
@@ -214,7 +214,7 @@ abbrev pub IsOrderOf : Option (Text × List Row) → Order → Type 0
 IsOrderOf None order = ⊥
 IsOrderOf (Some named) order = Asks named.0 named.1 order
 
--- The words ask for this order: they name its subcommand, and give it its names and options.
+-- The arguments ask for this order: they name its subcommand, and give it its names and options.
 abbrev pub IsOrder : List Text → Order → Type 0
 IsOrder words = IsOrderOf (subcommand_of bootswap words)
 
@@ -249,7 +249,7 @@ IsOnDevice (Run device flash script durable) = ⊤
 IsOnDevice (Sweep device script images choices) = ⊤
 IsOnDevice _ = ⊥
 
--- The file that would be written to is standard input.
+-- The file to write is standard input.
 abbrev pub writes_to_standard_input : Order → Bool
 writes_to_standard_input (MakeImage image body values) = is_standard_input image.name
 writes_to_standard_input (Provision device flash images) = is_standard_input flash
@@ -259,13 +259,13 @@ writes_to_standard_input (Sweep device script images choices) =
     option_map_or is_standard_input choices.picture false
 writes_to_standard_input _ = false
 
--- The fault of an order in its use of standard input: it would write to it, or read it twice.
+-- The fault of an order in its use of standard input: it writes it, or reads it twice.
 abbrev pub misuse_of : Order → Option ErrorKind
 misuse_of order =
     if writes_to_standard_input order then Some InvalidValue
     else (if nat_lt 1 (standard_inputs (names_of order)) then Some ArgumentConflict else None)
 
--- The words give this order: `clap` takes them, they ask for it, and it doesn't misuse standard
+-- The arguments give this order: `clap` takes them, they ask for it, and it doesn't misuse standard
 -- input.
 pub record GiveOrder (words : List Text) (order : Order) : Type 0 where
   pub taken : fault_of bootswap words ≡ []

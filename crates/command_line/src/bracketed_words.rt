@@ -1,19 +1,19 @@
-//! The words of `--dependencies`, which are written as MCUboot's `imgtool` has them.
+//! Reads the values of `--dependencies`, in the notation of MCUboot's `imgtool`.
 
 ghost use Rattle.std.specs.Prelude.{◌≡◌, IfOk, codes, map, option_map};
 ghost use Rattle.std.specs.List.{AllZip};
 ghost use Rattle.clap.specs.Words.{found_of, rows_of};
-ghost use Rattle.command_words.specs.Given.{Finds};
+ghost use Rattle.command_line.specs.Given.{Finds};
 ghost use Rattle.command_line.specs.Needs.{IsBracketed, bracketed_need, need_between};
 ghost use Rattle.command_line.specs.Orders.{texts_at};
 
+use crate::{named, names_in};
 use clap::ArgMatches;
-use command_words::{named, names_in};
 use common::ascii::{cut, number_u8};
 use std::alloc::{AllocError, Global};
 use version_order::{Dependency, Version};
 
-/// The dependencies that the words of `--dependencies` give; none where one of them says none.
+/// The dependencies of all `--dependencies`. `None` if a value isn't a list of dependencies.
 pub fn bracketed_in(
     alloc: Global,
     names: &ArgMatches<'_>,
@@ -29,7 +29,7 @@ pub fn bracketed_in(
     }
 }
 
-/// The dependencies that these words say, each one.
+/// The dependencies that these values say, one each.
 fn bracketed_of(alloc: Global, words: &[&str]) -> Result<Option<Vec<Dependency>>, AllocError>
     ensures { IfOk result (λ found. Finds (AllZip IsBracketed (map (λ word. word.now) words.now))
         (option_map (λ dependencies. dependencies.items) found)) }
@@ -44,8 +44,8 @@ fn bracketed_of(alloc: Global, words: &[&str]) -> Result<Option<Vec<Dependency>>
     Ok(Some(dependencies))
 }
 
-/// The dependency that a word says: the number of an image and a version in brackets, parted by a
-/// comma, which a space may follow: `(1, 2.0.0)`.
+/// The dependency that a value says: the number of an image and a version in brackets, separated by
+/// a comma, which a space may follow: `(1, 2.0.0)`.
 fn bracketed_need(word: &str) -> Option<Dependency>
     ensures { result ≡ bracketed_need word.now }
 {
@@ -55,7 +55,7 @@ fn bracketed_need(word: &str) -> Option<Dependency>
     }
 }
 
-/// The dependency that stands between brackets.
+/// The dependency between the brackets.
 fn need_between(text: &[u8]) -> Option<Dependency>
     ensures { result ≡ need_between text.now }
 {

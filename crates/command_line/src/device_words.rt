@@ -1,20 +1,20 @@
-//! The words of `make-device`: which device they say.
+//! Reads the arguments of `make-device`.
 
 ghost use Rattle.std.specs.Prelude.{◌≡◌, IfOk, map};
 ghost use Rattle.std.specs.List.{AllZip};
 ghost use Rattle.clap.specs.Words.{found_of, rows_of};
-ghost use Rattle.command_words.specs.Given.{Finds};
+ghost use Rattle.command_line.specs.Given.{Finds};
 ghost use Rattle.command_line.specs.Orders.{HasTrialBoots, IsNumber, SaysDevice};
 ghost use Rattle.command_line.specs.Orders.{number_at, words_of};
 
 use crate::orders::NewDevice;
+use crate::{name_in, named};
 use clap::ArgMatches;
-use command_words::{name_in, named};
 use common::ascii::number;
 use common::limits::MOST_TRIAL_BOOTS;
 use std::alloc::{AllocError, Global};
 
-/// The device that the words say; none where one of their numbers is none.
+/// The device that the arguments describe. `None` if one of the numbers isn't valid.
 pub fn device_in<'a>(
     alloc: Global,
     names: &ArgMatches<'a>,
@@ -48,14 +48,14 @@ pub fn device_in<'a>(
     }))
 }
 
-/// The number that the words give for this argument.
+/// The number that is given for this argument.
 pub fn number_in(names: &ArgMatches<'_>, argument: &str) -> Option<u32>
     ensures { result ≡ number_at argument.now (rows_of (found_of names.now)) }
 {
     number(name_in(names, argument)?.as_bytes())
 }
 
-/// How many boots a trial has, where the words say it; none where that is no number from 1 to
+/// The number of boots of a trial, if it is given. `None` if it isn't a number from 1 to
 /// [`MOST_TRIAL_BOOTS`].
 pub fn trial_boots_in(names: &ArgMatches<'_>) -> Option<Option<u8>>
     ensures { Finds (HasTrialBoots (rows_of (found_of names.now))) result }
@@ -71,7 +71,7 @@ pub fn trial_boots_in(names: &ArgMatches<'_>) -> Option<Option<u8>>
     }
 }
 
-/// The numbers of a text, parted by commas; none where one of them is none.
+/// The numbers of a text, separated by commas. `None` if one of them isn't a number.
 fn numbers_in(alloc: Global, text: &str) -> Result<Option<Vec<u32>>, AllocError>
     ensures { IfOk result (Finds (λ numbers.
         AllZip IsNumber (words_of text.now) numbers.items)) }
@@ -80,14 +80,14 @@ fn numbers_in(alloc: Global, text: &str) -> Result<Option<Vec<u32>>, AllocError>
     numbers_of(alloc, &words)
 }
 
-/// The words of a text, parted by commas.
+/// The words of a text, separated by commas.
 fn words_in<'a>(alloc: Global, text: &'a str) -> Result<Vec<&'a str>, AllocError>
     ensures { IfOk result (λ words. map (λ word. word.now) words.items ≡ words_of text.now) }
 {
     text.split(',').collect(alloc)
 }
 
-/// The numbers that these words spell, each.
+/// The numbers that these words spell, one each.
 fn numbers_of(alloc: Global, words: &[&str]) -> Result<Option<Vec<u32>>, AllocError>
     ensures { IfOk result (Finds (λ numbers.
         AllZip IsNumber (map (λ word. word.now) words.now) numbers.items)) }

@@ -1,9 +1,9 @@
-//! The words of `make-image`: what the image says of itself.
+//! Reads the arguments of `make-image`.
 
 ghost use Rattle.std.specs.Prelude.{◌≡◌, ◌^◌, IfOk, codes, map, option_map};
 ghost use Rattle.std.specs.List.{AllZip};
 ghost use Rattle.clap.specs.Words.{found_of, rows_of};
-ghost use Rattle.command_words.specs.Given.{Finds};
+ghost use Rattle.command_line.specs.Given.{Finds};
 ghost use Rattle.command_line.specs.Needs.{AreNeeds, IsNeed, need_of, needs_of, spaced};
 ghost use Rattle.command_line.specs.Orders.{HasNumber, SaysDependencies, SaysImage};
 ghost use Rattle.command_line.specs.Orders.{texts_at, version_at};
@@ -11,13 +11,13 @@ ghost use Rattle.command_line.specs.Orders.{texts_at, version_at};
 use crate::bracketed_words::bracketed_in;
 use crate::device_words::number_in;
 use crate::orders::NewImage;
+use crate::{name_in, named, names_in};
 use clap::ArgMatches;
-use command_words::{name_in, named, names_in};
 use common::ascii::number_u8;
 use std::alloc::{AllocError, Global};
 use version_order::{Dependency, Version};
 
-/// What the words say of an image; none where one of them can't be read.
+/// The image that the arguments describe. `None` if one of them isn't valid.
 pub fn image_values_in(
     alloc: Global,
     names: &ArgMatches<'_>,
@@ -56,15 +56,14 @@ pub fn image_values_in(
     }))
 }
 
-/// The version that the words give.
+/// The version that is given.
 pub fn version_in(names: &ArgMatches<'_>) -> Option<Version>
     ensures { result ≡ version_at (rows_of (found_of names.now)) }
 {
     Version::parse(name_in(names, named::VERSION)?).ok()
 }
 
-/// The number that the words give for this argument, where they give one; none where what they give
-/// is no number.
+/// The number for this argument, if one is given. `None` if the value isn't a number.
 pub fn number_said(names: &ArgMatches<'_>, argument: &str) -> Option<Option<u32>>
     ensures { Finds (HasNumber argument.now (2 ^ 32) (rows_of (found_of names.now))) result }
 {
@@ -74,7 +73,7 @@ pub fn number_said(names: &ArgMatches<'_>, argument: &str) -> Option<Option<u32>
     Some(Some(number_in(names, argument)?))
 }
 
-/// The length of the header, where the words give it; none where it is no number below 65536.
+/// The size of the header, if it is given. `None` if it isn't a number below 65536.
 pub fn header_size_in(names: &ArgMatches<'_>) -> Option<Option<u16>>
     ensures { Finds (HasNumber (codes "header-size") (2 ^ 16) (rows_of (found_of names.now)))
         result }
@@ -86,8 +85,8 @@ pub fn header_size_in(names: &ArgMatches<'_>) -> Option<Option<u16>>
     Some(Some(size))
 }
 
-/// The dependencies that the words give, those in brackets behind the others; none where one of the
-/// words says no dependency.
+/// The dependencies that are given, those in brackets after the others. `None` if one of the values
+/// isn't a dependency.
 fn dependencies_in(
     alloc: Global,
     names: &ArgMatches<'_>,
@@ -105,7 +104,7 @@ fn dependencies_in(
     Ok(Some(dependencies))
 }
 
-/// The dependencies that the words of `--needs` give; none where one of them says no dependency.
+/// The dependencies of all `--needs`. `None` if one of the values isn't a dependency.
 pub fn needs_in_words(
     alloc: Global,
     names: &ArgMatches<'_>,
@@ -120,7 +119,7 @@ pub fn needs_in_words(
     }
 }
 
-/// The groups that the words give; none where one of the words says no group.
+/// The groups that are given. `None` if one of the values isn't a group.
 fn groups_in(
     alloc: Global,
     names: &ArgMatches<'_>,
@@ -135,7 +134,7 @@ fn groups_in(
     }
 }
 
-/// The dependencies that these words say, each one.
+/// The dependencies that these values say, one each.
 fn dependencies_of(alloc: Global, words: &[&str]) -> Result<Option<Vec<Dependency>>, AllocError>
     ensures { IfOk result (λ found. Finds (AllZip IsNeed (map (λ word. word.now) words.now))
         (option_map (λ dependencies. dependencies.items) found)) }
@@ -150,7 +149,7 @@ fn dependencies_of(alloc: Global, words: &[&str]) -> Result<Option<Vec<Dependenc
     Ok(Some(dependencies))
 }
 
-/// The groups that these words say, each one.
+/// The groups that these values say, one each.
 fn groups_of(alloc: Global, words: &[&str]) -> Result<Option<Vec<Vec<Dependency>>>, AllocError>
     ensures { IfOk result (Finds (λ groups.
         AllZip AreNeeds (map (λ word. word.now) words.now)
@@ -166,7 +165,7 @@ fn groups_of(alloc: Global, words: &[&str]) -> Result<Option<Vec<Vec<Dependency>
     Ok(Some(groups))
 }
 
-/// The one dependency that a word says.
+/// The single dependency that a value says.
 fn dependency_of(alloc: Global, word: &str) -> Result<Option<Dependency>, AllocError>
     ensures { IfOk result (Finds (IsNeed word.now)) }
 {
@@ -179,7 +178,7 @@ fn dependency_of(alloc: Global, word: &str) -> Result<Option<Dependency>, AllocE
     }
 }
 
-/// The dependencies that a word says: of each the number of an image and a version, parted by
+/// The dependencies that a value says: for each the number of an image and a version, separated by
 /// spaces.
 fn needs_in(alloc: Global, word: &str) -> Result<Option<Vec<Dependency>>, AllocError>
     ensures { IfOk result (λ needs. option_map (λ needs. needs.items) needs
@@ -189,14 +188,14 @@ fn needs_in(alloc: Global, word: &str) -> Result<Option<Vec<Dependency>>, AllocE
     needs_of(alloc, &words)
 }
 
-/// The words of a text, parted by spaces.
+/// The words of a text, separated by spaces.
 fn spaced_words<'a>(alloc: Global, text: &'a str) -> Result<Vec<&'a str>, AllocError>
     ensures { IfOk result (λ words. map (λ word. word.now) words.items ≡ spaced text.now) }
 {
     text.split(' ').collect(alloc)
 }
 
-/// The dependencies that these words say, two words each.
+/// The dependencies that these words say, two words for each.
 fn needs_of(alloc: Global, words: &[&str]) -> Result<Option<Vec<Dependency>>, AllocError>
     ensures { IfOk result (λ needs. option_map (λ needs. needs.items) needs
         ≡ needs_of (map (λ word. word.now) words.now)) }

@@ -1,20 +1,20 @@
-//! The words of `make-manifest`: what the manifest says, and of which files.
+//! Reads the arguments of `make-manifest`.
 
 ghost use Rattle.std.specs.Prelude.{◌≡◌, IfOk, map, option_map};
 ghost use Rattle.clap.specs.Words.{found_of, rows_of};
-ghost use Rattle.command_words.specs.Given.{Finds};
+ghost use Rattle.command_line.specs.Given.{Finds};
 ghost use Rattle.command_line.specs.Orders.{AreComponents, IsComponent, SaysComponents};
 ghost use Rattle.command_line.specs.Orders.{SaysManifest, texts_at};
 
 use crate::device_words::number_in;
 use crate::orders::{NewComponent, NewManifest};
+use crate::{is_given, name_in, named, names_in};
 use clap::ArgMatches;
-use command_words::{is_given, name_in, named, names_in};
 use common::ascii::number_u8;
 use common::limits::MOST_IMAGES;
 use std::alloc::{AllocError, Global};
 
-/// What the words say of a manifest; none where one of them can't be read, and where they say no
+/// The manifest that the arguments describe. `None` if one of them isn't valid, or if they name no
 /// file, or more files than a device has images.
 pub fn manifest_values_in<'a>(
     alloc: Global,
@@ -36,8 +36,8 @@ pub fn manifest_values_in<'a>(
     }))
 }
 
-/// The files that the words give, those for a test before those that are to stay; none where one of
-/// the words says no image and file, and where they are none, or more than a device has images.
+/// The files that are given, those for a test before those that are to stay. `None` if one of the
+/// values isn't an image and a file, or if there is no file, or more than a device has images.
 fn all_components_in<'a>(
     alloc: Global,
     names: &ArgMatches<'a>,
@@ -62,7 +62,7 @@ fn all_components_in<'a>(
     Ok(Some(components))
 }
 
-/// The files that the words give for this option; none where one of them says no image and file.
+/// The files that are given for this option. `None` if one of the values isn't an image and a file.
 pub fn components_in<'a>(
     alloc: Global,
     names: &ArgMatches<'a>,
@@ -79,7 +79,7 @@ pub fn components_in<'a>(
     }
 }
 
-/// The files that these words say, each one.
+/// The files that these values say, one each.
 fn components_of<'a>(
     alloc: Global,
     words: &[&'a str],
@@ -99,7 +99,7 @@ fn components_of<'a>(
     Ok(Some(components))
 }
 
-/// The file that a word says, and the image that it is for: `1=b.img`.
+/// The file that a value says, and the image that it is for: `1=b.img`.
 fn component_of<'a>(word: &'a str, permanent: bool) -> Option<NewComponent<'a>>
     ensures { Finds (IsComponent permanent word.entry.now) result }
 {

@@ -1,37 +1,36 @@
-//! From words to an order.
+//! Reads an order from arguments.
 
 ghost use Rattle.std.specs.Prelude.{◌≡◌, IfErr, IfOk, None, [], codes, map};
 ghost use Rattle.clap.specs.Words.{fault_of, found_of, rows_of, subcommand_rows_of};
-ghost use Rattle.command_words.specs.Commands.{bootswap, shape_for};
-ghost use Rattle.command_words.specs.Given.{Finds, is_explained};
-ghost use Rattle.command_line.specs.Faults.{IsRefusal};
+ghost use Rattle.command_line.specs.Commands.{bootswap, shape_for};
+ghost use Rattle.command_line.specs.Given.{Finds, is_explained};
+ghost use Rattle.command_line.specs.OrderFaults.{IsRefusal};
 ghost use Rattle.command_line.specs.Orders.{Asks, GiveOrder, IsNewFile, IsOrder, IsOrderOf};
 ghost use Rattle.command_line.specs.Orders.{image_at};
 ghost use Rattle.command_line.specs.Orders.{misuse_of, order_to_device, side_at, side_of};
 
 use crate::device_words::device_in;
-use crate::faults::{misuse, no_order};
 use crate::image_words::image_values_in;
 use crate::manifest_words::manifest_values_in;
+use crate::order_faults::{misuse, no_order};
 use crate::orders::{NewFile, Order, Request};
 use crate::sweep_words::sweep_choices_in;
-use clap::ArgMatches;
-use command_words::{
+use crate::{
     DeviceOrder, OrderError, Subcommand, images_in, is_explained, is_given, matches_of, name_in,
     named, named_in, provision_in, run_in,
 };
+use clap::ArgMatches;
 use common::ascii::number_u8;
 use sector_map::Side;
 use std::alloc::{AllocError, Global};
 use std::convert::AsStr;
 
-/// The order that `words` give, of which the first is the program's own name: its subcommand, and
-/// the names, numbers and options that they give it. What is read of them stands in memory of
-/// `alloc`.
+/// The order that `words` give: its subcommand, and the names, numbers and options. The first of
+/// `words` is the program's own name. The order is in memory of `alloc`.
 ///
 /// # Errors
-/// `Usage` where they give none, with what `clap` or the program answers to them, help and the
-/// version among that. `NoMemory`.
+/// `Usage` if they give no order, with the answer of `clap` or of the program, which may be help or
+/// the version. `NoMemory` if memory ran out.
 pub fn order<'a, S: AsStr>(alloc: Global, words: &'a [S]) -> Result<Order<'a>, OrderError>
     ensures given { IfOk result (GiveOrder (map S.text words.entry.now)) }
     ensures refused { IfErr result (IsRefusal (map S.text words.entry.now)) }
@@ -40,11 +39,11 @@ pub fn order<'a, S: AsStr>(alloc: Global, words: &'a [S]) -> Result<Order<'a>, O
     Ok(asked.order)
 }
 
-/// What `words` ask for, of which the first is the program's own name.
+/// What `words` ask for. The first of them is the program's own name.
 ///
-/// Else they ask for help or the version, or are at fault: by `clap`, because they have no number,
-/// version or dependency where one has to be, or because the order names standard input for two
-/// files, or for a file that is written to.
+/// Otherwise they ask for help or the version, or have a fault: `clap` refuses them, a number,
+/// version or dependency isn't valid, or the order names standard input for two files or for a file
+/// that is written.
 pub fn request<'a, S: AsStr>(alloc: Global, words: &'a [S]) -> Result<Request<'a>, OrderError>
     ensures order { IfOk result (λ request. GiveOrder (map S.text words.entry.now) request.order) }
     ensures explained { IfOk result (λ request.
@@ -58,7 +57,7 @@ pub fn request<'a, S: AsStr>(alloc: Global, words: &'a [S]) -> Result<Request<'a
     }
 }
 
-/// The request of an order, unless that misuses standard input.
+/// The request of an order. Refuses an order that misuses standard input.
 fn request_of<'a>(
     alloc: Global,
     order: Order<'a>,
@@ -79,8 +78,8 @@ fn request_of<'a>(
     }
 }
 
-/// The order that a parse found. All its names are there, since `clap` asks for them; its numbers,
-/// versions and dependencies may be none.
+/// The order of these matches. All its names are there, since `clap` requires them. `None` if a
+/// number, a version or a dependency isn't valid.
 fn order_in<'a>(alloc: Global, matches: &ArgMatches<'a>) -> Result<Option<Order<'a>>, AllocError>
     ensures { IfOk result (Finds (IsOrderOf (subcommand_rows_of matches.now))) }
 {
@@ -93,7 +92,7 @@ fn order_in<'a>(alloc: Global, matches: &ArgMatches<'a>) -> Result<Option<Order<
     }
 }
 
-/// The order that a subcommand asks for, with the names that it found.
+/// The order of a subcommand, with these matches.
 fn order_of<'a>(
     alloc: Global,
     subcommand: Subcommand,
@@ -217,7 +216,7 @@ fn run_order_in<'a>(names: &ArgMatches<'a>) -> Option<Order<'a>>
     }
 }
 
-/// An order to a device, among all the others.
+/// An order to a device, as one of all orders.
 fn order_to_device(order: DeviceOrder<'_>) -> Order<'_>
     ensures { result ≡ order_to_device order.entry }
 {
@@ -262,7 +261,7 @@ fn extract_in<'a>(names: &ArgMatches<'a>) -> Option<Order<'a>>
     })
 }
 
-/// The file of an image that is to be made, which the words give.
+/// The image file to make that is given.
 fn new_file_in<'a>(names: &ArgMatches<'a>) -> Option<NewFile<'a>>
     ensures { Finds (IsNewFile (rows_of (found_of names.now))) result }
 {
@@ -271,21 +270,21 @@ fn new_file_in<'a>(names: &ArgMatches<'a>) -> Option<NewFile<'a>>
     Some(NewFile { name, is_forced })
 }
 
-/// The number of an image that the words give.
+/// The number of an image that is given.
 pub(crate) fn image_in_words(names: &ArgMatches<'_>) -> Option<u8>
     ensures { result ≡ image_at (rows_of (found_of names.now)) }
 {
     number_u8(name_in(names, named::IMAGE)?.as_bytes())
 }
 
-/// The side of a slot that the words give.
+/// The side of a slot that is given.
 pub(crate) fn side_in(names: &ArgMatches<'_>) -> Option<Side>
     ensures { result ≡ side_at (rows_of (found_of names.now)) }
 {
     side_of(name_in(names, named::SIDE)?)
 }
 
-/// The side that a word says.
+/// The side that a value says.
 fn side_of(word: &str) -> Option<Side>
     ensures { result ≡ side_of word.now }
 {

@@ -1,139 +1,137 @@
-//! What a command is asked to do.
+//! The orders of all commands.
 
 use sector_map::Side;
 use version_order::{Dependency, Version};
 
-/// A device of which a device file is to be made, as the words have it.
+/// The device of `make-device`, as the arguments describe it.
 #[derive(Drop)]
 pub struct NewDevice<'a> {
     /// The length of a sector in bytes.
     pub sector_size: u32,
-    /// How many sectors each slot of an image has, an entry for each image.
+    /// The number of sectors of each slot of an image, an entry for each image.
     pub sectors: Vec<u32>,
-    /// The domain name of who makes the device.
+    /// The domain name of the vendor.
     pub vendor: &'a str,
     /// The name of its class.
     pub class: &'a str,
-    /// How many boots a trial has, where the words say it: 1 to
-    /// [`common::limits::MOST_TRIAL_BOOTS`].
+    /// The number of boots of a trial, if it is given: 1 to [`common::limits::MOST_TRIAL_BOOTS`].
     pub trial_boots: Option<u8>,
 }
 
-/// What an image that is to be made says of itself, as the words have it.
+/// The image of `make-image`, as the arguments describe it.
 #[derive(Drop)]
 pub struct NewImage {
     /// Its version.
     pub version: Version,
-    /// Its security counter, where the words say it.
+    /// Its security counter, if it is given.
     pub counter: Option<u32>,
-    /// What it needs of other images, in the order of the words.
+    /// Its dependencies, in the order of the arguments.
     pub dependencies: Vec<Dependency>,
-    /// Of each of these it needs one, in the order of the words. None is empty.
+    /// Its groups, in the order of the arguments. It needs one dependency of each. None is empty.
     pub groups: Vec<Vec<Dependency>>,
-    /// The length of its header in bytes, where the words say it.
+    /// The size of its header in bytes, if it is given.
     pub header_size: Option<u16>,
-    /// Where it is to be loaded, where the words say it.
+    /// Its load address, if it is given.
     pub load_address: Option<u32>,
-    /// The flags of its header, where the words say them.
+    /// The flags of its header, if they are given.
     pub flags: Option<u32>,
 }
 
-/// The file of an image that is to be made, as the words have it.
+/// The image file to make.
 #[derive(Clone, Copy)]
 pub struct NewFile<'a> {
     /// Its name, which isn't that of standard input.
     pub name: &'a str,
-    /// Whether it is replaced also if it is no image.
+    /// Whether it is replaced even if it isn't an image.
     pub is_forced: bool,
 }
 
-/// A file that may come to a device, as the words have it.
+/// A file of a manifest.
 #[derive(Clone, Copy)]
 pub struct NewComponent<'a> {
     /// The number of the image that it is for.
     pub image: u8,
-    /// Whether it is to be requested for good; else it is for a test.
+    /// Whether it is requested permanently. Otherwise it is for a test.
     pub permanent: bool,
     /// The name of the file.
     pub file: &'a str,
 }
 
-/// A manifest that is to be made, as the words have it.
+/// The manifest of `make-manifest`, as the arguments describe it.
 #[derive(Drop)]
 pub struct NewManifest<'a> {
     /// Its sequence number.
     pub sequence: u32,
-    /// The name of a flash file, where what runs there is what the files are for.
+    /// The name of the flash file whose running images are the precursors, if it is given.
     pub precursor: Option<&'a str>,
-    /// The files that may come: those for a test, in the order of the words, and then those that
-    /// are to stay.
+    /// The files: those for a test, in the order of the arguments, and then those that are to stay.
     pub components: Vec<NewComponent<'a>>,
-    /// Whether a file that the device will not take gives exit status 1.
+    /// Whether a file that the device will not take results in exit status 1.
     pub is_strict: bool,
 }
 
-/// What a sweep tries and makes, as the words have it.
+/// What a sweep tries and makes, as the arguments say it.
 #[derive(Clone, Copy)]
 pub struct SweepChoices<'a> {
-    /// Whether each write of the boot behind a cut is cut too.
+    /// Whether each write of the boot after a cut is cut too.
     pub is_twice: bool,
-    /// How many runs are drawn at random, where the words say it.
+    /// The number of runs that are drawn at random, if it is given.
     pub sample: Option<u32>,
-    /// What the draws begin with, where the words say it.
+    /// The seed of the draws, if it is given.
     pub seed: Option<u32>,
-    /// The name of the picture that is made, where one is asked for.
+    /// The name of the picture to make, if it is given.
     pub picture: Option<&'a str>,
 }
 
-/// What the words ask for: a subcommand, with the names that the words give its files.
+/// What the arguments ask for: a subcommand, with the names of its files and its options.
 #[derive(Drop)]
 pub enum Order<'a> {
-    /// The choice over a table.
+    /// `choose`: chooses over a table.
     Choose {
         /// The name of the table.
         table: &'a str,
     },
-    /// Whether a report is right for a table.
+    /// `check`: checks whether a report is right for a table.
     Check {
         /// The name of the table.
         table: &'a str,
         /// The name of the report.
         report: &'a str,
     },
-    /// What an image says of itself.
+    /// `image`: describes an image.
     Image {
         /// The name of the image.
         file: &'a str,
     },
-    /// What a manifest says to a device.
+    /// `manifest`: describes a manifest for a device.
     Manifest {
         /// The name of the device file.
         device: &'a str,
         /// The name of the manifest.
         file: &'a str,
     },
-    /// The making of a device file.
+    /// `make-device`: makes a device file.
     MakeDevice {
         /// The device.
         device: NewDevice<'a>,
     },
-    /// The making of an image.
+    /// `make-image`: makes an image.
     MakeImage {
         /// The file of the image.
         image: NewFile<'a>,
         /// The name of the file that holds its body.
         body: &'a str,
-        /// What it says of itself.
+        /// The values of the image.
         values: NewImage,
     },
-    /// The making of a manifest.
+    /// `make-manifest`: makes a manifest.
     MakeManifest {
         /// The name of the device file.
         device: &'a str,
-        /// What the manifest says.
+        /// The values of the manifest.
         manifest: NewManifest<'a>,
     },
-    /// The making of a flash file.
+    /// `provision`: makes a flash file.
     Provision {
         /// The name of the device file.
         device: &'a str,
@@ -142,7 +140,7 @@ pub enum Order<'a> {
         /// The names of the images, in their order.
         images: Vec<&'a str>,
     },
-    /// The copying of an image out of its slot.
+    /// `extract`: copies an image out of its slot.
     Extract {
         /// The name of the device file.
         device: &'a str,
@@ -150,26 +148,26 @@ pub enum Order<'a> {
         flash: &'a str,
         /// The number of the image.
         image: u8,
-        /// Which of its slots.
+        /// The side of its slot.
         side: Side,
         /// The file that is made.
         out: NewFile<'a>,
     },
-    /// What stands on a flash.
+    /// `show`: describes the state of a flash.
     Show {
         /// The name of the device file.
         device: &'a str,
         /// The name of the flash file.
         flash: &'a str,
     },
-    /// What stands in the slots of a flash, and what the next boot would decide.
+    /// `slots`: describes the slots of a flash, and what the next boot would decide.
     Slots {
         /// The name of the device file.
         device: &'a str,
         /// The name of the flash file.
         flash: &'a str,
     },
-    /// The run of a device by a script.
+    /// `run`: runs a script on a device.
     Run {
         /// The name of the device file.
         device: &'a str,
@@ -177,10 +175,10 @@ pub enum Order<'a> {
         flash: &'a str,
         /// The name of the script.
         script: &'a str,
-        /// Whether each write is to be on the disk before the next one, of a plain file too.
+        /// Whether each write is on the medium before the next write, also of a plain file.
         durable: bool,
     },
-    /// The runs of a device by a script, with each write of them cut.
+    /// `sweep`: runs a script on a device with each of its writes cut, one run for each.
     Sweep {
         /// The name of the device file.
         device: &'a str,
@@ -191,15 +189,15 @@ pub enum Order<'a> {
         /// What is tried and made.
         choices: SweepChoices<'a>,
     },
-    /// What the codes and names of refusals say.
+    /// `codes`: prints the meaning of the codes and names of refusals.
     Codes,
 }
 
-/// What the words ask for, and how it is to be answered.
+/// An order, and how to answer it.
 #[derive(Drop)]
 pub struct Request<'a> {
     /// The order.
     pub order: Order<'a>,
-    /// Whether it is to be said why the answer is as it is.
+    /// Whether to explain the answer (`--explain`).
     pub is_explained: bool,
 }

@@ -1,15 +1,15 @@
-//! The words of `sweep`: what is tried and made.
+//! Reads the arguments of `sweep`.
 
 ghost use Rattle.clap.specs.Words.{found_of, rows_of};
-ghost use Rattle.command_words.specs.Given.{Finds};
+ghost use Rattle.command_line.specs.Given.{Finds};
 ghost use Rattle.command_line.specs.Orders.{SaysSweep};
 
 use crate::image_words::number_said;
 use crate::orders::SweepChoices;
+use crate::{is_given, name_in, named};
 use clap::ArgMatches;
-use command_words::{is_given, name_in, named};
 
-/// What the words say that a sweep tries and makes; none where one of their numbers is none.
+/// What the arguments say that a sweep tries and makes. `None` if one of the numbers isn't valid.
 pub fn sweep_choices_in<'a>(names: &ArgMatches<'a>) -> Option<SweepChoices<'a>>
     ensures { Finds (SaysSweep (rows_of (found_of names.now))) result }
 {

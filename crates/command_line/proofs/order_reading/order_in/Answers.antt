@@ -1,7 +1,7 @@
 use Rattle.std.proofs.Common.{subst, sym}
 use Rattle.clap.specs.Words.{found_of, rows_of}
 use Rattle.command_line.specs.Orders.{IsOrderOf}
-use Rattle.command_line.proofs.Names.{none_asked_by}
+use Rattle.command_line.proofs.OrderNames.{none_asked_by}
 use Rattle.command_line.proofs.order_reading.order_in.Goals as goal
 
 -- A name that is no subcommand's asks for no order.

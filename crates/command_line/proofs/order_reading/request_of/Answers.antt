@@ -1,7 +1,7 @@
 use Rattle.std.proofs.Common.{ap, sym, ◌∙◌}
 use Rattle.std.specs.Prelude.{option_map}
 use Rattle.clap.specs.Words.{kind_of}
-use Rattle.command_line.proofs.Refusals.{misused}
+use Rattle.command_line.proofs.OrderRefusals.{misused}
 use Rattle.command_line.proofs.order_reading.request_of.Goals as goal
 
 -- An order that the words ask for is refused for its misuse.

@@ -1,0 +1,25 @@
+-- The answers to arguments that give no order.
+use Rattle.std.specs.Prelude.{◌≡◌, ◌≢◌, ◌⊎◌, List, [], Some, ⊤}
+use Rattle.clap.specs.Words.{IsAmong, Text, fault_of, kind_of}
+use Rattle.clap.specs.declared.error.kind.ErrorKind.{ErrorKind}
+use Rattle.clap.specs.declared.error.kind.ErrorKind.TheVariants.{InvalidValue, MissingSubcommand, OutOfMemory}
+use Rattle.command_line.specs.Commands.{bootswap}
+use Rattle.command_line.specs.Orders.{IsOrder, misuse_of}
+use Rattle.command_line.specs.declared.error.OrderError.{OrderError}
+use Rattle.command_line.specs.declared.error.OrderError.TheVariants.{Usage, NoMemory}
+use Rattle.command_line.specs.declared.orders.Order.{Order}
+
+-- Why arguments are answered by an error of this kind: `clap` has a fault with them, or they ask
+-- for help or the version; or it takes them, and they ask for no order, or their order misuses
+-- standard input.
+pub data IsFault (words : List Text) (kind : ErrorKind) : Type 0 where
+  of_clap : IsAmong kind (fault_of bootswap words) → IsFault words kind
+  no_order : fault_of bootswap words ≡ [] → ((order : Order) → IsOrder words order → ⊥)
+      → (kind ≡ InvalidValue) ⊎ (kind ≡ MissingSubcommand) → IsFault words kind
+  misuse : (order : Order) → fault_of bootswap words ≡ [] → IsOrder words order
+      → misuse_of order ≡ Some kind → IsFault words kind
+
+-- The answer to arguments that give no order. An answer of `clap` is never lack of memory.
+abbrev pub IsRefusal : List Text → OrderError → Type 0
+IsRefusal words (Usage answer) = (kind_of answer ≢ OutOfMemory) × IsFault words (kind_of answer)
+IsRefusal words NoMemory = ⊤

@@ -1,0 +1,36 @@
+-- The exit status after arguments that give no order.
+use Rattle.std.specs.Prelude.{◌≡◌, ◌⊎◌, ℕ, Bool, List, false, if◌then◌else◌, true}
+use Rattle.clap.specs.Words.{IsAmong, Text, fault_of, kind_of}
+use Rattle.clap.specs.declared.error.kind.ErrorKind.{ErrorKind}
+use Rattle.clap.specs.declared.error.kind.ErrorKind.TheVariants.{DisplayHelp, DisplayVersion}
+use Rattle.command_line.specs.Commands.{bootswap}
+use Rattle.command_line.specs.declared.error.OrderError.{OrderError}
+use Rattle.command_line.specs.declared.error.OrderError.TheVariants.{Usage, NoMemory}
+
+-- An answer of `clap` of this kind is help or the version, which were asked for.
+abbrev pub is_help : ErrorKind → Bool
+is_help DisplayHelp = true
+is_help DisplayVersion = true
+is_help _ = false
+
+-- The arguments ask for help or the version: it is among the answers that `clap` defines for them.
+pub record AskHelp (words : List Text) : Type 0 where
+  pub kind : ErrorKind
+  pub among : IsAmong kind (fault_of bootswap words)
+  pub helps : is_help kind ≡ true
+
+-- The status after arguments that give no order, once the answer to them is written: 0 after
+-- help and the version, 2 after a fault, and 1 if memory ran out.
+abbrev pub status_of_error : OrderError → ℕ
+status_of_error (Usage answer) = if is_help (kind_of answer) then 0 else 2
+status_of_error NoMemory = 1
+
+-- The status after a fault in the arguments that was written, or lack of memory in its place.
+abbrev pub status_of_fault : OrderError → ℕ
+status_of_fault (Usage answer) = 2
+status_of_fault NoMemory = 1
+
+-- A program that had this to answer ended with its status, or with 1: a write failed, or memory
+-- ran out on the way.
+abbrev pub EndsWords : OrderError → ℕ → Type 0
+EndsWords error status = (status ≡ status_of_error error) ⊎ (status ≡ 1)

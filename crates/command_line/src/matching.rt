@@ -1,0 +1,86 @@
+//! The matches of `clap`.
+
+ghost use Rattle.std.specs.Prelude.{◌≡◌, IfErr, IfOk, [], codes, map, option_map};
+ghost use Rattle.clap.specs.Words.{HasKind, all_of, fault_of, first_of, found_of};
+ghost use Rattle.clap.specs.Words.{rows_of, subcommand_of, subcommand_rows_of};
+ghost use Rattle.command_line.specs.Commands.{bootswap};
+ghost use Rattle.command_line.specs.Given.{has_explain, is_given};
+
+use crate::commands::{bootswap, named};
+use clap::{ArgMatches, Error};
+use std::alloc::{AllocError, Global};
+use std::convert::AsStr;
+
+/// The matches of `clap` for these arguments, in memory of `alloc`. The first argument is the
+/// program's own name.
+///
+/// # Errors
+/// The answer of `clap` if it refuses them, or if they ask for help or the version. `NoMemory` if
+/// memory ran out.
+pub fn matches_of<'a, S: AsStr>(alloc: Global, words: &'a [S]) -> Result<ArgMatches<'a>, Error>
+    ensures found { IfOk result (λ matches. subcommand_rows_of matches
+        ≡ subcommand_of bootswap (map S.text words.entry.now)) }
+    ensures taken { IfOk result (λ _. fault_of bootswap (map S.text words.entry.now) ≡ []) }
+    ensures refused { IfErr result (HasKind (fault_of bootswap (map S.text words.entry.now))) }
+{
+    bootswap(alloc)?.try_get_matches_from(words)
+}
+
+/// The subcommand that was named, with its matches.
+pub fn named_in<'m, 'a>(matches: &'m ArgMatches<'a>) -> Option<(&'a str, &'m ArgMatches<'a>)>
+    ensures { option_map (λ named. (named.0.now, rows_of (found_of named.1.now))) result
+        ≡ subcommand_rows_of matches.now }
+{
+    matches.subcommand()
+}
+
+/// Whether to explain the answer (`--explain`).
+pub fn is_explained(matches: &ArgMatches<'_>) -> bool
+    ensures { result ≡ has_explain (subcommand_rows_of matches.now) }
+{
+    match named_in(matches) {
+        Some((_, names)) => is_given(names, named::EXPLAIN),
+        None => false,
+    }
+}
+
+/// The images that are given, in memory of `alloc`.
+pub fn images_in<'a>(
+    alloc: Global,
+    names: &ArgMatches<'a>,
+) -> Result<Option<Vec<&'a str>>, AllocError>
+    ensures { IfOk result (λ found.
+        option_map (λ images. map (λ image. image.now) images.items) found
+        ≡ all_of (codes "IMAGE") (rows_of (found_of names.now))) }
+{
+    match names_in(names, named::IMAGE) {
+        Some(images) => Ok(Some(images.to_vec(alloc)?)),
+        None => Ok(None),
+    }
+}
+
+/// The value that is given for this argument.
+pub fn name_in<'a>(names: &ArgMatches<'a>, argument: &str) -> Option<&'a str>
+    ensures { option_map (λ name. name.now) result
+        ≡ first_of argument.now (rows_of (found_of names.now)) }
+{
+    names.get_str(argument)
+}
+
+/// Whether this option without a value is given.
+pub fn is_given(names: &ArgMatches<'_>, option: &str) -> bool
+    ensures { result ≡ is_given option.now (rows_of (found_of names.now)) }
+{
+    match name_in(names, option) {
+        Some(value) => value == "true",
+        None => false,
+    }
+}
+
+/// All values that are given for this argument.
+pub fn names_in<'m, 'a>(names: &'m ArgMatches<'a>, argument: &str) -> Option<&'m [&'a str]>
+    ensures { option_map (λ found. map (λ name. name.now) found.now) result
+        ≡ all_of argument.now (rows_of (found_of names.now)) }
+{
+    names.get_strs(argument)
+}

@@ -1,0 +1,73 @@
+//! The texts of faults in the arguments of single commands.
+
+/// The number of an image isn't valid.
+pub const NO_IMAGE_NUMBER: &str = "IMAGE is the number of an image, in digits, below 256";
+
+/// The side of a slot isn't valid.
+pub const NO_SIDE: &str = "SIDE is `primary` or `secondary`";
+
+/// The sequence number isn't valid.
+pub const NO_SEQUENCE: &str = "`--sequence` is a number, in digits, below 4294967296";
+
+/// A file for a test isn't valid.
+pub const NO_TEST: &str = "`--test` is the number of an image and its file: 0=a.img";
+
+/// A file that is to stay isn't valid.
+pub const NO_PERMANENT: &str = "`--permanent` is the number of an image and its file: 0=a.img";
+
+/// The arguments name no file, or more files than a device has images.
+pub const NO_COMPONENTS: &str =
+    "give one to eight files that may come, by `--test I=FILE` or `--permanent I=FILE`";
+
+/// The version isn't valid.
+pub const NO_VERSION: &str = "`--version` is `major.minor.revision+build`, such as 1.4.2+7; last \
+     parts may be left out";
+
+/// The security counter isn't a number.
+pub const NO_COUNTER: &str = "`--counter` is a number, in digits, below 4294967296";
+
+/// The size of the header isn't valid.
+pub const NO_HEADER_SIZE: &str = "`--header-size` is a number of bytes, in digits, below 65536";
+
+/// The load address isn't a number.
+pub const NO_LOAD_ADDRESS: &str = "`--load-address` is a number, in digits, below 4294967296";
+
+/// The flags aren't a number.
+pub const NO_FLAGS: &str = "`--flags` is a number, in digits, below 4294967296";
+
+/// A dependency isn't valid.
+pub const NO_NEEDS: &str =
+    "`--needs` is the number of an image and a version, in one word: '1 2.0.0'";
+
+/// A dependency in brackets isn't valid.
+pub const NO_DEPENDENCIES: &str =
+    "`--dependencies` is the number of an image and a version, in brackets: '(1, 2.0.0)'";
+
+/// A group isn't valid.
+pub const NO_NEEDS_ONE: &str =
+    "`--needs-one` is numbers of images, each with a version, in one word: '1 2.0.0 2 2.0.0'";
+
+/// The size of a sector isn't a number.
+pub const NO_SECTOR: &str = "`--sector` is a number of bytes, in digits, below 4294967296";
+
+/// The slots aren't numbers.
+pub const NO_SLOTS: &str =
+    "`--slots` are numbers of sectors, one for each image, parted by commas: 2,2";
+
+/// The number of boots of a trial isn't valid.
+pub const NO_TRIAL_BOOTS: &str = "`--trial-boots` is a number from 1 to 7";
+
+/// The number of runs isn't valid.
+pub const NO_SAMPLE: &str = "`--sample` is a number, in digits, below 4294967296";
+
+/// The seed of the draws isn't a number.
+pub const NO_SEED: &str = "`--seed` is a number, in digits, below 4294967296";
+
+/// The order makes an image on standard input.
+pub const IMAGE_WRITTEN: &str = "the image file is made, so it can't be standard input, `-`";
+
+/// The order makes a picture on standard input.
+pub const PICTURE_WRITTEN: &str = "the picture is made, so it can't be standard input, `-`";
+
+/// The arguments give no order.
+pub const NO_ORDER: &str = "a subcommand is required but one was not provided";

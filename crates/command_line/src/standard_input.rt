@@ -1,0 +1,28 @@
+//! Counts the names of standard input.
+
+ghost use Rattle.std.specs.Prelude.{◌≡◌, ◌∷◌, codes};
+ghost use Rattle.std.specs.Str.{bytes_eq};
+ghost use Rattle.command_line.specs.Given.{standard_inputs};
+
+use host::STANDARD_INPUT;
+
+/// The number of files among two files and images that are standard input.
+pub fn inputs_with(one: &str, other: &str, images: &[&str]) -> usize
+    ensures { result ≡ standard_inputs (one.entry ∷ other.entry ∷ images.now) }
+{
+    standard_inputs(&[one, other]).saturating_add(standard_inputs(images))
+}
+
+/// The number of these files that are standard input.
+pub fn standard_inputs(names: &[&str]) -> usize
+    ensures { result ≡ standard_inputs names.now }
+{
+    names.iter().filter(|name| is_standard_input(name)).count()
+}
+
+/// Whether this is the name of standard input, `-`.
+pub fn is_standard_input(name: &str) -> bool
+    ensures { result ≡ bytes_eq name.now (codes "-") }
+{
+    name == STANDARD_INPUT
+}
