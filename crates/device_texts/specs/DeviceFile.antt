@@ -37,7 +37,7 @@ pub record IsFewBoots (boots : ℕ) : Type 0 where
   pub one : 1 ≤ boots
   pub few : boots ≤ MOST_TRIAL_BOOTS
 
--- How many boots a trial has by the value: one where it doesn't say it.
+-- The number of boots of a trial by the value, 1 if it has none.
 abbrev pub IsTrialBoots : Data → ℕ → Type 0
 IsTrialBoots value boots =
     ((get (codes "trial-boots") value ≡ None) × (boots ≡ 1))
@@ -82,8 +82,8 @@ abbrev pub IsDeviceFile : List ℕ → DeviceFile → Type 0
 IsDeviceFile bytes device =
     (fields : DeviceFields) × IsDeviceText bytes fields × IsDeviceOf fields device
 
--- Bytes are no device file: they say nothing of a device, or sizes that make no map, of which this
--- is the first check that fails. That memory runs out is no property of bytes.
+-- Bytes aren't a device file: they describe no device, or sizes that make no map, of which this is
+-- the first check that fails. That memory runs out is no property of bytes.
 abbrev pub IsDeviceFault : List ℕ → DeviceFault → Type 0
 IsDeviceFault bytes Malformed = (fields : DeviceFields) × IsDeviceText bytes fields → ⊥
 IsDeviceFault bytes (Map fault) = (fields : DeviceFields) × IsDeviceText bytes fields

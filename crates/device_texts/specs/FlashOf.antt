@@ -5,7 +5,7 @@ use Rattle.flash_model.specs.Memory.{new_chip}
 use Rattle.sector_map.specs.declared.layout.SectorMap.{SectorMap}
 use Rattle.sector_map.specs.Map.{sectors_of}
 
--- Bytes are as many as the flash of a device has.
+-- The number of bytes is that of the flash of a device.
 abbrev pub IsFlashOf : SectorMap → List ℕ → Type 0
 IsFlashOf map bytes = length bytes ≡ sectors_of map * map.sector_size
 

@@ -1,4 +1,4 @@
--- What is printed of the replies of a device.
+-- The texts of a device's replies.
 use Rattle.std.specs.Prelude.{ℕ, ◌+◌, Bool, List, [], ◌∷◌, ◌++◌, codes, decimal, if◌then◌else◌}
 use Rattle.std.specs.List.{flat_map, list_any, range_with_len}
 use Rattle.common.specs.Limits.{MOST_IMAGES}
@@ -19,7 +19,7 @@ use Rattle.machine.specs.declared.reply.Reply.{Reply}
 use Rattle.machine.specs.declared.reply.Reply.TheVariants.{Done, Booted, Reverted, TrialAgain, Refused, Cut}
 use Rattle.device_texts.specs.AnswerText.{line_text}
 
--- An image after a space, where it is in a set.
+-- An image after a space, if it is in a set.
 abbrev pub member_text : ℕ → ℕ → List ℕ
 member_text set image = if is_member set image then 32 ∷ decimal image else []
 
@@ -27,11 +27,11 @@ member_text set image = if is_member set image then 32 ∷ decimal image else []
 unfoldable pub set_text : ℕ → List ℕ
 set_text set = flat_map (member_text set) (range_with_len 0 MOST_IMAGES)
 
--- What was wrong: the word of the layer that refused, the number and the name.
+-- A refusal: the word of the layer that refused, the number and the name.
 abbrev pub group_text : List ℕ → ℕ → List ℕ → List ℕ
 group_text group code name = group ␣ decimal code ␣ name
 
--- Why an upload is refused. The number of the check that the bytes fail stands behind `NotAnImage`.
+-- Why an upload is refused. The number of the check that the bytes fail follows `NotAnImage`.
 abbrev pub upload_text : UploadError → List ℕ
 upload_text (NotAnImage fault) =
     group_text (codes "upload")
@@ -39,7 +39,7 @@ upload_text (NotAnImage fault) =
     ␣ decimal (image.code_of fault)
 upload_text error = group_text (codes "upload") (upload.code_of error) (upload.name_of error)
 
--- Why a call of a device is refused. The image that is damaged stands behind `RunningDamaged`.
+-- Why a call of a device is refused. The image that is damaged follows `RunningDamaged`.
 abbrev pub fault_text : Fault → List ℕ
 fault_text (Manifest error) =
     group_text (codes "manifest") (manifest.code_of error) (manifest.name_of error)
@@ -58,7 +58,7 @@ refused_fault_text fault = line_text (codes "refused") (fault_text fault)
 abbrev pub is_some_taken : List ReportedImage → Bool
 is_some_taken images = list_any (λ image. image.is_taken) images
 
--- What a boot did that answers a report: it took nothing, or what it took is on trial, or is to
+-- What a boot with a report did: it took nothing, or what it took is on trial, or is to
 -- stay.
 abbrev pub decision_text : Report → Bool → List ℕ
 decision_text report permanent =
@@ -66,7 +66,7 @@ decision_text report permanent =
     then if permanent then codes "permanent" else codes "trial"
     else codes "plain"
 
--- The reply to the n-th event. The lines of a report stand behind the line of its boot.
+-- The reply to the n-th event. The lines of a report follow the line of its boot.
 abbrev pub reply_text : ℕ → Reply → List ℕ
 reply_text n Done = line_text (decimal n) (codes "done")
 reply_text n (Booted table report permanent) =

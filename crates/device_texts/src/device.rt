@@ -1,4 +1,4 @@
-//! Device files: what a device is, for the commands that name one.
+//! Reads device files.
 
 ghost use Rattle.std.specs.Prelude.{◌≡◌, ◌↔◌, ℕ, List, IfErr, IfNone, IfOk, IfSome, IsTrue, map};
 ghost use Rattle.std.specs.List.{AllZip};
@@ -16,7 +16,7 @@ use std::alloc::Global;
 use thiserror::Error;
 use uuid::Uuid;
 
-/// How many boots a trial has where the file doesn't say it.
+/// The number of boots of a trial if the file doesn't give one.
 const USUAL_TRIAL_BOOTS: u8 = 1;
 
 /// The keys of a device file, in the order of their bytes.
@@ -36,35 +36,35 @@ const KEYS_WITH_TRIAL_BOOTS: [&str; 5] = [
 pub struct DeviceFields {
     /// The length of a sector in bytes.
     pub sector_size: u32,
-    /// How many sectors each slot of an image has, an entry for each image.
+    /// The number of sectors of each slot of an image, an entry for each image.
     pub sectors: Vec<u32>,
-    /// Who makes the device.
+    /// The vendor of the device.
     pub vendor: Uuid,
-    /// Which class of devices of that vendor it is of.
+    /// The class of the device, among those of its vendor.
     pub class: Uuid,
-    /// How many boots a trial has, 1 to [`MOST_TRIAL_BOOTS`].
+    /// The number of boots of a trial, 1 to [`MOST_TRIAL_BOOTS`].
     pub trial_boots: u8,
 }
 
-/// What a device is.
+/// The device of a device file.
 #[derive(Clone, Copy)]
 pub struct DeviceFile {
-    /// Where the parts of its flash lie.
+    /// The map of its flash.
     pub map: SectorMap,
-    /// For whom manifests are that it takes: of its vendor, its class, and for images of its map.
+    /// Its vendor, its class and its number of images, which a manifest has to match.
     pub identity: Identity,
-    /// How many boots a trial has, 1 to [`MOST_TRIAL_BOOTS`].
+    /// The number of boots of a trial, 1 to [`MOST_TRIAL_BOOTS`].
     pub trial_boots: u8,
 }
 
-/// Why bytes are no device file.
+/// Why bytes aren't a device file.
 #[derive(Clone, Copy, Debug, Error)]
 pub enum DeviceFault {
-    /// They aren't the JSON text of an object with exactly the keys of a device file and with what
-    /// has to stand there.
+    /// They aren't the JSON text of an object with exactly the keys of a device file, or a value
+    /// isn't valid.
     #[error("no device file")]
     Malformed,
-    /// They are, and its sizes make no map.
+    /// They are a device file whose sizes make no map.
     #[error("{0}")]
     Map(MapError),
     /// Memory ran out.
@@ -75,13 +75,13 @@ pub enum DeviceFault {
 impl DeviceFile {
     /// The device of a file.
     ///
-    /// `bytes` are the whole file, of any length: a JSON text (RFC 8259) of one object with exactly
-    /// the keys that docs/FORMATS.md lists. What is read stands in memory of `alloc` meanwhile; the
-    /// answer doesn't allocate.
+    /// `bytes` are the complete file, of any length: a JSON text (RFC 8259) of one object with
+    /// exactly the keys that docs/FORMATS.md lists. Its value is in memory of `alloc` while it is
+    /// read. The result doesn't allocate.
     ///
     /// # Errors
-    /// `Malformed` where the value of the text isn't such an object; `Map`, with the first check
-    /// that fails, where it is and its sizes make no map; `NoMemory` where memory is refused.
+    /// `Malformed` if the value of the text isn't such an object, `Map` with the first check that
+    /// fails if its sizes make no map, `NoMemory` if memory is refused.
     pub fn read(alloc: Global, bytes: &[u8]) -> Result<DeviceFile, DeviceFault>
         ensures read { IfOk result (IsDeviceFile bytes.now) }
         ensures fault { IfErr result (IsDeviceFault bytes.now) }
@@ -118,7 +118,7 @@ fn device_of(fields: &DeviceFields, map: SectorMap) -> DeviceFile
     }
 }
 
-/// What a value says of a device.
+/// The fields of a device file, from its JSON value.
 fn fields_of(alloc: Global, value: &Value) -> Result<DeviceFields, DeviceFault>
     ensures spelled { IfOk result (Spells (view value.now)) }
     ensures fault { IfErr result (IsReadingFault
@@ -159,7 +159,7 @@ fn has_keys(value: &Value) -> bool
     has_names(value, KEYS.as_slice()) || has_names(value, KEYS_WITH_TRIAL_BOOTS.as_slice())
 }
 
-/// The numbers below 2^32 that these values are, each.
+/// The numbers below 2^32 that these values are, one each.
 fn numbers_of(alloc: Global, values: &[Value]) -> Result<Vec<u32>, DeviceFault>
     ensures numbers { IfOk result
         (λ numbers. AllZip IsNumber (map view values.now) numbers.items) }
@@ -178,7 +178,7 @@ fn numbers_of(alloc: Global, values: &[Value]) -> Result<Vec<u32>, DeviceFault>
     Ok(numbers)
 }
 
-/// How many boots a trial has; none where what is said of it is no number from 1 to
+/// The number of boots of a trial. `None` if the value isn't a number from 1 to
 /// [`MOST_TRIAL_BOOTS`].
 fn trial_boots(value: &Value) -> Option<u8>
     ensures found { IfSome result (IsTrialBoots (view value.now)) }

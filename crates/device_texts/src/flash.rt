@@ -9,9 +9,9 @@ use sector_map::SectorMap;
 use std::alloc::Global;
 use std::sync::ledger::{Blank, Ledger};
 
-/// The flash of a device that has these bytes, in memory: it has power, and nothing is armed.
+/// The flash of a device that has these bytes, in memory. It has power, and nothing is armed.
 ///
-/// There are as many bytes as the map has. The ledger's token has two parts, as `Blank::new(2)`
+/// The number of bytes is that of the map. The ledger's token has two parts, as `Blank::new(2)`
 /// makes it. Does not allocate: `bytes` become those of the flash.
 pub fn flash_of<L: Ledger>(
     alloc: Global,

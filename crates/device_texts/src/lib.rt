@@ -1,10 +1,10 @@
-//! What the commands of a device read and write: a device file, the flash that has given bytes, the
-//! replies of a device, and what is refused.
+//! Reads device files, and prints the replies of a device and what is refused.
 //!
-//! Promises: a device file is read as what it says, or refused for why it says nothing; what is
-//! printed is exactly the text of the reply or the refusal; where a write fails a beginning of it
-//! stands. Nothing here knows a file or the words of a command. Any program that has read the bytes
-//! may call it.
+//! - Promises: A device file is read exactly, or refused for the reason that applies. Replies and
+//!   refusals are printed exactly; if a write fails, a prefix is.
+//! - Main calls: `DeviceFile::read`, `reply_text`, `refused_fault_text`, `write_all`
+//! - Allocates: JSON values, the text of a reply.
+//! - Callers: any program that has read the bytes.
 #![tactic(auto)]
 
 mod device;

@@ -5,19 +5,18 @@ ghost use Rattle.device_texts.specs.AnswerText.{map_refusal_text, refused_group_
 use sector_map::MapError;
 use std::alloc::{AllocError, Global};
 
-/// The line `refused CODE NAME`: the number and the name of what was wrong, as text in memory of
-/// `alloc`.
+/// The line `refused CODE NAME`, with the number and the name of a refusal, in memory of `alloc`.
 ///
 /// # Errors
-/// `AllocError` where that memory is refused.
+/// `AllocError` if memory is refused.
 pub fn refused_text(alloc: Global, code: u8, name: &str) -> Result<String, AllocError>
     ensures { IfOk result (λ text. string_bytes text ≡ refused_text code name.now) }
 {
     format!(in alloc; "refused {code} {name}\n")
 }
 
-/// The text `refused GROUP CODE NAME`: what a layer below refused, by the layer's word, the number
-/// and the name.
+/// The text `refused GROUP CODE NAME`: the word of the layer that refused, the number and the name
+/// of its refusal.
 pub fn refused_group_text(
     alloc: Global,
     group: &str,
@@ -30,11 +29,11 @@ pub fn refused_group_text(
     format!(in alloc; "refused {group} {code} {name}\n")
 }
 
-/// The line `refused map CODE NAME`: the first check of the sizes of a device file that fails, by
-/// its number and its name, as text in memory of `alloc`.
+/// The line `refused map CODE NAME`, with the number and the name of the first check that the sizes
+/// of a device file fail, in memory of `alloc`.
 ///
 /// # Errors
-/// `AllocError` where that memory is refused.
+/// `AllocError` if memory is refused.
 pub fn map_refusal_text(alloc: Global, fault: MapError) -> Result<String, AllocError>
     ensures { IfOk result (λ text. string_bytes text ≡ map_refusal_text fault) }
 {

@@ -1,4 +1,4 @@
-//! What is printed of the replies of a device.
+//! The texts of a device's replies.
 ghost use Rattle.std.specs.Fmt.{WritesOnOk};
 ghost use Rattle.std.specs.Prelude.{◌≡◌, IfOk, Some, decimal, string_bytes};
 ghost use Rattle.common.specs.Lines.{◌␣◌};
@@ -14,11 +14,11 @@ use std::alloc::{AllocError, Global};
 use std::fmt;
 use upload::UploadError;
 
-/// What `run` prints of the reply of a device to the event of this number, counted from 1: text in
-/// memory of `alloc`. The lines of a report stand behind the line of its boot.
+/// What `run` prints for the reply to the event of this number, counted from 1, in memory of
+/// `alloc`. The lines of a report follow the line of its boot.
 ///
 /// # Errors
-/// `AllocError` where that memory is refused.
+/// `AllocError` if memory is refused.
 pub fn reply_text(alloc: Global, number: usize, reply: &Reply) -> Result<String, AllocError>
     ensures { IfOk result (λ text. string_bytes text ≡ reply_text number reply.now) }
 {
@@ -48,15 +48,14 @@ pub fn reply_text(alloc: Global, number: usize, reply: &Reply) -> Result<String,
     }
 }
 
-/// What is printed of a reply that is one word.
+/// The text of a reply that is one word.
 fn word_text(alloc: Global, number: usize, word: &str) -> Result<String, AllocError>
     ensures { IfOk result (λ text. string_bytes text ≡ line_text (decimal number) word.now) }
 {
     format!(in alloc; "{number} {word}\n")
 }
 
-/// What a boot did that answers a report: it took nothing, or what it took is on trial, or is to
-/// stay.
+/// What a boot with a report did: it took nothing, or what it took is on trial, or is to stay.
 fn decision_text(report: &Report, permanent: bool) -> &'static str
     ensures { result.now ≡ decision_text report.now permanent }
 {
@@ -76,7 +75,7 @@ fn is_some_taken(images: &[ReportedImage]) -> bool
     images.iter().any(|image| image.is_taken)
 }
 
-/// The images of a set to print, each after a space: bit i is for image i.
+/// The images of a set, to print each after a space. Bit i is for image i.
 #[derive(Drop)]
 pub struct Members(pub u8);
 
@@ -104,7 +103,7 @@ fn write_members<W: fmt::Write>(f: &mut fmt::Formatter<W>, set: u8) -> fmt::Resu
 /// `RunningDamaged` and the check after `NotAnImage`: text in memory of `alloc`.
 ///
 /// # Errors
-/// `AllocError` where that memory is refused.
+/// `AllocError` if memory is refused.
 pub fn refused_fault_text(alloc: Global, fault: Fault) -> Result<String, AllocError>
     ensures { IfOk result (λ text. string_bytes text ≡ refused_fault_text fault) }
 {
@@ -112,8 +111,7 @@ pub fn refused_fault_text(alloc: Global, fault: Fault) -> Result<String, AllocEr
     format!(in alloc; "refused {reason}\n")
 }
 
-/// Why a call of a device is refused, to print. The image that is damaged stands behind
-/// `RunningDamaged`.
+/// Why a device refuses a call, to print. The number of the damaged image follows `RunningDamaged`.
 #[derive(Drop)]
 struct Reason(Fault);
 
@@ -133,7 +131,7 @@ impl fmt::Display for Reason {
     }
 }
 
-/// Writes why an upload is refused. The number of the check that the bytes fail stands behind
+/// Writes why an upload is refused. The number of the check that the bytes fail follows
 /// `NotAnImage`.
 fn write_upload<W: fmt::Write>(f: &mut fmt::Formatter<W>, error: UploadError) -> fmt::Result
     ensures { WritesOnOk W.write_str_gives f.old result (upload_text error) f.new }
@@ -146,7 +144,7 @@ fn write_upload<W: fmt::Write>(f: &mut fmt::Formatter<W>, error: UploadError) ->
     }
 }
 
-/// Writes what was wrong: the word of the layer that refused, the number and the name.
+/// Writes a refusal: the word of the layer that refused, the number and the name.
 fn write_group<W: fmt::Write>(
     f: &mut fmt::Formatter<W>,
     group: &str,
@@ -158,7 +156,7 @@ fn write_group<W: fmt::Write>(
     write!(f, "{group} {code} {name}")
 }
 
-/// Writes what was wrong, with a number behind it.
+/// Writes a refusal, and a number after it.
 fn write_numbered<W: fmt::Write>(
     f: &mut fmt::Formatter<W>,
     group: &str,

@@ -1,4 +1,4 @@
-//! Bytes written to the last.
+//! Writes all bytes of a text.
 ghost use Rattle.std.specs.Prelude.{ℕ, take, OnOk, OnErr};
 ghost use Rattle.std.specs.Io.KnownBytes.{Appends};
 
@@ -7,8 +7,8 @@ use std::io::{ErrorKind, Write};
 
 /// Writes all of `bytes` to `out`.
 ///
-/// A write that a signal interrupts is tried again. One that takes no byte is an error, as is any
-/// other that fails: then `out` has taken a beginning of `bytes`.
+/// A write that a signal interrupts is tried again. A write that takes no byte is an error, like
+/// each other failed write. After an error `out` has taken a prefix of `bytes`.
 pub fn write_all<W: Write>(out: &mut W, bytes: &[u8]) -> io::Result<()>
     ensures ok { OnOk result (Appends (W.contents out.old) (W.contents out.new) bytes.now) }
     ensures err { OnErr result ((count : ℕ)

@@ -1,17 +1,17 @@
 -- Reading a line finds what its text says, and nothing else.
 use Rattle.std.proofs.Common.{◌≡◌, ℕ, ◌%◌, ◌^◌, ◌<◌, ◌≤◌, List, [], ◌∷◌, ◌++◌, length, eqb, Option, Some, None, refl, sym, ap, ◌∙◌, subst, inl, inr, arith}
-use Rattle.std.specs.Prelude.{IfNone, IfSome, bytes_eq, codes, decimal, option_and_then, option_map}
+use Rattle.std.specs.Prelude.{IfNone, IfSome, codes, decimal, option_and_then, option_map}
 use Rattle.std.specs.Char.{is_ascii_hexdigit}
 use Rattle.std.specs.List.{list_all}
 use Rattle.std.proofs.lemmas.Bool.{and_parts, cases_Bool, eq-eqb, eqb-true, eqb-false, ne_eqb}
 use Rattle.std.proofs.lemmas.List.Sums.{AllPass-from_list_all, list_all-from_AllPass}
 use Rattle.std.proofs.lemmas.Option.{cond_some, option_and_then_some, none-some, same_Some}
-use Rattle.std.proofs.lemmas.Slice.Eq.{bytes_eq-Decides}
 use Rattle.common.specs.Ascii.{cut, number_below, number_of}
 use Rattle.common.specs.Lines.{◌␣◌}
 use Rattle.common.proofs.AsciiLaws.{LacksByte-decimal, cut-found, cut-missing, cut-parts, cut-whole, number_below-decimal, number_below-spelled, number_of-decimal, number_of-spelled}
 use Rattle.common.proofs.Options.{cases_option, option_map-Some}
-use Rattle.events.specs.declared.event.Event.TheVariants as event
+use Rattle.common.proofs.Words.{on_word}
+use Rattle.common.specs.declared.event.Event.TheVariants as event
 use Rattle.script.specs.declared.line.Line.{Line}
 use Rattle.script.specs.LineReading.{accept_of, cut_line_of, event_at, hex_of, image_event, line_at, name_of, part_of, piece_of, piece_with, said_of, torn_of, word_of}
 use Rattle.script.specs.LineText.{AreDigits, FitsEvent, FitsPart, FitsTorn, IsLineText, IsName, event_text, line_text, piece_text, torn_text}
@@ -20,10 +20,6 @@ use Rattle.script.specs.Said.{Cut, Done, Event, Hex, Keep}
 use Rattle.script.proofs.WordLaws.{name_of-spelled, name_of-text, word_of-spelled, word_of-text}
 
 -- ---- what is spelled is read
-
--- A number is cut off at the space after it.
-cut-number : (n : ℕ) (after : List ℕ) → n < 2 ^ 32 → cut 32 (decimal n ␣ after) ≡ (decimal n, Some after)
-cut-number n after fits = cut-found 32 (decimal n) after (LacksByte-decimal 32 n (omega arith) (omega arith))
 
 part_of-text : (part : PartWords) → FitsPart (Some part) → part_of (part.from ␣ part.count) ≡ Some part
 unfolding part_of
@@ -59,7 +55,7 @@ cut_line_of-text : (write : ℕ) (torn : SaidTorn) → 1 ≤ write → write < 2
 unfolding cut_line_of
 cut_line_of-text write torn some fits torn_fits =
     rw (
-      cut-number write (torn_text torn) fits,
+      cut-found 32 (decimal write) (torn_text torn) (LacksByte-decimal 32 write (omega arith) (omega arith)),
       number_of-decimal write fits,
       torn_of-text torn torn_fits,
       ne_eqb write 0 (λ e. omega arith),
@@ -74,7 +70,7 @@ piece_of-whole : (image : ℕ) (file : List ℕ) → FitsEvent (event.Piece imag
 unfolding piece_of
 piece_of-whole image file (small, named, whole) =
     rw (
-      cut-number image file (omega arith),
+      cut-found 32 (decimal image) file (LacksByte-decimal 32 image (omega arith) (omega arith)),
       number_below-decimal (2 ^ 8) image small (omega arith),
       cut-missing 32 file named.0.1,
       name_of-text file named,
@@ -86,7 +82,8 @@ piece_of-part : (image : ℕ) (file : List ℕ) (part : PartWords)
 unfolding piece_of
 piece_of-part image file part (small, named, fits) =
     rw (
-      cut-number image (file ␣ part.from ␣ part.count) (omega arith),
+      cut-found 32 (decimal image) (file ␣ part.from ␣ part.count)
+          (LacksByte-decimal 32 image (omega arith) (omega arith)),
       number_below-decimal (2 ^ 8) image small (omega arith),
       cut-found 32 file (part.from ␣ part.count) named.0.1,
       name_of-text file named,
@@ -166,10 +163,6 @@ said_of-text text found (fits, is) = ap said_of is ∙ said_of-line found (fits,
 
 -- ---- what is read is spelled so
 
--- The two parts of a text that is cut, where the first is known.
-cut-spelled : (text word rest : List ℕ) → (cut 32 text).0 ≡ word → (cut 32 text).1 ≡ Some rest → text ≡ word ␣ rest
-cut-spelled text word rest is_word is_rest = cut-parts 32 text rest is_rest ∙ ap (λ first. first ␣ rest) is_word
-
 part_of-spelled : (text : List ℕ) (part : PartWords) → part_of text ≡ Some part
     → FitsPart (Some part) × (text ≡ part.from ␣ part.count)
 unfolding part_of
@@ -180,7 +173,7 @@ part_of-spelled text part read =
     let from_found = word_of-spelled (cut 32 text).0 from is_from in
     let count_found = word_of-spelled rest count is_count in
     let whole : text ≡ from ␣ count =
-    cut-spelled text from rest from_found.1 is_rest ∙ ap (λ t. from ␣ t) count_found.1 in
+    rw from_found.1 at (cut-parts 32 text rest is_rest) ∙ ap (λ t. from ␣ t) count_found.1 in
     subst (λ (p : PartWords). FitsPart (Some p) × (text ≡ p.from ␣ p.count))
     (same_Some (record { from = from; count = count }) part made)
     ((from_found.0, count_found.0), whole))))
@@ -206,27 +199,17 @@ torn_of-spelled : (word : List ℕ) (torn : SaidTorn) → torn_of word ≡ Some 
     → FitsTorn torn × (word ≡ torn_text torn)
 unfolding torn_of
 torn_of-spelled word torn read =
-    elim (cases_Bool (bytes_eq word (codes "keep"))) [
-      | inl keep ↦ subst (λ (t : SaidTorn). FitsTorn t × (word ≡ torn_text t))
-          (same_Some Keep torn (rw keep at read)) (tt, (bytes_eq-Decides word (codes "keep")).0 keep)
-      | inr not_keep ↦
-          let read = rw not_keep at read in
-          elim (cases_Bool (bytes_eq word (codes "done"))) [
-            | inl done ↦ subst (λ (t : SaidTorn). FitsTorn t × (word ≡ torn_text t))
-                (same_Some Done torn (rw done at read)) (tt, (bytes_eq-Decides word (codes "done")).0 done)
-            | inr not_done ↦
-                option_and_then_some _ (cut 58 word).1 torn (rw not_done at read) (λ digits is_digits read_on.
-                elim (cases_Bool (bytes_eq (cut 58 word).0 (codes "hex"))) [
-                  | inl hex ↦
-                      let found = hex_of-spelled digits torn (rw hex at read_on) in
-                      let whole : word ≡ codes "hex:" ++ digits =
-                      cut-parts 58 word digits is_digits
-                      ∙ ap (λ (t : List ℕ). t ++ 58 ∷ digits) ((bytes_eq-Decides (cut 58 word).0 (codes "hex")).0 hex) in
-                      (found.0, whole ∙ found.1)
-                  | inr other ↦ absurd (none-some torn (rw other at read_on))
-                ])
-          ]
-    ]
+    let Is = λ (text : List ℕ). λ (t : SaidTorn). FitsTorn t × (text ≡ torn_text t) in
+    let Says = λ (text : List ℕ). Is text torn in
+    on_word word (codes "keep") Says
+    (λ is. subst (Is (codes "keep")) (same_Some Keep torn (rw is at read)) (tt, refl)) (λ not_keep.
+    let read = rw not_keep at read in
+    on_word word (codes "done") Says
+    (λ is. subst (Is (codes "done")) (same_Some Done torn (rw is at read)) (tt, refl)) (λ not_done.
+    option_and_then_some _ (cut 58 word).1 torn (rw not_done at read) (λ digits is_digits read.
+    subst Says (sym (cut-parts 58 word digits is_digits))
+    (on_word (cut 58 word).0 (codes "hex") (λ kind. Says (kind ++ 58 ∷ digits))
+    (λ is. hex_of-spelled digits torn (rw is at read)) (λ not_hex. absurd (none-some torn (rw not_hex at read)))))))
 
 cut_line_of-spelled : (fields : List ℕ) (found : Said) → cut_line_of fields ≡ Some found
     → IsLineText (codes "cut" ␣ fields) found
@@ -238,7 +221,7 @@ cut_line_of-spelled fields found read =
     let write_found = number_of-spelled (cut 32 fields).0 write is_write in
     let torn_found = torn_of-spelled rest torn is_torn in
     let whole : fields ≡ decimal write ␣ torn_text torn =
-    cut-spelled fields (decimal write) rest write_found.0 is_rest ∙ ap (λ t. decimal write ␣ t) torn_found.1 in
+    rw write_found.0 at (cut-parts 32 fields rest is_rest) ∙ ap (λ t. decimal write ␣ t) torn_found.1 in
     elim (cases_Bool (eqb write 0)) [
       | inl zero ↦ absurd (none-some found (rw zero at made))
       | inr some ↦
@@ -276,7 +259,7 @@ piece_with-spelled image file rest happened small is_file read =
           option_and_then_some _ (part_of words) happened (rw some at read) (λ part is_part made.
           let part_found = part_of-spelled words part is_part in
           let whole : rest ≡ file ␣ part.from ␣ part.count =
-          cut-spelled rest file words file_found.1 some ∙ ap (λ t. file ␣ t) part_found.1 in
+          rw file_found.1 at (cut-parts 32 rest words some) ∙ ap (λ t. file ␣ t) part_found.1 in
           subst (λ (e : SaidEvent). SaysEvent (codes "piece" ␣ decimal image ␣ rest) e)
           (same_Some (event.Piece image (file_of file (Some part))) happened made)
           ((small, file_found.0, part_found.0), ap (λ t. codes "piece" ␣ decimal image ␣ t) whole))
@@ -290,84 +273,60 @@ piece_of-spelled fields happened read =
     option_and_then_some _ (cut 32 fields).1 happened after_image (λ rest is_rest from_file.
     option_and_then_some _ (name_of (cut 32 rest).0) happened from_file (λ file is_file from_part.
     let image_found = number_below-spelled (2 ^ 8) (cut 32 fields).0 image is_image in
-    let whole = cut-spelled fields (decimal image) rest image_found.0 is_rest in
+    let whole : fields ≡ decimal image ␣ rest = rw image_found.0 at (cut-parts 32 fields rest is_rest) in
     rw whole (piece_with-spelled image file rest happened image_found.1 is_file from_part))))
 
-image_event-spelled : (word fields : List ℕ) (image : ℕ) (happened : SaidEvent) → image < 2 ^ 8
-    → fields ≡ decimal image → image_event word image ≡ Some happened → SaysEvent (word ␣ fields) happened
-image_event-spelled word fields image happened small is_image read =
-    rw is_image (elim (cases_Bool (bytes_eq word (codes "finish"))) [
-      | inl finish ↦
-          rw ((bytes_eq-Decides word (codes "finish")).0 finish)
-          (subst (λ (e : SaidEvent). SaysEvent (codes "finish" ␣ decimal image) e)
-          (same_Some (event.Finish image) happened (rw finish at read)) (small, refl))
-      | inr not_finish ↦
-          let read = rw not_finish at read in
-          elim (cases_Bool (bytes_eq word (codes "withdraw"))) [
-            | inl withdraw ↦
-                rw ((bytes_eq-Decides word (codes "withdraw")).0 withdraw)
-                (subst (λ (e : SaidEvent). SaysEvent (codes "withdraw" ␣ decimal image) e)
-                (same_Some (event.Withdraw image) happened (rw withdraw at read)) (small, refl))
-            | inr not_withdraw ↦
-                let read = rw not_withdraw at read in
-                elim (cases_Bool (bytes_eq word (codes "confirm"))) [
-                  | inl confirm ↦
-                      rw ((bytes_eq-Decides word (codes "confirm")).0 confirm)
-                      (subst (λ (e : SaidEvent). SaysEvent (codes "confirm" ␣ decimal image) e)
-                      (same_Some (event.Confirm image) happened (rw confirm at read)) (small, refl))
-                  | inr other ↦ absurd (none-some happened (rw other at read))
-                ]
-          ]
-    ])
+image_event-spelled : (word : List ℕ) (image : ℕ) (happened : SaidEvent) → image < 2 ^ 8
+    → image_event word image ≡ Some happened → SaysEvent (word ␣ decimal image) happened
+image_event-spelled word image happened small read =
+    let Is = λ (text : List ℕ). λ (event : SaidEvent). SaysEvent (text ␣ decimal image) event in
+    let Says = λ (text : List ℕ). Is text happened in
+    on_word word (codes "finish") Says
+    (λ is. subst (Is (codes "finish")) (same_Some (event.Finish image) happened (rw is at read)) (small, refl))
+    (λ not_finish.
+    let read = rw not_finish at read in
+    on_word word (codes "withdraw") Says
+    (λ is. subst (Is (codes "withdraw")) (same_Some (event.Withdraw image) happened (rw is at read)) (small, refl))
+    (λ not_withdraw.
+    let read = rw not_withdraw at read in
+    on_word word (codes "confirm") Says
+    (λ is. subst (Is (codes "confirm")) (same_Some (event.Confirm image) happened (rw is at read)) (small, refl))
+    (λ not_confirm. absurd (none-some happened (rw not_confirm at read)))))
 
 event_at-spelled : (word fields : List ℕ) (happened : SaidEvent) → event_at word fields ≡ Some happened
     → SaysEvent (word ␣ fields) happened
 unfolding event_at
 event_at-spelled word fields happened read =
-    elim (cases_Bool (bytes_eq word (codes "accept"))) [
-      | inl accept ↦ rw ((bytes_eq-Decides word (codes "accept")).0 accept)
-          (accept_of-spelled fields happened (rw accept at read))
-      | inr not_accept ↦
-          let read = rw not_accept at read in
-          elim (cases_Bool (bytes_eq word (codes "piece"))) [
-            | inl piece ↦ rw ((bytes_eq-Decides word (codes "piece")).0 piece)
-                (piece_of-spelled fields happened (rw piece at read))
-            | inr not_piece ↦
-                option_and_then_some _ (number_below (2 ^ 8) fields) happened (rw not_piece at read)
-                (λ image is_image made.
-                let found = number_below-spelled (2 ^ 8) fields image is_image in
-                image_event-spelled word fields image happened found.1 found.0 made)
-          ]
-    ]
+    let Says = λ (text : List ℕ). SaysEvent (text ␣ fields) happened in
+    on_word word (codes "accept") Says (λ is. accept_of-spelled fields happened (rw is at read)) (λ not_accept.
+    let read = rw not_accept at read in
+    on_word word (codes "piece") Says (λ is. piece_of-spelled fields happened (rw is at read)) (λ not_piece.
+    option_and_then_some _ (number_below (2 ^ 8) fields) happened (rw not_piece at read) (λ image is_image made.
+    let found = number_below-spelled (2 ^ 8) fields image is_image in
+    rw found.0 (image_event-spelled word image happened found.1 made))))
 
 line_at-spelled : (word fields : List ℕ) (found : Said) → line_at word fields ≡ Some found
     → IsLineText (word ␣ fields) found
 line_at-spelled word fields found read =
-    elim (cases_Bool (bytes_eq word (codes "cut"))) [
-      | inl cuts ↦ rw ((bytes_eq-Decides word (codes "cut")).0 cuts)
-          (cut_line_of-spelled fields found (rw cuts at read))
-      | inr other ↦
-          let (happened, is_event, made) = option_map-Some _ (event_at word fields) found (rw other at read) in
-          subst (λ (s : Said). IsLineText (word ␣ fields) s) made (event_at-spelled word fields happened is_event)
-    ]
+    on_word word (codes "cut") (λ text. IsLineText (text ␣ fields) found)
+    (λ is. cut_line_of-spelled fields found (rw is at read)) (λ not_cut.
+    let (happened, is_event, made) = option_map-Some _ (event_at word fields) found (rw not_cut at read) in
+    subst (λ (s : Said). IsLineText (word ␣ fields) s) made (event_at-spelled word fields happened is_event))
 
 -- A text that is read as a line says that line.
 pub said_of-spelled : (text : List ℕ) (found : Said) → said_of text ≡ Some found → IsLineText text found
 unfolding said_of
 said_of-spelled text found read =
-    elim (cases_Bool (bytes_eq text (codes "boot"))) [
-      | inl boot ↦ subst (λ (s : Said). IsLineText text s) (same_Some (Event event.Boot) found (rw boot at read))
-          (tt, (bytes_eq-Decides text (codes "boot")).0 boot)
-      | inr not_boot ↦
-          let read = rw not_boot at read in
-          elim (cases_Bool (bytes_eq text (codes "reset"))) [
-            | inl reset ↦ subst (λ (s : Said). IsLineText text s)
-                (same_Some (Event event.Reset) found (rw reset at read)) (tt, (bytes_eq-Decides text (codes "reset")).0 reset)
-            | inr not_reset ↦
-                option_and_then_some _ (cut 32 text).1 found (rw not_reset at read) (λ fields is_fields read_on.
-                rw (cut-parts 32 text fields is_fields) (line_at-spelled (cut 32 text).0 fields found read_on))
-          ]
-    ]
+    let Says = λ (said : List ℕ). IsLineText said found in
+    on_word text (codes "boot") Says
+    (λ is. subst (IsLineText (codes "boot")) (same_Some (Event event.Boot) found (rw is at read)) (tt, refl))
+    (λ not_boot.
+    let read = rw not_boot at read in
+    on_word text (codes "reset") Says
+    (λ is. subst (IsLineText (codes "reset")) (same_Some (Event event.Reset) found (rw is at read)) (tt, refl))
+    (λ not_reset.
+    option_and_then_some _ (cut 32 text).1 found (rw not_reset at read) (λ fields is_fields read_on.
+    rw (cut-parts 32 text fields is_fields) (line_at-spelled (cut 32 text).0 fields found read_on))))
 
 -- ---- what the reader promises
 

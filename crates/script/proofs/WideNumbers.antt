@@ -1,6 +1,6 @@
 -- What `parse` gives of a text as a number of 64 bits is what the text spells.
 use Rattle.std.proofs.Common.{◌≡◌, ◌≢◌, ℕ, ◌^◌, ◌<◌, List, length, get_or, None, Bor, Result, Ok, Err, sym, ap, ◌∙◌, inl, inr, arith}
-use Rattle.std.specs.Prelude.{decimal, IsUtf8, IfSome, IfNone}
+use Rattle.std.specs.Prelude.{decimal, IfSome, IfNone}
 use Rattle.std.specs.Result.{result_ok}
 use Rattle.std.specs.declared.str.Utf8Error.{Utf8Error}
 use Rattle.std.specs.Str.Parse.{AllDigits, ParsesUnsigned, digits_value}

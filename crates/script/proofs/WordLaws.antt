@@ -1,6 +1,5 @@
 -- Words and names are read exactly where a text is one.
-use Rattle.std.proofs.Common.{◌≡◌, ◌≢◌, ℕ, ◌<◌, List, [], ◌∷◌, length, cond, eqb, Option, Some, None, Bor, Result, Ok, Err, refl, sym, ap, ◌∙◌, subst, inl, inr, arith}
-use Rattle.std.specs.Prelude.{IsUtf8}
+use Rattle.std.proofs.Common.{◌≡◌, ℕ, List, [], ◌∷◌, length, cond, eqb, Some, None, Bor, Result, Ok, Err, refl, ap, ◌∙◌, subst, inl, inr, arith}
 use Rattle.std.specs.Option.{option_copied}
 use Rattle.std.specs.Result.{result_ok}
 use Rattle.std.specs.Str.{is_utf8}
@@ -8,7 +7,7 @@ use Rattle.std.specs.declared.str.Utf8Error.{Utf8Error}
 use Rattle.std.proofs.lemmas.Bool.{cases_Bool, eqb-false, ne_eqb}
 use Rattle.std.proofs.lemmas.Option.{cond_some, option_and_then_some, none-some, same_Some}
 use Rattle.std.proofs.lemmas.Str.{IsUtf8-from_is_utf8, is_utf8-from_IsUtf8}
-use Rattle.common.specs.Ascii.{LacksByte, cut}
+use Rattle.common.specs.Ascii.{cut}
 use Rattle.common.proofs.AsciiLaws.{LacksByte-cut, cut-missing, cut-whole}
 use Rattle.common.proofs.Numbers.{Decodes}
 use Rattle.common.proofs.Options.{cases_option}

@@ -5,7 +5,7 @@ use Rattle.flash_model.specs.declared.torn.Torn.TheVariants as torn
 use Rattle.hex.specs.Hex.{decode_of}
 use Rattle.script.specs.Said.{SaidTorn, Done, Hex, Keep}
 
--- A flash that is armed so leaves what the script says: the pattern is what the digits decode to.
+-- A flash armed with this leaves what the script says: the bytes are what the digits decode to.
 abbrev pub Leaves : SaidTorn → Torn → Type 0
 Leaves Keep torn.Keep = Unit {0}
 Leaves Keep torn.Done = ⊥

@@ -1,6 +1,6 @@
--- In which order the lines of a script stand.
+-- The order of a script's lines.
 use Rattle.std.specs.Prelude.{ℕ, ◌<◌, List, [], ◌∷◌, MatchBool}
-use Rattle.script.specs.declared.line_order.Reading.{Reading}
+use Rattle.script.specs.declared.line_order.LineOrder.{LineOrder}
 use Rattle.script.specs.Said.{Said, Cut, Event}
 
 -- Events alone.
@@ -9,14 +9,14 @@ AreEvents [] = Unit {0}
 AreEvents (Cut write torn ∷ lines) = ⊥
 AreEvents (Event event ∷ lines) = AreEvents lines
 
--- First cuts, of writes whose numbers rise and are above this one, and then events alone. A whole
--- script is in order above 0.
+-- First cuts, of writes whose numbers rise and are above this number, and then events alone. A
+-- complete script is in order above 0.
 abbrev pub AreInOrder : ℕ → List Said → Type 0
 AreInOrder above [] = Unit {0}
 AreInOrder above (Cut write torn ∷ lines) = (above < write) × AreInOrder write lines
 AreInOrder above (Event event ∷ lines) = AreEvents lines
 
 -- The lines that can follow what was read.
-abbrev pub CanFollow : Reading → List Said → Type 0
-CanFollow reading lines =
-    MatchBool reading.has_event (AreEvents lines) (AreInOrder reading.last_cut lines)
+abbrev pub CanFollow : LineOrder → List Said → Type 0
+CanFollow order lines =
+    MatchBool order.has_event (AreEvents lines) (AreInOrder order.last_cut lines)

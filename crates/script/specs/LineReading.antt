@@ -1,12 +1,12 @@
 -- Reading a line from left to right, step by step: words are cut at spaces (32), the first word
--- tells what the line says, and the last field takes the whole rest of the line. The reader follows
--- these steps; what they mean is in `LineText`.
+-- names the kind of the line, and the last field is the rest of the line. The reader follows these
+-- steps. What they mean is in `LineText`.
 use Rattle.std.specs.Prelude.{ℕ, ◌%◌, ◌^◌, ◌==◌, ◌&&◌, ◌||◌, List, length, Option, Some, None, codes, is_some, option_and_then, option_map, if◌then◌else◌}
 use Rattle.std.specs.Char.{is_ascii_hexdigit}
 use Rattle.std.specs.List.{list_all}
 use Rattle.std.specs.Str.{bytes_eq, is_utf8}
 use Rattle.common.specs.Ascii.{number_of, number_below, cut}
-use Rattle.events.specs.declared.event.Event.TheVariants as event
+use Rattle.common.specs.declared.event.Event.TheVariants as event
 use Rattle.script.specs.Said.{PartWords, Said, SaidEvent, SaidTorn, file_of}
 use Rattle.script.specs.Said.{Cut, Done, Event, Hex, Keep}
 
@@ -14,7 +14,7 @@ infixl 10 ◌>>=◌
 abbrev pub ◌>>=◌ : {A B : Type 0} → Option A → (A → Option B) → Option B
 o >>= f = option_and_then f o
 
--- The word that a text is: some bytes, and no space among them.
+-- The word that a text is: at least one byte, and no space.
 unfoldable pub word_of : List ℕ → Option (List ℕ)
 word_of text =
     let words = cut 32 text in
@@ -35,14 +35,14 @@ part_of text = do
   count ← word_of rest
   Some (record { from = from; count = count })
 
--- The digits behind `hex:`.
+-- The digits after `hex:`.
 unfoldable pub hex_of : List ℕ → Option SaidTorn
 hex_of digits =
     if length digits == 0 then None
     else (if length digits % 2 == 0 && list_all is_ascii_hexdigit digits
     then Some (Hex digits) else None)
 
--- What a cut leaves. A colon (58) parts `hex` from the digits.
+-- What a cut leaves. A colon (58) separates `hex` from the digits.
 unfoldable pub torn_of : List ℕ → Option SaidTorn
 torn_of word =
     if bytes_eq word (codes "keep") then Some Keep
@@ -60,11 +60,11 @@ cut_line_of fields = do
   torn ← torn_of rest
   if write == 0 then None else Some (Cut write torn)
 
--- What follows `accept`: the name of a file, of which all comes.
+-- What follows `accept`: the name of a file, which comes complete.
 unfoldable pub accept_of : List ℕ → Option SaidEvent
 accept_of fields = option_map (λ name. event.Accept (file_of name None)) (name_of fields)
 
--- A piece from the file of this name, which comes whole where nothing follows the name.
+-- A piece from the file of this name. The file comes complete if nothing follows the name.
 abbrev pub piece_with : ℕ → List ℕ → Option (List ℕ) → Option SaidEvent
 piece_with image name None = Some (event.Piece image (file_of name None))
 piece_with image name (Some rest) =

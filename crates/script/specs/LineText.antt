@@ -4,11 +4,11 @@ use Rattle.std.specs.Char.{is_ascii_hexdigit}
 use Rattle.std.specs.List.{AllPass}
 use Rattle.common.specs.Ascii.{LacksByte}
 use Rattle.common.specs.Lines.{◌␣◌}
-use Rattle.events.specs.declared.event.Event.TheVariants as event
+use Rattle.common.specs.declared.event.Event.TheVariants as event
 use Rattle.script.specs.Said.{PartWords, Said, SaidEvent, SaidTorn}
 use Rattle.script.specs.Said.{Cut, Done, Event, Hex, Keep}
 
--- A word: some bytes, and no space among them.
+-- A word: at least one byte, and no space.
 abbrev pub IsWord : List ℕ → Type 0
 IsWord word = (word ≢ []) × LacksByte 32 word
 
@@ -25,7 +25,7 @@ torn_text Keep = codes "keep"
 torn_text Done = codes "done"
 torn_text (Hex digits) = codes "hex:" ++ digits
 
--- A piece from the file of a name, whole or in part.
+-- A piece: a complete file, or a part of it.
 abbrev pub piece_text : ℕ → List ℕ → Option PartWords → List ℕ
 piece_text image name None = codes "piece" ␣ decimal image ␣ name
 piece_text image name (Some part) =
@@ -45,8 +45,8 @@ abbrev pub line_text : Said → List ℕ
 line_text (Cut write torn) = codes "cut" ␣ decimal write ␣ torn_text torn
 line_text (Event happened) = event_text happened
 
--- What is said fits: writes are counted from 1 and in 32 bits, images in 8, words are words, and of
--- the file of a manifest all comes.
+-- What is said fits: the number of a write is at least 1 and has 32 bits, the number of an image has
+-- 8, words are words, and the file of a manifest comes complete.
 abbrev pub FitsTorn : SaidTorn → Type 0
 FitsTorn Keep = Unit {0}
 FitsTorn Done = Unit {0}

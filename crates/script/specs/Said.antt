@@ -1,7 +1,7 @@
--- What a line of a script says, with the bytes of its words in the place of references to them.
+-- What a line of a script says, with the bytes of its words instead of references to them.
 use Rattle.std.specs.Prelude.{ℕ, List, Option, option_map}
-use Rattle.events.specs.declared.event.Event as events
-use Rattle.events.specs.Event.{event_map}
+use Rattle.common.specs.declared.event.Event as events
+use Rattle.common.specs.Event.{event_map}
 use Rattle.script.specs.declared.line.FileText.{FileText}
 use Rattle.script.specs.declared.line.Line.{Line}
 use Rattle.script.specs.declared.line.Line.TheVariants as line
@@ -9,7 +9,7 @@ use Rattle.script.specs.declared.line.TornText.{TornText}
 use Rattle.script.specs.declared.line.TornText.TheVariants as torn
 use Rattle.script.specs.declared.part.PartText.{PartText}
 
--- What a write that is cut leaves.
+-- What a cut write leaves.
 pub data SaidTorn : Type 0 where
   Keep : SaidTorn
   Done : SaidTorn
@@ -20,16 +20,16 @@ pub record PartWords : Type 0 where
   pub from : List ℕ
   pub count : List ℕ
 
--- What a line names of a file: its name, and which part of it, if not all.
+-- What a line names of a file: its name, and the part of it, `None` for all.
 pub record SaidFile : Type 0 where
   pub name : List ℕ
   pub part : Option PartWords
 
--- A file of this name, of which this part comes, or all.
+-- A file of this name, of which this part comes.
 abbrev pub file_of : List ℕ → Option PartWords → SaidFile
 file_of name part = record { name = name; part = part }
 
--- What comes to the device.
+-- An event of the device.
 abbrev pub SaidEvent : Type 0
 SaidEvent = events.Event SaidFile
 

@@ -1,4 +1,4 @@
-//! What a cut leaves, for a flash in memory.
+//! What a cut write leaves, as a flash in memory takes it.
 
 ghost use Rattle.std.specs.Prelude.{IfOk};
 ghost use Rattle.script.specs.Cuts.{Leaves};
@@ -9,12 +9,12 @@ use flash_model::Torn;
 use std::alloc::{AllocError, Global};
 
 impl<'a> TornText<'a> {
-    /// What the cut leaves, as [`flash_model::MemFlash::arm`] takes it: of digits the bytes that
-    /// they spell.
+    /// What the write leaves, as [`flash_model::MemFlash::arm`] takes it. Digits are decoded to the
+    /// bytes that they spell.
     ///
     /// # Errors
-    /// Where memory for the bytes is refused; and where `Hex` has no digits of bytes, which it
-    /// never has as [`line_of`](crate::line_of) gives it.
+    /// `AllocError` if memory for the bytes is refused, or if the digits of `Hex` spell no bytes,
+    /// which [`line_of`](crate::line_of) never returns.
     pub fn torn(self, alloc: Global) -> Result<Torn, AllocError>
         ensures { IfOk result (λ torn. Leaves (said_torn self.entry) torn) }
     {

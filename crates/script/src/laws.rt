@@ -1,4 +1,4 @@
-//! A law of lines: what is true of every text.
+//! A law of lines: what is true of each text.
 
 ghost use Rattle.std.specs.Prelude.{◌≡◌, ℕ, List};
 ghost use Rattle.script.specs.LineText.{IsLineText};
@@ -6,7 +6,7 @@ ghost use Rattle.script.specs.Said.{Said};
 
 /// A text says one line at most.
 ///
-/// It does nothing: its contract is the theorem.
+/// The function does nothing: its contract is the theorem.
 pub fn a_text_says_one_line()
     ensures { (text : List ℕ) (one other : Said)
         → IsLineText text one → IsLineText text other → one ≡ other }

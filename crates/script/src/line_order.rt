@@ -1,4 +1,4 @@
-//! Lines in order.
+//! Checks the order of a script's lines.
 
 ghost use Rattle.std.specs.Prelude.{◌≡◌, ◌∷◌, ◌↔◌, List, MatchBool};
 ghost use Rattle.script.specs.InOrder.{AreInOrder, CanFollow};
@@ -6,28 +6,27 @@ ghost use Rattle.script.specs.Said.{Said, said};
 
 use crate::line::Line;
 
-/// What of a script was read: it says which lines can follow. First come cuts, whose numbers rise,
-/// and then events.
+/// Which lines can follow those that were read. Cuts come first, by rising numbers, and then events.
 #[derive(Drop)]
-pub struct Reading {
+pub struct LineOrder {
     // The number of the last cut, 0 before the first.
     last_cut: u32,
     has_event: bool,
 }
 
-impl Reading {
-    /// Nothing was read yet.
+impl LineOrder {
+    /// The order before the first line.
     pub fn new() -> Self
         ensures { (lines : List Said) → CanFollow result lines ↔ AreInOrder 0 lines }
     {
-        Reading {
+        LineOrder {
             last_cut: 0,
             has_event: false,
         }
     }
 
-    /// Whether a line can follow what was read, as [`line_of`](crate::line_of) gave it: then it is
-    /// read too.
+    /// Whether a line of [`line_of`](crate::line_of) can follow those that were read. If so, it counts
+    /// as read.
     pub fn takes(&mut self, line: &Line<'_>) -> bool
         ensures { MatchBool result
             ((lines : List Said)

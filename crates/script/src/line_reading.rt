@@ -1,10 +1,10 @@
-//! Reading a line of a script.
+//! Reads a line of a script.
 
 ghost use Rattle.std.specs.Prelude.{◌≡◌, IfNone, IfSome};
 ghost use Rattle.std.specs.Char.{is_ascii_hexdigit};
 ghost use Rattle.std.specs.List.{list_all};
 ghost use Rattle.std.specs.Option.{option_map};
-ghost use Rattle.events.specs.Event.{event_map};
+ghost use Rattle.common.specs.Event.{event_map};
 ghost use Rattle.script.specs.LineReading.{accept_of, cut_line_of, event_at, hex_of, image_event, line_at, piece_of, said_of, torn_of};
 ghost use Rattle.script.specs.LineText.{IsLineText};
 ghost use Rattle.script.specs.Said.{Said, said, said_file, said_torn};
@@ -13,9 +13,9 @@ use crate::line::{FileText, Line, TornText};
 use crate::part::PartText;
 use crate::words::name;
 use common::ascii::{cut, number, number_u8};
-use events::Event;
+use common::event::Event;
 
-// The words that lines begin with, and those that say what a cut leaves.
+// The words that lines begin with, and the words for what a cut leaves.
 const CUT: &[u8] = b"cut";
 
 const KEEP: &[u8] = b"keep";
@@ -38,10 +38,10 @@ const BOOT: &[u8] = b"boot";
 
 const RESET: &[u8] = b"reset";
 
-/// What a line of a script says, given without its line feed.
+/// What a line of a script says. The text has no line feed.
 ///
-/// `None` at a bad line: one that isn't spelled as some line that fits. Whether it may stand behind
-/// the lines before it is for [`Reading`](crate::Reading) to say.
+/// `None` for a bad line: a text that spells no valid line. [`LineOrder`](crate::LineOrder) checks
+/// whether the line can follow the lines before it.
 pub fn line_of(line: &[u8]) -> Option<Line<'_>>
     ensures says { IfSome result (λ found. IsLineText line.now (said found)) }
     ensures other { IfNone result ((found : Said) → IsLineText line.now found → ⊥) }
@@ -99,7 +99,7 @@ fn torn(word: &[u8]) -> Option<TornText<'_>>
     if kind == HEX { hex(digits) } else { None }
 }
 
-// The digits behind `hex:`.
+// The digits after `hex:`.
 #[tactic(auto, unfolding(crate::specs::LineReading::hex_of))]
 fn hex(digits: &[u8]) -> Option<TornText<'_>>
     ensures { option_map said_torn result ≡ hex_of digits.now }

@@ -9,9 +9,9 @@ ghost use Rattle.script.specs.Said.{part_words};
 use crate::words::{number_usize, word};
 use common::ascii::cut;
 
-/// The words FROM and COUNT of a line, which name a part of a file: so many bytes from the byte of
-/// that number on, the first having number 0. Whether they are numbers, and whether the file has
-/// that part, is judged when the file is there.
+/// The words FROM and COUNT of a line, which name a part of a file: COUNT bytes, from the byte of
+/// number FROM on. The first byte has number 0. They are checked when the file is read: whether they
+/// are numbers, and whether the file has the part.
 #[derive(Clone, Copy)]
 pub struct PartText<'a> {
     /// The first word.
@@ -21,7 +21,7 @@ pub struct PartText<'a> {
 }
 
 impl<'a> PartText<'a> {
-    /// The part that two words name, `None` where the text isn't two words.
+    /// The part that two words name. `None` if the text isn't two words.
     #[tactic(auto, unfolding(crate::specs::LineReading::part_of))]
     pub(crate) fn read(text: &'a [u8]) -> Option<PartText<'a>>
         ensures { option_map part_words result ≡ part_of text.now }
@@ -32,8 +32,8 @@ impl<'a> PartText<'a> {
         Some(PartText { from, count })
     }
 
-    /// The numbers that the words are: that of the first byte, from 0, and how many there are.
-    /// `None` where a word is no decimal number without leading zeros, or isn't below 2^64.
+    /// The numbers that the words spell: the number of the first byte, from 0, and the count.
+    /// `None` if a word isn't a decimal number below 2^64 without leading zeros.
     pub fn numbers(self) -> Option<(usize, usize)>
         ensures { IfSome result (λ numbers. ((part_words self.entry).from ≡ decimal numbers.0)
             × ((part_words self.entry).count ≡ decimal numbers.1)) }
@@ -43,8 +43,8 @@ impl<'a> PartText<'a> {
         Some((from, count))
     }
 
-    /// The part of these bytes. `None` where a word is no decimal number without leading zeros, and
-    /// where the bytes don't have that part. It may be of no bytes.
+    /// The part of these bytes, which may be empty. `None` if a word isn't a decimal number without
+    /// leading zeros, or if the bytes don't have the part.
     pub fn of<'b>(self, bytes: &'b [u8]) -> Option<&'b [u8]>
         ensures part { IfSome result (λ part. IsPart (part_words self.entry) bytes.now part.now) }
         ensures other { IfNone result

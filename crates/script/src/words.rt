@@ -1,4 +1,4 @@
-//! Words of a line.
+//! Reads the words of a line.
 
 ghost use Rattle.std.specs.Prelude.{◌≡◌, ◌≢◌, ◌^◌, ◌<◌, ℕ, IfNone, IfSome, decimal};
 ghost use Rattle.std.specs.Option.{option_copied};
@@ -6,7 +6,7 @@ ghost use Rattle.script.specs.LineReading.{name_of, word_of};
 
 use common::ascii::{begins_padded, cut};
 
-/// The word that a text is: some bytes, and no space among them.
+/// The word that a text is: at least one byte, and no space.
 #[tactic(auto, unfolding(crate::specs::LineReading::word_of))]
 pub(crate) fn word(text: &[u8]) -> Option<&[u8]>
     ensures { option_copied result ≡ word_of text.now }

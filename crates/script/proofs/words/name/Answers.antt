@@ -1,4 +1,3 @@
-use Rattle.std.proofs.Common.{◌≡◌}
 use Rattle.script.specs.LineReading.{name_of}
 use Rattle.script.proofs.WordLaws.{decoded_text}
 use Rattle.script.proofs.words.name.Goals as goal

@@ -1,4 +1,4 @@
-use Rattle.std.proofs.Common.{◌≡◌, refl}
+use Rattle.std.proofs.Common.{refl}
 use Rattle.std.proofs.lemmas.Bool.{false≢true}
 use Rattle.common.specs.Ascii.{IsPadded}
 use Rattle.common.proofs.Numbers.{same_text_at_some}

@@ -1,0 +1,2 @@
+mod Written
+pub mod ScriptLaws

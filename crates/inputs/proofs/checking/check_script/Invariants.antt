@@ -1,0 +1,21 @@
+use Rattle.std.proofs.Common.{◌≡◌, false, length}
+use Rattle.std.specs.Io.KnownBytes.{Keeps}
+use Rattle.host.specs.Input.{KeepsFiles}
+use Rattle.inputs.specs.Loading.{AreBuffered, armed_in}
+use Rattle.inputs.proofs.ScriptLaws.{CutSoFar}
+use Rattle.inputs.proofs.checking.check_script.Given as goal
+
+-- the cuts so far are those of the lines so far, and of what lines name that can't be read again all
+-- is kept, as of the host as it was; its files are as they were, and its input too, unless a line
+-- named it; and it opened nothing more
+abbrev pub invariant-loop-lines : goal.invariant-loop-lines
+invariant-loop-lines g l = record {
+  cuts : CutSoFar l.text l.lines.rest.now (armed_in l.checked.cuts.items);
+  buffered : AreBuffered l.checked.buffered.items (g.H.Host.input l.fn.host) (g.H.Host.file l.fn.host);
+  files : KeepsFiles (g.H.Host.file l.fn.host) (g.H.Host.file l.host);
+  opened : g.H.Host.opened l.host ≡ g.H.Host.opened l.fn.host;
+  input : l.checked.is_input_read ≡ false → Keeps (g.H.Host.input l.fn.host) (g.H.Host.input l.host);
+}
+
+abbrev pub decreases-loop-lines : goal.decreases-loop-lines
+decreases-loop-lines g l = length l.lines.rest.now

@@ -1,0 +1,29 @@
+use Rattle.std.proofs.Common.{subst, sym}
+use Rattle.common.specs.declared.event.Event.TheVariants as event
+use Rattle.common.specs.Event.{event_map}
+use Rattle.script.specs.Said.{said_file}
+use Rattle.inputs.specs.Loading.{Loads}
+use Rattle.inputs.specs.Script.{Comes}
+use Rattle.inputs.proofs.ScriptLaws.{Loads-accept, Loads-piece}
+use Rattle.inputs.proofs.sources.Sources.load_event.Goals as goal
+
+-- A manifest comes ..
+pub returns-in_ok-text-in-Accept-clause-loaded : goal.returns-in_ok-text-in-Accept-clause-loaded
+returns-in_ok-text-in-Accept-clause-loaded g c =
+    let buffered = c.args.self.now.buffered.now in
+    let files = g.H.Host.file c.args.self.now.host.now in
+    let text = c.in_ok-text-in-Accept.text.items in
+    subst (λ one. Loads buffered files (λ known after. Comes (event_map said_file one) known (event.Accept text) after))
+    (sym c.in-Accept.is)
+    (Loads-accept buffered files (said_file c.in-Accept.file) text c.in_ok-text-in-Accept.ensures.loaded)
+
+-- .. or a piece.
+pub returns-in_ok-piece-in-Piece-clause-loaded : goal.returns-in_ok-piece-in-Piece-clause-loaded
+returns-in_ok-piece-in-Piece-clause-loaded g c =
+    let buffered = c.args.self.now.buffered.now in
+    let files = g.H.Host.file c.args.self.now.host.now in
+    let piece = c.in_ok-piece-in-Piece.piece.items in
+    let image = c.in-Piece.image in
+    subst (λ one. Loads buffered files (λ known after. Comes (event_map said_file one) known (event.Piece image piece) after))
+    (sym c.in-Piece.is)
+    (Loads-piece buffered files image (said_file c.in-Piece.file) piece c.in_ok-piece-in-Piece.ensures.loaded)

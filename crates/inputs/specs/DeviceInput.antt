@@ -1,0 +1,39 @@
+-- What the commands of a device read: its device file, and the bytes of its flash.
+use Rattle.std.specs.Prelude.{◌≡◌, ℕ, List, Option, None, Some}
+use Rattle.std.specs.Io.KnownBytes.{Appends}
+use Rattle.sector_map.specs.declared.error.MapError.{MapError}
+use Rattle.device_texts.specs.declared.device.DeviceFault.TheVariants as fault
+use Rattle.device_texts.specs.declared.device.DeviceFile.{DeviceFile}
+use Rattle.host.specs.declared.source.Source.{Source}
+use Rattle.device_texts.specs.AnswerText.{map_refusal_text}
+use Rattle.device_texts.specs.DeviceFile.{IsDeviceFault, IsDeviceFile}
+use Rattle.host.specs.declared.host.Access.{Access}
+use Rattle.host.specs.declared.source.Source.TheVariants.{StandardInput, File}
+use Rattle.host.specs.Doings.{IsOpenedFor, Openings}
+use Rattle.host.specs.Input.{FileBytes, Gives}
+
+-- A source held the device file of a device ..
+abbrev pub GivesDevice : Source → Option (List ℕ) → FileBytes → DeviceFile → Type 0
+GivesDevice source input files device =
+    (bytes : List ℕ) × Gives source input files bytes × IsDeviceFile bytes device
+
+-- .. or one whose sizes make no map, and the writer took why.
+abbrev pub RefusesMap : Source → Option (List ℕ) → FileBytes
+    → Option (List ℕ) → Option (List ℕ) → Type 0
+RefusesMap source input files old new =
+    (bytes : List ℕ) × (refused : MapError) × Gives source input files bytes
+    × IsDeviceFault bytes (fault.Map refused) × Appends old new (map_refusal_text refused)
+
+-- What was read of a device file: the device, and the writer took nothing; or none, because its
+-- sizes make no map.
+abbrev pub ReadsDevice : Option DeviceFile → Source → Option (List ℕ) → FileBytes
+    → Option (List ℕ) → Option (List ℕ) → Type 0
+ReadsDevice (Some device) source input files old new =
+    GivesDevice source input files device × (new ≡ old)
+ReadsDevice None source input files old new = RefusesMap source input files old new
+
+-- How a host opened the file of a flash that was read: for this access, and not at all if the flash
+-- is standard input.
+abbrev pub OpensFlash : Access → Source → Openings → Openings → Type 0
+OpensFlash access StandardInput old new = new ≡ old
+OpensFlash access (File name) old new = IsOpenedFor access old new

@@ -1,0 +1,4 @@
+pub mod DeviceInput
+pub mod FileFlash
+pub mod Loading
+pub mod Script

@@ -1,0 +1,114 @@
+//! Reads a device file, and the bytes of a device's flash.
+ghost use Rattle.std.specs.Prelude.{◌≡◌, IfErr, IfOk, OnOk};
+ghost use Rattle.std.specs.Io.KnownBytes.{Appends, Keeps};
+ghost use Rattle.device_texts.specs.AnswerText.{map_refusal_text};
+ghost use Rattle.device_texts.specs.FlashOf.{IsFlashOf};
+ghost use Rattle.inputs.specs.DeviceInput.{OpensFlash, ReadsDevice};
+ghost use Rattle.host.specs.Doings.{IsOpenedFor};
+ghost use Rattle.host.specs.Input.{Gives, IsKnownAs, KeepsFiles, KeepsOthers};
+
+use device_texts::{DeviceFault, DeviceFile, map_refusal_text, write_all};
+use host::{Access, FlashFault, Host, MOST_JSON, Refusal, Source, SourceFault};
+use sector_map::{MapError, SectorMap};
+use std::alloc::Global;
+use std::io::Write;
+
+/// Reads a device file from `host` and returns its device. The bytes and their JSON value are in
+/// memory of `alloc`.
+///
+/// Returns `None` if the sizes in the file make no map, after writing the reason to `out`.
+pub fn read_device<H: Host, O: Write>(
+    alloc: Global,
+    device: Source<'_>,
+    host: &mut H,
+    out: &mut O,
+) -> Result<Option<DeviceFile>, Refusal>
+    ensures read { IfOk result (λ read. ReadsDevice read device.entry
+        (H.input host.old) (H.file host.old) (O.contents out.old) (O.contents out.new)) }
+    ensures others { KeepsOthers device.entry (H.input host.old) (H.file host.old)
+        (H.input host.new) (H.file host.new) }
+    ensures files { KeepsFiles (H.file host.old) (H.file host.new) }
+    ensures opened { H.opened host.new ≡ H.opened host.old }
+{
+    let bytes = device.read_start(alloc, host, MOST_JSON)?;
+    if bytes.len() > MOST_JSON as usize {
+        return Err(Refusal::DeviceFile);
+    }
+    match DeviceFile::read(alloc, &bytes) {
+        Ok(device) => Ok(Some(device)),
+        Err(DeviceFault::Malformed) => Err(Refusal::DeviceFile),
+        Err(DeviceFault::NoMemory) => Err(Refusal::NoMemory),
+        Err(DeviceFault::Map(fault)) => {
+            tell_map(alloc, fault, out)?;
+            Ok(None)
+        }
+    }
+}
+
+/// Writes to `out` why the sizes in a device file make no map.
+fn tell_map<O: Write>(alloc: Global, fault: MapError, out: &mut O) -> Result<(), Refusal>
+    ensures { IfOk result (λ _. Appends (O.contents out.old) (O.contents out.new)
+        (map_refusal_text fault)) }
+{
+    let Ok(text) = map_refusal_text(alloc, fault) else {
+        return Err(Refusal::NoMemory);
+    };
+    match write_all(out, text.as_bytes()) {
+        Ok(()) => Ok(()),
+        Err(_) => Err(Refusal::CannotWrite),
+    }
+}
+
+/// Reads the bytes of a device's flash from `host` into memory of `alloc`: exactly the number that
+/// the map says. If the flash is a file, it is opened for `access` and locked until the program
+/// ends.
+pub fn read_flash<H: Host>(
+    alloc: Global,
+    flash: Source<'_>,
+    map: &SectorMap,
+    access: Access,
+    host: &mut H,
+) -> Result<Vec<u8>, Refusal>
+    ensures bytes { IfOk result (λ bytes.
+        Gives flash.entry (H.input host.old) (H.file host.old) bytes.items) }
+    ensures whole { IfOk result (λ bytes. IsFlashOf map.now bytes.items) }
+    ensures others { KeepsOthers flash.entry (H.input host.old) (H.file host.old)
+        (H.input host.new) (H.file host.new) }
+    ensures files { KeepsFiles (H.file host.old) (H.file host.new) }
+    ensures opened { IfOk result (λ _.
+        OpensFlash access flash.entry (H.opened host.old) (H.opened host.new)) }
+    ensures to_read { access ≡ Access.Read
+        → (H.opened host.new).to_write ≡ (H.opened host.old).to_write }
+{
+    let bytes = match flash {
+        Source::StandardInput => flash.read_start(alloc, host, map.bytes_in_all())?,
+        Source::File(name) => open_flash(alloc, name, map, access, host)?,
+    };
+    if bytes.len() != map.bytes_in_all() as usize {
+        return Err(Refusal::FlashSize);
+    }
+    Ok(bytes)
+}
+
+/// Opens and locks the file of a device's flash, and returns its bytes.
+fn open_flash<H: Host>(
+    alloc: Global,
+    name: &str,
+    map: &SectorMap,
+    access: Access,
+    host: &mut H,
+) -> Result<Vec<u8>, Refusal>
+    ensures bytes { IfOk result (λ bytes. IsKnownAs (H.file host.old name.entry.now) bytes.items) }
+    ensures files { KeepsFiles (H.file host.old) (H.file host.new) }
+    ensures input { Keeps (H.input host.old) (H.input host.new) }
+    ensures opened { OnOk result (IsOpenedFor access (H.opened host.old) (H.opened host.new)) }
+    ensures unopened { IfErr result (λ _. H.opened host.new ≡ H.opened host.old) }
+{
+    host.open_flash(alloc, name, u64::from(map.bytes_in_all()), access)
+        .map_err(|fault| match fault {
+            FlashFault::InUse => Refusal::FlashInUse,
+            FlashFault::WrongLength => Refusal::FlashSize,
+            FlashFault::NoMemory => Refusal::NoMemory,
+            FlashFault::Failed(_) => Source::File(name).refused(alloc, SourceFault::CannotRead),
+        })
+}

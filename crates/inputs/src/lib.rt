@@ -1,0 +1,35 @@
+//! What a command on a device reads: the device file, the flash, and the script with the files that
+//! its lines name.
+//!
+//! - Promises: The device is that of the bytes of its file, and its flash has the size that the
+//!   file says. A script that passes its check has exactly the cuts and the events that its lines
+//!   say. A flash in a file keeps the trait `Flash`, also if a write of the file fails.
+//! - Main calls: `read_device`, `read_flash`, `check_script`, `load`, `Sources::load_event`, `Lines`,
+//!   `FileFlash`
+//! - Allocates: the input, what can't be read twice, the bytes of an event.
+//! - Callers: the commands.
+//!
+//! The flash of `run` is in memory, and each changed range is written to its file immediately
+//! (`FileFlash`). A failed write of the file is a power cut that stays, and until one fails the
+//! file holds what the flash holds.
+#![tactic(auto)]
+
+mod checking;
+mod device_input;
+mod file_flash;
+mod flash_file;
+mod lines;
+mod loading;
+mod resting_table;
+mod run_notes;
+mod sources;
+
+pub use checking::{BufferedInput, CheckedScript, CutWrite, check_script};
+pub use device_input::{read_device, read_flash};
+pub use file_flash::FileFlash;
+pub use flash_file::FlashFile;
+pub use lines::Lines;
+pub use loading::{load, read_script};
+pub use resting_table::{has_state, table_on};
+pub use run_notes::{NoNotes, RunNotes};
+pub use sources::Sources;

@@ -1,0 +1,57 @@
+//! Reads the lines of a script's text one by one.
+ghost use Rattle.std.specs.Prelude.{◌≡◌, ◌<◌, ◌↔◌, IfErr, IfOk, List, length};
+ghost use Rattle.script.specs.InOrder.{AreInOrder, CanFollow};
+ghost use Rattle.script.specs.Said.{Said};
+ghost use Rattle.host.specs.Status.{status_of_refusal};
+ghost use Rattle.inputs.specs.Loading.{IsNextLine};
+
+use common::lines::first_line;
+use host::Refusal;
+use script::{Line, LineOrder, line_of};
+
+/// The lines of a script's text that weren't read yet.
+#[derive(Drop)]
+pub struct Lines<'a> {
+    /// Their text.
+    pub rest: &'a [u8],
+    /// Which lines can follow those that were read.
+    pub order: LineOrder,
+    /// How many lines were read.
+    pub number: usize,
+}
+
+impl<'a> Lines<'a> {
+    /// All lines of a text.
+    pub fn of(text: &'a [u8]) -> Self
+        ensures all { result.rest.now ≡ text.now }
+        ensures order { (lines : List Said) → CanFollow result.order lines ↔ AreInOrder 0 lines }
+    {
+        Lines {
+            rest: text,
+            order: LineOrder::new(),
+            number: 0,
+        }
+    }
+
+    /// What the next line says. At least one must be left.
+    ///
+    /// # Errors
+    /// `ScriptLine` if it isn't a line of a script, or can't follow the lines before it.
+    pub fn next_line(&mut self) -> Result<Line<'a>, Refusal>
+        requires { 0 < length self.old.rest.now }
+        ensures next { IfOk result (λ line. IsNextLine self.old self.new line) }
+        ensures shorter { length self.new.rest.now < length self.old.rest.now }
+        ensures refused { IfErr result (λ refusal. status_of_refusal refusal ≡ 1) }
+    {
+        let (line, rest) = first_line(self.rest);
+        self.rest = rest;
+        self.number = self.number.saturating_add(1);
+        let Some(line) = line_of(line) else {
+            return Err(Refusal::ScriptLine(self.number));
+        };
+        if !self.order.takes(&line) {
+            return Err(Refusal::ScriptLine(self.number));
+        }
+        Ok(line)
+    }
+}

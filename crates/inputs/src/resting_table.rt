@@ -1,0 +1,35 @@
+//! Reads the table of a device at rest from its flash, for notes.
+
+ghost use Rattle.std.specs.Prelude.{◌≡◌};
+ghost use Rattle.sector_map.specs.Map.{IsLaidOut};
+
+use certificate::Table;
+use decision::read_table;
+use flash_model::Flash;
+use machine::Reading;
+use sector_map::SectorMap;
+use set_log::{Kind, read_state};
+
+/// The table of running and requested images on a flash. `None` if the device isn't at rest, or the
+/// table can't be read.
+pub fn table_on<F: Flash>(flash: &mut F, map: &SectorMap) -> Option<Table>
+    requires { IsLaidOut map.now (F.chip flash.old) }
+    ensures { F.chip flash.new ≡ F.chip flash.old }
+{
+    let state = read_state(flash, map).ok()?;
+    if state.kind != Kind::Steady {
+        return None;
+    }
+    match read_table(flash, map, 0, &state.floors) {
+        Ok(Reading::Read(table)) => Some(table),
+        _ => None,
+    }
+}
+
+/// Whether the log of a flash has a state, that is whether the flash was provisioned.
+pub fn has_state<F: Flash>(flash: &mut F, map: &SectorMap) -> bool
+    requires { IsLaidOut map.now (F.chip flash.old) }
+    ensures { F.chip flash.new ≡ F.chip flash.old }
+{
+    read_state(flash, map).is_ok()
+}

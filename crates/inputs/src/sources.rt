@@ -1,0 +1,218 @@
+//! Loads the events of a script's lines, with the bytes of the files that the lines name.
+ghost use Rattle.std.specs.Prelude.{◌≡◌, ◌≢◌, ◌≤◌, IfErr, IfOk, IfSome, Some, codes, IsTrue, false, length};
+ghost use Rattle.std.specs.Option.{option_map};
+ghost use Rattle.common.specs.Event.{event_map};
+ghost use Rattle.host.specs.Input.{IsKnownAs, IsKnownPart};
+ghost use Rattle.host.specs.Status.{status_of_refusal};
+ghost use Rattle.script.specs.Said.{file_of, part_words, said_file};
+ghost use Rattle.inputs.specs.Loading.{EventTakesNext, Loads, ReadsNow, TakesNext, came_of};
+ghost use Rattle.inputs.specs.Script.{Comes, IsPieceOf, ReadsFile};
+
+use crate::checking::BufferedInput;
+use common::event::Event;
+use host::{Host, MOST_FILE, Refusal, Source, SourceFault};
+use script::{FileText, PartText};
+use std::alloc::Global;
+
+/// What the lines of a checked script are loaded from: the files of a host, and the inputs that
+/// were buffered.
+#[derive(Drop)]
+pub struct Sources<'a, 'r, 'k, H> {
+    /// The memory that events are loaded into.
+    pub alloc: Global,
+    /// The host of the files.
+    pub host: &'r H,
+    /// The inputs that can't be read twice, in the order of the lines.
+    pub buffered: &'k [BufferedInput<'a>],
+}
+
+impl<H: Host> Sources<'_, '_, '_, H> {
+    /// The event that the line of this number says, with the bytes of its file. `used` counts the
+    /// buffered inputs that were used.
+    ///
+    /// # Errors
+    /// If the file isn't as it was when the script was checked: `CannotRead`, `TooLong`, or
+    /// `ScriptLine` if it doesn't have the part. `NoMemory` if memory ran out.
+    pub fn load_event(
+        &self,
+        used: &mut usize,
+        number: usize,
+        event: Event<FileText<'_>>,
+    ) -> Result<Event<Vec<u8>>, Refusal>
+        ensures loaded { IfOk result (λ read.
+            Loads self.now.buffered.now (H.file self.now.host.now)
+            (λ known after. Comes (event_map said_file event.entry) known (came_of read) after)) }
+        ensures next { IfOk result (λ read.
+            EventTakesNext self.now.buffered.now used.old used.new (event_map said_file event.entry)
+            (came_of read)) }
+        ensures refused { IfErr result (λ refusal. status_of_refusal refusal ≡ 1) }
+    {
+        match event {
+            Event::Accept(file) => {
+                let text = self.bytes_of(used, number, file)?;
+                Ok(Event::Accept(text))
+            }
+            Event::Piece(image, file) => {
+                let piece = self.bytes_of(used, number, file)?;
+                Ok(Event::Piece(image, piece))
+            }
+            Event::Finish(image) => Ok(Event::Finish(image)),
+            Event::Withdraw(image) => Ok(Event::Withdraw(image)),
+            Event::Confirm(image) => Ok(Event::Confirm(image)),
+            Event::Boot => Ok(Event::Boot),
+            Event::Reset => Ok(Event::Reset),
+        }
+    }
+
+    /// What the line of this number names of a file: from the next buffered input if it is of this
+    /// line, else read now.
+    fn bytes_of(
+        &self,
+        used: &mut usize,
+        number: usize,
+        file: FileText<'_>,
+    ) -> Result<Vec<u8>, Refusal>
+        ensures loaded { IfOk result (λ bytes.
+            Loads self.now.buffered.now (H.file self.now.host.now)
+            (ReadsFile (said_file file.entry) bytes.items)) }
+        ensures next { IfOk result (λ bytes.
+            TakesNext self.now.buffered.now used.old used.new (said_file file.entry) bytes.items) }
+        ensures refused { IfErr result (λ refusal. status_of_refusal refusal ≡ 1) }
+    {
+        let Some(input) = self.buffered.get(*used) else {
+            return piece_of(self.alloc, self.host, number, file);
+        };
+        if !is_same_text(input.file, file) {
+            return piece_of(self.alloc, self.host, number, file);
+        }
+        let Some(next) = used.checked_add(1) else {
+            return Err(Refusal::NoMemory);
+        };
+        *used = next;
+        match Vec::from_slice(self.alloc, &input.bytes) {
+            Ok(bytes) => Ok(bytes),
+            Err(_) => Err(Refusal::NoMemory),
+        }
+    }
+}
+
+/// Whether two lines name the same file and part, in the same words.
+fn is_same_text(one: FileText<'_>, other: FileText<'_>) -> bool
+    ensures same { IsTrue result → said_file one.entry ≡ said_file other.entry }
+    ensures differ { result ≡ false → said_file one.entry ≢ said_file other.entry }
+{
+    let is_same_part = match (one.part, other.part) {
+        (None, None) => true,
+        (Some(one), Some(other)) => one.from == other.from && one.count == other.count,
+        _ => false,
+    };
+    is_same_part && one.name == other.name
+}
+
+/// What the line of this number names of a file: a part of it, or the complete file. No other part
+/// is read. Standard input is refused.
+pub fn piece_of<H: Host>(
+    alloc: Global,
+    host: &H,
+    number: usize,
+    file: FileText<'_>,
+) -> Result<Vec<u8>, Refusal>
+    ensures read { IfOk result (λ bytes.
+        ReadsNow (said_file file.entry) bytes.items (H.file host.now)) }
+    ensures most { IfOk result (λ bytes. length bytes.items ≤ MOST_FILE) }
+    ensures refused { IfErr result (λ refusal. status_of_refusal refusal ≡ 1) }
+{
+    match (Source::named(file.name), file.part) {
+        (Source::StandardInput, _) => Err(Refusal::ScriptLine(number)),
+        (Source::File(name), Some(part)) => file_part(alloc, host, number, name, part),
+        (Source::File(name), None) => whole_file(alloc, host, name),
+    }
+}
+
+/// The complete bytes of a file that isn't standard input.
+fn whole_file<H: Host>(alloc: Global, host: &H, name: &str) -> Result<Vec<u8>, Refusal>
+    ensures bytes { IfOk result (λ bytes. IsKnownAs (H.file host.now name.now) bytes.items) }
+    ensures most { IfOk result (λ bytes. length bytes.items ≤ MOST_FILE) }
+    ensures refused { IfErr result (λ refusal. status_of_refusal refusal ≡ 1) }
+{
+    let source = Source::File(name);
+    match host.read_again(alloc, name, MOST_FILE) {
+        Ok(bytes) if bytes.len() > MOST_FILE as usize => {
+            Err(source.refused(alloc, SourceFault::TooLong(MOST_FILE)))
+        }
+        Ok(bytes) => Ok(bytes),
+        Err(error) => Err(source.refusal(alloc, error)),
+    }
+}
+
+/// The part that the line of this number names of a file that isn't standard input.
+///
+/// The file is read even if the words aren't numbers: that it can't be read is reported first.
+fn file_part<H: Host>(
+    alloc: Global,
+    host: &H,
+    number: usize,
+    name: &str,
+    part: PartText<'_>,
+) -> Result<Vec<u8>, Refusal>
+    requires { name.now ≢ codes "-" }
+    ensures read { IfOk result (λ piece.
+        ReadsNow (file_of name.now (Some (part_words part.entry))) piece.items (H.file host.now)) }
+    ensures most { IfOk result (λ piece. length piece.items ≤ MOST_FILE) }
+    ensures refused { IfErr result (λ refusal. status_of_refusal refusal ≡ 1) }
+{
+    let Some((from, count)) = part.numbers() else {
+        part_at(alloc, host, name, 0, 0)?;
+        return Err(Refusal::ScriptLine(number));
+    };
+    let Some(piece) = part_at(alloc, host, name, from, count)? else {
+        return Err(Refusal::ScriptLine(number));
+    };
+    Ok(piece)
+}
+
+/// `count` bytes of a file, from the byte of number `from` on, if the file has them. The most is
+/// that of a complete file.
+fn part_at<H: Host>(
+    alloc: Global,
+    host: &H,
+    name: &str,
+    from: usize,
+    count: usize,
+) -> Result<Option<Vec<u8>>, Refusal>
+    ensures part { IfOk result (λ read. IfSome read (λ part.
+        IsKnownPart (H.file host.now name.now) from count part.items)) }
+    ensures most { IfOk result (λ read. IfSome read (λ part. length part.items ≤ MOST_FILE)) }
+    ensures refused { IfErr result (λ refusal. status_of_refusal refusal ≡ 1) }
+{
+    let source = Source::File(name);
+    match host.read_part(alloc, name, from, count) {
+        Ok(Some(part)) if part.len() > MOST_FILE as usize => {
+            Err(source.refused(alloc, SourceFault::TooLong(MOST_FILE)))
+        }
+        Ok(part) => Ok(part),
+        Err(error) => Err(source.refusal(alloc, error)),
+    }
+}
+
+/// The part of these bytes that the line of this number names, or all of them if it names no part.
+pub fn part_of(
+    alloc: Global,
+    number: usize,
+    bytes: Vec<u8>,
+    part: Option<PartText<'_>>,
+) -> Result<Vec<u8>, Refusal>
+    ensures { IfOk result (λ piece.
+        IsPieceOf (option_map part_words part.entry) bytes.items piece.items) }
+{
+    let Some(part) = part else {
+        return Ok(bytes);
+    };
+    let Some(part) = part.of(&bytes) else {
+        return Err(Refusal::ScriptLine(number));
+    };
+    match Vec::from_slice(alloc, part) {
+        Ok(part) => Ok(part),
+        Err(_) => Err(Refusal::NoMemory),
+    }
+}

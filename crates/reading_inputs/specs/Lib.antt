@@ -1,3 +1,0 @@
-pub mod DeviceInput
-pub mod Loading
-pub mod Script
