@@ -1,13 +1,16 @@
-//! The core of `bootswap`, which is quicker to prove than the whole: a device on a file, that boots,
-//! takes uploads and survives power cuts.
+//! The core of `bootswap` as a program, which is quicker to prove than the whole.
+//!
+//! - Allocates: the arguments.
+//!
+//! A device on a file, that boots, takes uploads and survives power cuts.
 #![tactic(auto)]
 
-use command_words::{refuse_words, words_of};
-use core_cli::core_cli;
+use command_line::{refuse_words, words_of};
+use device_commands::core_cli;
+use host::{Output, STANDARD_ERROR, STANDARD_OUTPUT, SystemHost, reserve_stack};
 use std::io;
 use std::io::{ErrorKind, IsTerminal};
 use std::process::ExitCode;
-use system_files::{Output, STANDARD_ERROR, STANDARD_OUTPUT, SystemHost, reserve_stack};
 
 fn main(rt: HostRuntime) -> ExitCode {
     let status = match reserve_stack(rt.alloc()) {

@@ -1,5 +1,0 @@
-use Rattle.core_cli.proofs.provision.perform.Given as goal
-
--- the token that the flash is made with
-abbrev pub ghosts-make_flash : goal.ghosts-make_flash
-ghosts-make_flash g a = record { name = a.blank.name; parts = a.blank.parts }

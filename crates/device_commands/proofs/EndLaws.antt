@@ -1,0 +1,139 @@
+-- What was answered, by what was read in turn and written.
+use Rattle.std.proofs.Common.{◌≡◌, ℕ, List, [], ◌∷◌, Option, Result, Ok, Err, IfErr, IfOk, ap, arith, inl, refl, subst}
+use Rattle.std.specs.Borrow.{Bor}
+use Rattle.host.specs.declared.answer.Answer.{Answer}
+use Rattle.host.specs.declared.answer.Answer.TheVariants.{Done, Refused, Cut}
+use Rattle.common.specs.declared.event.Event.{Event}
+use Rattle.flash_model.specs.declared.torn.Armed.{Armed}
+use Rattle.host.specs.declared.error.Refusal.{Refusal}
+use Rattle.host.specs.declared.error.Refusal.TheVariants as no
+use Rattle.machine.specs.declared.error.Fault.{Fault}
+use Rattle.device_commands.specs.declared.provision.Provisioned.{Provisioned}
+use Rattle.device_commands.specs.declared.provision.Provisioned.TheVariants as made
+use Rattle.device_texts.specs.declared.device.DeviceFile.{DeviceFile}
+use Rattle.host.specs.declared.source.Source.{Source}
+use Rattle.host.specs.declared.source.Source.TheVariants as source
+use Rattle.device_texts.specs.FlashOf.{IsFlashOf}
+use Rattle.inputs.specs.DeviceInput.{GivesDevice}
+use Rattle.host.specs.Input.{FileBytes, Gives, KeepsFiles, KeepsOthers}
+use Rattle.device_commands.specs.ProvisionEnd.{AnswersMade, AnswersProvision, EndsBefore, EndsMade, MakesDevice, ReadsImages}
+use Rattle.device_commands.specs.RunEnd.{AnswersRun, Plays, RunsDevice}
+use Rattle.inputs.specs.Script.{IsScript, Known, StaysKnown, known_after}
+use Rattle.host.specs.Status.{status_of_answer}
+use Rattle.host.proofs.InputLaws.{GiveEach-one, GiveEach-read}
+use Rattle.inputs.proofs.ScriptLaws.{StaysKnown-itself, StaysKnown-read}
+
+-- what comes of making a flash isn't that the power failed
+not_cut : (made : Provisioned) (old new : Option (List ℕ)) → AnswersMade Cut made old new → ⊥
+not_cut made.Done old new answered =
+    let same : 3 ≡ 0 = ap status_of_answer answered.0 in omega (arith, same)
+not_cut (made.Refused fault) old new answered =
+    let same : 3 ≡ 1 = ap status_of_answer answered.0 in omega (arith, same)
+
+AnswersProvision-made : (answer : Answer) (device : Source) (names : List (List ℕ))
+    (input : Option (List ℕ)) (file : FileBytes) (held old new : Option (List ℕ))
+    → MakesDevice answer device names input file held old new
+    → AnswersProvision answer device names input file held old new
+AnswersProvision-made Done device names input file held old new makes = makes
+AnswersProvision-made Refused device names input file held old new makes = inl makes
+AnswersProvision-made Cut device names input file held old new makes =
+    absurd (not_cut makes.outcome old new makes.answered)
+
+-- a device file was read, and then its images
+pub AnswersProvision-read : (answer : Answer) (device : Source) (names : List (List ℕ))
+    (input mid_input : Option (List ℕ)) (file mid_file : FileBytes)
+    (held old mid new : Option (List ℕ)) (of_device : DeviceFile) (bytes : List ℕ) (made : Provisioned)
+    → GivesDevice device input file of_device → KeepsOthers device input file mid_input mid_file
+    → ReadsImages of_device.map names mid_input mid_file bytes → EndsMade made of_device.map bytes held
+    → mid ≡ old → AnswersMade answer made mid new
+    → AnswersProvision answer device names input file held old new
+AnswersProvision-read answer device names input mid_input file mid_file held old mid new of_device bytes made
+    given kept read ends same answered =
+    AnswersProvision-made answer device names input file held old new (record {
+      device_bytes = given.0;
+      of_device = of_device;
+      sources = read.0;
+      contents = read.1;
+      outcome = made;
+      named = read.2;
+      given = GiveEach-read device read.0 input mid_input file mid_file given.0 read.1 given.1 kept read.3;
+      is_device = given.2;
+      fit = read.4;
+      made = subst (λ all. EndsMade made of_device.map all held) read.5 ends;
+      answered = subst (λ o. AnswersMade answer made o new) same answered;
+    })
+
+-- a flash that is refused isn't made
+abbrev made_number : Provisioned → ℕ
+made_number made.Done = 0
+made_number (made.Refused fault) = 1
+
+not_done : (fault : Fault) → made.Refused fault ≡ made.Done → ⊥
+not_done fault same = let numbers : 1 ≡ 0 = ap made_number same in omega (arith, numbers)
+
+-- where it ended before the file was replaced, all files were kept
+pub KeepsFiles-told : (result : Result Answer Refusal) (outcome : Provisioned) (files new_files : FileBytes)
+    (old new : Option (List ℕ)) → IfOk result (λ answer. AnswersMade answer outcome old new)
+    → (outcome ≡ made.Done → IfErr result (λ refusal. refusal ≡ no.CannotWrite))
+    → ((outcome ≡ made.Done → ⊥) → KeepsFiles files new_files)
+    → EndsBefore result → KeepsFiles files new_files
+KeepsFiles-told (Ok Done) outcome files new_files old new answered late kept ends = absurd ends
+KeepsFiles-told (Ok Refused) made.Done files new_files old new answered late kept ends =
+    let same : 1 ≡ 0 = ap status_of_answer answered.0 in absurd (omega (arith, same))
+KeepsFiles-told (Ok Cut) made.Done files new_files old new answered late kept ends =
+    let same : 3 ≡ 0 = ap status_of_answer answered.0 in absurd (omega (arith, same))
+KeepsFiles-told (Err refusal) made.Done files new_files old new answered late kept ends =
+    absurd (subst (λ one. EndsBefore (Err one)) (late refl) ends)
+KeepsFiles-told (Ok Refused) (made.Refused fault) files new_files old new answered late kept ends =
+    kept (not_done fault)
+KeepsFiles-told (Ok Cut) (made.Refused fault) files new_files old new answered late kept ends =
+    kept (not_done fault)
+KeepsFiles-told (Err refusal) (made.Refused fault) files new_files old new answered late kept ends =
+    kept (not_done fault)
+
+AnswersRun-runs : (answer : Answer) (device flash script : Source) (input : Option (List ℕ))
+    (file : FileBytes) (old new : Option (List ℕ))
+    → RunsDevice answer (device ∷ flash ∷ script ∷ []) input file old new
+    → AnswersRun answer device flash script input file old new
+AnswersRun-runs Done device flash script input file old new runs = runs
+AnswersRun-runs Refused device flash script input file old new runs = inl runs
+AnswersRun-runs Cut device flash script input file old new runs = runs
+
+-- a device file was read, then its flash, and then a script with the files that it names
+pub AnswersRun-read : (answer : Answer) (device : Source) (flash : Bor (List ℕ)) (script : Source)
+    (input second_input third_input fourth_input : Option (List ℕ))
+    (file second_file third_file fourth_file : FileBytes)
+    (old mid new : Option (List ℕ)) (bytes text : List ℕ) (cuts : List Armed) (came : List (Event (List ℕ)))
+    (of_device : DeviceFile)
+    → GivesDevice device input file of_device → KeepsOthers device input file second_input second_file
+    → Gives (source.File flash) second_input second_file bytes
+    → KeepsOthers (source.File flash) second_input second_file third_input third_file
+    → Gives script third_input third_file text
+    → KeepsOthers script third_input third_file fourth_input fourth_file
+    → ((known : Known) → StaysKnown known fourth_input fourth_file → IsScript text known cuts came)
+    → IsFlashOf of_device.map bytes → mid ≡ old → Plays answer of_device bytes cuts came mid new
+    → AnswersRun answer device (source.File flash) script input file old new
+AnswersRun-read answer device flash script input second_input third_input fourth_input file second_file third_file
+    fourth_file old mid new bytes text cuts came of_device given kept flash_given flash_kept script_given script_kept says
+    whole same plays =
+    let first : Known = record { input = input; files = file } in
+    let second = known_after device first in
+    let stays = StaysKnown-read device first input second_input file second_file (StaysKnown-itself input file) kept in
+    let still = StaysKnown-read (source.File flash) second second_input third_input second_file third_file stays flash_kept in
+    AnswersRun-runs answer device (source.File flash) script input file old new (record {
+      device_bytes = given.0;
+      of_device = of_device;
+      bytes = bytes;
+      text = text;
+      cuts = cuts;
+      came = came;
+      given = GiveEach-read device (source.File flash ∷ script ∷ []) input second_input file second_file given.0
+          (bytes ∷ text ∷ []) given.1 kept
+          (GiveEach-read (source.File flash) (script ∷ []) second_input third_input second_file third_file bytes
+          (text ∷ []) flash_given flash_kept (GiveEach-one script third_input third_file text script_given));
+      is_device = given.2;
+      whole = whole;
+      script = says (known_after script second)
+          (StaysKnown-read script second third_input fourth_input third_file fourth_file still script_kept);
+      plays = subst (λ o. Plays answer of_device bytes cuts came o new) same plays;
+    })

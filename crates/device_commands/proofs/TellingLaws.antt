@@ -1,0 +1,285 @@
+-- Replies that are told one by one: what all of them come to, and what stands where one could not
+-- be told.
+use Rattle.std.proofs.Common.{◌≡◌, ℕ, ◌+◌, ◌-◌, Bool, false, List, [], ◌∷◌, ◌++◌, Option, Some, Result, Ok, Err, IfErr, IfOk, ap, append-nil, arith, get_or, length, length-append, map, refl, subst, sym, take, ◌∙◌}
+use Rattle.std.specs.Io.KnownBytes.{Appends}
+use Rattle.std.proofs.KnownBytes.{Appends-nil, Appends-trans}
+use Rattle.std.proofs.Math.Seq.{get_or-append_seam}
+use Rattle.std.proofs.lemmas.List.{length-map, map-append}
+use Rattle.std.proofs.lemmas.Option.{slice_get-get_or}
+use Rattle.common.specs.declared.event.Event.{Event}
+use Rattle.flash_model.specs.declared.torn.Armed.{Armed}
+use Rattle.script.specs.declared.line_order.LineOrder.{LineOrder}
+use Rattle.machine.specs.Holding.{DeviceView}
+use Rattle.machine.specs.Intake.{Setup}
+use Rattle.machine.specs.Passing.{RunsTo, StepsTo}
+use Rattle.machine.specs.Steps.{DeviceEvent}
+use Rattle.machine.specs.declared.reply.Reply.{Reply}
+use Rattle.machine.proofs.Runs.{runs_more, runs_none}
+use Rattle.boot_core.specs.CutEvents.{DueEach, IsCutAsDue, IsCutByWrite}
+use Rattle.boot_core.specs.Device.{seen}
+use Rattle.boot_core.proofs.CutEvents.{cut_by_due, steps_more}
+use Rattle.host.specs.declared.answer.Answer.{Answer}
+use Rattle.host.specs.declared.answer.Answer.TheVariants.{Done}
+use Rattle.host.specs.declared.error.Refusal.{Refusal}
+use Rattle.host.specs.declared.error.Refusal.TheVariants.{FlashFile, NoMemory}
+use Rattle.host.specs.Status.{status_of_refusal}
+use Rattle.device_texts.specs.declared.device.DeviceFile.{DeviceFile}
+use Rattle.device_texts.specs.ReplyText.{replies_text, reply_text}
+use Rattle.device_texts.proofs.ReplyLaws.{replies_text-push}
+use Rattle.common.specs.Lines.{lines_of}
+use Rattle.host.specs.Input.{FileBytes}
+use Rattle.inputs.specs.declared.checking.BufferedInput.{BufferedInput}
+use Rattle.device_commands.specs.RunEnd.{IsMadeOf, answer_after, answer_of, armed_chip, came_by}
+use Rattle.device_texts.specs.DeviceFile.{setup_of}
+use Rattle.device_commands.specs.Telling.{BreaksEvent, BreaksText, PlaysText, TellsAll, TellsEvent, TellsFirst, TellsSome, TellsText}
+use Rattle.inputs.specs.Loading.{LoadsAll}
+use Rattle.inputs.proofs.ScriptLaws.{AreTaken, LoadsFirst-none, LoadsFirst-taken}
+
+-- the last reply says what a run comes to
+answer_of-push : (replies : List Reply) (reply : Reply) → answer_of (replies ++ reply ∷ []) ≡ answer_after (Some reply)
+answer_of-push replies reply =
+    let all = replies ++ reply ∷ [] in
+    let count : length all ≡ length replies + 1 = length-append replies (reply ∷ []) in
+    let last : length all - 1 ≡ length replies = omega (arith, count) in
+    ap answer_after (slice_get-get_or all (length all - 1) reply (omega (arith, count))
+    ∙ ap Some (ap (λ k. get_or all k reply) last ∙ get_or-append_seam replies reply [] reply))
+
+-- there are as many replies as came
+replied : (events : List DeviceEvent) (replies : List Reply) (came : List (Event (List ℕ)))
+    → map came_by events ≡ came → length replies ≡ length events → length replies ≡ length came
+replied events replies came come each = each ∙ sym (length-map events came_by) ∙ ap length come
+
+-- before the first event
+pub TellsAll-none : (setup : Setup) (here : DeviceView) (written : Option (List ℕ))
+    → here.flash.faults ≡ 0 → TellsAll Done false setup here here [] written written
+TellsAll-none setup here written sound = record {
+  events = [];
+  replies = [];
+  come = refl;
+  runs = runs_none setup here;
+  each = refl;
+  due = refl;
+  sound = λ none. (sound, refl);
+  answered = refl;
+  written = Appends-nil written;
+}
+
+-- an event more, whose reply was told
+pub TellsAll-more : (setup here : Setup) (old mid new : DeviceView) (came : List (Event (List ℕ)))
+    (one : Event (List ℕ)) (number : ℕ) (answer next : Answer) (failed fails : Bool)
+    (before between after : Option (List ℕ))
+    → TellsAll answer failed setup old mid came before between → number ≡ length came + 1 → here ≡ setup
+    → TellsEvent next number here mid new one between after
+    → (fails ≡ false → (failed ≡ false) × (new.flash.faults ≡ 0))
+    → TellsAll next fails setup old new (came ++ one ∷ []) before after
+TellsAll-more setup here old mid new came one number answer next failed fails before between after before_it counted same
+    told sound =
+    let count = replied before_it.events before_it.replies came before_it.come before_it.each in
+    let place : number ≡ 1 + length before_it.replies = omega (arith, count, counted) in
+    record {
+      events = before_it.events ++ told.event ∷ [];
+      replies = before_it.replies ++ told.reply ∷ [];
+      come = map-append came_by before_it.events (told.event ∷ [])
+          ∙ ap (λ l. l ++ came_by told.event ∷ []) before_it.come ∙ ap (λ c. came ++ c ∷ []) told.comes;
+      runs = runs_more setup old mid new before_it.events before_it.replies told.event told.reply before_it.runs
+          (subst (λ s. StepsTo s mid new told.event told.reply) same told.steps);
+      each = length-append before_it.replies (told.reply ∷ []) ∙ ap (λ k. k + 1) before_it.each
+          ∙ sym (length-append before_it.events (told.event ∷ []));
+      due = steps_more IsCutAsDue setup old mid new before_it.events before_it.replies told.event told.reply before_it.due
+          (subst (λ s. StepsTo s mid new told.event told.reply) same told.steps) told.due;
+      sound = λ none.
+          let now = sound none in
+          let so_far = before_it.sound now.0 in (
+            now.1,
+            steps_more IsCutByWrite setup old mid new before_it.events before_it.replies told.event told.reply so_far.1
+                (subst (λ s. StepsTo s mid new told.event told.reply) same told.steps)
+                (cut_by_due mid.flash new.flash told.reply so_far.0 now.1 told.due),
+          );
+      answered = told.answered ∙ sym (answer_of-push before_it.replies told.reply);
+      written = subst (Appends before after) (sym (replies_text-push 1 before_it.replies told.reply))
+          (Appends-trans before between after _ _ before_it.written
+          (subst (λ k. Appends between after (reply_text k told.reply)) place told.written));
+    }
+
+-- an event more, whose reply was not told
+pub TellsSome-more : (refusal : Refusal) (setup here : Setup) (old mid new : DeviceView)
+    (came : List (Event (List ℕ))) (one : Event (List ℕ)) (number : ℕ) (answer : Answer) (failed : Bool)
+    (before between after : Option (List ℕ))
+    → TellsAll answer failed setup old mid came before between → number ≡ length came + 1 → here ≡ setup
+    → BreaksEvent refusal number here mid new one between after
+    → TellsSome refusal setup old new (came ++ one ∷ []) before after
+TellsSome-more refusal setup here old mid new came one number answer failed before between after before_it counted same told =
+    let count = replied before_it.events before_it.replies came before_it.come before_it.each in
+    let place : number ≡ 1 + length before_it.replies = omega (arith, count, counted) in
+    let broken = told.broken in
+    record {
+      events = before_it.events ++ told.event ∷ [];
+      told = before_it.replies;
+      untold = told.reply ∷ [];
+      count = broken.count;
+      come = map-append came_by before_it.events (told.event ∷ [])
+          ∙ ap (λ l. l ++ came_by told.event ∷ []) before_it.come ∙ ap (λ c. came ++ c ∷ []) told.comes;
+      runs = runs_more setup old mid new before_it.events before_it.replies told.event told.reply before_it.runs
+          (subst (λ s. StepsTo s mid new told.event told.reply) same told.steps);
+      each = length-append before_it.replies (told.reply ∷ []) ∙ ap (λ k. k + 1) before_it.each
+          ∙ sym (length-append before_it.events (told.event ∷ []));
+      due = steps_more IsCutAsDue setup old mid new before_it.events before_it.replies told.event told.reply before_it.due
+          (subst (λ s. StepsTo s mid new told.event told.reply) same told.steps) told.due;
+      one = omega arith;
+      written = Appends-trans before between after _ _ before_it.written
+          (subst (λ text. Appends between after (take broken.count text))
+          (ap (λ k. reply_text k told.reply) place
+          ∙ sym (append-nil (reply_text (1 + length before_it.replies) told.reply)))
+          broken.begun);
+      output = λ file. absurd (broken.output file);
+    }
+
+-- a refusal with another status isn't that of the flash file
+pub not_of_file : (refusal : Refusal) → status_of_refusal refusal ≡ 1 → refusal ≡ FlashFile → ⊥
+not_of_file refusal one file =
+    let same : 1 ≡ 4 = sym one ∙ ap status_of_refusal file in omega (arith, same)
+
+-- all was told so far, and the next line could not be read, or the flash file failed
+pub TellsSome-all : (refusal : Refusal) (setup : Setup) (old new : DeviceView) (came : List (Event (List ℕ)))
+    (answer : Answer) (failed : Bool) (before after : Option (List ℕ))
+    → TellsAll answer failed setup old new came before after → TellsSome refusal setup old new came before after
+TellsSome-all refusal setup old new came answer failed before after told = record {
+  events = told.events;
+  told = told.replies;
+  untold = [];
+  count = 0;
+  come = told.come;
+  runs = subst (λ l. RunsTo setup old new told.events l) (sym (append-nil told.replies)) told.runs;
+  due = subst (λ l. DueEach setup old told.events l new) (sym (append-nil told.replies)) told.due;
+  each = ap length (append-nil told.replies) ∙ told.each;
+  one = omega arith;
+  written = subst (Appends before after) (sym (append-nil (replies_text 1 told.replies))) told.written;
+  output = λ file. refl;
+}
+
+-- a run that broke off at some line
+pub BreaksText-some : (refusal : Refusal) (setup : Setup) (old new : DeviceView) (text rest : List ℕ)
+    (line_order : LineOrder) (taken : ℕ) (buffered : List BufferedInput) (files : FileBytes) (came : List (Event (List ℕ)))
+    (before after : Option (List ℕ)) → AreTaken text rest line_order taken buffered files came
+    → TellsSome refusal setup old new came before after → (refusal ≡ FlashFile → ⊥)
+    → BreaksText refusal setup old new text buffered files before after
+BreaksText-some refusal setup old new text rest line_order taken buffered files came before after are tells other = record {
+  lines = taken;
+  came = came;
+  comes = LoadsFirst-taken text rest line_order taken buffered files came are;
+  tells = tells;
+  whole = λ file. absurd (other file);
+}
+
+-- .. or came to its end, and the flash file failed
+pub BreaksText-all : (setup : Setup) (old new : DeviceView) (text : List ℕ) (buffered : List BufferedInput) (files : FileBytes)
+    (came : List (Event (List ℕ))) (answer : Answer) (failed : Bool) (before after : Option (List ℕ))
+    → LoadsAll text buffered files came → TellsAll answer failed setup old new came before after
+    → BreaksText FlashFile setup old new text buffered files before after
+BreaksText-all setup old new text buffered files came answer failed before after comes told = record {
+  lines = length (lines_of text);
+  came = came;
+  comes = comes;
+  tells = TellsSome-all FlashFile setup old new came answer failed before after told;
+  whole = λ file. refl;
+}
+
+-- a device that was just made over a flash, and all was told
+PlaysText-told : (device : DeviceFile) (bytes : List ℕ) (cuts : List Armed) (text : List ℕ)
+    (buffered : List BufferedInput) (files : FileBytes) (old new : DeviceView) (answer : Answer)
+    (before after : Option (List ℕ)) → IsMadeOf device.map bytes cuts old
+    → TellsText answer (setup_of device) old new text buffered files before after
+    → PlaysText answer device bytes cuts text buffered files before after
+PlaysText-told device bytes cuts text buffered files old new answer before after made all =
+    let told = all.tells in
+    record {
+      came = all.came;
+      comes = all.comes;
+      plays = record {
+        events = told.events;
+        replies = told.replies;
+        come = told.come;
+        played = record { old = old; new = new; made = made; runs = told.runs; each = told.each };
+        cut = (told.sound refl).1;
+        answered = told.answered;
+        written = told.written;
+      };
+    }
+
+-- .. or only the first was told
+TellsFirst-some : (refusal : Refusal) (device : DeviceFile) (bytes : List ℕ) (cuts : List Armed)
+    (text : List ℕ) (buffered : List BufferedInput) (files : FileBytes) (old new : DeviceView)
+    (before after : Option (List ℕ)) → IsMadeOf device.map bytes cuts old
+    → BreaksText refusal (setup_of device) old new text buffered files before after
+    → TellsFirst refusal device bytes cuts text buffered files before after
+TellsFirst-some refusal device bytes cuts text buffered files old new before after made broken =
+    let some = broken.tells in
+    record {
+      lines = broken.lines;
+      came = broken.came;
+      comes = broken.comes;
+      events = some.events;
+      come = some.come;
+      told = some.told;
+      untold = some.untold;
+      played = record { old = old; new = new; made = made; runs = some.runs; each = some.each };
+      one = some.one;
+      due = some.due;
+      count = some.count;
+      written = some.written;
+      whole = λ file. (broken.whole file, some.output file);
+    }
+
+-- .. or there was no memory for the flash
+pub TellsFirst-none : (device : DeviceFile) (bytes : List ℕ) (cuts : List Armed) (text : List ℕ)
+    (buffered : List BufferedInput) (files : FileBytes) (written : Option (List ℕ))
+    → TellsFirst NoMemory device bytes cuts text buffered files written written
+TellsFirst-none device bytes cuts text buffered files written =
+    let here : DeviceView = seen (armed_chip device.map bytes cuts) [] false in
+    record {
+      lines = 0;
+      came = [];
+      comes = LoadsFirst-none text buffered files;
+      events = [];
+      come = refl;
+      told = [];
+      untold = [];
+      played = record {
+        old = here;
+        new = here;
+        made = record {
+          flash = refl;
+          down = refl;
+          closed = λ j. refl;
+        };
+        runs = runs_none (setup_of device) here;
+        each = refl;
+      };
+      one = omega arith;
+      due = refl;
+      count = 0;
+      written = Appends-nil written;
+      whole = λ file. absurd (not_of_file NoMemory refl file);
+    }
+
+-- ---- what a run of a device that was just made comes to
+
+-- The run was answered ..
+pub plays-told : (device : DeviceFile) (bytes : List ℕ) (cuts : List Armed) (text : List ℕ)
+    (buffered : List BufferedInput) (files : FileBytes) (old new : DeviceView) (before after : Option (List ℕ))
+    → IsMadeOf device.map bytes cuts old → (result : Result Answer Refusal)
+    → IfOk result (λ answer. TellsText answer (setup_of device) old new text buffered files before after)
+    → IfOk result (λ answer. PlaysText answer device bytes cuts text buffered files before after)
+plays-told device bytes cuts text buffered files old new before after made (Ok answer) all =
+    PlaysText-told device bytes cuts text buffered files old new answer before after made all
+plays-told device bytes cuts text buffered files old new before after made (Err refusal) all = tt
+
+-- .. or ended without an answer.
+pub tells-some : (device : DeviceFile) (bytes : List ℕ) (cuts : List Armed) (text : List ℕ)
+    (buffered : List BufferedInput) (files : FileBytes) (old new : DeviceView) (before after : Option (List ℕ))
+    → IsMadeOf device.map bytes cuts old → (result : Result Answer Refusal)
+    → IfErr result (λ refusal. BreaksText refusal (setup_of device) old new text buffered files before after)
+    → IfErr result (λ refusal. TellsFirst refusal device bytes cuts text buffered files before after)
+tells-some device bytes cuts text buffered files old new before after made (Ok answer) some = tt
+tells-some device bytes cuts text buffered files old new before after made (Err refusal) some =
+    TellsFirst-some refusal device bytes cuts text buffered files old new before after made some

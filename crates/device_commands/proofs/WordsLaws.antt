@@ -1,0 +1,171 @@
+-- What the exit status says of the words.
+use Rattle.std.proofs.Common.{◌≡◌, ◌≢◌, ◌⊎◌, ◌∙◌, ℕ, Bool, List, Option, Some, None, Result, Ok, Err, ap, arith, false, if◌then◌else◌, inl, inr, option_map, refl, sym, true}
+use Rattle.clap.specs.Words.{Text, kind_of}
+use Rattle.clap.specs.declared.error.kind.ErrorKind.{ErrorKind}
+use Rattle.clap.specs.declared.error.kind.ErrorKind.TheVariants.{ArgumentConflict, InvalidValue}
+use Rattle.command_line.specs.DeviceOrders.{GiveOrder, writes_to_standard_input}
+use Rattle.command_line.specs.Faults.{IsDeviceFault, IsDeviceRefusal}
+use Rattle.command_line.specs.Faults.IsDeviceFault.{misuse, of_clap}
+use Rattle.command_line.specs.Given.{is_explained}
+use Rattle.command_line.specs.Status.{AskHelp, EndsWords, is_help}
+use Rattle.command_line.specs.declared.device_orders.DeviceOrder.{DeviceOrder}
+use Rattle.command_line.specs.declared.error.OrderError.{OrderError}
+use Rattle.command_line.specs.declared.error.OrderError.TheVariants.{Usage, NoMemory}
+use Rattle.host.specs.declared.answer.Answer.{Answer}
+use Rattle.host.specs.declared.answer.Answer.TheVariants.{Done, Refused, Cut}
+use Rattle.host.specs.declared.error.Refusal.{Refusal}
+use Rattle.host.specs.declared.error.Refusal.TheVariants as no
+use Rattle.host.specs.Input.{FileBytes}
+use Rattle.host.specs.Status.{Ends, status_of, status_of_refusal}
+use Rattle.host.proofs.InputLaws.{KeepsFiles-itself}
+use Rattle.device_commands.specs.CoreEnd.{AnswersCore}
+use Rattle.device_commands.specs.WordsEnd.{AskNothing, EndsByCut, EndsCore}
+
+-- the status of a refusal: 4 if the file of the flash failed, else 1
+refusal_status : (refusal : Refusal) → (status_of_refusal refusal ≡ 1) ⊎ (status_of_refusal refusal ≡ 4)
+refusal_status (no.TableLine line) = inl refl
+refusal_status (no.ReportLine line) = inl refl
+refusal_status no.NotValid = inl refl
+refusal_status no.DeviceFile = inl refl
+refusal_status no.Manifest = inl refl
+refusal_status no.FlashSize = inl refl
+refusal_status no.FlashInUse = inl refl
+refusal_status no.FlashIsInput = inl refl
+refusal_status no.ImageIsInput = inl refl
+refusal_status no.PictureIsInput = inl refl
+refusal_status no.ImageInUse = inl refl
+refusal_status no.ImageCount = inl refl
+refusal_status (no.NoImage image) = inl refl
+refusal_status (no.ImageTooBig image) = inl refl
+refusal_status (no.ScriptLine line) = inl refl
+refusal_status (no.OfSource refusal) = inl refl
+refusal_status no.NotOfCore = inl refl
+refusal_status no.NoMemory = inl refl
+refusal_status no.FlashFile = inr refl
+refusal_status no.CannotWrite = inl refl
+
+-- it is that of no fault in the words, and of no run that ends by a power cut
+not_refused : (refusal : Refusal) (status : ℕ) → status_of_refusal refusal ≡ status → status ≢ 1 → status ≢ 4 → ⊥
+not_refused refusal status same not_1 not_4 =
+    elim (refusal_status refusal) [ inl one ↦ not_1 (sym same ∙ one) | inr four ↦ not_4 (sym same ∙ four) ]
+
+-- the status of no command is that of a fault in the words
+no_usage : (outcome : Result Answer Refusal) → status_of outcome ≢ 2
+no_usage (Ok Done) two = absurd (omega (arith, two))
+no_usage (Ok Refused) two = absurd (omega (arith, two))
+no_usage (Ok Cut) two = absurd (omega (arith, two))
+no_usage (Err refusal) two = not_refused refusal 2 two (λ one. omega (arith, one)) (λ four. omega (arith, four))
+
+-- No command ends with the status of a fault in the words.
+pub never_usage : (outcome : Result Answer Refusal) (status : ℕ) → Ends outcome status → status ≢ 2
+never_usage outcome status (inl same) two = no_usage outcome (sym same ∙ two)
+never_usage outcome status (inr one) two = absurd (omega (arith, one, two))
+
+-- the status of a run that ends by a power cut is that of no other answer
+cut_status : (outcome : Result Answer Refusal) → status_of outcome ≡ 3 → outcome ≡ Ok Cut
+cut_status (Ok Done) three = absurd (omega (arith, three))
+cut_status (Ok Refused) three = absurd (omega (arith, three))
+cut_status (Ok Cut) three = refl
+cut_status (Err refusal) three =
+    absurd (not_refused refusal 3 three (λ one. omega (arith, one)) (λ four. omega (arith, four)))
+
+-- A command that ends by 3 was answered so.
+pub only_cut : (outcome : Result Answer Refusal) (status : ℕ) → Ends outcome status → status ≡ 3 → outcome ≡ Ok Cut
+only_cut outcome status (inl same) three = cut_status outcome (sym same ∙ three)
+only_cut outcome status (inr one) three = absurd (omega (arith, one, three))
+
+-- The misuse of standard input is no request for help.
+pub misuse_helps_none : (is_written is_twice : Bool) (kind : ErrorKind)
+    → (if is_written then Some InvalidValue else (if is_twice then Some ArgumentConflict else None)) ≡ Some kind
+    → is_help kind ≡ true → ⊥
+misuse_helps_none true is_twice kind same helps =
+    let tests : Some false ≡ Some (is_help kind) = ap (option_map is_help) same in absurd (cc (tests, helps))
+misuse_helps_none false true kind same helps =
+    let tests : Some false ≡ Some (is_help kind) = ap (option_map is_help) same in absurd (cc (tests, helps))
+misuse_helps_none false false kind same helps = absurd (cc same)
+
+-- the status after help, and after a fault in the words
+abbrev pub status_by : Bool → ℕ
+status_by helps = if helps then 0 else 2
+
+-- The status after an answer that was written says whether it is help.
+pub status_helps : (helps : Bool) → status_by helps ≡ 0 → helps ≡ true
+status_helps true zero = refl
+status_helps false zero = absurd (omega (arith, zero))
+
+pub status_faults : (helps : Bool) → status_by helps ≡ 2 → helps ≡ false
+status_faults true two = absurd (omega (arith, two))
+status_faults false two = refl
+
+pub status_uncut : (helps : Bool) → status_by helps ≢ 3
+status_uncut true three = absurd (omega (arith, three))
+status_uncut false three = absurd (omega (arith, three))
+
+helped : (words : List Text) (kind : ErrorKind) → is_help kind ≡ true → IsDeviceFault words kind → AskHelp words
+helped words kind helps (of_clap among) = record { kind = kind; among = among; helps = helps }
+helped words kind helps (misuse order taken asks is_misuse) =
+    absurd (misuse_helps_none (writes_to_standard_input order) _ kind is_misuse helps)
+
+-- where a fault is written, and no help, it is a fault in the words
+wrong_status : (words : List Text) (kind : ErrorKind) (helps : Bool) (status : ℕ) → is_help kind ≡ helps
+    → IsDeviceFault words kind → status ≡ status_by helps → AskNothing words → (status ≡ 2) ⊎ (status ≡ 1)
+wrong_status words kind true status same fault ends nothing = absurd (nothing.no_help (helped words kind same fault))
+wrong_status words kind false status same fault ends nothing = inl ends
+
+-- Words that give no order end by what is answered to them.
+pub EndsCore-error : (words : List Text) (error : OrderError) (status : ℕ) (input : Option (List ℕ)) (file : FileBytes)
+    (old new : Option (List ℕ)) → IsDeviceRefusal words error → EndsWords error status
+    → EndsCore words status input file file old new
+EndsCore-error words error status input file old new refusal (inr one) = record {
+  done = λ zero. absurd (omega (arith, zero, one));
+  usage = λ two. absurd (omega (arith, two, one));
+  cut = λ three. absurd (omega (arith, three, one));
+  wrong = λ nothing. inr one;
+  kept = λ nothing. KeepsFiles-itself file;
+}
+EndsCore-error words NoMemory status input file old new refusal (inl one) = record {
+  done = λ zero. absurd (omega (arith, zero, one));
+  usage = λ two. absurd (omega (arith, two, one));
+  cut = λ three. absurd (omega (arith, three, one));
+  wrong = λ nothing. inr one;
+  kept = λ nothing. KeepsFiles-itself file;
+}
+EndsCore-error words (Usage answer) status input file old new refusal (inl ends) = record {
+  done = λ zero.
+      inl (helped words (kind_of answer) (status_helps (is_help (kind_of answer)) (sym ends ∙ zero)) refusal.1);
+  usage = λ two. record {
+    kind = kind_of answer;
+    fault = refusal.1;
+    no_help = status_faults (is_help (kind_of answer)) (sym ends ∙ two);
+  };
+  cut = λ three. absurd (status_uncut (is_help (kind_of answer)) (sym ends ∙ three));
+  wrong = λ nothing.
+      wrong_status words (kind_of answer) (is_help (kind_of answer)) status refl refusal.1 ends nothing;
+  kept = λ nothing. KeepsFiles-itself file;
+}
+
+-- Where they give another order, nothing is done.
+pub EndsCore-other : (words : List Text) (status : ℕ) (input : Option (List ℕ)) (file : FileBytes)
+    (old new : Option (List ℕ)) → Ends (Err no.NotOfCore) status → EndsCore words status input file file old new
+EndsCore-other words status input file old new ends =
+    let one : status ≡ 1 = elim ends [ inl same ↦ same | inr same ↦ same ] in record {
+      done = λ zero. absurd (omega (arith, zero, one));
+      usage = λ two. absurd (omega (arith, two, one));
+      cut = λ three. absurd (omega (arith, three, one));
+      wrong = λ nothing. inr one;
+      kept = λ nothing. KeepsFiles-itself file;
+    }
+
+-- Where they give an order, it is answered.
+pub EndsCore-order : (words : List Text) (order : DeviceOrder) (status : ℕ) (input : Option (List ℕ))
+    (file after : FileBytes) (old new : Option (List ℕ)) → GiveOrder words order → is_explained words ≡ false
+    → (status ≡ 0 → AnswersCore Done order input file after old new) → status ≢ 2
+    → (status ≡ 3 → EndsByCut order input file after old new)
+    → EndsCore words status input file after old new
+EndsCore-order words order status input file after old new given plain answered other ends = record {
+  done = λ zero. inr (record { order = order; given = given; plain = plain; answered = answered zero });
+  usage = λ two. absurd (other two);
+  cut = λ three. record { order = order; given = given; plain = plain; ends = ends three };
+  wrong = λ nothing. absurd (nothing.no_order order given);
+  kept = λ nothing. absurd (nothing.no_order order given);
+}

@@ -1,0 +1,27 @@
+use Rattle.device_commands.proofs.program.run_core_order.Goals as goal
+use Rattle.device_commands.proofs.KeptLaws.{AnswersCore-kept}
+use Rattle.device_commands.proofs.WordsLaws.{never_usage, only_cut}
+
+-- The status is 0 only after `Done`, and what stands then was written before the flush.
+pub returns-clause-done : goal.returns-clause-done
+returns-clause-done g c = λ zero.
+    let done = c.finish.ensures.status zero in
+    let answered = rw done at c.run_device_order-outcome.ensures in
+    AnswersCore-kept c.args.order.now (g.H.Host.input c.args.host.now) (g.H.Host.file c.args.host.now)
+    (g.H.Host.file c.run_device_order-outcome.new.host)
+    (g.O.Write.contents c.args.out.now) (g.O.Write.contents c.run_device_order-outcome.new.out) (g.O.Write.contents c.finish.new.out)
+    answered c.finish.ensures.kept
+
+-- The status is 3 only after `Cut`.
+pub returns-clause-cut : goal.returns-clause-cut
+returns-clause-cut g c = λ three.
+    let is_cut = only_cut c.run_device_order-outcome.result c.finish.result c.finish.ensures.ends three in
+    record {
+      written = g.O.Write.contents c.run_device_order-outcome.new.out;
+      answered = rw is_cut at c.run_device_order-outcome.ensures;
+      kept = c.finish.ensures.kept;
+    }
+
+-- No command ends as a fault in the words does.
+pub returns-clause-other : goal.returns-clause-other
+returns-clause-other g c = never_usage c.run_device_order-outcome.result c.finish.result c.finish.ensures.ends

@@ -1,0 +1,135 @@
+use Rattle.std.proofs.Common.{◌≡◌, ◌+◌, ◌∷◌, ◌++◌, [], ap, arith, eqb-true, length, length-append, refl, rules, subst, sym, ◌∙◌}
+use Rattle.std.proofs.lemmas.Bool.{or_parts}
+use Rattle.flash_model.specs.Chip.{Chip}
+use Rattle.common.proofs.Results.{IfErr-passed}
+use Rattle.device_commands.specs.Telling.{TellsAll}
+use Rattle.inputs.specs.Loading.{came_of}
+use Rattle.inputs.proofs.ScriptLaws.{AreTaken-cut, AreTaken-event, AreTaken-none, LoadsAll-taken}
+use Rattle.device_commands.proofs.TellingLaws.{BreaksText-all, BreaksText-some, TellsAll-more, TellsAll-none, TellsSome-all, TellsSome-more, not_of_file}
+use Rattle.device_commands.proofs.run.run_events.Goals as goal
+
+-- No line was taken yet.
+pub loop-lines-init : goal.loop-lines-init
+loop-lines-init g c =
+    let whole = ap length c.of-lines.ensures.all in
+    record {
+      setup = refl;
+      on = search rules;
+      few = omega (arith, whole);
+      taken = 0;
+      came = [];
+      counted = refl;
+      are = AreTaken-none c.args.text.now c.of-lines.result.rest.now c.of-lines.result.order c.args.sources.now.buffered.now
+          (g.H.Host.file c.args.sources.now.host.now) c.of-lines.ensures.all c.of-lines.ensures.order;
+      told = TellsAll-none _ _ _ c.requires.sound;
+    }
+
+-- The next line is none that can be done ..
+pub returns-in_err-event-clause-some : goal.returns-in_err-event-clause-some
+returns-in_err-event-clause-some g c =
+    let before = c.loop-lines.invariant in
+    IfErr-passed _ _ _ c.from_residual.ensures.1
+    (BreaksText-some _ c.args.device.now.setup _ _ c.args.text.now c.loop-lines.lines.rest.now c.loop-lines.lines.order
+    before.taken c.args.sources.now.buffered.now (g.H.Host.file c.args.sources.now.host.now) before.came _ _ before.are
+    (TellsSome-all _ c.args.device.now.setup _ _ before.came c.loop-lines.answer c.loop-lines.has_failed _ _ before.told)
+    (not_of_file _ c.in_err-event.ensures.refused))
+
+-- .. or its file can't be read any more ..
+pub returns-in_err-event-2-clause-some : goal.returns-in_err-event-2-clause-some
+returns-in_err-event-2-clause-some g c =
+    let before = c.loop-lines.invariant in
+    IfErr-passed _ _ _ c.from_residual-in_err-event-2.ensures.1
+    (BreaksText-some _ c.args.device.now.setup _ _ c.args.text.now c.loop-lines.lines.rest.now c.loop-lines.lines.order
+    before.taken c.args.sources.now.buffered.now (g.H.Host.file c.args.sources.now.host.now) before.came _ _ before.are
+    (TellsSome-all _ c.args.device.now.setup _ _ before.came c.loop-lines.answer c.loop-lines.has_failed _ _ before.told)
+    (not_of_file _ c.in_err-event-2.ensures.refused))
+
+-- .. or the reply to its event could not be told, or not to its end.
+pub returns-in_err-answer-clause-some : goal.returns-in_err-answer-clause-some
+returns-in_err-answer-clause-some g c =
+    let before = c.loop-lines.invariant in
+    let next = rw c.in-Event.is at c.in_ok-event.ensures.next in
+    let one = came_of c.in_ok-event-2.event in
+    IfErr-passed _ _ _ c.from_residual-in_err-answer.ensures.1
+    (BreaksText-some _ c.args.device.now.setup _ _ c.args.text.now c.next_line.new.self.rest.now
+    c.next_line.new.self.order (before.taken + 1) c.args.sources.now.buffered.now
+    (g.H.Host.file c.args.sources.now.host.now) (before.came ++ one ∷ []) _ _
+    (AreTaken-event c.args.text.now c.loop-lines.lines c.next_line.new.self c.in-Event.event before.taken
+    c.args.sources.now.buffered.now (g.H.Host.file c.args.sources.now.host.now) before.came one next
+    c.in_ok-event-2.ensures.loaded before.are)
+    (TellsSome-more _ c.args.device.now.setup c.loop-lines.device.setup _ _ _ before.came one (c.loop-lines.number + 1)
+    c.loop-lines.answer c.loop-lines.has_failed _ _ _ before.told (omega (arith, before.counted)) before.setup
+    c.in_err-answer.ensures.begun)
+    c.in_err-answer.ensures.begun.broken.output)
+
+-- The reply to one event more was told.
+pub loop-lines-preserved-in-Event : goal.loop-lines-preserved-in-Event
+loop-lines-preserved-in-Event g c =
+    let before = c.loop-lines.invariant in
+    let next = rw c.in-Event.is at c.in_ok-event.ensures.next in
+    let one = came_of c.in_ok-event-2.event in
+    record {
+      setup = c.in_ok-answer.ensures.setup ∙ before.setup;
+      on = c.in_ok-answer.ensures.on;
+      few = omega (arith, before.few, c.in_ok-event.ensures.shorter);
+      taken = before.taken + 1;
+      came = before.came ++ one ∷ [];
+      counted = ap (λ k. k + 1) before.counted ∙ sym (length-append before.came (one ∷ []));
+      are = AreTaken-event c.args.text.now c.loop-lines.lines c.next_line.new.self c.in-Event.event before.taken
+          c.args.sources.now.buffered.now (g.H.Host.file c.args.sources.now.host.now) before.came one next
+          c.in_ok-event-2.ensures.loaded before.are;
+      told = TellsAll-more c.args.device.now.setup c.loop-lines.device.setup _ _ _ before.came one
+          (c.loop-lines.number + 1) c.loop-lines.answer _ c.loop-lines.has_failed _ _ _ _ before.told
+          (omega (arith, before.counted)) before.setup c.in_ok-answer.ensures.told
+          (λ none.
+          let parts = or_parts c.loop-lines.has_failed c.has_failed-has_failed.result none in (
+            parts.0,
+            subst (λ (chip : Chip). chip.faults ≡ 0) c.flash.ensures (rw parts.1 at c.has_failed-has_failed.ensures.faults),
+          ));
+    }
+
+-- A line was passed that cuts a write.
+pub loop-lines-preserved : goal.loop-lines-preserved
+loop-lines-preserved g c =
+    let before = c.loop-lines.invariant in
+    let next = rw c.in_default.is at c.in_ok-event.ensures.next in
+    record {
+      setup = before.setup;
+      on = before.on;
+      few = omega (arith, before.few, c.in_ok-event.ensures.shorter);
+      taken = before.taken + 1;
+      came = before.came;
+      counted = before.counted;
+      are = AreTaken-cut c.args.text.now c.loop-lines.lines c.next_line.new.self c.in_default.field-0
+          c.in_default.field-1 before.taken c.args.sources.now.buffered.now (g.H.Host.file c.args.sources.now.host.now)
+          before.came next before.are;
+      told = before.told;
+    }
+
+-- All was told, and the flash file failed ..
+pub returns-then-has_failed-clause-some : goal.returns-then-has_failed-clause-some
+returns-then-has_failed-clause-some g c =
+    let before = c.loop-lines.invariant in
+    BreaksText-all c.args.device.now.setup _ _ c.args.text.now c.args.sources.now.buffered.now
+    (g.H.Host.file c.args.sources.now.host.now) before.came c.loop-lines.answer c.loop-lines.has_failed _ _
+    (LoadsAll-taken c.args.text.now c.loop-lines.lines.rest.now c.loop-lines.lines.order before.taken
+    c.args.sources.now.buffered.now (g.H.Host.file c.args.sources.now.host.now) before.came
+    (eqb-true _ _ (sym c.loop-lines-test.ensures)) before.are)
+    before.told
+
+-- .. or not.
+pub returns-clause-all : goal.returns-clause-all
+returns-clause-all g c =
+    let before = c.loop-lines.invariant in
+    let setup = c.args.device.now.setup in
+    let old = c.args.device.now.here in
+    let new = c.loop-lines.device.here in
+    let written = g.O.Write.contents c.loop-lines.out in
+    record {
+      came = before.came;
+      comes = LoadsAll-taken c.args.text.now c.loop-lines.lines.rest.now c.loop-lines.lines.order before.taken
+          c.args.sources.now.buffered.now (g.H.Host.file c.args.sources.now.host.now) before.came
+          (eqb-true _ _ (sym c.loop-lines-test.ensures)) before.are;
+      tells = subst (λ failed. TellsAll c.loop-lines.answer failed setup old new before.came
+          (g.O.Write.contents c.args.out.now) written) c.if-has_failed.false before.told;
+    }

@@ -1,0 +1,24 @@
+use Rattle.std.proofs.Common.{◌≡◌, ◌+◌, ◌≤◌, ℕ, List, length, true}
+use Rattle.common.specs.declared.event.Event.{Event}
+use Rattle.device_commands.specs.Telling.{TellsAll}
+use Rattle.inputs.proofs.ScriptLaws.{AreTaken}
+use Rattle.device_commands.proofs.run.run_events.Given as goal
+
+-- the device is what it was made as, with power; what the lines so far bring came, and the replies
+-- to it were told; and no more events came than there are bytes before what is left
+abbrev pub invariant-loop-lines : goal.invariant-loop-lines
+invariant-loop-lines g l = record {
+  setup : l.device.setup ≡ l.fn.device.setup;
+  on : l.device.here.flash.is_on ≡ true;
+  few : l.number + length l.lines.rest.now ≤ length l.text;
+  taken : ℕ;
+  came : List (Event (List ℕ));
+  counted : l.number ≡ length came;
+  are : AreTaken l.text l.lines.rest.now l.lines.order taken l.sources.buffered.now
+      (g.H.Host.file l.sources.host.now) came;
+  told : TellsAll l.answer l.has_failed l.fn.device.setup l.fn.device.here l.device.here came
+      (g.O.Write.contents l.fn.out) (g.O.Write.contents l.out);
+}
+
+abbrev pub decreases-loop-lines : goal.decreases-loop-lines
+decreases-loop-lines g l = length l.lines.rest.now

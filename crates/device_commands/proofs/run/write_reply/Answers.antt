@@ -1,0 +1,51 @@
+use Rattle.std.proofs.Common.{◌≡◌, ◌∙◌, Err, List, OnErr, OnOk, Ok, Result, ℕ}
+use Rattle.std.proofs.Common.{arith, false, length, refl, subst, sym, take, true}
+use Rattle.std.specs.Io.KnownBytes.{Appends}
+use Rattle.std.specs.Result.{is_err}
+use Rattle.std.proofs.KnownBytes.{Appends-kept, Appends-nil}
+use Rattle.std.proofs.lemmas.List.{take_all}
+use Rattle.host.specs.declared.error.Refusal.TheVariants.{CannotWrite, NoMemory}
+use Rattle.device_commands.proofs.TellingLaws.{not_of_file}
+use Rattle.device_commands.proofs.run.write_reply.Goals as goal
+
+-- what a call promises where it fails
+of_err : {T E P : Type 0} (result : Result T E) → true ≡ is_err result → OnErr result P → P
+of_err (Ok value) is holds = absurd cc
+of_err (Err error) is holds = holds
+
+-- .. and where it doesn't
+of_ok : {T E P : Type 0} (result : Result T E) → false ≡ is_err result → OnOk result P → P
+of_ok (Ok value) is holds = holds
+of_ok (Err error) is holds = absurd cc
+
+-- There was no memory for the text.
+pub returns-in_default-clause-begun : goal.returns-in_default-clause-begun
+returns-in_default-clause-begun g c = record { count = 0; begun = Appends-nil _; output = not_of_file NoMemory refl }
+
+-- The writer took a beginning of it.
+pub returns-then-is_err-clause-begun : goal.returns-then-is_err-clause-begun
+returns-then-is_err-clause-begun g c =
+    let failed = of_err c.write_all.result c.if-is_err.ensures.value c.write_all.ensures.err in
+    let old = g.O.Write.contents c.args.out.now in
+    let new = g.O.Write.contents c.write_all.new.out in
+    record {
+      count = failed.0;
+      begun = subst (λ (text : List ℕ). Appends old new (take failed.0 text)) (c.as_bytes.ensures.value ∙ c.in-Ok.ensures) failed.1;
+      output = not_of_file CannotWrite refl;
+    }
+
+-- The writer took all of it, and could not be flushed.
+pub returns-clause-begun : goal.returns-clause-begun
+returns-clause-begun g c =
+    let written = of_ok c.write_all.result c.if-is_err.ensures.value c.write_all.ensures.ok in
+    let old = g.O.Write.contents c.args.out.now in
+    let new = g.O.Write.contents c.write_all.new.out in
+    let text = c.as_bytes.result.now in
+    let whole : take (length text) text ≡ text = take_all (length text) text (omega arith) in
+    record {
+      count = length text;
+      begun = subst (λ (told : List ℕ). Appends old (g.O.Write.contents c.flush.new.self) (take (length text) told))
+          (c.as_bytes.ensures.value ∙ c.in-Ok.ensures)
+          (Appends-kept old new _ _ (subst (Appends old new) (sym whole) written) c.in-Err.ensures.bytes);
+      output = not_of_file CannotWrite refl;
+    }

@@ -1,0 +1,113 @@
+-- The result of `provision`.
+use Rattle.std.specs.Prelude.{◌≡◌, ◌≢◌, ◌⊎◌, Bool, IsTrue, ℕ, ◌+◌, ◌*◌, ◌≤◌, List, [], ◌∷◌, ◌++◌, length, replicate, slice_get, Option, Some, codes, Result, Ok, Err}
+use Rattle.std.specs.Borrow.{Bor}
+use Rattle.std.specs.Io.KnownBytes.{Appends, Keeps}
+use Rattle.std.specs.List.{AllZip}
+use Rattle.flash_model.specs.Chip.{Chip}
+use Rattle.flash_model.specs.Torn.{replaced}
+use Rattle.sector_map.specs.declared.layout.SectorMap.{SectorMap}
+use Rattle.sector_map.specs.declared.layout.Side.TheVariants.{Primary}
+use Rattle.sector_map.specs.Map.{length_of, sectors_of, start_of}
+use Rattle.sector_map.specs.Part.{Slot}
+use Rattle.boot_core.specs.Provisioned.{IsProvisioned, RefusesMaking}
+use Rattle.host.specs.declared.answer.Answer.{Answer}
+use Rattle.host.specs.declared.answer.Answer.TheVariants.{Done, Refused, Cut}
+use Rattle.host.specs.declared.error.Refusal.{Refusal}
+use Rattle.host.specs.declared.error.Refusal.TheVariants as no
+use Rattle.device_commands.specs.declared.provision.Provisioned.{Provisioned}
+use Rattle.device_commands.specs.declared.provision.Provisioned.TheVariants as made
+use Rattle.device_texts.specs.declared.device.DeviceFile.{DeviceFile}
+use Rattle.host.specs.declared.source.Source.{Source}
+use Rattle.device_texts.specs.DeviceFile.{IsDeviceFile}
+use Rattle.device_texts.specs.FlashOf.{flash_of}
+use Rattle.inputs.specs.DeviceInput.{RefusesMap}
+use Rattle.host.specs.Input.{FileBytes, IsKnownAs, IsNamed}
+use Rattle.host.specs.Inputs.{GiveEach}
+use Rattle.device_texts.specs.ReplyText.{refused_fault_text}
+
+-- The bytes of a flash with these files at the fronts of primary slots, from that of this image on.
+abbrev pub with_files : SectorMap → ℕ → List (List ℕ) → List ℕ → List ℕ
+with_files map image [] bytes = bytes
+with_files map image (file ∷ files) bytes =
+    with_files map (image + 1) files (replaced (start_of map (Slot image Primary)) file bytes)
+
+-- The bytes of a new flash: each file is at the front of its primary slot, and all else is erased.
+abbrev pub new_flash : SectorMap → List (List ℕ) → List ℕ
+new_flash map files = with_files map 0 files (replicate (sectors_of map * map.sector_size) 0xff)
+
+-- There is a file for each image, and each fits its slot.
+pub record FitSlots (map : SectorMap) (files : List (List ℕ)) : Type 0 where
+  pub count : length files ≡ map.images
+  pub each : (i : ℕ) (file : List ℕ) → slice_get files i ≡ Some file
+      → length file ≤ length_of map (Slot i Primary)
+
+-- The result of provisioning the flash of these bytes, and what its file is known to hold then: the
+-- flash is a device's and the file has its bytes, or it is refused for this reason.
+abbrev pub EndsMade : Provisioned → SectorMap → List ℕ → Option (List ℕ) → Type 0
+EndsMade made.Done map bytes held =
+    (new : Chip) × IsProvisioned map (flash_of map bytes) new × IsKnownAs held new.bytes
+EndsMade (made.Refused fault) map bytes held =
+    (new : Chip) × RefusesMaking map (flash_of map bytes) new fault
+
+-- Each of these arguments that names a file names one that is apart from another.
+abbrev pub AreOthers : (List ℕ → Bool) → List (Bor (List ℕ)) → Type 0
+AreOthers apart words = (place : ℕ) (word : Bor (List ℕ)) → slice_get words place ≡ Some word
+    → word.now ≢ codes "-" → IsTrue (apart word.now)
+
+-- Each file that these arguments name keeps what it is known to hold.
+abbrev pub KeepsWords : List (Bor (List ℕ)) → FileBytes → FileBytes → Type 0
+KeepsWords words old new = (place : ℕ) (word : Bor (List ℕ)) → slice_get words place ≡ Some word
+    → word.now ≢ codes "-" → Keeps (old word.now) (new word.now)
+
+-- The text of a flash that is provisioned.
+abbrev pub done_text : List ℕ
+done_text = codes "done" ++ 10 ∷ []
+
+-- The answer for this result, and what a writer took.
+abbrev pub AnswersMade : Answer → Provisioned → Option (List ℕ) → Option (List ℕ) → Type 0
+AnswersMade answer made.Done old new = (answer ≡ Done) × Appends old new done_text
+AnswersMade answer (made.Refused fault) old new =
+    (answer ≡ Refused) × Appends old new (refused_fault_text fault)
+
+-- `provision` ended before the file of the flash was replaced: with any result but `Done`, and but
+-- an answer that could not be written.
+abbrev pub EndsBefore : Result Answer Refusal → Type 0
+EndsBefore (Ok Done) = ⊥
+EndsBefore (Ok Refused) = Unit {0}
+EndsBefore (Ok Cut) = Unit {0}
+EndsBefore (Err no.CannotWrite) = ⊥
+EndsBefore (Err refusal) = Unit {0}
+
+-- The files of images were read, they fit their slots, and these are the bytes of their flash.
+abbrev pub ReadsImages : SectorMap → List (List ℕ) → Option (List ℕ) → FileBytes → List ℕ → Type 0
+ReadsImages map names input files bytes =
+    (sources : List Source) × (contents : List (List ℕ)) × AllZip IsNamed names sources
+    × GiveEach sources input files contents × FitSlots map contents
+    × (bytes ≡ new_flash map contents)
+
+-- `provision` read the bytes of a device file and of the images that these arguments name. It
+-- provisioned their flash, which its file holds then, or found why that is refused, and wrote which
+-- ..
+pub record MakesDevice (answer : Answer) (device : Source) (names : List (List ℕ))
+    (input : Option (List ℕ)) (files : FileBytes) (held old new : Option (List ℕ)) : Type 0 where
+  pub device_bytes : List ℕ
+  pub of_device : DeviceFile
+  pub sources : List Source
+  pub contents : List (List ℕ)
+  pub outcome : Provisioned
+  pub named : AllZip IsNamed names sources
+  pub given : GiveEach (device ∷ sources) input files (device_bytes ∷ contents)
+  pub is_device : IsDeviceFile device_bytes of_device
+  pub fit : FitSlots of_device.map contents
+  pub made : EndsMade outcome of_device.map (new_flash of_device.map contents) held
+  pub answered : AnswersMade answer outcome old new
+
+-- .. or wrote why the sizes of the device file make no map. Then the images don't matter.
+abbrev pub AnswersProvision : Answer → Source → List (List ℕ) → Option (List ℕ) → FileBytes
+    → Option (List ℕ) → Option (List ℕ) → Option (List ℕ) → Type 0
+AnswersProvision Done device names input files held old new =
+    MakesDevice Done device names input files held old new
+AnswersProvision Refused device names input files held old new =
+    MakesDevice Refused device names input files held old new
+    ⊎ RefusesMap device input files old new
+AnswersProvision Cut device names input files held old new = ⊥

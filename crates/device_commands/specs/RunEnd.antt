@@ -1,0 +1,109 @@
+-- The result of `run`.
+use Rattle.std.specs.Prelude.{◌≡◌, ◌⊎◌, ℕ, ◌-◌, false, List, [], ◌∷◌, length, Option, None, Some, map, slice_get}
+use Rattle.std.specs.Io.KnownBytes.{Appends}
+use Rattle.common.specs.declared.event.Event.{Event}
+use Rattle.common.specs.Event.{event_map}
+use Rattle.flash_model.specs.declared.torn.Armed.{Armed}
+use Rattle.flash_model.specs.Chip.{Chip}
+use Rattle.flash_model.specs.Memory.{with_armed}
+use Rattle.sector_map.specs.declared.layout.SectorMap.{SectorMap}
+use Rattle.upload.specs.Sessions.{AllClosed}
+use Rattle.machine.specs.Holding.{DeviceView}
+use Rattle.machine.specs.Passing.{RunsTo}
+use Rattle.machine.specs.Steps.{DeviceEvent}
+use Rattle.machine.specs.declared.reply.Reply.{Reply}
+use Rattle.machine.specs.declared.reply.Reply.TheVariants as reply
+use Rattle.boot_core.specs.CutEvents.{CutsEach}
+use Rattle.host.specs.declared.answer.Answer.{Answer}
+use Rattle.host.specs.declared.answer.Answer.TheVariants.{Done, Refused, Cut}
+use Rattle.device_texts.specs.declared.device.DeviceFile.{DeviceFile}
+use Rattle.host.specs.declared.source.Source.{Source}
+use Rattle.device_texts.specs.DeviceFile.{IsDeviceFile, setup_of}
+use Rattle.device_texts.specs.FlashOf.{IsFlashOf, flash_of}
+use Rattle.inputs.specs.DeviceInput.{RefusesMap}
+use Rattle.host.specs.Input.{FileBytes}
+use Rattle.host.specs.Inputs.{GiveEach}
+use Rattle.device_texts.specs.ReplyText.{replies_text}
+use Rattle.inputs.specs.Script.{IsScript, known_after_each}
+
+-- The flash that has these bytes and is armed with these cuts, counted from its making.
+abbrev pub armed_chip : SectorMap → List ℕ → List Armed → Chip
+armed_chip map bytes cuts = with_armed (flash_of map bytes) cuts
+
+-- A device that was just made, over a flash with these bytes that is armed with exactly these cuts.
+-- It isn't booted, and no upload is open.
+pub record IsMadeOf (map : SectorMap) (bytes : List ℕ) (cuts : List Armed) (here : DeviceView)
+    : Type 0 where
+  pub flash : here.flash ≡ armed_chip map bytes cuts
+  pub down : here.up ≡ false
+  pub closed : AllClosed here.sessions
+
+-- These are the replies to the events, one to each, of a device of this file. Its flash has these
+-- bytes and is armed with these cuts. From each state that the device holds, the replies are a run
+-- of the machine of whole images, to a state that it holds then.
+pub record IsPlayed (device : DeviceFile) (bytes : List ℕ) (cuts : List Armed)
+    (events : List DeviceEvent) (replies : List Reply) : Type 0 where
+  pub old : DeviceView
+  pub new : DeviceView
+  pub made : IsMadeOf device.map bytes cuts old
+  pub runs : RunsTo (setup_of device) old new events replies
+  pub each : length replies ≡ length events
+
+-- The answer of a run, by its last reply.
+abbrev pub answer_after : Option Reply → Answer
+answer_after None = Done
+answer_after (Some reply.Done) = Done
+answer_after (Some (reply.Booted table report permanent)) = Done
+answer_after (Some (reply.Reverted set)) = Done
+answer_after (Some (reply.TrialAgain set left)) = Done
+answer_after (Some (reply.Refused fault)) = Refused
+answer_after (Some reply.Cut) = Cut
+
+abbrev pub answer_of : List Reply → Answer
+answer_of replies = answer_after (slice_get replies (length replies - 1))
+
+-- The event that comes to a device, with the bytes that it borrows.
+abbrev pub came_by : DeviceEvent → Event (List ℕ)
+came_by lent = event_map (λ bytes. bytes.now) lent
+
+-- The answer of a run of these events on a device of this file, whose flash has these bytes and is
+-- armed with these cuts. A writer took the replies. Event by event, the reply is Cut exactly if the
+-- flash took an armed write in it.
+pub record Plays (answer : Answer) (device : DeviceFile) (bytes : List ℕ) (cuts : List Armed)
+    (came : List (Event (List ℕ))) (old new : Option (List ℕ)) : Type 0 where
+  pub events : List DeviceEvent
+  pub replies : List Reply
+  pub come : map came_by events ≡ came
+  pub played : IsPlayed device bytes cuts events replies
+  pub cut : CutsEach (setup_of device) played.old events replies played.new
+  pub answered : answer ≡ answer_of replies
+  pub written : Appends old new (replies_text 1 replies)
+
+-- `run` read the bytes of a device file, of its flash and of a script with the files that it names,
+-- and wrote the replies of the device to the events of the script, with exactly the writes of its
+-- flash cut that the script names ..
+pub record RunsDevice (answer : Answer) (sources : List Source) (input : Option (List ℕ))
+    (files : FileBytes) (old new : Option (List ℕ)) : Type 0 where
+  pub device_bytes : List ℕ
+  pub of_device : DeviceFile
+  pub bytes : List ℕ
+  pub text : List ℕ
+  pub cuts : List Armed
+  pub came : List (Event (List ℕ))
+  pub given : GiveEach sources input files (device_bytes ∷ bytes ∷ text ∷ [])
+  pub is_device : IsDeviceFile device_bytes of_device
+  pub whole : IsFlashOf of_device.map bytes
+  pub script : IsScript text (known_after_each sources (record { input = input; files = files }))
+      cuts came
+  pub plays : Plays answer of_device bytes cuts came old new
+
+-- .. or why the sizes of the device file make no map. Then nothing else matters.
+abbrev pub AnswersRun : Answer → Source → Source → Source → Option (List ℕ) → FileBytes
+    → Option (List ℕ) → Option (List ℕ) → Type 0
+AnswersRun Done device flash script input files old new =
+    RunsDevice Done (device ∷ flash ∷ script ∷ []) input files old new
+AnswersRun Refused device flash script input files old new =
+    RunsDevice Refused (device ∷ flash ∷ script ∷ []) input files old new
+    ⊎ RefusesMap device input files old new
+AnswersRun Cut device flash script input files old new =
+    RunsDevice Cut (device ∷ flash ∷ script ∷ []) input files old new

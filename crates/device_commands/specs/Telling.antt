@@ -1,0 +1,142 @@
+-- The result of writing the replies of a device one by one: for the private contracts of `run`.
+use Rattle.std.specs.Prelude.{◌≡◌, ℕ, ◌+◌, ◌≤◌, Bool, false, List, [], ◌++◌, length, Option, Some, map, take}
+use Rattle.std.specs.Io.KnownBytes.{Appends}
+use Rattle.common.specs.Lines.{lines_of}
+use Rattle.common.specs.declared.event.Event.{Event}
+use Rattle.flash_model.specs.declared.torn.Armed.{Armed}
+use Rattle.machine.specs.Holding.{DeviceView}
+use Rattle.machine.specs.Intake.{Setup}
+use Rattle.machine.specs.Passing.{RunsTo, StepsTo}
+use Rattle.machine.specs.Steps.{DeviceEvent}
+use Rattle.machine.specs.declared.reply.Reply.{Reply}
+use Rattle.boot_core.specs.CutEvents.{CutsEach, DueEach, IsCutAsDue}
+use Rattle.host.specs.declared.answer.Answer.{Answer}
+use Rattle.host.specs.declared.error.Refusal.{Refusal}
+use Rattle.host.specs.declared.error.Refusal.TheVariants.{FlashFile}
+use Rattle.host.specs.Input.{FileBytes}
+use Rattle.device_texts.specs.declared.device.DeviceFile.{DeviceFile}
+use Rattle.device_texts.specs.DeviceFile.{setup_of}
+use Rattle.device_texts.specs.ReplyText.{replies_text, reply_text}
+use Rattle.inputs.specs.declared.checking.BufferedInput.{BufferedInput}
+use Rattle.inputs.specs.Loading.{LoadsAll, LoadsFirst}
+use Rattle.device_commands.specs.RunEnd.{IsPlayed, Plays, answer_after, answer_of, came_by}
+
+-- A writer took a prefix of a text and no more, or there was no memory for the text. The refusal
+-- isn't that of the flash file.
+pub record BreaksOff (refusal : Refusal) (text : List ℕ) (before after : Option (List ℕ))
+    : Type 0 where
+  pub count : ℕ
+  pub begun : Appends before after (take count text)
+  pub output : refusal ≡ FlashFile → ⊥
+
+-- A device replied to its event of this number, and a writer took the reply, which gives the
+-- answer.
+pub record TellsEvent (answer : Answer) (number : ℕ) (setup : Setup) (old new : DeviceView)
+    (came : Event (List ℕ)) (before after : Option (List ℕ)) : Type 0 where
+  pub event : DeviceEvent
+  pub reply : Reply
+  pub comes : came_by event ≡ came
+  pub steps : StepsTo setup old new event reply
+  -- The reply is Cut exactly if the flash took an armed write, or had a fault.
+  pub due : IsCutAsDue old.flash reply new.flash
+  pub written : Appends before after (reply_text number reply)
+  pub answered : answer ≡ answer_after (Some reply)
+
+-- A device replied to its event, and the reply could not be written, or not completely.
+pub record BreaksEvent (refusal : Refusal) (number : ℕ) (setup : Setup) (old new : DeviceView)
+    (came : Event (List ℕ)) (before after : Option (List ℕ)) : Type 0 where
+  pub event : DeviceEvent
+  pub reply : Reply
+  pub comes : came_by event ≡ came
+  pub steps : StepsTo setup old new event reply
+  pub due : IsCutAsDue old.flash reply new.flash
+  pub broken : BreaksOff refusal (reply_text number reply) before after
+
+-- A device replied to all events, and a writer took the replies. The last of them gives the answer.
+-- A write of the flash file has failed, or none has.
+pub record TellsAll (answer : Answer) (failed : Bool) (setup : Setup) (old new : DeviceView)
+    (came : List (Event (List ℕ))) (before after : Option (List ℕ)) : Type 0 where
+  pub events : List DeviceEvent
+  pub replies : List Reply
+  pub come : map came_by events ≡ came
+  pub runs : RunsTo setup old new events replies
+  pub each : length replies ≡ length events
+  -- Event by event, the reply is Cut exactly if the flash took an armed write in it, or had a fault,
+  pub due : DueEach setup old events replies new
+  -- and it had no fault if no write of its file has failed.
+  pub sound : failed ≡ false → (new.flash.faults ≡ 0) × CutsEach setup old events replies new
+  pub answered : answer ≡ answer_of replies
+  pub written : Appends before after (replies_text 1 replies)
+
+-- A device replied to these events, and a writer took all replies but the last one at most, of
+-- which it took a prefix.
+pub record TellsSome (refusal : Refusal) (setup : Setup) (old new : DeviceView)
+    (came : List (Event (List ℕ))) (before after : Option (List ℕ)) : Type 0 where
+  pub events : List DeviceEvent
+  pub told : List Reply
+  pub untold : List Reply
+  pub count : ℕ
+  pub come : map came_by events ≡ came
+  pub runs : RunsTo setup old new events (told ++ untold)
+  pub due : DueEach setup old events (told ++ untold) new
+  pub each : length (told ++ untold) ≡ length events
+  pub one : length untold ≤ 1
+  pub written : Appends before after
+      (replies_text 1 told ++ take count (replies_text (1 + length told) untold))
+  -- If the flash file failed, each reply was written.
+  pub output : refusal ≡ FlashFile → untold ≡ []
+
+-- All events of a text came, and a device replied to them, as it was written. No write of the flash
+-- file failed.
+pub record TellsText (answer : Answer) (setup : Setup) (old new : DeviceView)
+    (text : List ℕ) (buffered : List BufferedInput) (files : FileBytes)
+    (before after : Option (List ℕ)) : Type 0 where
+  pub came : List (Event (List ℕ))
+  pub comes : LoadsAll text buffered files came
+  pub tells : TellsAll answer false setup old new came before after
+
+-- The events of the first lines of a text came, and not all replies to them could be written, or
+-- the next line could not be read. Or all events came, and the flash file failed.
+pub record BreaksText (refusal : Refusal) (setup : Setup) (old new : DeviceView)
+    (text : List ℕ) (buffered : List BufferedInput) (files : FileBytes)
+    (before after : Option (List ℕ)) : Type 0 where
+  pub lines : ℕ
+  pub came : List (Event (List ℕ))
+  pub comes : LoadsFirst lines text buffered files came
+  pub tells : TellsSome refusal setup old new came before after
+  pub whole : refusal ≡ FlashFile → lines ≡ length (lines_of text)
+
+-- The answer of a run of all events of a text on a device of this file, whose flash has these bytes
+-- and is armed with these cuts. A writer took the replies.
+pub record PlaysText (answer : Answer) (device : DeviceFile) (bytes : List ℕ)
+    (cuts : List Armed) (text : List ℕ) (buffered : List BufferedInput) (files : FileBytes)
+    (old new : Option (List ℕ)) : Type 0 where
+  pub came : List (Event (List ℕ))
+  pub comes : LoadsAll text buffered files came
+  pub plays : Plays answer device bytes cuts came old new
+
+-- What a writer took of a run of a text that ended without an answer, on a device of this file,
+-- whose flash has these bytes and is armed with these cuts.
+pub record TellsFirst (refusal : Refusal) (device : DeviceFile) (bytes : List ℕ)
+    (cuts : List Armed) (text : List ℕ) (buffered : List BufferedInput) (files : FileBytes)
+    (old new : Option (List ℕ)) : Type 0 where
+  -- The events of its first lines came, and none after them.
+  pub lines : ℕ
+  pub came : List (Event (List ℕ))
+  pub comes : LoadsFirst lines text buffered files came
+  pub events : List DeviceEvent
+  pub come : map came_by events ≡ came
+  -- The replies to them were written, but the last one at most.
+  pub told : List Reply
+  pub untold : List Reply
+  pub played : IsPlayed device bytes cuts events (told ++ untold)
+  pub one : length untold ≤ 1
+  -- Event by event, the reply is Cut exactly if the flash took an armed write in it, or had a
+  -- fault, which it has only after a failed write of its file.
+  pub due : DueEach (setup_of device) played.old events (told ++ untold) played.new
+  -- The writer took all of those that were written, and `count` bytes of the one that wasn't.
+  pub count : ℕ
+  pub written : Appends old new
+      (replies_text 1 told ++ take count (replies_text (1 + length told) untold))
+  -- If the flash file failed, all events came, and each reply was written.
+  pub whole : refusal ≡ FlashFile → (lines ≡ length (lines_of text)) × (untold ≡ [])

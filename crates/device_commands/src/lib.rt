@@ -1,0 +1,16 @@
+//! The core of the program: the commands `provision` and `run`, which make and run devices on
+//! files.
+//!
+//! - Promises: `run` writes the replies of a device to its script. The flash of `provision` is made
+//!   of exactly the named images. The exit status says what became of the arguments.
+//! - Main calls: `core_cli`, `run_core_order`, `run_device_order`
+//! - Allocates: a flash in memory, events.
+//! - Callers: `bootswap_core`, `boot_cli`
+#![tactic(auto)]
+
+mod host_file;
+mod program;
+pub mod provision;
+mod run;
+
+pub use program::{core_cli, run_core_order, run_device_order};

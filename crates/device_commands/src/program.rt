@@ -1,0 +1,105 @@
+//! The core of the program: the commands `provision` and `run`.
+ghost use Rattle.std.specs.Prelude.{◌≡◌, ◌≢◌, IfOk, map};
+ghost use Rattle.device_commands.specs.CoreEnd.{AnswersCore};
+ghost use Rattle.device_commands.specs.WordsEnd.{EndsByCut, EndsCore};
+
+use crate::provision::run_provision;
+use crate::run::{RunFiles, run_device};
+use command_line::{DeviceOrder, answer_words, device_request};
+use host::{Access, Answer, Host, Refusal, Source, finish};
+use inputs::{NoNotes, RunNotes};
+use std::alloc::Global;
+use std::convert::AsStr;
+use std::io::Write;
+
+/// Runs the command that `words` ask for, and returns the exit status: 0 for done, 1 for refused, 2
+/// for wrong usage, 3 if the power failed last, 4 if the file of the flash failed. A command that
+/// the core doesn't have is refused, and so is `--explain`.
+///
+/// The first of `words` is the program's own name. Files are those of `host`. Answers are written
+/// to `out`, error lines and usage to `err`, and both are flushed. After a failed write nothing
+/// more is written, and the status is 1. All memory is of `alloc`.
+pub fn core_cli<S: AsStr, H: Host, O: Write, E: Write>(
+    alloc: Global,
+    words: &[S],
+    host: &mut H,
+    out: &mut O,
+    err: &mut E,
+) -> u8
+    ensures { EndsCore (map S.text words.entry.now) result (H.input host.old) (H.file host.old)
+        (H.file host.new) (O.contents out.old) (O.contents out.new) }
+{
+    match device_request(alloc, words) {
+        Ok(Some(request)) if !request.is_explained => {
+            run_core_order(alloc, &request.order, host, out, err)
+        }
+        Ok(_) => finish(&Err(Refusal::NotOfCore), out, err),
+        Err(error) => answer_words(alloc, words, error, out, err),
+    }
+}
+
+/// Runs a command, and returns its exit status. It is 0 only if the complete answer is written, and
+/// says that the command is done.
+pub fn run_core_order<H: Host, O: Write, E: Write>(
+    alloc: Global,
+    order: &DeviceOrder<'_>,
+    host: &mut H,
+    out: &mut O,
+    err: &mut E,
+) -> u8
+    ensures done { result ≡ 0 → AnswersCore Answer.Done order.now (H.input host.old)
+        (H.file host.old) (H.file host.new) (O.contents out.old) (O.contents out.new) }
+    ensures cut { result ≡ 3 → EndsByCut order.now (H.input host.old) (H.file host.old)
+        (H.file host.new) (O.contents out.old) (O.contents out.new) }
+    ensures other { result ≢ 2 }
+{
+    let outcome = run_device_order(alloc, order, host, out, &mut NoNotes);
+    finish(&outcome, out, err)
+}
+
+/// Runs a command. `notes` is called after each reply of a run.
+///
+/// # Errors
+/// The errors of the command.
+pub fn run_device_order<H: Host, O: Write, N: RunNotes>(
+    alloc: Global,
+    order: &DeviceOrder<'_>,
+    host: &mut H,
+    out: &mut O,
+    notes: &mut N,
+) -> Result<Answer, Refusal>
+    ensures { IfOk result (λ answer. AnswersCore answer order.now
+        (H.input host.old) (H.file host.old) (H.file host.new)
+        (O.contents out.old) (O.contents out.new)) }
+{
+    match *order {
+        DeviceOrder::Provision {
+            device,
+            flash,
+            ref images,
+        } => run_provision(alloc, Source::named(device), flash, images, host, out),
+        DeviceOrder::Run {
+            device,
+            flash,
+            script,
+            durable,
+        } => {
+            let files = RunFiles {
+                device: Source::named(device),
+                flash,
+                access: access_of(durable),
+                script: Source::named(script),
+            };
+            run_device(alloc, files, host, out, notes)
+        }
+    }
+}
+
+/// The access that a run opens its flash for.
+fn access_of(durable: bool) -> Access {
+    if durable {
+        Access::WriteDurably
+    } else {
+        Access::Write
+    }
+}

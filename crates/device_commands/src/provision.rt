@@ -1,0 +1,237 @@
+//! `bootswap provision`: makes the flash of a device, and writes its file.
+ghost use Rattle.std.specs.Prelude.{◌≡◌, ◌≢◌, ◌+◌, ◌<◌, ◌≤◌, [], IfErr, IfOk, IfSome, OnOk, length, slice_get, string_bytes};
+ghost use Rattle.std.specs.Io.KnownBytes.{Appends};
+ghost use Rattle.flash_model.specs.Torn.{replaced};
+ghost use Rattle.device_texts.specs.FlashOf.{IsFlashOf};
+ghost use Rattle.device_texts.specs.ReplyText.{refused_fault_text};
+ghost use Rattle.host.specs.Input.{IsKnownAs, IsNamed, KeepsFiles};
+ghost use Rattle.host.specs.Inputs.{names_of};
+ghost use Rattle.host.specs.Doings.{IsApartFrom, KeepsApart, KeepsSource};
+ghost use Rattle.device_commands.specs.ProvisionEnd.{AnswersMade, AnswersProvision, AreOthers, EndsBefore, EndsMade, KeepsWords, ReadsImages, done_text, new_flash};
+
+use device_texts::{flash_of, refused_fault_text, write_all};
+use host::{Answer, FlashFault, Host, Refusal, Replaced, Source};
+use inputs::read_device;
+use machine::Fault;
+use sector_map::{SectorMap, Side};
+use std::alloc::{AllocError, Global};
+use std::io::Write;
+use std::marker::Brand;
+use std::sync::ledger::{Blank, Ledger};
+
+/// The result of provisioning a flash.
+#[derive(Clone, Copy)]
+pub enum Provisioned {
+    /// The flash is a device's, and its file holds it.
+    Done,
+    /// The flash can't be a device's, for this reason. No file was written.
+    Refused(Fault),
+}
+
+/// The name of the file of a flash.
+#[derive(Clone, Copy)]
+pub struct FlashName<'a> {
+    /// As the arguments give it.
+    pub name: &'a str,
+}
+
+/// Reads a device file and images from `host`, makes a flash with each image at the front of its
+/// primary slot, provisions it, and then makes or replaces its file. Writes to `out` that it is
+/// done, or why it is refused. All bytes are in memory of `alloc`.
+///
+/// Everything is checked before the file is written. The file can't be one of the inputs, which
+/// never change. The file changes only if the answer is `Done` or can't be written. But a block
+/// device may hold a part of the flash after a failed write.
+pub fn run_provision<H: Host, O: Write>(
+    alloc: Global,
+    device: Source<'_>,
+    flash: &str,
+    images: &[&str],
+    host: &mut H,
+    out: &mut O,
+) -> Result<Answer, Refusal>
+    ensures answers { IfOk result (λ answer.
+        AnswersProvision answer device.entry (names_of images.now)
+        (H.input host.old) (H.file host.old) (H.file host.new flash.now)
+        (O.contents out.old) (O.contents out.new)) }
+    ensures kept { EndsBefore result → KeepsFiles (H.file host.old) (H.file host.new) }
+    ensures device { KeepsSource device.entry (H.file host.old) (H.file host.new) }
+    ensures images { KeepsWords images.now (H.file host.old) (H.file host.new) }
+    ensures opened { H.opened host.new ≡ H.opened host.old }
+{
+    let source = device;
+    let Some(device) = read_device(alloc, source, host, out)? else {
+        return Ok(Answer::Refused);
+    };
+    let bytes = read_images(alloc, &device.map, images, host)?;
+    refuse_inputs(host, flash, source, images)?;
+    let (blank, file) = (Blank::new(2), FlashName { name: flash });
+    let made = make_flash::<Brand, _>(alloc, blank, &device.map, bytes, file, host);
+    write_outcome(alloc, made?, out)
+}
+
+/// Reads images, and returns the bytes of a flash with each at the front of its primary slot. All
+/// else is erased.
+pub fn read_images<H: Host>(
+    alloc: Global,
+    map: &SectorMap,
+    images: &[&str],
+    host: &mut H,
+) -> Result<Vec<u8>, Refusal>
+    ensures read { IfOk result (λ bytes. ReadsImages map.now (names_of images.now)
+        (H.input host.old) (H.file host.old) bytes.items) }
+    ensures whole { IfOk result (λ bytes. IsFlashOf map.now bytes.items) }
+    ensures kept { KeepsFiles (H.file host.old) (H.file host.new) }
+    ensures opened { H.opened host.new ≡ H.opened host.old }
+{
+    if images.len() != usize::from(map.images) {
+        return Err(Refusal::ImageCount);
+    }
+    let Ok(mut bytes) = erased(alloc, map) else {
+        return Err(Refusal::NoMemory);
+    };
+    for image in 0..map.images {
+        let source = source_at(images, image);
+        let most = map.slot_length(image);
+        let file = source.read_start(alloc, host, most)?;
+        if file.len() > most as usize {
+            return Err(Refusal::ImageTooBig(image));
+        }
+        put(&mut bytes, map.slot_start(image, Side::Primary), &file);
+    }
+    Ok(bytes)
+}
+
+/// The bytes of an erased flash.
+fn erased(alloc: Global, map: &SectorMap) -> Result<Vec<u8>, AllocError>
+    ensures { IfOk result (λ bytes. bytes.items ≡ new_flash map.now []) }
+{
+    vec![in alloc; 0xff; map.bytes_in_all() as usize]
+}
+
+/// The input that the argument at this place names.
+fn source_at<'a>(words: &[&'a str], place: u8) -> Source<'a>
+    requires { place < length words.now }
+    ensures { IfSome (slice_get words.now place) (λ word. IsNamed word.now result) }
+{
+    Source::named(words[usize::from(place)])
+}
+
+/// Writes the bytes of a file over those from `at` on.
+fn put(bytes: &mut Vec<u8>, at: u32, file: &[u8])
+    requires { at + length file.now ≤ length bytes.old.items }
+    ensures { bytes.new.items ≡ replaced at file.now bytes.old.items }
+{
+    let at = at as usize;
+    bytes[at..at + file.len()].copy_from_slice(file);
+}
+
+/// Refuses a flash file that is one of the inputs.
+fn refuse_inputs<H: Host>(
+    host: &H,
+    flash: &str,
+    device: Source<'_>,
+    images: &[&str],
+) -> Result<(), Refusal>
+    ensures device { OnOk result (IsApartFrom (H.apart host.now) flash.now device.entry) }
+    ensures images { OnOk result (AreOthers (H.apart host.now flash.now) images.now) }
+{
+    refuse_input(host, flash, device)?;
+    for image in images {
+        refuse_input(host, flash, Source::named(image))?;
+    }
+    Ok(())
+}
+
+/// Refuses a flash file that is this input, by any name.
+fn refuse_input<H: Host>(host: &H, flash: &str, source: Source<'_>) -> Result<(), Refusal>
+    ensures { OnOk result (IsApartFrom (H.apart host.now) flash.now source.entry) }
+{
+    match source.is_file(host, flash) {
+        Ok(false) => Ok(()),
+        Ok(true) => Err(Refusal::FlashIsInput),
+        Err(_) => Err(Refusal::FlashFile),
+    }
+}
+
+/// Provisions the flash of these bytes, and then makes or replaces its file.
+fn make_flash<L: Ledger, H: Host>(
+    alloc: Global,
+    blank: Blank,
+    map: &SectorMap,
+    bytes: Vec<u8>,
+    file: FlashName<'_>,
+    host: &mut H,
+) -> Result<Provisioned, Refusal>
+    requires name { blank.name ≡ L.name }
+    requires parts { blank.parts ≡ L.parts }
+    requires two { L.parts ≡ 2 }
+    requires whole { IsFlashOf map.now bytes.items }
+    ensures made { IfOk result (λ made.
+        EndsMade made map.now bytes.items (H.file host.new file.entry.name.now)) }
+    ensures refused { IfOk result (λ made. made ≢ Provisioned.Done
+        → KeepsFiles (H.file host.old) (H.file host.new)) }
+    ensures failed { IfErr result (λ _. KeepsFiles (H.file host.old) (H.file host.new)) }
+    ensures others { KeepsApart (H.apart host.old file.entry.name.now)
+        (H.file host.old) (H.file host.new) }
+    ensures opened { H.opened host.new ≡ H.opened host.old }
+{
+    let mut flash = flash_of::<L>(alloc, blank, map, bytes);
+    if let Err(fault) = boot_core::provision(&mut flash, map) {
+        return Ok(Provisioned::Refused(fault));
+    }
+    replace(alloc, file.name, flash.bytes(), host)?;
+    Ok(Provisioned::Done)
+}
+
+/// Makes the file of a flash of these bytes, or replaces it.
+fn replace<H: Host>(alloc: Global, name: &str, bytes: &[u8], host: &mut H) -> Result<(), Refusal>
+    ensures done { OnOk result (IsKnownAs (H.file host.new name.now) bytes.now) }
+    ensures failed { IfErr result (λ _. KeepsFiles (H.file host.old) (H.file host.new)) }
+    ensures others { KeepsApart (H.apart host.old name.now) (H.file host.old) (H.file host.new) }
+    ensures opened { H.opened host.new ≡ H.opened host.old }
+{
+    match host.replace_file(alloc, name, bytes, Replaced::FlashFile) {
+        Ok(()) => Ok(()),
+        Err(FlashFault::InUse) => Err(Refusal::FlashInUse),
+        Err(FlashFault::WrongLength) => Err(Refusal::FlashSize),
+        Err(FlashFault::NoMemory) => Err(Refusal::NoMemory),
+        Err(FlashFault::Failed(_)) => Err(Refusal::FlashFile),
+    }
+}
+
+/// Writes to `out` the result of provisioning a flash. Does not allocate for `Done`.
+fn write_outcome<O: Write>(alloc: Global, made: Provisioned, out: &mut O) -> Result<Answer, Refusal>
+    ensures written { IfOk result (λ answer.
+        AnswersMade answer made (O.contents out.old) (O.contents out.new)) }
+    ensures late { made ≡ Provisioned.Done
+        → IfErr result (λ refusal. refusal ≡ Refusal.CannotWrite) }
+{
+    match made {
+        Provisioned::Done => write_answer(b"done\n", Answer::Done, out),
+        Provisioned::Refused(fault) => write_refused(alloc, fault, out),
+    }
+}
+
+/// Writes to `out` why a flash can't be provisioned, and returns `Refused`.
+pub fn write_refused<O: Write>(alloc: Global, fault: Fault, out: &mut O) -> Result<Answer, Refusal>
+    ensures { IfOk result (λ answer. (answer ≡ Answer.Refused)
+        × Appends (O.contents out.old) (O.contents out.new) (refused_fault_text fault)) }
+{
+    let Ok(text) = refused_fault_text(alloc, fault) else {
+        return Err(Refusal::NoMemory);
+    };
+    write_answer(text.as_bytes(), Answer::Refused, out)
+}
+
+/// Writes the text of an answer to `out`, and returns the answer.
+fn write_answer<O: Write>(text: &[u8], answer: Answer, out: &mut O) -> Result<Answer, Refusal>
+    ensures written { IfOk result (λ written. (written ≡ answer)
+        × Appends (O.contents out.old) (O.contents out.new) text.now) }
+    ensures unwritten { IfErr result (λ refusal. refusal ≡ Refusal.CannotWrite) }
+{
+    match write_all(out, text) {
+        Ok(()) => Ok(answer),
+        Err(_) => Err(Refusal::CannotWrite),
+    }
+}
