@@ -1,0 +1,68 @@
+use Rattle.std.proofs.Common.{inl, inr, refl, rules}
+use Rattle.host.proofs.InputLaws.{KeepsFiles-twice}
+use Rattle.creating.proofs.NewManifestEnds.{asked_refused, precursor_count, running_refused, written}
+use Rattle.creating.proofs.make_manifest.run_make_manifest.Goals as goal
+
+-- What is asked for was refused.
+pub returns-in-Some-fault_in-clause-answers : goal.returns-in-Some-fault_in-clause-answers
+returns-in-Some-fault_in-clause-answers g c =
+    let read = rw c.in-Some.is at c.in_ok-of_device.ensures.read in
+    inr (inl (asked_refused c.args.device c.args.asked.now _ _ _ _ _ c.in-Some.of_device c.in-Some-fault_in.fault _ read.0 read.1
+    c.deref.ensures.value (rw c.in-Some-fault_in.is at c.fault_in.ensures.fault) c.in_ok-refuse.ensures))
+
+-- There is a precursor for each file.
+pub write_manifest-requires-clause-same : goal.write_manifest-requires-clause-same
+write_manifest-requires-clause-same g c =
+    let flash = rw c.in-Are.is at c.in_ok-running.ensures.read in
+    precursor_count c.in-Some.of_device.map flash.flash c.args.asked.now.components.items c.in-Are.running.digests.items flash.are
+
+-- The manifest was written.
+pub returns-else-asked-clause-answers : goal.returns-else-asked-clause-answers
+returns-else-asked-clause-answers g c =
+    let read = rw c.in-Some.is at c.in_ok-of_device.ensures.read in
+    let flash = rw c.in-Are.is at c.in_ok-running.ensures.read in
+    written c.args.device c.args.asked.now _ _ _ _ _ _ _ _ _ c.in-Some.of_device c.in-Are.running.digests.items _ read.0 read.1
+    c.in_ok-of_device.ensures.others flash refl c.in_ok-takes_all-in-Are.ensures.written
+
+-- It was, and the device will not take all of its files, which is asked for.
+pub returns-then-not-takes_all-clause-answers : goal.returns-then-not-takes_all-clause-answers
+returns-then-not-takes_all-clause-answers g c =
+    let read = rw c.in-Some.is at c.in_ok-of_device.ensures.read in
+    let flash = rw c.in-Are.is at c.in_ok-running.ensures.read in
+    inr (inr (inr (
+      search rules,
+      written c.args.device c.args.asked.now _ _ _ _ _ _ _ _ _ c.in-Some.of_device c.in-Are.running.digests.items _ read.0 read.1
+          c.in_ok-of_device.ensures.others flash refl c.in_ok-takes_all-in-Are.ensures.written,
+    )))
+
+-- An image that runs was damaged.
+pub returns-in_ok-refuse_running-in-DamagedAt-clause-answers : goal.returns-in_ok-refuse_running-in-DamagedAt-clause-answers
+returns-in_ok-refuse_running-in-DamagedAt-clause-answers g c =
+    let read = rw c.in-Some.is at c.in_ok-of_device.ensures.read in
+    let damaged = rw c.in-DamagedAt.is at c.in_ok-running.ensures.read in
+    inr (inr (inl (running_refused c.args.device c.args.asked.now _ _ _ _ _ _ _ c.in-Some.of_device c.in-DamagedAt.image read.0 read.1
+    c.in_ok-of_device.ensures.others damaged c.in_ok-refuse_running-in-DamagedAt.ensures)))
+
+-- No file changed, whatever was read.
+pub returns-in_err-takes_all-in-Are-clause-files : goal.returns-in_err-takes_all-in-Are-clause-files
+returns-in_err-takes_all-in-Are-clause-files g c =
+    KeepsFiles-twice _ _ _ c.in_ok-of_device.ensures.files
+    (KeepsFiles-twice _ _ _ c.in_ok-running.ensures.files c.in_err-takes_all-in-Are.ensures.files)
+
+pub returns-else-asked-clause-files : goal.returns-else-asked-clause-files
+returns-else-asked-clause-files g c =
+    KeepsFiles-twice _ _ _ c.in_ok-of_device.ensures.files
+    (KeepsFiles-twice _ _ _ c.in_ok-running.ensures.files c.in_ok-takes_all-in-Are.ensures.files)
+
+pub returns-then-not-takes_all-clause-files : goal.returns-then-not-takes_all-clause-files
+returns-then-not-takes_all-clause-files g c =
+    KeepsFiles-twice _ _ _ c.in_ok-of_device.ensures.files
+    (KeepsFiles-twice _ _ _ c.in_ok-running.ensures.files c.in_ok-takes_all-in-Are.ensures.files)
+
+pub returns-in_err-refuse_running-in-DamagedAt-clause-files : goal.returns-in_err-refuse_running-in-DamagedAt-clause-files
+returns-in_err-refuse_running-in-DamagedAt-clause-files g c =
+    KeepsFiles-twice _ _ _ c.in_ok-of_device.ensures.files c.in_ok-running.ensures.files
+
+pub returns-in_ok-refuse_running-in-DamagedAt-clause-files : goal.returns-in_ok-refuse_running-in-DamagedAt-clause-files
+returns-in_ok-refuse_running-in-DamagedAt-clause-files g c =
+    KeepsFiles-twice _ _ _ c.in_ok-of_device.ensures.files c.in_ok-running.ensures.files

@@ -1,0 +1,179 @@
+//! `bootswap extract`: copies the image in a slot of a flash into a file.
+ghost use Rattle.std.specs.Prelude.{◌≡◌, ◌≢◌, ◌<◌, ◌≤◌, IfErr, IfOk, length, slice_range, true};
+ghost use Rattle.std.specs.Prelude.{string_bytes};
+ghost use Rattle.sector_map.specs.Map.{IsLaidOut};
+ghost use Rattle.device_texts.specs.AnswerText.{refused_text};
+ghost use Rattle.device_texts.specs.FlashOf.{IsFlashOf, flash_of};
+ghost use Rattle.host.specs.Input.{KeepsFiles};
+ghost use Rattle.creating.specs.CopyEnd.{AnswersCopied, AnswersCopy, EndsCopy, IsImageOf};
+ghost use Rattle.host.specs.Doings.{KeepsApart, KeepsSource};
+ghost use Rattle.creating.specs.NewFileEnd.{MayReplace, Replaces};
+ghost use Rattle.creating.specs.NewImageEnd.{EndsUnmade};
+ghost use Rattle.image_reading.specs.Codes.{code_of, name_of};
+ghost use Rattle.image_reading.specs.Fault.{IsFrontFault};
+ghost use Rattle.image_reading.specs.Slot.{slot_bytes};
+
+use crate::image_file::{refuse_input, replace};
+use crate::telling::tell;
+use command_line::NewFile;
+use device_texts::{flash_of, refused_text};
+use flash_model::Flash;
+use host::{Access, Answer, Host, Refusal, Source};
+use image_reading::{ImageError, SlotError, describe_slot};
+use inputs::{read_device, read_flash};
+use sector_map::{SectorMap, Side};
+use std::alloc::{AllocError, Global};
+use std::io::Write;
+use std::marker::Brand;
+use std::sync::ledger::{Blank, Ledger};
+
+/// The slot that is copied, and the file that it is copied into.
+#[derive(Clone, Copy)]
+pub struct Copying<'a> {
+    /// The number of the image.
+    pub image: u8,
+    /// The side of its slot.
+    pub side: Side,
+    /// The file.
+    pub out: NewFile<'a>,
+}
+
+/// The result of copying an image.
+#[derive(Clone, Copy)]
+pub enum Copied {
+    /// The file holds the image.
+    Done,
+    /// The slot doesn't begin with an image: the first check that fails. No file was written.
+    Refused(ImageError),
+}
+
+/// Reads a device file and the flash of the device from `host`, and copies the intact image that a
+/// slot begins with into a file, which is made or replaced. Writes to `out` that it is done, or why
+/// there is no image. All bytes are in memory of `alloc`.
+///
+/// The file can't be one of the inputs, which never change, and the flash is opened only to be
+/// read. A file that exists is replaced only if it is an image, is empty, or `--force` is given. It
+/// changes only if the answer is `Done` or can't be written.
+pub fn run_extract<H: Host, O: Write>(
+    alloc: Global,
+    device: Source<'_>,
+    flash: Source<'_>,
+    copying: Copying<'_>,
+    host: &mut H,
+    out: &mut O,
+) -> Result<Answer, Refusal>
+    ensures answers { IfOk result (λ answer.
+        AnswersCopy answer device.entry flash.entry copying.entry.image copying.entry.side
+        (H.input host.old) (H.file host.old) (H.file host.new copying.entry.out.name.now)
+        (O.contents out.old) (O.contents out.new)) }
+    ensures replaces { IfOk result (λ answer.
+        Replaces answer copying.entry.out (H.file host.old)) }
+    ensures kept { EndsUnmade result → KeepsFiles (H.file host.old) (H.file host.new) }
+    ensures inputs { KeepsSource device.entry (H.file host.old) (H.file host.new)
+        × KeepsSource flash.entry (H.file host.old) (H.file host.new) }
+    ensures to_read { (H.opened host.new).to_write ≡ (H.opened host.old).to_write }
+{
+    let Some(of_device) = read_device(alloc, device, host, out)? else {
+        return Ok(Answer::Refused);
+    };
+    let map = &of_device.map;
+    if copying.image >= map.images {
+        return Err(Refusal::NoImage(copying.image));
+    }
+    let bytes = read_flash(alloc, flash, map, Access::Read, host)?;
+    refuse_input(alloc, host, copying.out.name, device)?;
+    refuse_input(alloc, host, copying.out.name, flash)?;
+    let copied = copy::<Brand, _>(alloc, Blank::new(2), map, bytes, copying, host)?;
+    tell_copied(alloc, copied, out)
+}
+
+/// Copies the image that a slot begins with into a file. The flash has these bytes.
+fn copy<L: Ledger, H: Host>(
+    alloc: Global,
+    blank: Blank,
+    map: &SectorMap,
+    bytes: Vec<u8>,
+    copying: Copying<'_>,
+    host: &mut H,
+) -> Result<Copied, Refusal>
+    requires name { blank.name ≡ L.name }
+    requires parts { blank.parts ≡ L.parts }
+    requires two { L.parts ≡ 2 }
+    requires whole { IsFlashOf map.now bytes.items }
+    requires there { copying.image < map.now.images }
+    ensures copied { IfOk result (λ copied.
+        EndsCopy copied map.now (flash_of map.now bytes.items) copying.entry.image
+        copying.entry.side (H.file host.new copying.entry.out.name.now)) }
+    ensures replaces { IfOk result (λ copied. copied ≡ Copied.Done
+        → MayReplace copying.entry.out.is_forced (H.file host.old copying.entry.out.name.now)) }
+    ensures refused { IfOk result (λ copied. copied ≢ Copied.Done
+        → KeepsFiles (H.file host.old) (H.file host.new)) }
+    ensures failed { IfErr result (λ _. KeepsFiles (H.file host.old) (H.file host.new)) }
+    ensures others { KeepsApart (H.apart host.old copying.entry.out.name.now)
+        (H.file host.old) (H.file host.new) }
+    ensures opened { H.opened host.new ≡ H.opened host.old }
+{
+    let mut flash = flash_of::<L>(alloc, blank, map, bytes);
+    let length = match image_length(&mut flash, map, copying.image, copying.side) {
+        Ok(length) => length,
+        Err(fault) => return Ok(Copied::Refused(fault)),
+    };
+    let at = map.slot_start(copying.image, copying.side) as usize;
+    replace(alloc, copying.out, &flash.bytes()[at..at + length], host)?;
+    Ok(Copied::Done)
+}
+
+/// The length of the image that a slot begins with, or the first check that fails. The flash has
+/// power.
+fn image_length<F: Flash>(
+    flash: &mut F,
+    map: &SectorMap,
+    image: u8,
+    side: Side,
+) -> Result<usize, ImageError>
+    requires laid_out { IsLaidOut map.now (F.chip flash.old) }
+    requires there { image < map.now.images }
+    requires on { (F.chip flash.old).is_on ≡ true }
+    ensures same { F.chip flash.new ≡ F.chip flash.old }
+    ensures image { IfOk result (λ long. IsImageOf (slot_bytes map.now (F.chip flash.old) image side)
+        (slice_range (slot_bytes map.now (F.chip flash.old) image side) 0 long)) }
+    ensures fits { IfOk result (λ long.
+        long ≤ length (slot_bytes map.now (F.chip flash.old) image side)) }
+    ensures fault { IfErr result
+        (IsFrontFault (slot_bytes map.now (F.chip flash.old) image side)) }
+{
+    match describe_slot(flash, map, image, side) {
+        Ok(description) => Ok(description.length as usize),
+        Err(SlotError::Image(fault)) => Err(fault),
+        Err(SlotError::Flash(_) | SlotError::NoMemory) => unreachable!(),
+    }
+}
+
+/// Writes to `out` the result of copying. Does not allocate for `Done`.
+fn tell_copied<O: Write>(alloc: Global, copied: Copied, out: &mut O) -> Result<Answer, Refusal>
+    ensures told { IfOk result (λ answer.
+        AnswersCopied answer copied (O.contents out.old) (O.contents out.new)) }
+    ensures late { copied ≡ Copied.Done → IfErr result (λ refusal. refusal ≡ Refusal.CannotWrite) }
+{
+    match copied {
+        Copied::Done => {
+            tell(b"done\n", out)?;
+            Ok(Answer::Done)
+        }
+        Copied::Refused(fault) => {
+            let Ok(text) = fault_text(alloc, fault) else {
+                return Err(Refusal::NoMemory);
+            };
+            tell(text.as_bytes(), out)?;
+            Ok(Answer::Refused)
+        }
+    }
+}
+
+/// The text for a slot without an image: the number and the name of the first check that fails.
+fn fault_text(alloc: Global, fault: ImageError) -> Result<String, AllocError>
+    ensures { IfOk result (λ text. string_bytes text
+        ≡ refused_text (code_of fault) (name_of fault)) }
+{
+    refused_text(alloc, fault.code(), fault.name())
+}

@@ -1,0 +1,199 @@
+//! `bootswap make-manifest`: makes the manifest that lets files come to a device.
+ghost use Rattle.std.specs.Prelude.{◌≡◌, ◌↔◌, Any, IfNone, IfOk, IfSome, IsTrue, OnOk, length};
+ghost use Rattle.std.specs.Prelude.{string_bytes, true};
+ghost use Rattle.std.specs.Io.KnownBytes.{Appends};
+ghost use Rattle.device_texts.specs.AnswerText.{refused_text};
+ghost use Rattle.device_texts.specs.ReplyText.{refused_fault_text};
+ghost use Rattle.machine.specs.declared.error.Fault.TheVariants.{RunningDamaged};
+ghost use Rattle.creating.specs.NewManifestEnd.{AnswersNewManifest, HaveImages, IsFault};
+ghost use Rattle.creating.specs.NewManifestEnd.{Repeats};
+ghost use Rattle.creating.specs.NewManifestSteps.{IsReadBack, Writes};
+ghost use Rattle.host.specs.Input.{KeepsFiles};
+ghost use Rattle.manifest.specs.Codes.{code_of, name_of};
+
+use crate::manifest_json::manifest_json;
+use crate::new_components::read_components;
+use crate::next_boot::write_decisions;
+use crate::precursors::{Precursors, Running, read_precursors};
+use crate::telling::tell;
+use command_line::{NewComponent, NewManifest};
+use device_texts::{DeviceFile, refused_fault_text, refused_text};
+use host::{Answer, Host, Refusal, Source};
+use inputs::read_device;
+use machine::Fault;
+use manifest::{Identity, Manifest, ManifestError};
+use std::alloc::{AllocError, Global};
+use std::io::Write;
+
+/// Reads a device file, each file that may come, and, if it is given, the flash of the precursors
+/// from `host`, and writes the manifest to `out`. If there is no such manifest for the device,
+/// writes the reason to `out` instead. Then writes notes to `err`: which of the files the device
+/// will not take, and whether it tries files that are to stay. With `--strict` the answer is
+/// `Refused` if the device will not take one of the files.
+///
+/// The manifest is made in memory of `alloc` and read back before it is written. `out` is flushed
+/// before anything is written to `err`.
+pub fn run_make_manifest<H: Host, O: Write, E: Write>(
+    alloc: Global,
+    device: Source<'_>,
+    asked: &NewManifest<'_>,
+    host: &mut H,
+    out: &mut O,
+    err: &mut E,
+) -> Result<Answer, Refusal>
+    ensures answers { IfOk result (λ answer. AnswersNewManifest answer device.entry asked.now
+        (H.input host.old) (H.file host.old) (O.contents out.old) (O.contents out.new)) }
+    ensures files { KeepsFiles (H.file host.old) (H.file host.new) }
+    ensures to_read { (H.opened host.new).to_write ≡ (H.opened host.old).to_write }
+{
+    let Some(of_device) = read_device(alloc, device, host, out)? else {
+        return Ok(Answer::Refused);
+    };
+    if let Some(fault) = fault_in(&asked.components, of_device.map.images) {
+        refuse(alloc, fault, out)?;
+        return Ok(Answer::Refused);
+    }
+    match read_precursors(alloc, &of_device.map, asked, host)? {
+        Precursors::Are(running) => {
+            let takes_all = write_manifest(alloc, &of_device, asked, running, host, out, err)?;
+            if asked.is_strict && !takes_all {
+                return Ok(Answer::Refused);
+            }
+            Ok(Answer::Done)
+        }
+        Precursors::DamagedAt(image) => {
+            refuse_running(alloc, image, out)?;
+            Ok(Answer::Refused)
+        }
+    }
+}
+
+/// The fault in the list of files, for a device with this number of images.
+fn fault_in(asked: &[NewComponent<'_>], images: u8) -> Option<ManifestError>
+    ensures fault { IfSome result (IsFault images asked.now) }
+    ensures sound { IfNone result (HaveImages images asked.now) }
+{
+    if !have_images(asked, images) {
+        return Some(ManifestError::NoComponent);
+    }
+    if repeats(asked) {
+        return Some(ManifestError::RepeatedComponent);
+    }
+    None
+}
+
+/// Whether each file is for an image that the device has.
+fn have_images(asked: &[NewComponent<'_>], images: u8) -> bool
+    ensures { IsTrue result ↔ HaveImages images asked.now }
+{
+    asked.iter().all(|component| component.image < images)
+}
+
+/// Whether two files are for the same image.
+fn repeats(asked: &[NewComponent<'_>]) -> bool
+    ensures { result ≡ true → Repeats asked.now }
+{
+    for (place, component) in asked.iter().enumerate() {
+        if is_named(&asked[..place], component.image) {
+            return true;
+        }
+    }
+    false
+}
+
+/// Whether one of these files is for this image.
+pub(crate) fn is_named(asked: &[NewComponent<'_>], image: u8) -> bool
+    ensures { IsTrue result ↔ Any (λ component. component.image ≡ image) asked.now }
+{
+    asked.iter().any(|component| component.image == image)
+}
+
+/// Reads the files that may come, writes the manifest that lets them come while these images run to
+/// `out`, and notes to `err`: which of the files the device or its next boot will not take, and
+/// whether it tries files that are to stay. Returns whether it will take all of them, as far as
+/// that is known.
+fn write_manifest<H: Host, O: Write, E: Write>(
+    alloc: Global,
+    device: &DeviceFile,
+    asked: &NewManifest<'_>,
+    running: Running,
+    host: &mut H,
+    out: &mut O,
+    err: &mut E,
+) -> Result<bool, Refusal>
+    requires same { length running.digests.items ≡ length asked.now.components.items }
+    requires there { HaveImages device.now.map.images asked.now.components.items }
+    ensures written { OnOk result (Writes device.now asked.now running.digests.items
+        (H.input host.old) (H.file host.old) (O.contents out.old) (O.contents out.new)) }
+    ensures files { KeepsFiles (H.file host.old) (H.file host.new) }
+    ensures opened { H.opened host.new ≡ H.opened host.old }
+{
+    let mut notes = String::new(alloc);
+    let Running { digests, mut table } = running;
+    let (map, files, follow) = (&device.map, asked.components.as_slice(), digests.as_slice());
+    let components = read_components(alloc, map, files, follow, host, &mut table, &mut notes)?;
+    let fit = notes.is_empty();
+    let Ok(are_bootable) = write_decisions(&mut notes, files, &table) else {
+        return Err(Refusal::NoMemory);
+    };
+    let manifest = Manifest {
+        sequence: asked.sequence,
+        components,
+    };
+    let Ok(text) = manifest_json(alloc, &device.identity, &manifest) else {
+        return Err(Refusal::NoMemory);
+    };
+    expect_manifest(alloc, text.as_bytes(), &device.identity, &manifest)?;
+    tell(text.as_bytes(), out)?;
+    tell(notes.as_bytes(), err)?;
+    Ok(fit && are_bootable)
+}
+
+/// Refuses a text that isn't this manifest, to a device of this identity.
+///
+/// It never refuses, unless memory runs out: the text was made of this manifest. How the text is
+/// made isn't proved. It is proved that the text reads back as the manifest.
+fn expect_manifest(
+    alloc: Global,
+    text: &[u8],
+    identity: &Identity,
+    manifest: &Manifest,
+) -> Result<(), Refusal>
+    ensures { OnOk result (IsReadBack identity.now text.now manifest.now) }
+{
+    match Manifest::read(alloc, text, identity) {
+        Ok(read) if read == *manifest => Ok(()),
+        Err(ManifestError::NoMemory) => Err(Refusal::NoMemory),
+        _ => Err(Refusal::Manifest),
+    }
+}
+
+/// Writes to `out` why there is no manifest: the number and the name of the refusal.
+fn refuse<O: Write>(alloc: Global, fault: ManifestError, out: &mut O) -> Result<(), Refusal>
+    ensures { OnOk result (Appends (O.contents out.old) (O.contents out.new)
+        (refused_text (code_of fault) (name_of fault))) }
+{
+    let Ok(text) = fault_text(alloc, fault) else {
+        return Err(Refusal::NoMemory);
+    };
+    tell(text.as_bytes(), out)
+}
+
+/// The text for files that make no manifest: the number and the name of the refusal.
+fn fault_text(alloc: Global, fault: ManifestError) -> Result<String, AllocError>
+    ensures { IfOk result (λ text. string_bytes text
+        ≡ refused_text (code_of fault) (name_of fault)) }
+{
+    refused_text(alloc, fault.code(), fault.name())
+}
+
+/// Writes to `out` that the running image of this number isn't intact.
+fn refuse_running<O: Write>(alloc: Global, image: u8, out: &mut O) -> Result<(), Refusal>
+    ensures { OnOk result (Appends (O.contents out.old) (O.contents out.new)
+        (refused_fault_text (RunningDamaged image))) }
+{
+    let Ok(text) = refused_fault_text(alloc, Fault::RunningDamaged(image)) else {
+        return Err(Refusal::NoMemory);
+    };
+    tell(text.as_bytes(), out)
+}

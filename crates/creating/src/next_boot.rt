@@ -1,0 +1,120 @@
+//! What boots would decide about the files of a manifest: only for its notes.
+
+use crate::make_manifest::is_named;
+use certificate::{Reason, Request, Table, is_valid};
+use chooser::choose;
+use command_line::NewComponent;
+use decision::entry_of;
+use image_reading::{Desc, ImageError};
+use std::alloc::AllocError;
+use version_order::Dependency;
+
+/// Requests a file for an image of a table, if there is one.
+pub fn request(table: &mut Option<Table>, image: u8, file: Result<Desc, ImageError>) {
+    let request = match file {
+        Ok(description) => Request::Entry(entry_of(description)),
+        Err(_) => Request::Damaged,
+    };
+    let Some(table) = table else {
+        return;
+    };
+    if let Some(row) = table.images.get_mut(usize::from(image)) {
+        row.request = request;
+    }
+}
+
+/// Appends to the notes what a boot decides about the files: that it tries some that are to stay,
+/// and a line for each file that it would refuse by this table. Returns whether it would refuse
+/// none.
+pub fn write_decisions(
+    notes: &mut String,
+    asked: &[NewComponent<'_>],
+    table: &Option<Table>,
+) -> Result<bool, AllocError> {
+    if asks_for_both(asked) {
+        writeln!(
+            notes,
+            "note: a boot tries these images as a set: those of --permanent revert too unless each \
+             is confirmed"
+        )?;
+    }
+    let before = notes.len();
+    write_refusals(notes, asked, table)?;
+    Ok(notes.len() == before)
+}
+
+/// Whether there are files of both kinds: for a test, and to stay.
+fn asks_for_both(asked: &[NewComponent<'_>]) -> bool {
+    asked.iter().any(|component| component.permanent)
+        && asked.iter().any(|component| !component.permanent)
+}
+
+/// Appends to the notes a line for each file that a boot by this table would refuse, with the
+/// reason.
+fn write_refusals(
+    notes: &mut String,
+    asked: &[NewComponent<'_>],
+    table: &Option<Table>,
+) -> Result<(), AllocError> {
+    let Some(table) = table else {
+        return Ok(());
+    };
+    if !is_valid(table) {
+        return Ok(());
+    }
+    let report = choose(table);
+    for refusal in report.refusals.as_slice() {
+        if is_told(asked, refusal.image, &refusal.reason) {
+            let (image, reason) = (refusal.image, &refusal.reason);
+            writeln!(notes, "note: a boot would refuse image {image}: {reason}")?;
+        }
+    }
+    Ok(())
+}
+
+/// Whether a refusal is reported: it is about a requested image whose file is an image.
+fn is_told(asked: &[NewComponent<'_>], image: u8, reason: &Reason) -> bool {
+    is_named(asked, image) && !matches!(reason, Reason::Damaged)
+}
+
+/// Appends to the notes why each boot of a device with this number of images would refuse a file,
+/// with the first reason of a report: the image needs one that the device doesn't have, or a higher
+/// version of itself.
+pub fn write_lack(
+    notes: &mut String,
+    images: u8,
+    image: u8,
+    file: &Result<Desc, ImageError>,
+) -> Result<(), AllocError> {
+    let Ok(description) = file else {
+        return Ok(());
+    };
+    match lack_of(description, images, image) {
+        Some(reason) => writeln!(notes, "note: a boot would refuse image {image}: {reason}"),
+        None => Ok(()),
+    }
+}
+
+/// A need of an image of this number that no device with this number of images can meet.
+fn lack_of(description: &Desc, images: u8, image: u8) -> Option<Reason> {
+    for need in description.dependencies.iter() {
+        if need.image >= images {
+            return Some(Reason::NoSuchImage(need.image));
+        }
+        if !can_have(description, images, image, need) {
+            return Some(Reason::Needs(need.image, need.minimum));
+        }
+    }
+    for group in description.groups.iter() {
+        let mut needs = group.alternatives.iter();
+        if !needs.any(|need| can_have(description, images, image, need)) {
+            return Some(Reason::NeedsOne(group.copied()));
+        }
+    }
+    None
+}
+
+/// Whether some device with so many images meets a dependency of an image of this number.
+fn can_have(description: &Desc, images: u8, image: u8, need: &Dependency) -> bool {
+    need.image < images && (need.image != image || description.version >= need.minimum)
+}

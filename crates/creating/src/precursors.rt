@@ -1,0 +1,142 @@
+//! The precursors of a manifest: the images that have to run when its files come, read from a
+//! flash.
+ghost use Rattle.std.specs.Prelude.{◌≡◌, ◌<◌, IfOk, true};
+ghost use Rattle.sector_map.specs.Map.{IsLaidOut};
+ghost use Rattle.host.specs.Input.{KeepsFiles};
+ghost use Rattle.device_texts.specs.FlashOf.{IsFlashOf, flash_of};
+ghost use Rattle.creating.specs.NewManifestEnd.{HaveImages};
+ghost use Rattle.creating.specs.NewManifestSteps.{FindsNone, FindsPrecursor};
+ghost use Rattle.creating.specs.NewManifestSteps.{FindsPrecursors, ReadsPrecursors};
+
+use arrayvec::ArrayVec;
+use certificate::Table;
+use command_line::{NewComponent, NewManifest};
+use device_texts::flash_of;
+use flash_model::Flash;
+use host::{Access, Host, Refusal, Source};
+use image_reading::describe_slot;
+use inputs::{read_flash, table_on};
+use manifest::MOST_COMPONENTS;
+use sector_map::{SectorMap, Side};
+use std::alloc::Global;
+use std::marker::Brand;
+use std::sync::ledger::{Blank, Ledger};
+
+/// The images that have to run when the files of a manifest come.
+#[derive(Drop)]
+pub struct Running {
+    /// For each file, the digest of the image that has to run. `None` if any may run.
+    pub digests: ArrayVec<Option<[u8; 32]>, MOST_COMPONENTS>,
+    /// The running and requested images, if a flash has them: only for notes.
+    pub table: Option<Table>,
+}
+
+/// The result of reading the precursors.
+#[derive(Drop)]
+pub enum Precursors {
+    /// The precursors, for each file.
+    Are(Running),
+    /// The running image of this number isn't intact, and a file is for it.
+    DamagedAt(u8),
+}
+
+/// The precursors on the flash of the arguments, which is read from `host` into memory of `alloc`:
+/// for each file, the digest of the running image. If the arguments name no flash, nothing is read
+/// and any image may run.
+///
+/// # Errors
+/// `Manifest` if there are more files than a manifest can have components, and the errors of
+/// [`read_flash`].
+pub fn read_precursors<H: Host>(
+    alloc: Global,
+    map: &SectorMap,
+    asked: &NewManifest<'_>,
+    host: &mut H,
+) -> Result<Precursors, Refusal>
+    requires there { HaveImages map.now.images asked.now.components.items }
+    ensures read { IfOk result (ReadsPrecursors map.now asked.now
+        (H.input host.old) (H.file host.old) (H.input host.new) (H.file host.new)) }
+    ensures files { KeepsFiles (H.file host.old) (H.file host.new) }
+    ensures to_read { (H.opened host.new).to_write ≡ (H.opened host.old).to_write }
+{
+    let components = asked.components.as_slice();
+    let Some(flash) = asked.precursor else {
+        return any_precursors(components);
+    };
+    let bytes = read_flash(alloc, Source::named(flash), map, Access::Read, host)?;
+    precursors_in::<Brand>(alloc, Blank::new(2), map, bytes, components)
+}
+
+/// Any image may run, for each of these files.
+fn any_precursors(asked: &[NewComponent<'_>]) -> Result<Precursors, Refusal>
+    ensures { IfOk result (FindsNone asked.now) }
+{
+    let mut digests = ArrayVec::new();
+    for _ in asked {
+        if digests.is_full() {
+            return Err(Refusal::Manifest);
+        }
+        digests.push(None);
+    }
+    let table = None;
+    Ok(Precursors::Are(Running { digests, table }))
+}
+
+/// The running images on a flash of these bytes, for each of these files.
+fn precursors_in<L: Ledger>(
+    alloc: Global,
+    blank: Blank,
+    map: &SectorMap,
+    bytes: Vec<u8>,
+    asked: &[NewComponent<'_>],
+) -> Result<Precursors, Refusal>
+    requires name { blank.name ≡ L.name }
+    requires parts { blank.parts ≡ L.parts }
+    requires two { L.parts ≡ 2 }
+    requires whole { IsFlashOf map.now bytes.items }
+    requires there { HaveImages map.now.images asked.now }
+    ensures { IfOk result (FindsPrecursors map.now (flash_of map.now bytes.items) asked.now) }
+{
+    let mut flash = flash_of::<L>(alloc, blank, map, bytes);
+    precursors_on(&mut flash, map, asked)
+}
+
+/// The running images on a flash that has power, for each of these files.
+fn precursors_on<F: Flash>(
+    flash: &mut F,
+    map: &SectorMap,
+    asked: &[NewComponent<'_>],
+) -> Result<Precursors, Refusal>
+    requires laid_out { IsLaidOut map.now (F.chip flash.old) }
+    requires there { HaveImages map.now.images asked.now }
+    requires on { (F.chip flash.old).is_on ≡ true }
+    ensures { IfOk result (FindsPrecursors map.now (F.chip flash.old) asked.now) }
+{
+    let table = table_on(flash, map);
+    let mut digests = ArrayVec::new();
+    for component in asked {
+        let Some(digest) = running_digest(flash, map, component.image) else {
+            return Ok(Precursors::DamagedAt(component.image));
+        };
+        if digests.is_full() {
+            return Err(Refusal::Manifest);
+        }
+        digests.push(Some(digest));
+    }
+    Ok(Precursors::Are(Running { digests, table }))
+}
+
+/// The digest of the running image of this number, on a flash that has power. `None` if it isn't
+/// intact.
+fn running_digest<F: Flash>(flash: &mut F, map: &SectorMap, image: u8) -> Option<[u8; 32]>
+    requires laid_out { IsLaidOut map.now (F.chip flash.old) }
+    requires there { image < map.now.images }
+    requires on { (F.chip flash.old).is_on ≡ true }
+    ensures same { F.chip flash.new ≡ F.chip flash.old }
+    ensures found { FindsPrecursor map.now (F.chip flash.old) image result }
+{
+    match describe_slot(flash, map, image, Side::Primary) {
+        Ok(description) => Some(description.digest),
+        Err(_) => None,
+    }
+}

@@ -1,5 +1,0 @@
-use Rattle.making_commands.proofs.extract.perform.Given as goal
-
--- the token that the flash is made with
-abbrev pub ghosts-copy : goal.ghosts-copy
-ghosts-copy g a = record { name = a.blank.name; parts = a.blank.parts }

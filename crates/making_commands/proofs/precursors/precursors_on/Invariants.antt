@@ -1,9 +1,0 @@
-use Rattle.std.proofs.Common.{◌≡◌, Some, take}
-use Rattle.making_commands.specs.NewManifestSteps.{ArePrecursors}
-use Rattle.making_commands.proofs.precursors.precursors_on.Given as goal
-
--- the flash is as it was, and so far these images run
-abbrev pub invariant-loop-component : goal.invariant-loop-component
-invariant-loop-component g l =
-    (g.F.Flash.chip l.flash ≡ g.F.Flash.chip l.fn.flash)
-    × ArePrecursors l.map (Some (g.F.Flash.chip l.fn.flash)) (take l.component-index l.asked) l.digests.items
