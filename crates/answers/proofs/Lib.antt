@@ -1,2 +1,0 @@
-mod SlotLaws
-mod TextLaws

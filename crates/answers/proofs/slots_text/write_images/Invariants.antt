@@ -1,9 +1,0 @@
-use Rattle.std.proofs.Common.{◌≡◌, ◌++◌, string_bytes, take}
-use Rattle.std.specs.List.{flat_map}
-use Rattle.answers.specs.SlotsText.{image_text}
-use Rattle.answers.proofs.slots_text.write_images.Given as goal
-
--- what is said of the images so far stands behind the text as it was
-abbrev pub invariant-loop-slots : goal.invariant-loop-slots
-invariant-loop-slots l =
-    string_bytes l.text ≡ string_bytes l.fn.text ++ flat_map image_text (take l.slots-index l.images)

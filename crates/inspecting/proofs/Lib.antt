@@ -1,0 +1,5 @@
+mod AnswerLaws
+mod SlotLaws
+mod TextLaws
+mod WrittenLaws
+pub mod ReadingLaws

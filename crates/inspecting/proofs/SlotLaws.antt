@@ -1,0 +1,18 @@
+-- The slots of images that are found one after the other.
+use Rattle.std.proofs.Common.{ℕ, ◌+◌, List, [], ◌∷◌, ◌++◌, subst, sym}
+use Rattle.std.specs.List.{AllZip, range_with_len}
+use Rattle.common.proofs.Mapped.{AllZip-push}
+use Rattle.flash_model.specs.Chip.{Chip}
+use Rattle.sector_map.specs.declared.layout.SectorMap.{SectorMap}
+use Rattle.set_log.specs.declared.state.State.{State}
+use Rattle.inspecting.specs.SlotsFound.{AreSlotsOf, AreSlotsUpTo}
+use Rattle.inspecting.specs.declared.slots_found.ImageSlots.{ImageSlots}
+use Rattle.device_texts.proofs.TextLaws.{range-more}
+
+-- those of one image more
+pub AreSlotsUpTo-more : (map : SectorMap) (chip : Chip) (state : State) (n : ℕ) (all : List ImageSlots)
+    (slots : ImageSlots) → AreSlotsUpTo map chip state n all → AreSlotsOf map chip state n slots
+    → AreSlotsUpTo map chip state (n + 1) (all ++ slots ∷ [])
+AreSlotsUpTo-more map chip state n all slots each one =
+    subst (λ (numbers : List ℕ). AllZip (AreSlotsOf map chip state) numbers (all ++ slots ∷ [])) (sym (range-more n))
+    (AllZip-push (AreSlotsOf map chip state) (range_with_len 0 n) all n slots each one)

@@ -1,0 +1,59 @@
+-- Answers that are written: from what a writer took to what the answer stands for.
+use Rattle.std.proofs.Common.{◌≡◌, inl, inr, ℕ, List, Option, Result, Ok, Err, IfErr, IfOk, subst, sym}
+use Rattle.std.proofs.KnownBytes.{Appends-kept}
+use Rattle.std.specs.Io.KnownBytes.{Keeps}
+use Rattle.host.specs.declared.answer.Answer.{Answer}
+use Rattle.host.specs.declared.error.Refusal.{Refusal}
+use Rattle.host.specs.declared.error.Refusal.TheVariants.{NoMemory, CannotWrite}
+use Rattle.inspecting.specs.Written.{WritesAnswer, WritesText}
+
+-- what holds of both ways that writing a text may end
+pub text-written : (has_text : Answer → List ℕ → Type 0) (holds : Result Answer Refusal → Type 0)
+    (answer : Answer) (text : List ℕ) (result : Result Answer Refusal) (old new : Option (List ℕ))
+    → (WritesAnswer has_text (Ok answer) old new → holds (Ok answer))
+    → (WritesAnswer has_text (Err CannotWrite) old new → holds (Err CannotWrite))
+    → has_text answer text → WritesText answer text result old new → holds result
+text-written has_text holds answer text result old new done failed has (inl written) =
+    subst holds (sym written.0) (done (text, has, written.1))
+text-written has_text holds answer text result old new done failed has (inr written) =
+    subst holds (sym written.0) (failed (answer, text, has, written.1))
+
+-- what holds of each way that writing an answer may end, whose text was made in memory
+pub answer-written : {T E : Type 0} (made : Result T E) (bytes_of : T → List ℕ)
+    (has_text : Answer → List ℕ → Type 0) (holds : Result Answer Refusal → Type 0) (answer : Answer)
+    (result : Result Answer Refusal) (old new : Option (List ℕ)) (claim : T → Type 0)
+    → (WritesAnswer has_text (Err NoMemory) old new → holds (Err NoMemory))
+    → (WritesAnswer has_text (Ok answer) old new → holds (Ok answer))
+    → (WritesAnswer has_text (Err CannotWrite) old new → holds (Err CannotWrite))
+    → ((text : T) → claim text → has_text answer (bytes_of text)) → IfOk made claim
+    → IfErr made (λ _. (result ≡ Err NoMemory) × Keeps old new)
+    → IfOk made (λ text. WritesText answer (bytes_of text) result old new) → holds result
+answer-written (Ok text) bytes_of has_text holds answer result old new claim none done failed has claimed unmade written =
+    text-written has_text holds answer (bytes_of text) result old new done failed (has text claimed) written
+answer-written (Err fault) bytes_of has_text holds answer result old new claim none done failed has claimed unmade written =
+    subst holds (sym unmade.0) (none unmade.1)
+
+-- what a writer took of an answer whose text was made in memory
+pub answer-text : {T E : Type 0} (made : Result T E) (bytes_of : T → List ℕ)
+    (has_text : Answer → List ℕ → Type 0) (answer : Answer) (result : Result Answer Refusal)
+    (old new : Option (List ℕ)) (claim : T → Type 0)
+    → ((text : T) → claim text → has_text answer (bytes_of text)) → IfOk made claim
+    → IfErr made (λ _. (result ≡ Err NoMemory) × Keeps old new)
+    → IfOk made (λ text. WritesText answer (bytes_of text) result old new)
+    → WritesAnswer has_text result old new
+answer-text made bytes_of has_text answer result old new claim =
+    answer-written made bytes_of has_text (λ end. WritesAnswer has_text end old new) answer result old new claim
+    (λ written. written) (λ written. written) (λ written. written)
+
+-- a flush after an answer changes nothing
+pub WritesAnswer-kept : (has_text : Answer → List ℕ → Type 0) (answer : Answer)
+    (old mid new : Option (List ℕ)) → WritesAnswer has_text (Ok answer) old mid → Keeps mid new
+    → WritesAnswer has_text (Ok answer) old new
+WritesAnswer-kept has_text answer old mid new written kept =
+    (written.0, written.1, Appends-kept old mid new _ written.2 kept)
+
+-- what follows from an answer, of a result that is returned as it is
+pub answered : {T E : Type 0} (result : Result T E) (holds : Result T E → Type 0) (claim : T → Type 0)
+    → ((value : T) → holds (Ok value) → claim value) → holds result → IfOk result claim
+answered (Ok value) holds claim follows held = follows value held
+answered (Err fault) holds claim follows held = tt

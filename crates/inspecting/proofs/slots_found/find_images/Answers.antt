@@ -1,0 +1,15 @@
+use Rattle.std.proofs.Common.{rules, ◌∙◌}
+use Rattle.inspecting.proofs.SlotLaws.{AreSlotsUpTo-more}
+use Rattle.inspecting.proofs.slots_found.find_images.Goals as goal
+
+-- The slots of one image more.
+pub loop-image-preserved : goal.loop-image-preserved
+loop-image-preserved g c =
+    let found = rw c.loop-image.invariant.same at c.find_image.ensures.found in record {
+      few = search rules;
+      same = c.find_image.ensures.same ∙ c.loop-image.invariant.same;
+      count = search rules;
+      found = rw c.push.ensures.items
+          (AreSlotsUpTo-more c.args.map.now _ c.args.state.now c.loop-image.image c.loop-image.images.items
+          c.find_image.result c.loop-image.invariant.found found);
+    }

@@ -1,0 +1,14 @@
+pub mod Answers
+pub mod Check
+pub mod Choose
+pub mod Describe
+pub mod ImageText
+pub mod ManifestFile
+pub mod ManifestText
+pub mod ReadingEnd
+pub mod Show
+pub mod Slots
+pub mod SlotsFound
+pub mod SlotsText
+pub mod StateText
+pub mod Written

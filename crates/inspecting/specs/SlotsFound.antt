@@ -1,0 +1,105 @@
+-- What is found in the slots of a device.
+use Rattle.std.specs.Prelude.{◌≡◌, ◌≢◌, ℕ, List, Option, Some, None, if◌then◌else◌}
+use Rattle.std.specs.List.{AllZip, range_with_len}
+use Rattle.flash_model.specs.Chip.{Chip, IsErased}
+use Rattle.sector_map.specs.declared.layout.SectorMap.{SectorMap}
+use Rattle.sector_map.specs.declared.layout.Side.{Side}
+use Rattle.sector_map.specs.declared.layout.Side.TheVariants.{Primary, Secondary}
+use Rattle.sector_map.specs.Map.{length_of, start_of}
+use Rattle.sector_map.specs.Part.{Slot, is_member}
+use Rattle.image_reading.specs.Fault.{IsFrontFault}
+use Rattle.image_reading.specs.Image.{BeginsIntact}
+use Rattle.image_reading.specs.Slot.{slot_bytes}
+use Rattle.trailer.specs.Standing.{standing_of}
+use Rattle.trailer.specs.Status.{status_count_of}
+use Rattle.swap_scratch.specs.Used.{steps_of}
+use Rattle.swap_scratch.specs.declared.progress.Progress.{Progress}
+use Rattle.set_log.specs.declared.state.Kind.{Kind}
+use Rattle.set_log.specs.declared.state.Kind.TheVariants.{Steady, Swap, Settle, Trial, Back, BackSettle}
+use Rattle.set_log.specs.declared.state.State.{State}
+use Rattle.upload.specs.Device.{DeviceState}
+use Rattle.upload.specs.View.{view}
+use Rattle.machine.specs.Reading.{CanRead, IsFinding}
+use Rattle.machine.specs.declared.finding.Finding.{Finding}
+use Rattle.decision.specs.Found.{IsFindingAt}
+use Rattle.inspecting.specs.declared.slots_found.ImageSlots.{ImageSlots}
+use Rattle.inspecting.specs.declared.slots_found.SlotContent.{SlotContent}
+use Rattle.inspecting.specs.declared.slots_found.SlotContent.TheVariants.{Damaged, Erased, Intact}
+use Rattle.inspecting.specs.declared.slots_found.SlotsFound.{SlotsFound}
+
+-- The bytes of a slot are all erased.
+abbrev pub IsErasedSlot : SectorMap → Chip → ℕ → Side → Type 0
+IsErasedSlot map chip image side =
+    IsErased chip (start_of map (Slot image side)) (length_of map (Slot image side))
+
+-- What a slot begins with: the intact image that is described so, nothing at all, or bytes of which
+-- this is the first check of an image that fails.
+abbrev pub IsContent : SectorMap → Chip → ℕ → Side → SlotContent → Type 0
+IsContent map chip image side (Intact description) =
+    BeginsIntact (slot_bytes map chip image side) description
+IsContent map chip image side Erased = IsErasedSlot map chip image side
+IsContent map chip image side (Damaged fault) =
+    IsFrontFault (slot_bytes map chip image side) fault × (IsErasedSlot map chip image side → ⊥)
+
+-- How far the swap of an image has come that its trailer of a side counts.
+abbrev pub progress_of : SectorMap → Chip → Side → ℕ → Progress
+progress_of map chip side image = record {
+  taken = status_count_of map chip image side;
+  steps = steps_of map chip side image;
+}
+
+-- The side of the trailers that count the swap that a record is in the midst of, where it is.
+abbrev pub counting_side : Kind → Option Side
+counting_side Steady = None
+counting_side Swap = Some Primary
+counting_side Settle = None
+counting_side Trial = None
+counting_side Back = Some Secondary
+counting_side BackSettle = None
+
+abbrev pub progress_on : SectorMap → Chip → ℕ → Option Side → Option Progress
+progress_on map chip image None = None
+progress_on map chip image (Some side) = Some (progress_of map chip side image)
+
+-- How far the swap of an image has come, where the log says that it is under way.
+abbrev pub moved_in : SectorMap → Chip → State → ℕ → Option Progress
+moved_in map chip state image =
+    if is_member state.mask image
+    then progress_on map chip image (counting_side state.kind) else None
+
+-- What is found of an image.
+pub record AreSlotsOf (map : SectorMap) (chip : Chip) (state : State) (number : ℕ)
+    (slots : ImageSlots) : Type 0 where
+  pub image : slots.image ≡ number
+  pub primary : IsContent map chip number Primary slots.primary
+  pub secondary : IsContent map chip number Secondary slots.secondary
+  -- The request that stands, of this kind, or none.
+  pub request : slots.request ≡ standing_of map chip number
+  pub moved : slots.moved ≡ moved_in map chip state number
+
+-- What is found of the first images, one after the other.
+abbrev pub AreSlotsUpTo : SectorMap → Chip → State → ℕ → List ImageSlots → Type 0
+AreSlotsUpTo map chip state n all =
+    AllZip (AreSlotsOf map chip state) (range_with_len 0 n) all
+
+-- What the next boot would decide of a device at rest: the table is that of the device's state, and
+-- what is told of it is the decision; or the lowest running image is told that can't be read.
+pub record IsNextDecision (map : SectorMap) (chip : Chip) (floors : List ℕ) (finding : Finding)
+    : Type 0 where
+  pub of : (s : DeviceState) → CanRead (view map chip) s 0 floors → IsFinding s finding
+  pub front : IsFindingAt (view map chip) 0 finding
+
+-- There is one where the log says that the device is at rest, and nowhere else: else what was begun
+-- goes on.
+pub record IsDecisionOf (map : SectorMap) (chip : Chip) (state : State) (found : Option Finding)
+    : Type 0 where
+  pub rests : state.kind ≡ Steady
+      → (finding : Finding) × (found ≡ Some finding)
+      × IsNextDecision map chip state.floors finding
+  pub goes_on : state.kind ≢ Steady → found ≡ None
+
+-- What is found of a device whose log has this state.
+pub record AreFound (map : SectorMap) (chip : Chip) (state : State) (found : SlotsFound)
+    : Type 0 where
+  pub images : AreSlotsUpTo map chip state map.images found.images.items
+  pub decision : IsDecisionOf map chip state found.decision

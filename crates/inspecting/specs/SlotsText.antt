@@ -1,0 +1,62 @@
+-- What is printed of the slots of a device.
+use Rattle.std.specs.Prelude.{ℕ, List, [], ◌++◌, Option, Some, None, codes, decimal}
+use Rattle.std.specs.List.{flat_map}
+use Rattle.common.specs.Lines.{◌␣◌}
+use Rattle.trailer.specs.declared.kinds.Kind.{Kind}
+use Rattle.trailer.specs.declared.kinds.Kind.TheVariants as request
+use Rattle.swap_scratch.specs.declared.progress.Progress.{Progress}
+use Rattle.image_reading.specs.Codes.{code_of, name_of}
+use Rattle.certificate.specs.ReportText.{report_text}
+use Rattle.machine.specs.declared.error.Fault.TheVariants.{InvalidSet, RunningDamaged}
+use Rattle.machine.specs.declared.finding.Finding.{Finding}
+use Rattle.machine.specs.declared.finding.Finding.TheVariants as finding
+use Rattle.device_texts.specs.AnswerText.{line_text}
+use Rattle.inspecting.specs.ImageText.{description_text}
+use Rattle.device_texts.specs.ReplyText.{refused_fault_text}
+use Rattle.inspecting.specs.declared.slots_found.ImageSlots.{ImageSlots}
+use Rattle.inspecting.specs.declared.slots_found.SlotContent.{SlotContent}
+use Rattle.inspecting.specs.declared.slots_found.SlotContent.TheVariants.{Damaged, Erased, Intact}
+use Rattle.inspecting.specs.declared.slots_found.SlotsFound.{SlotsFound}
+
+-- What a slot begins with.
+abbrev pub content_text : SlotContent → List ℕ
+content_text (Intact description) = description_text description
+content_text Erased = codes "erased\n"
+content_text (Damaged fault) =
+    line_text (codes "damaged") (decimal (code_of fault) ␣ name_of fault)
+
+-- The request that stands.
+abbrev pub request_text : Option Kind → List ℕ
+request_text (Some request.Test) = codes "test"
+request_text (Some request.Permanent) = codes "permanent"
+request_text None = codes "none"
+
+-- How far an open swap has come.
+abbrev pub moved_text : ℕ → Option Progress → List ℕ
+moved_text image None = []
+moved_text image (Some progress) =
+    line_text (codes "moved")
+    (decimal image ␣ decimal progress.taken ␣ codes "of" ␣ decimal progress.steps)
+
+-- The line above what a slot begins with.
+abbrev pub slot_line : ℕ → List ℕ → List ℕ
+slot_line image side = line_text (codes "slot") (decimal image ␣ side)
+
+-- What is found of an image.
+abbrev pub image_text : ImageSlots → List ℕ
+image_text slots =
+    slot_line slots.image (codes "primary") ++ (content_text slots.primary
+    ++ (slot_line slots.image (codes "secondary") ++ (content_text slots.secondary
+    ++ (line_text (codes "request") (decimal slots.image ␣ request_text slots.request)
+    ++ moved_text slots.image slots.moved))))
+
+-- What the next boot would answer of its decision.
+abbrev pub decision_text : Option Finding → List ℕ
+decision_text None = []
+decision_text (Some (finding.Decided table report)) = report_text report
+decision_text (Some (finding.Damaged image)) = refused_fault_text (RunningDamaged image)
+decision_text (Some finding.Invalid) = refused_fault_text InvalidSet
+
+-- All that is found.
+abbrev pub found_text : SlotsFound → List ℕ
+found_text found = flat_map image_text found.images.items ++ decision_text found.decision

@@ -1,0 +1,38 @@
+//! The commands that write nothing but their answer: `choose`, `check`, `image`, `manifest`,
+//! `show`, `slots` and `codes`.
+//!
+//! - Promises: Exactly the text of the answer is written, or why the bytes have none; if a write
+//!   fails, a prefix of it. A command answers `Done` only if that was done for the contents of the
+//!   named files.
+//! - Main calls: `choose_over`, `check_over`, `describe_over`, `tell_over`, `show_over`,
+//!   `list_slots_over`, `run_inspection`
+//! - Allocates: the input, a flash in memory, the text of the answer.
+//! - Callers: `boot_cli`
+//!
+//! Each has a module. Its `run_` function reads the files that the arguments name, and its `_over`
+//! function writes the answer for bytes in memory.
+#![tactic(auto)]
+
+mod answer;
+mod check;
+mod choose;
+mod codes;
+mod device_flash;
+mod image;
+mod manifest_file;
+mod program;
+mod reading;
+mod show;
+mod slots;
+mod slots_found;
+mod slots_text;
+mod table_input;
+
+pub use check::check_over;
+pub use choose::{ChooseEnd, choose_over};
+pub use image::describe_over;
+pub use manifest_file::tell_over;
+pub use program::run_inspection;
+pub use reading::{ReadError, read_all};
+pub use show::show_over;
+pub use slots::list_slots_over;

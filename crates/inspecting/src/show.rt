@@ -1,0 +1,240 @@
+//! `bootswap show`: the state of a device, as its flash holds it.
+ghost use Rattle.std.specs.Prelude.{◌≡◌, ◌<◌, ◌≤◌, ◌++◌, IfOk, Some, true, length, slice_index};
+ghost use Rattle.std.specs.Prelude.{string_bytes};
+ghost use Rattle.flash_model.specs.Chip.{Chip};
+ghost use Rattle.sector_map.specs.Map.{IsLaidOut};
+ghost use Rattle.set_log.specs.Log.{state_of};
+ghost use Rattle.trailer.specs.Fields.{fields_at, trailer_of};
+ghost use Rattle.device_texts.specs.FlashOf.{IsFlashOf, flash_of};
+ghost use Rattle.host.specs.Input.{KeepsFiles};
+ghost use Rattle.inspecting.specs.Answers.{AnswersShow};
+ghost use Rattle.inspecting.specs.Show.{Shows, stand_text, swap_type_in};
+ghost use Rattle.inspecting.specs.StateText.{floor_lines, images_text, kind_text, left_text};
+ghost use Rattle.inspecting.specs.StateText.{swap_lines, swap_type_text};
+
+use crate::answer::write_answer;
+use crate::device_flash::read_device_flash;
+use device_texts::{Members, flash_of, refused_fault_text};
+use flash_model::Flash;
+use host::{Answer, Host, Refusal, Source};
+use machine::Fault;
+use sector_map::{SectorMap, Side};
+use set_log::{Kind, LogError, State, read_state};
+use std::alloc::{AllocError, Global};
+use std::fmt;
+use std::io::Write;
+use std::marker::Brand;
+use std::sync::ledger::{Blank, Ledger};
+use trailer::{SwapType, Trailer, read_trailer, swap_type};
+
+/// Reads a device file and the bytes of the device's flash from `host` into memory of `alloc`, and
+/// writes the state of the device to `out`. The device file is checked before the flash is read: if
+/// its sizes make no map, that is written. No file is changed, and the flash is opened to be read
+/// alone.
+pub fn run_show<H: Host, O: Write>(
+    alloc: Global,
+    device: Source<'_>,
+    flash: Source<'_>,
+    host: &mut H,
+    out: &mut O,
+) -> Result<Answer, Refusal>
+    ensures answers { IfOk result (λ answer. AnswersShow answer device.entry flash.entry
+        (H.input host.old) (H.file host.old) (O.contents out.old) (O.contents out.new)) }
+    ensures files { KeepsFiles (H.file host.old) (H.file host.new) }
+    ensures to_read { (H.opened host.new).to_write ≡ (H.opened host.old).to_write }
+{
+    let Some(found) = read_device_flash(alloc, device, flash, host, out)? else {
+        return Ok(Answer::Refused);
+    };
+    let map = found.device.map;
+    show_over::<Brand, O>(alloc, Blank::new(2), &map, found.bytes, out)
+}
+
+/// Writes to `out` the state that the log on the flash of these bytes has, and answers `Done`. If
+/// it has none, it writes that, and answers `Refused`.
+///
+/// The text is made in memory of `alloc` before it is written. The ledger's token has two parts, as
+/// `Blank::new(2)` makes it.
+///
+/// # Errors
+/// `NoMemory` if memory runs out: then nothing is written. `CannotWrite` if a write fails: then
+/// `out` holds a prefix of the text.
+pub fn show_over<L: Ledger, W: Write>(
+    alloc: Global,
+    blank: Blank,
+    map: &SectorMap,
+    bytes: Vec<u8>,
+    out: &mut W,
+) -> Result<Answer, Refusal>
+    requires name { blank.name ≡ L.name }
+    requires parts { blank.parts ≡ L.parts }
+    requires two { L.parts ≡ 2 }
+    requires whole { IsFlashOf map.now bytes.items }
+    ensures { Shows result map.now (flash_of map.now bytes.items)
+        (W.contents out.old) (W.contents out.new) }
+{
+    let mut flash = flash_of::<L>(alloc, blank, map, bytes);
+    let state = state_on(&mut flash, map);
+    let text = stand_text(alloc, &mut flash, map, state);
+    match state {
+        Some(_) => write_answer(Answer::Done, text, out),
+        None => write_answer(Answer::Refused, text, out),
+    }
+}
+
+/// The state that the log has, on a flash that has power.
+pub(crate) fn state_on<F: Flash>(flash: &mut F, map: &SectorMap) -> Option<State>
+    requires laid_out { IsLaidOut map.now (F.chip flash.old) }
+    requires on { (F.chip flash.old).is_on ≡ true }
+    ensures same { F.chip flash.new ≡ F.chip flash.old }
+    ensures state { result ≡ state_of map.now (F.chip flash.old) }
+{
+    match read_state(flash, map) {
+        Ok(state) => Some(state),
+        Err(LogError::NoLog) => None,
+        Err(LogError::Flash(_)) => unreachable!(),
+    }
+}
+
+/// What is printed of a flash that has power, and whose log has this state, or none.
+pub(crate) fn stand_text<F: Flash>(
+    alloc: Global,
+    flash: &mut F,
+    map: &SectorMap,
+    state: Option<State>,
+) -> Result<String, AllocError>
+    requires laid_out { IsLaidOut map.now (F.chip flash.old) }
+    requires on { (F.chip flash.old).is_on ≡ true }
+    ensures { IfOk result
+        (λ text. string_bytes text ≡ stand_text map.now (F.chip flash.old) state) }
+{
+    let Some(state) = state else {
+        return refused_fault_text(alloc, Fault::NotProvisioned);
+    };
+    let kind = kind_text(state.kind);
+    let set = Images(state.mask);
+    let left = Left(state.left);
+    let sequence = state.sequence;
+    let mut text = format!(in alloc; "state {kind}\nset{set}\n{left}sequence {sequence}\n")?;
+    write_floors(&mut text, &state, map)?;
+    write_swaps(&mut text, flash, map)?;
+    Ok(text)
+}
+
+/// What a device is in the midst of.
+fn kind_text(kind: Kind) -> &'static str
+    ensures { result.now ≡ kind_text kind }
+{
+    match kind {
+        Kind::Steady => "steady",
+        Kind::Swap => "swap",
+        Kind::Settle => "settle",
+        Kind::Trial => "trial",
+        Kind::Back => "back",
+        Kind::BackSettle => "back-settle",
+    }
+}
+
+/// The images of a set to print, each after a space, or that there are none.
+#[derive(Drop)]
+struct Images(u8);
+
+impl fmt::Display for Images {
+    ghost output = { λ images. Some (images_text images.0) };
+
+    fn fmt<W: fmt::Write>(&self, f: &mut fmt::Formatter<W>) -> fmt::Result {
+        if self.0 == 0 {
+            write!(f, " -")
+        } else {
+            let members = Members(self.0);
+            write!(f, "{members}")
+        }
+    }
+}
+
+/// How many boots more a trial lasts, to print as a line where any are left.
+#[derive(Drop)]
+struct Left(u8);
+
+impl fmt::Display for Left {
+    ghost output = { λ left. Some (left_text left.0) };
+
+    fn fmt<W: fmt::Write>(&self, f: &mut fmt::Formatter<W>) -> fmt::Result {
+        let left = self.0;
+        if left == 0 {
+            Ok(())
+        } else {
+            writeln!(f, "left {left}")
+        }
+    }
+}
+
+/// Adds the floor of each image to a text, as a line.
+fn write_floors(text: &mut String, state: &State, map: &SectorMap) -> Result<(), AllocError>
+    ensures { IfOk result (λ _. string_bytes text.new
+        ≡ string_bytes text.old ++ floor_lines map.now.images state.now) }
+{
+    for image in 0..map.images {
+        let floor = state.floors[usize::from(image)];
+        writeln!(text, "floor {image} {floor}")?;
+    }
+    Ok(())
+}
+
+/// Adds to a text what the trailers of each image ask of a boot, as a line, on a flash that has
+/// power.
+fn write_swaps<F: Flash>(
+    text: &mut String,
+    flash: &mut F,
+    map: &SectorMap,
+) -> Result<(), AllocError>
+    requires laid_out { IsLaidOut map.now (F.chip flash.old) }
+    requires on { (F.chip flash.old).is_on ≡ true }
+    ensures { IfOk result (λ _. string_bytes text.new ≡ string_bytes text.old
+        ++ swap_lines map.now.images (swap_type_in map.now (F.chip flash.old))) }
+{
+    for image in 0..map.images {
+        let asked = swap_type_text(swap_type_on(flash, map, image));
+        writeln!(text, "swap {image} {asked}")?;
+    }
+    Ok(())
+}
+
+/// What the trailers of an image ask of a boot, on a flash that has power.
+fn swap_type_on<F: Flash>(flash: &mut F, map: &SectorMap, image: u8) -> SwapType
+    requires laid_out { IsLaidOut map.now (F.chip flash.old) }
+    requires there { image < map.now.images }
+    requires on { (F.chip flash.old).is_on ≡ true }
+    ensures same { F.chip flash.new ≡ F.chip flash.old }
+    ensures swap_type { result ≡ swap_type_in map.now (F.chip flash.old) image }
+{
+    let primary = trailer_on(flash, map, image, Side::Primary);
+    let secondary = trailer_on(flash, map, image, Side::Secondary);
+    swap_type(&primary, &secondary)
+}
+
+/// The fields of a trailer, on a flash that has power.
+fn trailer_on<F: Flash>(flash: &mut F, map: &SectorMap, image: u8, side: Side) -> Trailer
+    requires laid_out { IsLaidOut map.now (F.chip flash.old) }
+    requires there { image < map.now.images }
+    requires on { (F.chip flash.old).is_on ≡ true }
+    ensures same { F.chip flash.new ≡ F.chip flash.old }
+    ensures fields { result ≡ trailer_of (fields_at map.now (F.chip flash.old) image side) }
+{
+    match read_trailer(flash, map, image, side) {
+        Ok(trailer) => trailer,
+        Err(_) => unreachable!(),
+    }
+}
+
+/// What a pair of trailers asks of a boot.
+fn swap_type_text(swap_type: SwapType) -> &'static str
+    ensures { result.now ≡ swap_type_text swap_type }
+{
+    match swap_type {
+        SwapType::Test => "test",
+        SwapType::Perm => "perm",
+        SwapType::Revert => "revert",
+        SwapType::None => "none",
+    }
+}

@@ -1,0 +1,214 @@
+//! What is found in the slots of a device. `slots` alone calls it.
+ghost use Rattle.std.specs.Prelude.{◌<◌, ◌≡◌, ◌↔◌, IsTrue, true};
+ghost use Rattle.flash_model.specs.Chip.{Chip};
+ghost use Rattle.sector_map.specs.Map.{IsLaidOut};
+ghost use Rattle.trailer.specs.Standing.{standing_of};
+ghost use Rattle.inspecting.specs.SlotsFound.{AreFound, AreSlotsOf, AreSlotsUpTo, IsContent};
+ghost use Rattle.inspecting.specs.SlotsFound.{IsDecisionOf, IsErasedSlot, counting_side, moved_in};
+ghost use Rattle.inspecting.specs.SlotsFound.{progress_of, progress_on};
+
+use arrayvec::ArrayVec;
+use common::limits::MOST_IMAGES;
+use decision::find;
+use flash_model::{Flash, is_erased};
+use image_reading::{Desc, ImageError, SlotError, describe_slot};
+use machine::Finding;
+use sector_map::{SectorMap, Side, is_member};
+use set_log::{Kind as Record, State};
+use swap_scratch::{Progress, swap_progress};
+use trailer::{Kind, standing};
+
+/// What a slot begins with.
+#[derive(Default, Drop)]
+pub enum SlotContent {
+    /// Nothing: the whole slot is erased.
+    #[default]
+    Erased,
+    /// An intact image, which says this of itself.
+    Intact(Desc),
+    /// No intact image: this is the first check that fails.
+    Damaged(ImageError),
+}
+
+/// What is found of an image.
+#[derive(Default, Drop)]
+pub struct ImageSlots {
+    /// The number of the image.
+    pub image: u8,
+    /// What its primary slot begins with.
+    pub primary: SlotContent,
+    /// What its secondary slot begins with.
+    pub secondary: SlotContent,
+    /// The request that stands for it.
+    pub request: Option<Kind>,
+    /// How far its swap has come, where the log says that one is under way.
+    pub moved: Option<Progress>,
+}
+
+/// What is found of a device.
+#[derive(Drop)]
+pub struct SlotsFound {
+    /// What is found of each image.
+    pub images: ArrayVec<ImageSlots, MOST_IMAGES>,
+    /// What the next boot would decide, where the device is at rest.
+    pub decision: Option<Finding>,
+}
+
+/// What is found of a device whose log has this state, on a flash that has power.
+pub(crate) fn find_slots<F: Flash>(flash: &mut F, map: &SectorMap, state: &State) -> SlotsFound
+    requires laid_out { IsLaidOut map.now (F.chip flash.old) }
+    requires on { (F.chip flash.old).is_on ≡ true }
+    ensures same { F.chip flash.new ≡ F.chip flash.old }
+    ensures found { AreFound map.now (F.chip flash.old) state.now result }
+{
+    let images = find_images(flash, map, state);
+    let decision = next_decision(flash, map, state);
+    SlotsFound { images, decision }
+}
+
+/// What is found of each image.
+fn find_images<F: Flash>(
+    flash: &mut F,
+    map: &SectorMap,
+    state: &State,
+) -> ArrayVec<ImageSlots, MOST_IMAGES>
+    requires laid_out { IsLaidOut map.now (F.chip flash.old) }
+    requires on { (F.chip flash.old).is_on ≡ true }
+    ensures same { F.chip flash.new ≡ F.chip flash.old }
+    ensures found { AreSlotsUpTo map.now (F.chip flash.old) state.now map.now.images
+        result.items }
+{
+    let mut images = ArrayVec::new();
+    for image in 0..map.images {
+        images.push(find_image(flash, map, state, image));
+    }
+    images
+}
+
+/// What is found of an image.
+fn find_image<F: Flash>(flash: &mut F, map: &SectorMap, state: &State, image: u8) -> ImageSlots
+    requires laid_out { IsLaidOut map.now (F.chip flash.old) }
+    requires there { image < map.now.images }
+    requires on { (F.chip flash.old).is_on ≡ true }
+    ensures same { F.chip flash.new ≡ F.chip flash.old }
+    ensures found { AreSlotsOf map.now (F.chip flash.old) state.now image result }
+{
+    let primary = slot_content(flash, map, image, Side::Primary);
+    let secondary = slot_content(flash, map, image, Side::Secondary);
+    let request = request_on(flash, map, image);
+    let moved = moved_on(flash, map, state, image);
+    ImageSlots {
+        image,
+        primary,
+        secondary,
+        request,
+        moved,
+    }
+}
+
+/// What a slot begins with.
+fn slot_content<F: Flash>(flash: &mut F, map: &SectorMap, image: u8, side: Side) -> SlotContent
+    requires laid_out { IsLaidOut map.now (F.chip flash.old) }
+    requires there { image < map.now.images }
+    requires on { (F.chip flash.old).is_on ≡ true }
+    ensures same { F.chip flash.new ≡ F.chip flash.old }
+    ensures content { IsContent map.now (F.chip flash.old) image side result }
+{
+    match describe_slot(flash, map, image, side) {
+        Ok(description) => SlotContent::Intact(description),
+        Err(SlotError::Image(fault)) => {
+            if is_slot_erased(flash, map, image, side) {
+                SlotContent::Erased
+            } else {
+                SlotContent::Damaged(fault)
+            }
+        }
+        Err(_) => unreachable!(),
+    }
+}
+
+/// Whether all of a slot is erased.
+fn is_slot_erased<F: Flash>(flash: &mut F, map: &SectorMap, image: u8, side: Side) -> bool
+    requires laid_out { IsLaidOut map.now (F.chip flash.old) }
+    requires there { image < map.now.images }
+    requires on { (F.chip flash.old).is_on ≡ true }
+    ensures same { F.chip flash.new ≡ F.chip flash.old }
+    ensures erased { IsTrue result ↔ IsErasedSlot map.now (F.chip flash.old) image side }
+{
+    match is_erased(flash, map.slot_start(image, side), map.slot_length(image)) {
+        Ok(erased) => erased,
+        Err(_) => unreachable!(),
+    }
+}
+
+/// The request that stands for an image.
+fn request_on<F: Flash>(flash: &mut F, map: &SectorMap, image: u8) -> Option<Kind>
+    requires laid_out { IsLaidOut map.now (F.chip flash.old) }
+    requires there { image < map.now.images }
+    requires on { (F.chip flash.old).is_on ≡ true }
+    ensures same { F.chip flash.new ≡ F.chip flash.old }
+    ensures request { result ≡ standing_of map.now (F.chip flash.old) image }
+{
+    match standing(flash, map, image) {
+        Ok(request) => request,
+        Err(_) => unreachable!(),
+    }
+}
+
+/// How far the swap of an image has come, where the log says that it is under way.
+fn moved_on<F: Flash>(flash: &mut F, map: &SectorMap, state: &State, image: u8) -> Option<Progress>
+    requires laid_out { IsLaidOut map.now (F.chip flash.old) }
+    requires there { image < map.now.images }
+    requires on { (F.chip flash.old).is_on ≡ true }
+    ensures same { F.chip flash.new ≡ F.chip flash.old }
+    ensures moved { result ≡ moved_in map.now (F.chip flash.old) state.now image }
+{
+    if !is_member(state.mask, image) {
+        return None;
+    }
+    match counting_side(state.kind) {
+        None => None,
+        Some(side) => Some(progress_on(flash, map, image, side)),
+    }
+}
+
+/// The side of the trailers that count the swap that a record is in the midst of.
+fn counting_side(kind: Record) -> Option<Side>
+    ensures { result ≡ counting_side kind }
+{
+    match kind {
+        Record::Swap => Some(Side::Primary),
+        Record::Back => Some(Side::Secondary),
+        Record::Steady | Record::Settle | Record::Trial | Record::BackSettle => None,
+    }
+}
+
+/// How far the swap of an image has come that its trailer of a side counts.
+fn progress_on<F: Flash>(flash: &mut F, map: &SectorMap, image: u8, side: Side) -> Progress
+    requires laid_out { IsLaidOut map.now (F.chip flash.old) }
+    requires there { image < map.now.images }
+    requires on { (F.chip flash.old).is_on ≡ true }
+    ensures same { F.chip flash.new ≡ F.chip flash.old }
+    ensures progress { result ≡ progress_of map.now (F.chip flash.old) side image }
+{
+    match swap_progress(flash, map, image, side) {
+        Ok(progress) => progress,
+        Err(_) => unreachable!(),
+    }
+}
+
+/// What the next boot would decide, where the log says that the device is at rest.
+fn next_decision<F: Flash>(flash: &mut F, map: &SectorMap, state: &State) -> Option<Finding>
+    requires laid_out { IsLaidOut map.now (F.chip flash.old) }
+    requires on { (F.chip flash.old).is_on ≡ true }
+    ensures same { F.chip flash.new ≡ F.chip flash.old }
+    ensures decision { IsDecisionOf map.now (F.chip flash.old) state.now result }
+{
+    if state.kind != Record::Steady {
+        return None;
+    }
+    match find(flash, map, 0, &state.floors) {
+        Ok(finding) => Some(finding),
+        Err(_) => unreachable!(),
+    }
+}

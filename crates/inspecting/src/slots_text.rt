@@ -1,0 +1,121 @@
+//! What is printed of the slots of a device. `slots` alone calls it.
+ghost use Rattle.std.specs.List.{flat_map};
+ghost use Rattle.std.specs.Prelude.{◌≡◌, ◌++◌, IfOk, Some, string_bytes};
+ghost use Rattle.inspecting.specs.SlotsText.{content_text, decision_text, found_text, image_text};
+ghost use Rattle.inspecting.specs.SlotsText.{moved_text, request_text};
+
+use crate::image::description_text;
+use crate::slots_found::{ImageSlots, SlotContent, SlotsFound};
+use device_texts::refused_fault_text;
+use machine::{Fault, Finding};
+use std::alloc::{AllocError, Global};
+use std::fmt;
+use swap_scratch::Progress;
+use trailer::Kind;
+
+/// Adds to a text all that is found.
+pub(crate) fn write_found(
+    alloc: Global,
+    text: &mut String,
+    found: &SlotsFound,
+) -> Result<(), AllocError>
+    ensures { IfOk result (λ _. string_bytes text.new
+        ≡ string_bytes text.old ++ found_text found.now) }
+{
+    write_images(alloc, text, found.images.as_slice())?;
+    write_decision(alloc, text, &found.decision)
+}
+
+/// Adds to a text what is found of each image.
+fn write_images(alloc: Global, text: &mut String, images: &[ImageSlots]) -> Result<(), AllocError>
+    ensures { IfOk result (λ _. string_bytes text.new
+        ≡ string_bytes text.old ++ flat_map image_text images.now) }
+{
+    for slots in images {
+        write_image(alloc, text, slots)?;
+    }
+    Ok(())
+}
+
+/// Adds to a text what is found of an image.
+fn write_image(alloc: Global, text: &mut String, slots: &ImageSlots) -> Result<(), AllocError>
+    ensures { IfOk result (λ _. string_bytes text.new
+        ≡ string_bytes text.old ++ image_text slots.now) }
+{
+    let image = slots.image;
+    let primary = content_text(alloc, &slots.primary)?;
+    let secondary = content_text(alloc, &slots.secondary)?;
+    let request = request_text(slots.request);
+    let moved = Moved {
+        image,
+        progress: slots.moved,
+    };
+    write!(
+        text,
+        "slot {image} primary\n{primary}slot {image} secondary\n{secondary}request {image} {request}\n{moved}"
+    )
+}
+
+/// What a slot begins with.
+fn content_text(alloc: Global, content: &SlotContent) -> Result<String, AllocError>
+    ensures { IfOk result (λ text. string_bytes text ≡ content_text content.now) }
+{
+    match content {
+        SlotContent::Intact(description) => description_text(alloc, description),
+        SlotContent::Erased => format!(in alloc; "erased\n"),
+        SlotContent::Damaged(fault) => {
+            let code = fault.code();
+            let name = fault.name();
+            format!(in alloc; "damaged {code} {name}\n")
+        }
+    }
+}
+
+/// The request that stands.
+fn request_text(request: Option<Kind>) -> &'static str
+    ensures { result.now ≡ request_text request }
+{
+    match request {
+        Some(Kind::Test) => "test",
+        Some(Kind::Permanent) => "permanent",
+        None => "none",
+    }
+}
+
+/// How far the swap of an image has come, to print as a line where it is under way.
+#[derive(Drop)]
+struct Moved {
+    image: u8,
+    progress: Option<Progress>,
+}
+
+impl fmt::Display for Moved {
+    ghost output = { λ moved. Some (moved_text moved.image moved.progress) };
+
+    fn fmt<W: fmt::Write>(&self, f: &mut fmt::Formatter<W>) -> fmt::Result {
+        let image = self.image;
+        match self.progress {
+            None => Ok(()),
+            Some(Progress { taken, steps }) => writeln!(f, "moved {image} {taken} of {steps}"),
+        }
+    }
+}
+
+/// Adds to a text what the next boot would answer of its decision.
+fn write_decision(
+    alloc: Global,
+    text: &mut String,
+    decision: &Option<Finding>,
+) -> Result<(), AllocError>
+    ensures { IfOk result (λ _. string_bytes text.new
+        ≡ string_bytes text.old ++ decision_text decision.now) }
+{
+    let fault = match decision {
+        None => return Ok(()),
+        Some(Finding::Decided { table: _, report }) => return write!(text, "{report}"),
+        Some(Finding::Damaged(image)) => Fault::RunningDamaged(*image),
+        Some(Finding::Invalid) => Fault::InvalidSet,
+    };
+    let line = refused_fault_text(alloc, fault)?;
+    write!(text, "{line}")
+}

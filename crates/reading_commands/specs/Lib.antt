@@ -1,2 +1,0 @@
-pub mod AnswerEnd
-pub mod ReadingEnd
