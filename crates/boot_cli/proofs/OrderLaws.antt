@@ -1,20 +1,25 @@
--- What an order was answered with, by what its command did; and a flush after it changes nothing.
-use Rattle.std.proofs.Common.{ℕ, List, Option}
+-- The answer to an order, by what its command did. A flush after it changes nothing.
+use Rattle.std.proofs.Common.{◌≡◌, ℕ, List, Ok, Option, Result}
+use Rattle.std.specs.Prelude.{IfOk}
 use Rattle.std.specs.Io.KnownBytes.{Keeps}
 use Rattle.command_line.specs.declared.orders.Order.{Order}
 use Rattle.command_line.specs.declared.orders.Order.TheVariants as order
-use Rattle.command_words.specs.declared.device_orders.DeviceOrder.TheVariants as device_order
-use Rattle.command_ends.specs.declared.answer.Answer.{Answer}
-use Rattle.command_ends.specs.declared.answer.Answer.TheVariants.{Done}
-use Rattle.command_ends.specs.Input.{FileBytes}
-use Rattle.reading_commands.specs.ReadingEnd.{AnswersReading}
-use Rattle.reading_commands.proofs.ReadingLaws.{AnswersReading-kept}
-use Rattle.core_cli.proofs.KeptLaws.{AnswersCore-kept}
+use Rattle.command_line.specs.declared.device_orders.DeviceOrder.TheVariants as device_order
+use Rattle.host.specs.declared.answer.Answer.{Answer}
+use Rattle.host.specs.declared.answer.Answer.TheVariants.{Done}
+use Rattle.host.specs.declared.error.Refusal.{Refusal}
+use Rattle.host.specs.Status.{Ends}
+use Rattle.host.specs.Input.{FileBytes}
+use Rattle.inspecting.specs.ReadingEnd.{AnswersReading}
+use Rattle.inspecting.proofs.ReadingLaws.{AnswersReading-kept}
+use Rattle.device_commands.proofs.KeptLaws.{AnswersCore-kept}
+use Rattle.device_commands.proofs.WordsLaws.{only_cut}
 use Rattle.boot_cli.specs.OrderEnd.{AnswersOrder}
-use Rattle.making_commands.proofs.CopyLaws.{AnswersCopy-kept}
-use Rattle.making_commands.proofs.NewDeviceLaws.{AnswersNewDevice-kept}
-use Rattle.making_commands.proofs.NewImageLaws.{AnswersNewImage-kept}
-use Rattle.making_commands.proofs.NewManifestEnds.{AnswersNewManifest-kept}
+use Rattle.boot_cli.specs.WordsEnd.{EndsByCut}
+use Rattle.creating.proofs.CopyLaws.{AnswersCopy-kept}
+use Rattle.creating.proofs.NewDeviceLaws.{AnswersNewDevice-kept}
+use Rattle.creating.proofs.NewImageLaws.{AnswersNewImage-kept}
+use Rattle.creating.proofs.NewManifestEnds.{AnswersNewManifest-kept}
 
 -- an answer to an order to read is the answer to the order
 pub AnswersOrder-reading : (answer : Answer) (asked : Order) (input : Option (List ℕ)) (file then : FileBytes)
@@ -76,3 +81,24 @@ AnswersOrder-kept (order.Slots device flash) input file then old mid new answere
     AnswersReading-kept (order.Slots device flash) input file old mid new answered kept
 AnswersOrder-kept order.Codes input file then old mid new answered kept =
     AnswersReading-kept order.Codes input file old mid new answered kept
+
+-- A command that answered ends with status 0 only after `Done`, with the output that was written
+-- before the flush ..
+pub done_after : (asked : Order) (outcome : Result Answer Refusal) (status : ℕ) (input : Option (List ℕ))
+    (file then : FileBytes) (old mid new : Option (List ℕ))
+    → IfOk outcome (λ answer. AnswersOrder answer asked input file then old mid)
+    → (status ≡ 0 → outcome ≡ Ok Done) → Keeps mid new
+    → status ≡ 0 → AnswersOrder Done asked input file then old new
+done_after asked outcome status input file then old mid new answers is_done kept zero =
+    let done = is_done zero in
+    let answered = rw done at answers in AnswersOrder-kept asked input file then old mid new answered kept
+
+-- .. and with status 3 only after `Cut`.
+pub cut_after : (asked : Order) (outcome : Result Answer Refusal) (status : ℕ) (input : Option (List ℕ))
+    (file then : FileBytes) (old mid new : Option (List ℕ))
+    → IfOk outcome (λ answer. AnswersOrder answer asked input file then old mid)
+    → Ends outcome status → Keeps mid new
+    → status ≡ 3 → EndsByCut asked input file then old new
+cut_after asked outcome status input file then old mid new answers ends kept three =
+    let is_cut = only_cut outcome status ends three in
+    record { written = mid; answered = rw is_cut at answers; kept = kept }

@@ -5,24 +5,24 @@ use Rattle.script.specs.LineText.{IsLineText}
 use Rattle.script.specs.Said.{Said, said}
 use Rattle.script.specs.declared.line.Line.{Line}
 use Rattle.script.proofs.LineLaws.{one_line}
-use Rattle.reading_inputs.specs.Loading.{IsNextLine}
-use Rattle.reading_inputs.specs.declared.lines.Lines.{Lines}
+use Rattle.inputs.specs.Loading.{IsNextLine}
+use Rattle.inputs.specs.declared.lines.Lines.{Lines}
 use Rattle.std.specs.Prelude.{IfSome, IsSomeAnd}
 use Rattle.std.specs.Borrow.{Bor}
-use Rattle.command_ends.specs.declared.answer.Answer.{Answer}
-use Rattle.command_ends.specs.declared.answer.Answer.TheVariants.{Done, Refused, Cut}
-use Rattle.events.specs.declared.event.Event.{Event}
+use Rattle.host.specs.declared.answer.Answer.{Answer}
+use Rattle.host.specs.declared.answer.Answer.TheVariants.{Done, Refused, Cut}
+use Rattle.common.specs.declared.event.Event.{Event}
 use Rattle.device_texts.specs.declared.device.DeviceFile.{DeviceFile}
-use Rattle.command_ends.specs.declared.source.Source.{Source}
-use Rattle.reading_inputs.specs.DeviceInput.{GivesDevice}
-use Rattle.command_ends.specs.declared.source.Source.TheVariants.{StandardInput, File}
-use Rattle.command_ends.specs.Doings.{KeepsSource}
-use Rattle.command_ends.specs.Input.{FileBytes, Gives, IsKnownAs, KeepsFiles, KeepsOthers}
+use Rattle.host.specs.declared.source.Source.{Source}
+use Rattle.inputs.specs.DeviceInput.{GivesDevice}
+use Rattle.host.specs.declared.source.Source.TheVariants.{StandardInput, File}
+use Rattle.host.specs.Doings.{KeepsSource}
+use Rattle.host.specs.Input.{FileBytes, Gives, IsKnownAs, KeepsFiles, KeepsOthers}
 use Rattle.boot_cli.specs.SweepEnd.{AnswersSweep, IsNamedBy, IsNamedIn, IsNoInput, IsOther, KeepsBesides, KeepsInputs, KeepsRead, LineNames, SaysFile, SomeNames, SweepsDevice}
-use Rattle.reading_inputs.specs.Script.{IsScript, Known, StaysKnown, known_after}
-use Rattle.command_ends.specs.Status.{status_of_answer}
-use Rattle.command_ends.proofs.InputLaws.{IsKnownAs-kept, GiveEach-one, GiveEach-read, KeepsFiles-twice, KeepsSource-apart, KeepsSource-kept, kept_twice}
-use Rattle.reading_inputs.proofs.ScriptLaws.{StaysKnown-itself, StaysKnown-read}
+use Rattle.inputs.specs.Script.{IsScript, Known, StaysKnown, known_after}
+use Rattle.host.specs.Status.{status_of_answer}
+use Rattle.host.proofs.InputLaws.{IsKnownAs-kept, GiveEach-one, GiveEach-read, KeepsFiles-twice, KeepsSource-apart, KeepsSource-kept, kept_twice}
+use Rattle.inputs.proofs.ScriptLaws.{StaysKnown-itself, StaysKnown-read}
 
 AnswersSweep-swept : (answer : Answer) (device script : Source) (input : Option (List ℕ)) (file : FileBytes)
     (old new : Option (List ℕ)) → status_of_answer answer ≤ 1 → SweepsDevice device script input file

@@ -2,17 +2,17 @@
 use Rattle.std.proofs.Common.{◌≡◌, ◌≢◌, ◌⊎◌, ◌∙◌, ℕ, Bool, List, Option, ap, arith, false, inl, inr, refl, sym, true}
 use Rattle.clap.specs.Words.{Text, kind_of}
 use Rattle.clap.specs.declared.error.kind.ErrorKind.{ErrorKind}
-use Rattle.command_words.specs.Status.{AskHelp, EndsWords, is_help}
-use Rattle.command_words.specs.declared.error.OrderError.{OrderError}
-use Rattle.command_words.specs.declared.error.OrderError.TheVariants.{Usage, NoMemory}
-use Rattle.command_line.specs.Faults.{IsFault, IsRefusal}
-use Rattle.command_line.specs.Faults.IsFault.{misuse, no_order, of_clap}
+use Rattle.command_line.specs.Status.{AskHelp, EndsWords, is_help}
+use Rattle.command_line.specs.declared.error.OrderError.{OrderError}
+use Rattle.command_line.specs.declared.error.OrderError.TheVariants.{Usage, NoMemory}
+use Rattle.command_line.specs.OrderFaults.{IsFault, IsRefusal}
+use Rattle.command_line.specs.OrderFaults.IsFault.{misuse, no_order, of_clap}
 use Rattle.command_line.specs.Orders.{writes_to_standard_input}
 use Rattle.command_line.specs.declared.orders.Order.{Order}
-use Rattle.command_ends.specs.declared.answer.Answer.TheVariants.{Done}
-use Rattle.command_ends.specs.Input.{FileBytes}
-use Rattle.command_ends.proofs.InputLaws.{KeepsFiles-itself}
-use Rattle.core_cli.proofs.WordsLaws.{misuse_helps_none, status_by, status_faults, status_helps, status_uncut}
+use Rattle.host.specs.declared.answer.Answer.TheVariants.{Done}
+use Rattle.host.specs.Input.{FileBytes}
+use Rattle.host.proofs.InputLaws.{KeepsFiles-itself}
+use Rattle.device_commands.proofs.WordsLaws.{misuse_helps_none, status_by, status_faults, status_helps, status_uncut}
 use Rattle.boot_cli.specs.OrderEnd.{AnswersOrder}
 use Rattle.boot_cli.specs.WordsEnd.{AskFor, AskNothing, EndsByCut, EndsProgram}
 

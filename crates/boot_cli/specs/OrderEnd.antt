@@ -1,22 +1,22 @@
--- What an order was answered with, and what a sweep leaves of files.
+-- The answer to an order, and which files a sweep keeps.
 use Rattle.std.specs.Prelude.{ℕ, List, Option}
 use Rattle.command_line.specs.declared.orders.Order.{Order}
 use Rattle.command_line.specs.declared.orders.Order.TheVariants as order
-use Rattle.command_words.specs.declared.device_orders.DeviceOrder.TheVariants as device_order
-use Rattle.command_ends.specs.declared.answer.Answer.{Answer}
-use Rattle.command_ends.specs.declared.source.Source.{Source}
-use Rattle.command_ends.specs.Input.{AreNamed, FileBytes, IsNamed}
-use Rattle.making_commands.specs.CopyEnd.{AnswersCopy}
-use Rattle.making_commands.specs.NewDeviceEnd.{AnswersNewDevice}
-use Rattle.making_commands.specs.NewFileEnd.{Replaces}
-use Rattle.making_commands.specs.NewImageEnd.{AnswersNewImage}
-use Rattle.making_commands.specs.NewManifestEnd.{AnswersNewManifest}
-use Rattle.reading_commands.specs.ReadingEnd.{AnswersReading}
-use Rattle.core_cli.specs.CoreEnd.{AnswersCore}
+use Rattle.command_line.specs.declared.device_orders.DeviceOrder.TheVariants as device_order
+use Rattle.host.specs.declared.answer.Answer.{Answer}
+use Rattle.host.specs.declared.source.Source.{Source}
+use Rattle.host.specs.Input.{AreNamed, FileBytes, IsNamed}
+use Rattle.creating.specs.CopyEnd.{AnswersCopy}
+use Rattle.creating.specs.NewDeviceEnd.{AnswersNewDevice}
+use Rattle.creating.specs.NewFileEnd.{Replaces}
+use Rattle.creating.specs.NewImageEnd.{AnswersNewImage}
+use Rattle.creating.specs.NewManifestEnd.{AnswersNewManifest}
+use Rattle.inspecting.specs.ReadingEnd.{AnswersReading}
+use Rattle.device_commands.specs.CoreEnd.{AnswersCore}
 use Rattle.boot_cli.specs.SweepEnd.{AnswersSweep, KeepsInputs}
 
--- What stands for the answer to an order, by the command that it asks for, and what the files hold
--- then.
+-- This is the answer to an order, by the command that it asks for, and `then` are the contents of
+-- the files afterwards.
 abbrev pub AnswersOrder : Answer → Order → Option (List ℕ) → FileBytes → FileBytes
     → Option (List ℕ) → Option (List ℕ) → Type 0
 AnswersOrder answer (order.MakeDevice device) input file then old new =
@@ -42,7 +42,7 @@ AnswersOrder answer (order.Run device flash script durable) input file then old 
     AnswersCore answer (device_order.Run device flash script durable) input file then old new
 AnswersOrder answer asked input file then old new = AnswersReading answer asked input file old new
 
--- `sweep` keeps what it reads, whatever comes of it. Of other orders nothing is said here.
+-- `sweep` keeps what it reads, whatever its answer. This says nothing of other orders.
 abbrev pub KeepsSwept : Order → FileBytes → FileBytes → Type 0
 KeepsSwept (order.Sweep device script images choices) file then =
     (one other : Source) × AreNamed device.now script.now one other

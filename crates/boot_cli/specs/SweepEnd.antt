@@ -3,32 +3,23 @@ use Rattle.std.specs.Prelude.{◌≡◌, ◌≢◌, ◌⊎◌, ℕ, Bool, IsSome
 use Rattle.std.specs.Io.KnownBytes.{Keeps}
 use Rattle.std.specs.Borrow.{Bor}
 use Rattle.common.specs.Lines.{lines_of}
-use Rattle.events.specs.declared.event.Event.{Event}
-use Rattle.events.specs.declared.event.Event.TheVariants as event
+use Rattle.common.specs.declared.event.Event.{Event}
+use Rattle.common.specs.declared.event.Event.TheVariants as event
 use Rattle.script.specs.LineText.{IsLineText}
 use Rattle.script.specs.Said.{Said}
 use Rattle.script.specs.Said as said
-use Rattle.sector_map.specs.declared.layout.SectorMap.{SectorMap}
-use Rattle.command_ends.specs.declared.answer.Answer.{Answer}
-use Rattle.command_ends.specs.declared.answer.Answer.TheVariants.{Done, Refused, Cut}
-use Rattle.command_ends.specs.declared.source.Source.{Source}
-use Rattle.command_ends.specs.declared.source.Source.TheVariants.{StandardInput, File}
-use Rattle.reading_inputs.specs.DeviceInput.{RefusesMap}
-use Rattle.command_ends.specs.Doings.{IsApartFrom, KeepsApart, KeepsSource}
-use Rattle.command_ends.specs.Input.{FileBytes, KeepsFiles}
-use Rattle.command_ends.specs.Inputs.{GiveEach}
+use Rattle.host.specs.declared.answer.Answer.{Answer}
+use Rattle.host.specs.declared.answer.Answer.TheVariants.{Done, Refused, Cut}
+use Rattle.host.specs.declared.source.Source.{Source}
+use Rattle.host.specs.declared.source.Source.TheVariants.{StandardInput, File}
+use Rattle.inputs.specs.DeviceInput.{RefusesMap}
+use Rattle.host.specs.Doings.{IsApartFrom, KeepsApart, KeepsSource}
+use Rattle.host.specs.Input.{FileBytes, KeepsFiles}
+use Rattle.host.specs.Inputs.{GiveEach}
 use Rattle.device_texts.specs.declared.device.DeviceFile.{DeviceFile}
 use Rattle.device_texts.specs.DeviceFile.{IsDeviceFile}
-use Rattle.device_texts.specs.FlashOf.{IsFlashOf}
-use Rattle.core_cli.specs.ProvisionEnd.{AreOthers, KeepsWords}
-use Rattle.boot_cli.specs.declared.sweeping.Provisioned.{Provisioned}
-use Rattle.boot_cli.specs.declared.sweeping.Provisioned.TheVariants as made
-use Rattle.reading_inputs.specs.Script.{IsScript, known_after_each}
-
--- A flash that was made has as many bytes as its map.
-abbrev pub IsWhole : SectorMap → Provisioned → Type 0
-IsWhole map (made.Done bytes) = IsFlashOf map bytes.items
-IsWhole map (made.Refused fault) = Unit {0}
+use Rattle.device_commands.specs.ProvisionEnd.{AreOthers, KeepsWords}
+use Rattle.inputs.specs.Script.{IsScript, known_after_each}
 
 -- `sweep` read the bytes of a device file, and of a script that cuts no write, with the files that
 -- it names. What is printed of the runs is no part of this ..

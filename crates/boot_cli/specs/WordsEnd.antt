@@ -2,14 +2,14 @@
 use Rattle.std.specs.Prelude.{◌≡◌, ◌⊎◌, ℕ, ◌<◌, ◌≤◌, List, Option, codes, false, length}
 use Rattle.clap.specs.Words.{Text}
 use Rattle.clap.specs.declared.error.kind.ErrorKind.{ErrorKind}
-use Rattle.command_words.specs.Status.{AskHelp, is_help}
-use Rattle.command_line.specs.Faults.{IsFault}
+use Rattle.command_line.specs.Status.{AskHelp, is_help}
+use Rattle.command_line.specs.OrderFaults.{IsFault}
 use Rattle.command_line.specs.Orders.{GiveOrder}
 use Rattle.command_line.specs.declared.orders.Order.{Order}
 use Rattle.command_line.specs.declared.orders.Order.TheVariants as order
 use Rattle.std.specs.Io.KnownBytes.{Keeps}
-use Rattle.command_ends.specs.declared.answer.Answer.TheVariants.{Cut, Done}
-use Rattle.command_ends.specs.Input.{FileBytes, KeepsFiles}
+use Rattle.host.specs.declared.answer.Answer.TheVariants.{Cut, Done}
+use Rattle.host.specs.Input.{FileBytes, KeepsFiles}
 use Rattle.boot_cli.specs.OrderEnd.{AnswersOrder}
 
 -- The order is the choice over standard input.
@@ -30,8 +30,8 @@ pub record AnswersWords (words : List Text) (input : Option (List ℕ)) (file th
   pub asks : AskFor words asked
   pub answered : AnswersOrder Done asked input file then old new
 
--- The answer to an order is that of a run whose last reply says that the power failed, and what was
--- written of it stands.
+-- The answer to an order is that of a run whose last reply says that the power failed, and the
+-- output keeps what was written of it.
 pub record EndsByCut (asked : Order) (input : Option (List ℕ)) (file then : FileBytes)
     (old new : Option (List ℕ)) : Type 0 where
   pub written : Option (List ℕ)

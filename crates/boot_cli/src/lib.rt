@@ -1,27 +1,29 @@
-//! The program `bootswap` but for its `main`: its words, and what they ask for. The commands that
-//! only read stand in `reading_commands`, those that make device files, images and manifests in
-//! `making_commands`, and those of a device itself, which boots, takes uploads and survives power
-//! cuts, in `core_cli`; here is `sweep`, and which of all these an order asks for.
+//! All commands: those of the core, and those that read, make files, sweep and explain.
 //!
-//! Promises: status 0 comes only where the words ask for help or the version, or where the order
-//! that they give was done, for what the files that they name hold; of `sweep` only that it ran, for
-//! what it finds is tested; and what `run` writes are the replies of a device to its script, with the
-//! cuts of the script armed on the flash that is made for it. Words that give no order end with 2,
-//! and change no file. The program and tests may call it: the program gives the commands its words,
-//! the system's files and its standard input and outputs, and a test gives them others.
+//! - Promises: The exit status says what became of the arguments: 0 that their order is done for
+//!   the contents of the named files, or of `sweep` that it ran. Arguments that give no order end
+//!   with 2, and change no file.
+//! - Main calls: `cli`, `order`, `run_order`
+//! - Allocates: a flash in memory, events.
+//! - Callers: `bootswap`, and tests.
+//!
+//! The commands that only read are in `inspecting`, those that make files in `creating`, and
+//! `provision` and `run` in `device_commands`; here is `sweep`, and which of all these an order
+//! asks for. The program passes it the arguments, the system's files, its standard input and
+//! outputs, and a test passes others.
 #![tactic(auto)]
 
+mod commands;
+mod explained;
+mod hint;
 mod program;
 mod progress;
 mod sweeping;
+mod until_failed;
 mod words;
 
-pub use answers::{
-    CheckEnd, ChooseEnd, DescribeEnd, ManifestEnd, ShowEnd, check_over, choose_over, describe_over,
-    show_over, tell_over,
-};
-pub use command_ends::{Access, FlashFault, Host, Replaced};
 pub use command_line::{Order, OrderError, Request, order, request};
-pub use explaining_commands::Remembering;
+pub use host::{Access, Answer, FlashFault, Host, Refusal, Replaced};
+pub use inspecting::{ChooseEnd, check_over, choose_over, describe_over, show_over, tell_over};
 pub use program::{cli, run_order};
 pub use words::note_reading;

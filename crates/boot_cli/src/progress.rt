@@ -1,24 +1,24 @@
-//! How far a sweep is, told on standard error while it runs.
+//! The progress of a sweep, on standard error while it runs.
 
-use command_ends::Host;
+use host::Host;
 use std::io::Write;
 use sweep::{Step, Watch};
 
-/// How far a sweep is, told on standard error, where somebody watches.
+/// Writes the progress of a sweep to standard error, if somebody watches.
 #[derive(Drop)]
 pub struct Progress<'a, H, E> {
-    /// Where the time comes from.
+    /// The clock.
     host: &'a H,
     /// Standard error.
     err: &'a mut E,
-    /// When it was told last, in seconds.
+    /// The time of the last line, in seconds.
     told: Option<u64>,
-    /// When the runs with cuts began, in seconds.
+    /// The time at which the runs with cuts began, in seconds.
     began: Option<u64>,
 }
 
 impl<'a, H: Host, E: Write> Progress<'a, H, E> {
-    /// Of a sweep that begins now.
+    /// The progress of a sweep that begins now.
     pub fn new(host: &'a H, err: &'a mut E) -> Self {
         Progress {
             host,
@@ -28,7 +28,7 @@ impl<'a, H: Host, E: Write> Progress<'a, H, E> {
         }
     }
 
-    /// Takes away what was written. Nothing depends on it, so a write that fails changes nothing.
+    /// Removes the line. Nothing depends on it, so a failed write changes nothing.
     pub fn clear(&mut self) {
         if self.told.is_some() {
             let _ = self.err.write_all(b"\r\x1b[K");
@@ -36,7 +36,7 @@ impl<'a, H: Host, E: Write> Progress<'a, H, E> {
         }
     }
 
-    /// Writes what the sweep does, over what was written before. Nothing depends on it either.
+    /// Writes the step of the sweep over the last line. Nothing depends on it either.
     fn tell(&mut self, step: Step, now: u64) {
         let _ = match step {
             Step::Counting { event, events } => {
@@ -78,7 +78,7 @@ impl<H: Host, E: Write> Watch for Progress<'_, H, E> {
     }
 }
 
-/// How many seconds the rest takes, where so many parts of all took these.
+/// The seconds that the rest takes, if `done` of `all` runs took `went` seconds.
 fn seconds_left(done: u32, all: u32, went: u64) -> u64 {
     let left = u64::from(all.saturating_sub(done));
     went.saturating_mul(left) / u64::from(done.max(1))

@@ -1,49 +1,40 @@
-//! `bootswap sweep`: what comes of a script, with each write of the flash cut.
-ghost use Rattle.std.specs.Prelude.{◌≡◌, ◌≢◌, ◌≤◌, IfErr, IfOk, IfSome, IsTrue, List, ℕ, OnOk, codes};
+//! `bootswap sweep`: runs a script again and again, each time with another write of the flash cut.
+ghost use Rattle.std.specs.Prelude.{◌≡◌, ◌≤◌, IfErr, IfOk, IfSome, List, ℕ, OnOk};
 ghost use Rattle.device_texts.specs.DeviceFile.{IsOfFile};
 ghost use Rattle.device_texts.specs.FlashOf.{IsFlashOf};
-ghost use Rattle.command_ends.specs.Doings.{IsApartFrom, KeepsApart};
-ghost use Rattle.command_ends.specs.Input.{IsKnownAs, KeepsFiles};
-ghost use Rattle.command_ends.specs.Status.{status_of_answer};
+ghost use Rattle.host.specs.Doings.{IsApartFrom, KeepsApart};
+ghost use Rattle.host.specs.Input.{IsKnownAs, KeepsFiles};
+ghost use Rattle.host.specs.Status.{status_of_answer};
 ghost use Rattle.script.specs.Said.{said};
-ghost use Rattle.boot_cli.specs.SweepEnd.{AnswersSweep, IsNamedBy, IsNoInput, IsOther, IsWhole, KeepsBesides, KeepsInputs, KeepsRead, SaysFile};
+ghost use Rattle.boot_cli.specs.SweepEnd.{AnswersSweep, IsNamedBy, IsNoInput, IsOther, KeepsBesides, KeepsInputs, KeepsRead, SaysFile};
 
 use crate::progress::Progress;
-use command_ends::{Answer, FlashFault, Host, Refusal, Replaced, Source, SourceFault};
 use command_line::SweepChoices;
-use core_cli::provision::{Made, read_images, tell_made};
+use common::event::Event;
+use device_commands::provision::{read_images, write_refused};
 use device_texts::{DeviceFile, flash_of, write_all};
-use events::Event;
+use host::{Answer, FlashFault, Host, Refusal, Replaced, Source, SourceFault};
+use inputs::{Lines, load, read_device, read_script};
 use machine::Fault;
-use reading_inputs::{Lines, load, read_device, read_script};
 use script::Line;
 use sector_map::SectorMap;
 use std::alloc::{AllocError, Global};
 use std::io::Write;
 use std::marker::Brand;
 use std::sync::ledger::{Blank, Ledger};
-use sweep::{Found, Life, Plan, found_text, picture_of, sweep};
+use sweep::{Found, Plan, Scenario, found_text, picture_of, sweep};
 
-/// What the words of a sweep name: the files that it reads, and what it tries and makes.
+/// The arguments of a sweep: the files that it reads, and what it tries and makes.
 #[derive(Clone, Copy)]
 pub struct Named<'a, 'w> {
     /// The device file.
     pub device: Source<'a>,
     /// The script.
     pub script: Source<'a>,
-    /// The names of the images that run first, as the words have them.
+    /// The names of the images that run first, as the arguments have them.
     pub images: &'w [&'a str],
     /// What is tried and made.
     pub choices: SweepChoices<'a>,
-}
-
-/// A flash that was made a device's, or why it wasn't.
-#[derive(Drop)]
-pub enum Provisioned {
-    /// These are its bytes.
-    Done(Vec<u8>),
-    /// This is why.
-    Refused(Fault),
 }
 
 /// A script that was read.
@@ -57,13 +48,13 @@ struct Script<'t, 'e> {
 
 /// Reads a device file, a script and images from `host`, makes a flash in memory a device's, runs
 /// the script on it with the writes cut that `named` asks for, and writes to `out` what came of it.
-/// All stands in memory of `alloc`. Where somebody watches, `err` is told how far it is.
+/// Everything is in memory of `alloc`. If somebody watches, the progress is written to `err`.
 ///
-/// All files are judged before anything is run, and none is changed but the picture, where one is
-/// asked for, which is made or replaced once all is run. Whether it can be is seen before. The device
-/// file, the script, what its lines name and the images keep their bytes, whatever comes of it: none
-/// of them may be the picture.
-pub fn perform<H: Host, O: Write, E: Write>(
+/// All files are checked before anything is run. The picture is made or replaced after all runs, if
+/// one is asked for; whether it can be is checked before them. No other file changes. The device
+/// file, the script, the files that its lines name and the images keep their bytes on every path:
+/// none of them may be the picture.
+pub fn run_sweep<H: Host, O: Write, E: Write>(
     alloc: Global,
     named: Named<'_, '_>,
     host: &mut H,
@@ -99,8 +90,8 @@ fn reads_standard_input(named: &Named<'_, '_>) -> bool {
             .any(|image| Source::named(image).is_standard_input())
 }
 
-/// Refuses a picture whose file is one of those that are read, with this text as the script, and one
-/// that can't be made.
+/// Refuses a picture whose file is one of those that are read, with this text as the script, and
+/// one that can't be made.
 fn refuse_inputs<H: Host>(
     alloc: Global,
     host: &H,
@@ -187,69 +178,67 @@ fn sweep_images<H: Host, O: Write, E: Write>(
         (H.file host.old) (H.file host.new) }
 {
     let bytes = read_images(alloc, &device.map, named.images, host)?;
-    // Only now: while the host reads, names may become those of another file.
+    // Not earlier: while the host reads, a name may become that of another file.
     refuse_inputs(alloc, host, named, script.text)?;
     let Ok(made) = provision_in_memory::<Brand>(alloc, Blank::new(2), &device.map, bytes) else {
         return Err(Refusal::NoMemory);
     };
     match made {
-        Provisioned::Refused(fault) => tell_made(alloc, Made::Refused(fault), out),
-        Provisioned::Done(bytes) => {
-            let life = Life {
+        Err(fault) => write_refused(alloc, fault, out),
+        Ok(bytes) => {
+            let scenario = Scenario {
                 device,
                 bytes: &bytes,
                 events: script.events,
                 between: &[],
                 more: &[],
             };
-            tell_sweep(alloc, &life, &named.choices, host, out, err)
+            tell_sweep(alloc, &scenario, &named.choices, host, out, err)
         }
     }
 }
 
-/// Makes the flash of these bytes a device's, in memory.
+/// Provisions the flash of these bytes in memory, and returns its new bytes, or why it is refused.
 fn provision_in_memory<L: Ledger>(
     alloc: Global,
     blank: Blank,
     map: &SectorMap,
     bytes: Vec<u8>,
-) -> Result<Provisioned, AllocError>
+) -> Result<Result<Vec<u8>, Fault>, AllocError>
     requires name { blank.name ≡ L.name }
     requires parts { blank.parts ≡ L.parts }
     requires two { L.parts ≡ 2 }
     requires whole { IsFlashOf map.now bytes.items }
-    ensures { IfOk result (λ made. IsWhole map.now made) }
+    ensures { IfOk result (λ made. IfOk made (λ bytes. IsFlashOf map.now bytes.items)) }
 {
     let mut flash = flash_of::<L>(alloc, blank, map, bytes);
     if let Err(fault) = boot_core::provision(&mut flash, map) {
-        return Ok(Provisioned::Refused(fault));
+        return Ok(Err(fault));
     }
-    Ok(Provisioned::Done(Vec::from_slice(alloc, flash.bytes())?))
+    Ok(Ok(Vec::from_slice(alloc, flash.bytes())?))
 }
 
-/// Sweeps a life, makes the picture where one is asked for, and writes what was found to `out`.
+/// Sweeps a scenario, makes the picture if one is asked for, and writes the findings to `out`.
 fn tell_sweep<H: Host, O: Write, E: Write>(
     alloc: Global,
-    life: &Life<'_>,
+    scenario: &Scenario<'_>,
     choices: &SweepChoices<'_>,
     host: &mut H,
     out: &mut O,
     err: &mut E,
 ) -> Result<Answer, Refusal>
-    requires device { IsOfFile life.now.device.now }
-    requires whole { IsFlashOf life.now.device.now.map life.now.bytes.now }
     ensures answers { IfOk result (λ answer. status_of_answer answer ≤ 1) }
     ensures others { KeepsBesides choices.now.picture (H.apart host.old)
         (H.file host.old) (H.file host.new) }
 {
     let mut progress = Progress::new(host, err);
-    let swept = sweep(alloc, life, plan_of(choices), &mut progress);
+    let swept = sweep(alloc, scenario, plan_of(choices), &mut progress);
     progress.clear();
     let Ok(found) = swept else {
         return Err(Refusal::NoMemory);
     };
-    make_picture(alloc, life, &found, choices.picture, host)?;
-    let Ok(text) = found_text(alloc, life, &found) else {
+    make_picture(alloc, scenario, &found, choices.picture, host)?;
+    let Ok(text) = found_text(alloc, scenario, &found) else {
         return Err(Refusal::NoMemory);
     };
     match write_all(out, text.as_bytes()) {
@@ -258,7 +247,7 @@ fn tell_sweep<H: Host, O: Write, E: Write>(
     }
 }
 
-/// What is tried, by the words.
+/// What is tried, by the arguments.
 fn plan_of(choices: &SweepChoices<'_>) -> Plan {
     Plan {
         is_twice: choices.is_twice,
@@ -278,10 +267,10 @@ fn answer_of(is_good: bool) -> Answer
     }
 }
 
-/// Makes the picture of a sweep, where one is asked for.
+/// Makes the picture of a sweep, if one is asked for.
 fn make_picture<H: Host>(
     alloc: Global,
-    life: &Life<'_>,
+    scenario: &Scenario<'_>,
     found: &Found,
     picture: Option<&str>,
     host: &mut H,
@@ -291,7 +280,7 @@ fn make_picture<H: Host>(
     let Some(name) = picture else {
         return Ok(());
     };
-    let Ok(picture) = picture_of(alloc, life, found) else {
+    let Ok(picture) = picture_of(alloc, scenario, found) else {
         return Err(Refusal::NoMemory);
     };
     replace(alloc, name, picture.as_bytes(), host)
@@ -310,7 +299,7 @@ fn replace<H: Host>(alloc: Global, name: &str, bytes: &[u8], host: &mut H) -> Re
     }
 }
 
-/// Refuses a picture that can't be made, or not take the place of a file, before anything is run.
+/// Refuses a picture that can't be made and can't replace a file, before anything is run.
 fn check_picture<H: Host>(alloc: Global, host: &H, picture: &str) -> Result<(), Refusal> {
     match host.check_replaceable(alloc, picture) {
         Ok(()) => Ok(()),
@@ -318,7 +307,7 @@ fn check_picture<H: Host>(alloc: Global, host: &H, picture: &str) -> Result<(), 
     }
 }
 
-/// Why a sweep refuses whose picture can't be made, or not take the place of a file.
+/// The refusal of a sweep whose picture can't be made and can't replace a file.
 fn picture_refusal(alloc: Global, name: &str, fault: FlashFault) -> Refusal {
     match fault {
         FlashFault::NoMemory => Refusal::NoMemory,

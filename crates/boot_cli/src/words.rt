@@ -1,19 +1,19 @@
-//! What the words ask for, also where there are none.
+//! The order that the arguments give, also if there are none.
 ghost use Rattle.std.specs.Prelude.{IfErr, IfOk, map};
-ghost use Rattle.command_line.specs.Faults.{IsRefusal};
+ghost use Rattle.command_line.specs.OrderFaults.{IsRefusal};
 ghost use Rattle.boot_cli.specs.WordsEnd.{AskFor};
 
-use command_ends::STANDARD_INPUT;
 use command_line::{Order, OrderError, Request, request};
+use host::STANDARD_INPUT;
 use std::alloc::Global;
 use std::convert::AsStr;
 use std::io::Write;
 
-/// Tells who gives no word at a terminal what the program waits for.
+/// Says at a terminal what the program waits for when it gets no argument.
 const READING: &[u8] = b"note: reading a table from standard input; `bootswap --help` tells more\n";
 
-/// What the words ask for: with none after the program's own name the choice over standard input.
-/// What is read of them stands in memory of `alloc`.
+/// The order that the arguments give. Without one after the program's own name it is the choice
+/// over standard input. Values of arguments are in memory of `alloc`.
 ///
 /// # Errors
 /// Those of [`request`].
@@ -32,8 +32,8 @@ pub fn request_in<'a, S: AsStr>(alloc: Global, words: &'a [S]) -> Result<Request
     request(alloc, words)
 }
 
-/// Tells that the program reads a table from standard input.
+/// Writes that the program reads a table from standard input.
 pub fn note_reading<E: Write>(err: &mut E) {
-    // It is no part of the answer, which goes on without it.
+    // The note is no part of the answer, so a failed write changes nothing.
     let _ = err.write_all(READING);
 }

@@ -1,14 +1,18 @@
-//! `bootswap`: which of the images that a device is asked to boot may run together, decided from a
-//! table; what images say of themselves; what manifests say to a device; and a device itself, on a
-//! file, that boots, takes uploads and survives power cuts.
+//! The program.
+//!
+//! - Allocates: the arguments.
+//!
+//! Which of the images that a device is asked to boot may run together, decided from a table; what
+//! images say of themselves; what manifests say to a device; and a device itself, on a file, that
+//! boots, takes uploads and survives power cuts.
 #![tactic(auto)]
 
-use boot_cli::{Remembering, cli, note_reading};
-use command_words::{refuse_words, words_of};
+use boot_cli::{cli, note_reading};
+use command_line::{refuse_words, words_of};
+use host::{Output, STANDARD_ERROR, STANDARD_OUTPUT, SystemHost, reserve_stack};
 use std::io;
 use std::io::{ErrorKind, IsTerminal, Write};
 use std::process::ExitCode;
-use system_files::{Output, STANDARD_ERROR, STANDARD_OUTPUT, SystemHost, reserve_stack};
 
 fn main(rt: HostRuntime) -> ExitCode {
     let status = match reserve_stack(rt.alloc()) {
@@ -34,8 +38,7 @@ fn run(rt: HostRuntime) -> u8 {
         note_reading(&mut err);
         let _ = err.flush();
     }
-    let system = SystemHost::new(&rt, input, rt.stderr().is_terminal());
-    let mut host = Remembering::over(alloc, system);
+    let mut host = SystemHost::new(&rt, input, rt.stderr().is_terminal());
     cli(alloc, words.as_slice(), &mut host, &mut out, &mut err)
 }
 

@@ -1,27 +1,19 @@
 use Rattle.boot_cli.proofs.program.run_order.Goals as goal
-use Rattle.boot_cli.proofs.OrderLaws.{AnswersOrder-kept}
-use Rattle.core_cli.proofs.WordsLaws.{never_usage, only_cut}
+use Rattle.boot_cli.proofs.OrderLaws.{cut_after, done_after}
+use Rattle.device_commands.proofs.WordsLaws.{never_usage}
 
--- The status is 0 only after `Done`, and what stands then was written before the flush.
+-- The status is 0 only after `Done` ..
 pub returns-clause-done : goal.returns-clause-done
-returns-clause-done g c = λ zero.
-    let done = c.finish.ensures.status zero in
-    let answered = rw done at c.perform-outcome.ensures.answers in
-    AnswersOrder-kept c.args.order (g.H.Host.input c.args.host.now) (g.H.Host.file c.args.host.now)
-    (g.H.Host.file c.perform-outcome.new.host)
-    (g.O.Write.contents c.args.out.now) (g.O.Write.contents c.perform-outcome.new.out) (g.O.Write.contents c.finish.new.out)
-    answered c.finish.ensures.kept
+returns-clause-done g c =
+    done_after c.args.order c.run_command-outcome.result c.finish-status.result _ _ _ _ _ _
+    c.run_command-outcome.ensures.answers c.finish-status.ensures.status c.finish-status.ensures.kept
 
--- The status is 3 only after `Cut`.
+-- .. and 3 only after `Cut`.
 pub returns-clause-cut : goal.returns-clause-cut
-returns-clause-cut g c = λ three.
-    let is_cut = only_cut c.perform-outcome.result c.finish.result c.finish.ensures.ends three in
-    record {
-      written = g.O.Write.contents c.perform-outcome.new.out;
-      answered = rw is_cut at c.perform-outcome.ensures.answers;
-      kept = c.finish.ensures.kept;
-    }
+returns-clause-cut g c =
+    cut_after c.args.order c.run_command-outcome.result c.finish-status.result _ _ _ _ _ _
+    c.run_command-outcome.ensures.answers c.finish-status.ensures.ends c.finish-status.ensures.kept
 
--- No command ends as a fault in the words does.
+-- No command ends as a fault in the arguments does.
 pub returns-clause-other : goal.returns-clause-other
-returns-clause-other g c = never_usage c.perform-outcome.result c.finish.result c.finish.ensures.ends
+returns-clause-other g c = never_usage c.run_command-outcome.result c.finish-status.result c.finish-status.ensures.ends

@@ -1,0 +1,115 @@
+//! Which command an order asks for.
+ghost use Rattle.std.specs.Prelude.{IfOk};
+ghost use Rattle.boot_cli.specs.OrderEnd.{AnswersOrder, KeepsSwept};
+
+use crate::sweeping::{Named, run_sweep};
+use command_line::{DeviceOrder, Order};
+use creating::extract::{Copying, run_extract};
+use creating::make_device::run_make_device;
+use creating::make_image::run_make_image;
+use creating::make_manifest::run_make_manifest;
+use device_commands::provision::run_provision;
+use device_commands::run_device_order;
+use host::{Answer, Host, Refusal, Source};
+use inputs::NoNotes;
+use inspecting::run_inspection;
+use std::alloc::Global;
+use std::io::Write;
+
+/// Runs the command of an order. Its answer goes to `out`; what it reports meanwhile, such as the
+/// progress of a sweep, goes to `err`.
+///
+/// # Errors
+/// Those of the command.
+pub fn run_command<H: Host, O: Write, E: Write>(
+    alloc: Global,
+    order: &Order<'_>,
+    host: &mut H,
+    out: &mut O,
+    err: &mut E,
+) -> Result<Answer, Refusal>
+    ensures answers { IfOk result (λ answer. AnswersOrder answer order.now
+        (H.input host.old) (H.file host.old) (H.file host.new)
+        (O.contents out.old) (O.contents out.new)) }
+    ensures swept { KeepsSwept order.now (H.file host.old) (H.file host.new) }
+{
+    match *order {
+        Order::MakeDevice { ref device } => run_make_device(alloc, device, out, err),
+        Order::MakeImage {
+            image,
+            body,
+            ref values,
+        } => run_make_image(alloc, image, Source::named(body), values, host, out),
+        Order::MakeManifest {
+            device,
+            ref manifest,
+        } => run_make_manifest(alloc, Source::named(device), manifest, host, out, err),
+        Order::Extract {
+            device,
+            flash,
+            image,
+            side,
+            out: file,
+        } => {
+            let copying = Copying {
+                image,
+                side,
+                out: file,
+            };
+            let (device, flash) = (Source::named(device), Source::named(flash));
+            run_extract(alloc, device, flash, copying, host, out)
+        }
+        _ => run_other_command(alloc, order, host, out, err),
+    }
+}
+
+/// Runs the command of an order that makes no device file, image or manifest.
+fn run_other_command<H: Host, O: Write, E: Write>(
+    alloc: Global,
+    order: &Order<'_>,
+    host: &mut H,
+    out: &mut O,
+    err: &mut E,
+) -> Result<Answer, Refusal>
+    ensures answers { IfOk result (λ answer. AnswersOrder answer order.now
+        (H.input host.old) (H.file host.old) (H.file host.new)
+        (O.contents out.old) (O.contents out.new)) }
+    ensures swept { KeepsSwept order.now (H.file host.old) (H.file host.new) }
+{
+    match *order {
+        Order::Sweep {
+            device,
+            script,
+            ref images,
+            choices,
+        } => {
+            let named = Named {
+                device: Source::named(device),
+                script: Source::named(script),
+                images,
+                choices,
+            };
+            run_sweep(alloc, named, host, out, err)
+        }
+        Order::Provision {
+            device,
+            flash,
+            ref images,
+        } => run_provision(alloc, Source::named(device), flash, images, host, out),
+        Order::Run {
+            device,
+            flash,
+            script,
+            durable,
+        } => {
+            let asked = DeviceOrder::Run {
+                device,
+                flash,
+                script,
+                durable,
+            };
+            run_device_order(alloc, &asked, host, out, &mut NoNotes)
+        }
+        _ => run_inspection(alloc, order, host, out),
+    }
+}

@@ -1,0 +1,273 @@
+//! Why bytes are no intact image.
+
+use crate::image_areas::{
+    Area, COUNTER, DEPENDENCY, DIGEST, EntryAt, GROUP, Sought, end_of_body, long_number_at,
+    number_at, protected_area, unprotected_area,
+};
+use image_header::{ACCEPTED_FLAGS, HEADER_LENGTH, Header};
+use image_reading::ImageError;
+use sha2::{Digest, Sha256};
+use std::alloc::AllocError;
+
+/// Adds the place at which bytes fail this check of an image, and what they contain there. Bytes
+/// are numbered from 0.
+pub fn explain_image(
+    notes: &mut String,
+    bytes: &[u8],
+    fault: ImageError,
+) -> Result<(), AllocError> {
+    match fault {
+        ImageError::Short => {
+            let length = bytes.len();
+            writeln!(
+                notes,
+                "note: there are {length} bytes, and a header has {HEADER_LENGTH}"
+            )
+        }
+        ImageError::BadMagic => {
+            let found = long_number_at(bytes, 0).unwrap_or_default();
+            writeln!(
+                notes,
+                "note: at byte 0 stands 0x{found:08x}, and an image begins with 0x96f3b83d"
+            )
+        }
+        ImageError::BadHeaderSize => {
+            let found = number_at(bytes, 8).unwrap_or_default();
+            writeln!(
+                notes,
+                "note: at byte 8 stands {found} as the length of the header, and it is \
+                 {HEADER_LENGTH} at least"
+            )
+        }
+        ImageError::UnsupportedFlags => {
+            let found = long_number_at(bytes, 16).unwrap_or_default();
+            let others = found & !ACCEPTED_FLAGS;
+            writeln!(
+                notes,
+                "note: at byte 16 stand the flags 0x{found:x}; 0x{others:x} of them aren't accepted"
+            )
+        }
+        _ => match Header::read(bytes) {
+            Ok(header) => explain_areas(notes, bytes, &header, fault),
+            Err(_) => Ok(()),
+        },
+    }
+}
+
+/// Adds the place at which bytes with this header fail a check of an image's areas.
+fn explain_areas(
+    notes: &mut String,
+    bytes: &[u8],
+    header: &Header,
+    fault: ImageError,
+) -> Result<(), AllocError> {
+    let protected = protected_area(header);
+    let unprotected = unprotected_area(header);
+    match fault {
+        ImageError::Truncated => explain_end(notes, bytes, header),
+        ImageError::BadTlvMagic => match protected {
+            Some(area) if area.own_magic(bytes) != Some(area.magic) => {
+                explain_magic(notes, bytes, area)
+            }
+            _ => explain_magic(notes, bytes, unprotected),
+        },
+        ImageError::BadTlvSize => match protected {
+            Some(area) if !has_its_length(bytes, area) => explain_length(notes, bytes, area),
+            _ => explain_length(notes, bytes, unprotected),
+        },
+        ImageError::NoDigest | ImageError::TwoDigests | ImageError::BadDigest => explain_digest(
+            notes,
+            bytes,
+            unprotected,
+        ),
+        ImageError::TrailingBytes => {
+            let end = unprotected.end(bytes).unwrap_or(bytes.len());
+            let more = bytes.len().saturating_sub(end);
+            writeln!(
+                notes,
+                "note: the image ends before byte {end}, and {more} bytes more follow"
+            )
+        }
+        _ => match protected {
+            Some(area) => explain_entries(notes, bytes, area, fault),
+            None => Ok(()),
+        },
+    }
+}
+
+/// Adds the number of bytes, and the places of the parts that the image would have.
+fn explain_end(notes: &mut String, bytes: &[u8], header: &Header) -> Result<(), AllocError> {
+    let length = bytes.len();
+    let body = end_of_body(header);
+    let (header_size, body_size) = (header.header_size, header.body_size);
+    writeln!(
+        notes,
+        "note: there are {length} bytes; the header has {header_size} and the body {body_size}, up \
+         to byte {body}"
+    )?;
+    if let Some(area) = protected_area(header) {
+        add_area(notes, bytes, "protected area", area)?;
+    }
+    add_area(notes, bytes, "area of entries", unprotected_area(header))
+}
+
+/// Adds the place at which an area begins, and its length if the bytes give one.
+fn add_area(notes: &mut String, bytes: &[u8], kind: &str, area: Area) -> Result<(), AllocError> {
+    let place = area.place;
+    match area.own_length(bytes) {
+        Some(length) => writeln!(
+            notes,
+            "note: at byte {place} the {kind} begins, which has {length} bytes"
+        ),
+        None => writeln!(
+            notes,
+            "note: at byte {place} the {kind} would begin, which has 4 bytes at least"
+        ),
+    }
+}
+
+/// Adds the magic number that an area begins with.
+fn explain_magic(notes: &mut String, bytes: &[u8], area: Area) -> Result<(), AllocError> {
+    let (place, magic) = (area.place, area.magic);
+    let found = area.own_magic(bytes).unwrap_or_default();
+    writeln!(
+        notes,
+        "note: at byte {place} stands 0x{found:04x}, and the area there begins with 0x{magic:04x}"
+    )
+}
+
+/// Whether an area has the length that the header gives, and its entries fill it.
+fn has_its_length(bytes: &[u8], area: Area) -> bool {
+    area.own_length(bytes) == area.said && Some(area.end_of_entries(bytes)) == area.end(bytes)
+}
+
+/// Adds the length that an area has, and what is wrong with it.
+fn explain_length(notes: &mut String, bytes: &[u8], area: Area) -> Result<(), AllocError> {
+    let place = area.place.saturating_add(2);
+    let length = area.own_length(bytes).unwrap_or_default();
+    match area.said {
+        Some(said) if said != length => {
+            return writeln!(
+                notes,
+                "note: at byte {place} stands {length} as the length of the area, and the header \
+                 says {said}"
+            );
+        }
+        _ => {}
+    }
+    if length < 4 {
+        return writeln!(
+            notes,
+            "note: at byte {place} stands {length} as the length of the area, and it is 4 at least"
+        );
+    }
+    let rest = area.end_of_entries(bytes);
+    let end = area.end(bytes).unwrap_or(rest);
+    writeln!(
+        notes,
+        "note: the entry at byte {rest} doesn't fit into its area, which ends before byte {end}"
+    )
+}
+
+/// Adds what is wrong with the digest of an image.
+fn explain_digest(notes: &mut String, bytes: &[u8], area: Area) -> Result<(), AllocError> {
+    let Some(first) = area.find(bytes, Sought::Kind(DIGEST), 0) else {
+        let place = area.place;
+        return writeln!(
+            notes,
+            "note: the area at byte {place} has no entry of the type 0x10, a SHA-256"
+        );
+    };
+    let place = first.place;
+    if let Some(second) = area.find(bytes, Sought::Kind(DIGEST), 1) {
+        let other = second.place;
+        return writeln!(
+            notes,
+            "note: digest entries stand at byte {place} and at byte {other}, and there is one"
+        );
+    }
+    let length = first.value.len();
+    if length != 32 {
+        return writeln!(
+            notes,
+            "note: the digest entry at byte {place} has {length} bytes, and a SHA-256 has 32"
+        );
+    }
+    explain_hash(notes, bytes, area.place, &first)
+}
+
+/// Adds the digest in an entry, and the digest of the bytes before `end`.
+fn explain_hash(
+    notes: &mut String,
+    bytes: &[u8],
+    end: usize,
+    entry: &EntryAt<'_>,
+) -> Result<(), AllocError> {
+    let place = entry.place;
+    let hashed = bytes.get(..end).unwrap_or_default();
+    write!(notes, "note: at byte {place} stands the digest ")?;
+    add_digits(notes, entry.value)?;
+    write!(
+        notes,
+        "\nnote: the SHA-256 of the {end} bytes before its area is "
+    )?;
+    let digest: [u8; 32] = Sha256::digest(hashed);
+    add_digits(notes, digest.as_slice())?;
+    notes.push_str("\n")
+}
+
+/// Adds bytes as hexadecimal digits.
+pub fn add_digits(notes: &mut String, bytes: &[u8]) -> Result<(), AllocError> {
+    for byte in bytes {
+        write!(notes, "{byte:02x}")?;
+    }
+    Ok(())
+}
+
+/// Adds which entry of a protected area fails a check.
+fn explain_entries(
+    notes: &mut String,
+    bytes: &[u8],
+    area: Area,
+    fault: ImageError,
+) -> Result<(), AllocError> {
+    let (sought, number, text) = match fault {
+        ImageError::BadDependency => (
+            Sought::BadNeed,
+            0,
+            "isn't 12 bytes an image, or its bytes behind a number aren't 0",
+        ),
+        ImageError::TooManyDependencies => (
+            Sought::Kind(DEPENDENCY),
+            16,
+            "is the 17th dependency, and there are 16 at most",
+        ),
+        ImageError::TooManyGroups => (
+            Sought::Kind(GROUP),
+            4,
+            "is the 5th group, and there are 4 at most",
+        ),
+        ImageError::BadCounter if area.find(bytes, Sought::Kind(COUNTER), 1).is_some() => {
+            (Sought::Kind(COUNTER), 1, "is a second security counter")
+        }
+        ImageError::BadCounter => (
+            Sought::Kind(COUNTER),
+            0,
+            "is a security counter that isn't 4 bytes long",
+        ),
+        _ => return Ok(()),
+    };
+    match area.find(bytes, sought, number) {
+        Some(entry) => add_entry(notes, &entry, text),
+        None => Ok(()),
+    }
+}
+
+/// Adds what is wrong with an entry.
+fn add_entry(notes: &mut String, entry: &EntryAt<'_>, text: &str) -> Result<(), AllocError> {
+    let (place, kind, length) = (entry.place, entry.kind, entry.value.len());
+    writeln!(
+        notes,
+        "note: the entry at byte {place}, of the type 0x{kind:02x} and {length} bytes, {text}"
+    )
+}

@@ -1,0 +1,37 @@
+//! Why bytes are refused and requests are left, in sentences for people.
+//!
+//! - Allocates: the text, and JSON values.
+//! - Callers: any program that has read the bytes.
+//!
+//! Each call adds lines `note: ..` to a text: what the given bytes hold, where, and what they may
+//! hold. It is given what was refused, and looks for the place; if it finds none it adds nothing.
+//! Nothing is promised of the sentences but that each call ends, whatever the bytes are: tests
+//! compare them.
+#![tactic(auto)]
+
+mod device_notes;
+mod image_areas;
+mod image_notes;
+mod json_notes;
+mod manifest_notes;
+mod needs_notes;
+mod places;
+mod refusal_notes;
+mod report_notes;
+mod script_notes;
+mod shown;
+mod table_notes;
+mod verdict_notes;
+mod versions;
+
+pub use device_notes::{explain_asked_map, explain_device, explain_map};
+pub use image_notes::{add_digits, explain_image};
+pub use manifest_notes::explain_manifest;
+pub use needs_notes::explain_running;
+pub use places::{Place, line_at};
+pub use refusal_notes::explain_refusals;
+pub use report_notes::explain_report_line;
+pub use script_notes::{explain_script_line, file_named_at};
+pub use shown::Shown;
+pub use table_notes::explain_table_line;
+pub use verdict_notes::explain_no;

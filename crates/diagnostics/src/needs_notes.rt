@@ -1,0 +1,64 @@
+//! Dependencies that a set of images doesn't meet.
+
+use crate::versions::{Versions, is_taken};
+use certificate::{Entry, Request, Table};
+use std::alloc::AllocError;
+use version_order::Version;
+
+/// Adds a sentence for each dependency and group of the running images of a table that the running
+/// versions don't meet.
+pub fn explain_running(notes: &mut String, table: &Table) -> Result<(), AllocError> {
+    explain_set(notes, table, 0)
+}
+
+/// Adds a sentence for each dependency and group that a set of the images of a table doesn't meet:
+/// bit i of `taken` says whether the request of image i is in the set.
+pub fn explain_set(notes: &mut String, table: &Table, taken: u8) -> Result<(), AllocError> {
+    let versions = Versions::of_set(table, taken);
+    for (number, image) in table.images.iter().enumerate() {
+        let entry = match &image.request {
+            Request::Entry(entry) if is_taken(taken, number) => entry,
+            _ => &image.running,
+        };
+        explain_dependencies(notes, &versions, number, entry)?;
+        explain_groups(notes, &versions, number, entry)?;
+    }
+    Ok(())
+}
+
+/// Adds the dependencies of an image that versions don't meet.
+fn explain_dependencies(
+    notes: &mut String,
+    versions: &Versions,
+    number: usize,
+    entry: &Entry,
+) -> Result<(), AllocError> {
+    for need in entry.dependencies.iter() {
+        if !versions.meet(need) {
+            add_owner(notes, number, entry.version)?;
+            versions.explain_need(notes, need, false)?;
+        }
+    }
+    Ok(())
+}
+
+/// Adds the groups of an image that versions don't meet.
+fn explain_groups(
+    notes: &mut String,
+    versions: &Versions,
+    number: usize,
+    entry: &Entry,
+) -> Result<(), AllocError> {
+    for group in entry.groups.iter() {
+        if !versions.meet_one(group) {
+            add_owner(notes, number, entry.version)?;
+            versions.explain_group(notes, group, false)?;
+        }
+    }
+    Ok(())
+}
+
+/// Begins a sentence on the version of an image.
+pub fn add_owner(notes: &mut String, number: usize, version: Version) -> Result<(), AllocError> {
+    write!(notes, "note: image {number}: {version} ")
+}

@@ -1,0 +1,46 @@
+//! Lines of a text by their numbers.
+
+use crate::shown::Shown;
+use common::lines::first_line;
+use std::alloc::AllocError;
+
+/// A line of a text, and the lines before it.
+#[derive(Clone, Copy)]
+pub struct Place<'a> {
+    /// The lines before it.
+    pub before: &'a [u8],
+    /// The line, without its line feed.
+    pub line: &'a [u8],
+}
+
+/// The line of this number, counted from 1, if the text has that many.
+pub fn line_at(text: &[u8], number: usize) -> Option<Place<'_>> {
+    let mut rest = text;
+    for count in 1..=number {
+        if rest.is_empty() {
+            return None;
+        }
+        let (line, after) = first_line(rest);
+        if count == number {
+            let before = text.get(..text.len().saturating_sub(rest.len()))?;
+            return Some(Place { before, line });
+        }
+        rest = after;
+    }
+    None
+}
+
+/// Adds the contents of a line, of a text of this kind.
+pub fn add_line(
+    notes: &mut String,
+    kind: &str,
+    number: usize,
+    line: &[u8],
+) -> Result<(), AllocError> {
+    let shown = Shown(line);
+    writeln!(notes, "note: {kind} line {number} is `{shown}`")?;
+    if line.last() == Some(&b'\r') {
+        notes.push_str("note: a carriage return ends it; a line ends with a line feed alone\n")?;
+    }
+    Ok(())
+}

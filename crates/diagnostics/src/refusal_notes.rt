@@ -1,0 +1,86 @@
+//! Why requests are refused.
+
+use crate::needs_notes::add_owner;
+use crate::versions::Versions;
+use certificate::{Entry, Image, Reason, Refusal, Report, Request, Table};
+use std::alloc::AllocError;
+use version_order::Dependency;
+
+/// Adds a sentence for each request that a report refuses, with the versions that it compares.
+pub fn explain_refusals(
+    notes: &mut String,
+    table: &Table,
+    report: &Report,
+) -> Result<(), AllocError> {
+    let refusals = report.refusals.as_slice();
+    for (place, refusal) in refusals.iter().enumerate() {
+        let before = refusals.get(..place).unwrap_or_default();
+        if let Some(image) = table.images.get(usize::from(refusal.image)) {
+            explain_refusal(notes, table, before, image, refusal)?;
+        }
+    }
+    Ok(())
+}
+
+/// Adds why the request of an image is refused, after the refusals `before`.
+fn explain_refusal(
+    notes: &mut String,
+    table: &Table,
+    before: &[Refusal],
+    image: &Image,
+    refusal: &Refusal,
+) -> Result<(), AllocError> {
+    let Request::Entry(entry) = &image.request else {
+        let own = refusal.image;
+        return writeln!(
+            notes,
+            "note: image {own}: the bytes that are requested are no intact image"
+        );
+    };
+    if refusal.reason == Reason::Damaged {
+        return Ok(());
+    }
+    let best = Versions::at_best(table, before, refusal.image);
+    add_owner(notes, usize::from(refusal.image), entry.version)?;
+    add_reason(
+        notes,
+        &best,
+        table.images.len(),
+        image,
+        entry,
+        &refusal.reason,
+    )
+}
+
+/// Adds why the intact request of an image is refused, on a device with `count` images of which
+/// these are the best versions.
+fn add_reason(
+    notes: &mut String,
+    best: &Versions,
+    count: usize,
+    image: &Image,
+    entry: &Entry,
+    reason: &Reason,
+) -> Result<(), AllocError> {
+    let (running, counter, floor) = (image.running.version, entry.counter, image.floor);
+    match reason {
+        Reason::Damaged => Ok(()),
+        Reason::Older => writeln!(notes, "is requested, and {running} runs, which is newer"),
+        Reason::Counter => writeln!(
+            notes,
+            "is requested with the security counter {counter}, below the floor {floor}"
+        ),
+        Reason::NoSuchImage(number) => writeln!(
+            notes,
+            "needs image {number}; there are {count} images, from 0 on"
+        ),
+        Reason::Needs(number, minimum) => {
+            let need = Dependency {
+                image: *number,
+                minimum: *minimum,
+            };
+            best.explain_need(notes, &need, true)
+        }
+        Reason::NeedsOne(group) => best.explain_group(notes, group, true),
+    }
+}

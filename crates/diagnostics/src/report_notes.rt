@@ -1,0 +1,55 @@
+//! The first wrong line of a report.
+
+use crate::places::{add_line, line_at};
+use crate::table_notes::WORDS;
+use certificate::{MOST_REFUSALS, Report};
+use common::limits::MOST_IMAGES;
+use std::alloc::AllocError;
+
+/// What may follow `refuse I`.
+const REASONS: &str =
+    "note: a REASON is damaged, older, counter, no-such-image J, needs J VERSION, or needs-one with
+note: one to four pairs J VERSION
+";
+
+/// Adds the contents of the line of this number, counted from 1, which is the first wrong one, and
+/// what is allowed there.
+pub fn explain_report_line(
+    notes: &mut String,
+    text: &[u8],
+    number: usize,
+) -> Result<(), AllocError> {
+    let Some(place) = line_at(text, number) else {
+        return notes.push_str(
+            "note: the report is empty; it begins with `run 0 VERSION` or `take 0 VERSION`\n",
+        );
+    };
+    add_line(notes, "report", number, place.line)?;
+    let before = Report::parse(place.before).unwrap_or_default();
+    notes.push_str("note: here may stand")?;
+    add_choices(notes, &before)?;
+    if !before.images.is_empty() {
+        notes.push_str(REASONS)?;
+    }
+    notes.push_str(WORDS)
+}
+
+/// Adds what may follow a report.
+fn add_choices(notes: &mut String, report: &Report) -> Result<(), AllocError> {
+    let count = report.images.len();
+    if count < MOST_IMAGES && report.refusals.is_empty() {
+        write!(notes, " `run {count} VERSION`, `take {count} VERSION`")?;
+        if count == 0 {
+            return notes.push_str("\n");
+        }
+        notes.push_str(",")?;
+    }
+    if report.refusals.len() < MOST_REFUSALS {
+        notes.push_str(" `refuse I REASON`\n")
+    } else {
+        writeln!(
+            notes,
+            " nothing more: a report has {MOST_REFUSALS} refusals at most"
+        )
+    }
+}

@@ -1,0 +1,225 @@
+//! What is wrong with a line of a script.
+
+use crate::places::{add_line, line_at};
+use crate::shown::Shown;
+use common::ascii::{cut, number, number_u8};
+use common::lines::first_line;
+use script::{Event, FileText, Line, PartText, line_of};
+use std::alloc::AllocError;
+
+/// The name of standard input.
+const STANDARD_INPUT: &str = "-";
+
+/// What follows the first word of a line.
+#[derive(Clone, Copy)]
+enum Fields {
+    Cut,
+    File,
+    Piece,
+    Image,
+    Nothing,
+}
+
+/// The words that a line may begin with, and what follows each.
+const FIELDS: [(&str, Fields); 8] = [
+    ("cut", Fields::Cut),
+    ("accept", Fields::File),
+    ("piece", Fields::Piece),
+    ("finish", Fields::Image),
+    ("withdraw", Fields::Image),
+    ("confirm", Fields::Image),
+    ("boot", Fields::Nothing),
+    ("reset", Fields::Nothing),
+];
+
+/// Adds the contents of the line of this number, counted from 1, and why it is wrong: its spelling,
+/// its place, or the part of a file that it names. `may_cut` says whether the script may cut
+/// writes. `length` is the length of the file that the line names, in bytes, if it is known. That
+/// of standard input isn't known if an argument of the command names standard input too.
+pub fn explain_script_line(
+    notes: &mut String,
+    text: &[u8],
+    number: usize,
+    may_cut: bool,
+    length: Option<u64>,
+) -> Result<(), AllocError> {
+    let Some(place) = line_at(text, number) else {
+        return Ok(());
+    };
+    add_line(notes, "script", number, place.line)?;
+    match line_of(place.line) {
+        None => explain_spelling(notes, place.line),
+        Some(Line::Cut { .. }) if !may_cut => notes.push_str(
+            "note: a sweep cuts each write itself, and its script cuts none\n",
+        ),
+        Some(Line::Cut { write, torn: _ }) => explain_order(notes, place.before, write),
+        Some(Line::Event(event)) => explain_event(notes, place.before, event, length),
+    }
+}
+
+/// Adds why a cut of this write can't follow these lines.
+fn explain_order(notes: &mut String, before: &[u8], write: u32) -> Result<(), AllocError> {
+    let mut rest = before;
+    let mut last = 0;
+    for _ in 0..before.len() {
+        if rest.is_empty() {
+            break;
+        }
+        let (line, after) = first_line(rest);
+        rest = after;
+        match line_of(line) {
+            Some(Line::Cut { write, torn: _ }) => last = write,
+            _ => return notes.push_str("note: cuts stand before the first event\n"),
+        }
+    }
+    writeln!(
+        notes,
+        "note: cuts stand by rising numbers, and behind write {last} write {write} is none"
+    )
+}
+
+/// The name of the file that the line of this number names, counted from 1, if it names one.
+pub fn file_named_at(text: &[u8], number: usize) -> Option<&str> {
+    match line_of(line_at(text, number)?.line) {
+        Some(Line::Event(Event::Accept(file) | Event::Piece(_, file))) => Some(file.name),
+        _ => None,
+    }
+}
+
+/// Adds what is wrong with the file of an event, which follows these lines.
+fn explain_event(
+    notes: &mut String,
+    before: &[u8],
+    event: Event<FileText<'_>>,
+    length: Option<u64>,
+) -> Result<(), AllocError> {
+    let (Event::Accept(file) | Event::Piece(_, file)) = event else {
+        return Ok(());
+    };
+    if file.name == STANDARD_INPUT && (length.is_none() || name_input(before)) {
+        return notes.push_str("note: standard input is read once, and was read before\n");
+    }
+    match file.part {
+        Some(part) => explain_part(notes, file.name, part, length),
+        None => Ok(()),
+    }
+}
+
+/// Whether one of these lines names standard input.
+fn name_input(text: &[u8]) -> bool {
+    let mut rest = text;
+    for _ in 0..text.len() {
+        if rest.is_empty() {
+            break;
+        }
+        let (line, after) = first_line(rest);
+        rest = after;
+        if let Some(Line::Event(Event::Accept(file) | Event::Piece(_, file))) = line_of(line)
+            && file.name == STANDARD_INPUT
+        {
+            return true;
+        }
+    }
+    false
+}
+
+/// Adds what is wrong with a part of a file of this length, if it is known.
+fn explain_part(
+    notes: &mut String,
+    name: &str,
+    part: PartText<'_>,
+    length: Option<u64>,
+) -> Result<(), AllocError> {
+    let Some((from, count)) = part.numbers() else {
+        return notes.push_str(
+            "note: behind a file stand two numbers, its first byte and how many: decimal, without \
+             leading zeros\n",
+        );
+    };
+    let name = Shown(name.as_bytes());
+    match length {
+        Some(length) => writeln!(
+            notes,
+            "note: {name} has {length} bytes, and not {count} from byte {from} on, the first being \
+             byte 0"
+        ),
+        None => writeln!(
+            notes,
+            "note: {name} doesn't have {count} bytes from byte {from} on, the first being byte 0"
+        ),
+    }
+}
+
+/// Adds what is wrong with the spelling of a line.
+fn explain_spelling(notes: &mut String, line: &[u8]) -> Result<(), AllocError> {
+    let (word, fields) = cut(line, b' ');
+    let rest = fields.unwrap_or_default();
+    let shown = Shown(word);
+    match fields_of(word) {
+        Some(Fields::Cut) => explain_cut(notes, rest),
+        Some(Fields::File) => notes.push_str(
+            "note: behind `accept` stands the name of one file, in UTF-8 and without a space\n",
+        ),
+        Some(Fields::Piece) => explain_piece(notes, rest),
+        Some(Fields::Image) => explain_number(notes, rest),
+        Some(Fields::Nothing) => writeln!(notes, "note: nothing stands behind `{shown}`"),
+        None => writeln!(
+            notes,
+            "note: `{shown}` is no word that a line begins with; those are cut, accept, piece, \
+             finish, withdraw, confirm, boot and reset"
+        ),
+    }
+}
+
+/// What follows a word, if a line may begin with it.
+fn fields_of(word: &[u8]) -> Option<Fields> {
+    for (own, fields) in &FIELDS {
+        if word == own.as_bytes() {
+            return Some(*fields);
+        }
+    }
+    None
+}
+
+/// Adds what is wrong after `cut`.
+fn explain_cut(notes: &mut String, fields: &[u8]) -> Result<(), AllocError> {
+    let (write, torn) = cut(fields, b' ');
+    match number(write) {
+        Some(1..) => {}
+        _ => {
+            let write = Shown(write);
+            return writeln!(
+                notes,
+                "note: `{write}` is no number of a write: 1 to 4294967295, decimal, without \
+                 leading zeros"
+            );
+        }
+    }
+    let torn = Shown(torn.unwrap_or_default());
+    writeln!(
+        notes,
+        "note: `{torn}` says nothing that a cut leaves: `keep`, `done`, or `hex:` with an even \
+         number of digits"
+    )
+}
+
+/// Adds what is wrong after `piece`.
+fn explain_piece(notes: &mut String, fields: &[u8]) -> Result<(), AllocError> {
+    let (image, _) = cut(fields, b' ');
+    if number_u8(image).is_none() {
+        return explain_number(notes, image);
+    }
+    notes.push_str(
+        "note: behind `piece` stand the number of an image, the name of a file without a space, \
+         and, for a part of it, its first byte and how many\n",
+    )
+}
+
+/// Adds that a word is no number of an image.
+fn explain_number(notes: &mut String, word: &[u8]) -> Result<(), AllocError> {
+    let word = Shown(word);
+    writeln!(
+        notes,
+        "note: `{word}` is no number of an image: 0 to 255, decimal, without leading zeros"
+    )
+}

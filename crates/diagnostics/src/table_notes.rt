@@ -1,0 +1,66 @@
+//! The first wrong line of a table.
+
+use crate::places::{add_line, line_at};
+use certificate::{Entry, Request, Table};
+use common::limits::{MOST_DEPENDENCIES, MOST_GROUPS, MOST_IMAGES};
+use std::alloc::AllocError;
+
+/// How the words of tables and reports are written.
+pub const WORDS: &str =
+    "note: a VERSION is major.minor.revision+build, of which last parts may be left out; numbers are
+note: decimal, without leading zeros; one space parts two words
+";
+
+/// Adds the contents of the line of this number, counted from 1, which is the first wrong one, and
+/// what is allowed there.
+pub fn explain_table_line(
+    notes: &mut String,
+    text: &[u8],
+    number: usize,
+) -> Result<(), AllocError> {
+    let Some(place) = line_at(text, number) else {
+        return notes.push_str(
+            "note: the table is empty; it begins with `image 0 VERSION COUNTER FLOOR`\n",
+        );
+    };
+    add_line(notes, "table", number, place.line)?;
+    let before = Table::parse(place.before).unwrap_or_default();
+    notes.push_str("note: here may stand")?;
+    add_choices(notes, &before)?;
+    notes.push_str(WORDS)
+}
+
+/// Adds what may follow a table.
+fn add_choices(notes: &mut String, table: &Table) -> Result<(), AllocError> {
+    let images = table.images.as_slice();
+    if let Some(image) = images.last() {
+        match &image.request {
+            Request::None => {
+                add_needs(notes, &image.running)?;
+                notes.push_str(" `request VERSION COUNTER`, `damaged`,")?;
+            }
+            Request::Entry(entry) => add_needs(notes, entry)?,
+            Request::Damaged => {}
+        }
+    }
+    let count = images.len();
+    if count < MOST_IMAGES {
+        writeln!(notes, " `image {count} VERSION COUNTER FLOOR`")
+    } else {
+        writeln!(
+            notes,
+            " no further image: a table has {MOST_IMAGES} at most"
+        )
+    }
+}
+
+/// Adds which dependencies may follow those of an entry.
+fn add_needs(notes: &mut String, entry: &Entry) -> Result<(), AllocError> {
+    if entry.groups.is_empty() && entry.dependencies.len() < MOST_DEPENDENCIES {
+        notes.push_str(" `needs J VERSION`,")?;
+    }
+    if entry.groups.len() < MOST_GROUPS {
+        notes.push_str(" `needs-one J VERSION ..`,")?;
+    }
+    Ok(())
+}

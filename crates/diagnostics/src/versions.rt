@@ -1,0 +1,140 @@
+//! The versions that dependencies are compared with.
+
+use certificate::{Image, Refusal, Request, Table};
+use common::limits::MOST_IMAGES;
+use std::alloc::AllocError;
+use version_order::{Dependency, Group, Version};
+
+/// A version for each image of a device. There is none if the device has no such image.
+#[derive(Clone, Copy, Default)]
+pub struct Versions([Option<Version>; MOST_IMAGES]);
+
+impl Versions {
+    /// The versions of a set of the images of a table. If bit i of `taken` is set and the request
+    /// of image i is intact, the version of image i is the requested one, and else the running one.
+    pub fn of_set(table: &Table, taken: u8) -> Versions {
+        let mut versions = Versions::default();
+        for (number, image) in table.images.iter().enumerate() {
+            versions.set(number, version_in(image, is_taken(taken, number)));
+        }
+        versions
+    }
+
+    /// The best versions that may run together with the request of image `own`, after these
+    /// refusals: its own; the running one of an image whose request is refused; and else the newer
+    /// of the requested and the running one.
+    pub fn at_best(table: &Table, before: &[Refusal], own: u8) -> Versions {
+        let mut versions = Versions::default();
+        for (number, image) in table.images.iter().enumerate() {
+            let requested = version_in(image, true);
+            let running = image.running.version;
+            let best = if number == usize::from(own) {
+                requested
+            } else if is_refused(before, number) {
+                running
+            } else {
+                requested.max(running)
+            };
+            versions.set(number, best);
+        }
+        versions
+    }
+
+    fn set(&mut self, number: usize, version: Version) {
+        if let Some(place) = self.0.get_mut(number) {
+            *place = Some(version);
+        }
+    }
+
+    /// The version of this image.
+    pub fn of(&self, image: u8) -> Option<Version> {
+        *self.0.get(usize::from(image))?
+    }
+
+    /// Whether they meet a dependency.
+    pub fn meet(&self, need: &Dependency) -> bool {
+        match self.of(need.image) {
+            Some(version) => version >= need.minimum,
+            None => false,
+        }
+    }
+
+    /// Whether they meet one alternative of a group at least.
+    pub fn meet_one(&self, group: &Group) -> bool {
+        for need in group.alternatives.iter() {
+            if self.meet(need) {
+                return true;
+            }
+        }
+        false
+    }
+
+    /// Ends a sentence on the version of an image by a dependency of it, and the version there.
+    pub fn explain_need(
+        &self,
+        notes: &mut String,
+        need: &Dependency,
+        is_hope: bool,
+    ) -> Result<(), AllocError> {
+        notes.push_str("needs")?;
+        self.add_need(notes, need, is_hope)?;
+        notes.push_str("\n")
+    }
+
+    /// Ends a sentence on the version of an image by a group of it, and the versions there.
+    pub fn explain_group(
+        &self,
+        notes: &mut String,
+        group: &Group,
+        is_hope: bool,
+    ) -> Result<(), AllocError> {
+        notes.push_str("needs one of these:")?;
+        for (place, need) in group.alternatives.iter().enumerate() {
+            if place > 0 {
+                notes.push_str(";")?;
+            }
+            self.add_need(notes, need, is_hope)?;
+        }
+        notes.push_str("\n")
+    }
+
+    /// Adds what a dependency asks for, and the version there.
+    fn add_need(
+        &self,
+        notes: &mut String,
+        need: &Dependency,
+        is_hope: bool,
+    ) -> Result<(), AllocError> {
+        let Dependency { image, minimum } = need;
+        write!(notes, " image {image} from {minimum} on, which ")?;
+        match self.of(*image) {
+            Some(version) if is_hope => write!(notes, "can have {version} at best"),
+            Some(version) => write!(notes, "is {version}"),
+            None => notes.push_str("isn't there"),
+        }
+    }
+}
+
+/// Whether bit `number` of a set is one.
+pub fn is_taken(set: u8, number: usize) -> bool {
+    number < MOST_IMAGES && set >> number & 1 == 1
+}
+
+/// The version of an image: that of its request, if it is taken and intact, and else the running
+/// one.
+pub fn version_in(image: &Image, is_taken: bool) -> Version {
+    match &image.request {
+        Request::Entry(entry) if is_taken => entry.version,
+        _ => image.running.version,
+    }
+}
+
+/// Whether one of these refusals is for this image.
+fn is_refused(refusals: &[Refusal], number: usize) -> bool {
+    for refusal in refusals {
+        if usize::from(refusal.image) == number {
+            return true;
+        }
+    }
+    false
+}

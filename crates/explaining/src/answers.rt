@@ -1,0 +1,77 @@
+//! Why an answer is a no or a refusal.
+
+use crate::choices::explain_verdict;
+use crate::faults::explain_no_state;
+use crate::flash_states::{FlashState, flash_state};
+use crate::images::{explain_bytes, explain_damaged, explain_files};
+use crate::new_files::{explain_new_device, explain_new_image, explain_new_manifest};
+use crate::order_sources::OrderSources;
+use crate::remembering::Remembering;
+use crate::slots::explain_slot;
+use command_line::Order;
+use device_texts::{DeviceFault, DeviceFile};
+use diagnostics::{explain_manifest, explain_map, explain_running};
+use host::Host;
+use std::alloc::{AllocError, Global};
+
+/// Adds why an answer is a no or a refusal.
+pub fn explain_answer<H: Host>(
+    alloc: Global,
+    notes: &mut String,
+    order: &Order<'_>,
+    host: &Remembering<H>,
+) -> Result<(), AllocError> {
+    let sources = OrderSources::of(order);
+    let device = host.bytes_of(sources.device);
+    if sources.device.is_some()
+        && let Err(DeviceFault::Map(fault)) = DeviceFile::read(alloc, device)
+    {
+        return explain_map(notes, alloc, device, fault);
+    }
+    match order {
+        Order::Check { .. } => explain_verdict(notes, sources, host),
+        Order::Image { .. } => explain_bytes(notes, host.bytes_of(sources.described)),
+        Order::MakeDevice { device } => explain_new_device(notes, device),
+        Order::MakeImage { values, .. } => explain_new_image(notes, values),
+        Order::Provision { images, .. } | Order::Sweep { images, .. } => {
+            explain_files(notes, images.as_slice(), host)
+        }
+        _ => match DeviceFile::read(alloc, device) {
+            Ok(device) => explain_device_answer(alloc, notes, order, &device, host),
+            Err(_) => Ok(()),
+        },
+    }
+}
+
+/// Adds why an answer about a device and its flash is a refusal.
+fn explain_device_answer<H: Host>(
+    alloc: Global,
+    notes: &mut String,
+    order: &Order<'_>,
+    device: &DeviceFile,
+    host: &Remembering<H>,
+) -> Result<(), AllocError> {
+    let sources = OrderSources::of(order);
+    let (map, flash) = (&device.map, host.bytes_of(sources.flash));
+    match order {
+        Order::Manifest { .. } => {
+            let manifest = host.bytes_of(sources.described);
+            explain_manifest(notes, alloc, manifest, &device.identity)
+        }
+        Order::MakeManifest { manifest, .. } => {
+            explain_new_manifest(notes, device, manifest, flash)
+        }
+        Order::Extract { image, side, .. } => explain_slot(notes, map, flash, *image, *side),
+        Order::Show { .. } => explain_no_state(notes),
+        Order::Slots { .. } => match flash_state(alloc, map, flash)? {
+            FlashState::NoState => explain_no_state(notes),
+            FlashState::AtRest(table) => explain_running(notes, &table),
+            FlashState::NoTable => explain_damaged(notes, map, flash),
+        },
+        Order::Run { .. } => match flash_state(alloc, map, flash)? {
+            FlashState::AtRest(table) => explain_running(notes, &table),
+            _ => Ok(()),
+        },
+        _ => Ok(()),
+    }
+}

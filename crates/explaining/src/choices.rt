@@ -1,0 +1,61 @@
+//! Why requests are refused by a choice, and why a report isn't right.
+
+use crate::flash_states::{FlashState, flash_state};
+use crate::order_sources::OrderSources;
+use crate::remembering::Remembering;
+use certificate::{Report, Table, is_valid};
+use chooser::choose;
+use command_line::Order;
+use device_texts::DeviceFile;
+use diagnostics::{explain_no, explain_refusals};
+use host::Host;
+use std::alloc::{AllocError, Global};
+
+/// Adds why each request is refused by the choice that was printed: over a table, or over that of a
+/// flash.
+pub fn explain_choice<H: Host>(
+    alloc: Global,
+    notes: &mut String,
+    order: &Order<'_>,
+    host: &Remembering<H>,
+) -> Result<(), AllocError> {
+    let sources = OrderSources::of(order);
+    let table = match order {
+        Order::Choose { .. } => Table::parse(host.bytes_of(sources.table)).ok(),
+        Order::Slots { .. } => table_of_flash(alloc, sources, host)?,
+        _ => None,
+    };
+    match table {
+        Some(table) if is_valid(&table) => explain_refusals(notes, &table, &choose(&table)),
+        _ => Ok(()),
+    }
+}
+
+/// The table of a flash that was read, if its device is at rest.
+fn table_of_flash<H: Host>(
+    alloc: Global,
+    sources: OrderSources<'_>,
+    host: &Remembering<H>,
+) -> Result<Option<Table>, AllocError> {
+    let Ok(device) = DeviceFile::read(alloc, host.bytes_of(sources.device)) else {
+        return Ok(None);
+    };
+    match flash_state(alloc, &device.map, host.bytes_of(sources.flash))? {
+        FlashState::AtRest(table) => Ok(Some(table)),
+        _ => Ok(None),
+    }
+}
+
+/// Adds why a report isn't right for a table.
+pub fn explain_verdict<H: Host>(
+    notes: &mut String,
+    sources: OrderSources<'_>,
+    host: &Remembering<H>,
+) -> Result<(), AllocError> {
+    let table = Table::parse(host.bytes_of(sources.table));
+    let report = Report::parse(host.bytes_of(sources.report));
+    match (table, report) {
+        (Ok(table), Ok(report)) => explain_no(notes, &table, &report),
+        _ => Ok(()),
+    }
+}

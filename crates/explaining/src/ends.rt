@@ -1,0 +1,72 @@
+//! Why a command ended as it did.
+
+use crate::answers::explain_answer;
+use crate::choices::explain_choice;
+use crate::files::{explain_flash, explain_lock, explain_source};
+use crate::order_sources::{OrderSources, flash_name, image_name};
+use crate::remembering::Remembering;
+use crate::scripts::explain_line;
+use crate::sizes::explain_size;
+use certificate::Table;
+use command_line::Order;
+use diagnostics::{explain_device, explain_report_line, explain_running, explain_table_line};
+use host::{Answer, Host, Refusal};
+use std::alloc::{AllocError, Global};
+use std::io::Write;
+
+/// Writes to `err` why the command of `order`, which was run over `host`, ended so. The notes are
+/// in memory of `alloc`. There are none if memory for the log of what was read ran out.
+pub fn explain_end<H: Host, E: Write>(
+    alloc: Global,
+    order: &Order<'_>,
+    outcome: &Result<Answer, Refusal>,
+    host: &Remembering<H>,
+    err: &mut E,
+) {
+    if !host.log.is_whole() {
+        return;
+    }
+    let mut notes = String::new(alloc);
+    // If memory runs out, the notes so far are written.
+    let _ = match outcome {
+        Ok(Answer::Done) => explain_choice(alloc, &mut notes, order, host),
+        Ok(Answer::Refused) => explain_answer(alloc, &mut notes, order, host),
+        Ok(Answer::Cut) => Ok(()),
+        Err(refusal) => explain_refusal(alloc, &mut notes, order, refusal, host),
+    };
+    // The notes are no part of the answer, so a failed write changes nothing.
+    let _ = err.write_all(notes.as_bytes());
+    let _ = err.flush();
+}
+
+/// Adds why a command refuses.
+fn explain_refusal<H: Host>(
+    alloc: Global,
+    notes: &mut String,
+    order: &Order<'_>,
+    refusal: &Refusal,
+    host: &Remembering<H>,
+) -> Result<(), AllocError> {
+    let sources = OrderSources::of(order);
+    match *refusal {
+        Refusal::TableLine(number) => {
+            explain_table_line(notes, host.bytes_of(sources.table), number)
+        }
+        Refusal::ReportLine(number) => {
+            explain_report_line(notes, host.bytes_of(sources.report), number)
+        }
+        Refusal::NotValid => match Table::parse(host.bytes_of(sources.table)) {
+            Ok(table) => explain_running(notes, &table),
+            Err(_) => Ok(()),
+        },
+        Refusal::DeviceFile => explain_device(notes, alloc, host.bytes_of(sources.device)),
+        Refusal::ScriptLine(number) => explain_line(notes, order, number, host),
+        Refusal::OfSource(ref refused) => explain_source(notes, order, refused, host),
+        Refusal::FlashFile => explain_flash(notes, order, host),
+        Refusal::FlashInUse => explain_lock(notes, flash_name(order)),
+        Refusal::ImageInUse => explain_lock(notes, image_name(order)),
+        Refusal::FlashSize | Refusal::ImageCount | Refusal::NoImage(_) | Refusal::ImageTooBig(_) =>
+            explain_size(alloc, notes, order, refusal, host),
+        _ => Ok(()),
+    }
+}

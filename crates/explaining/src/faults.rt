@@ -1,0 +1,70 @@
+//! Why a device refuses an event of a run.
+
+use common::event::Event;
+use device_texts::DeviceFile;
+use machine::Fault;
+use std::alloc::AllocError;
+use upload::UploadError;
+
+/// Adds that the log of a flash holds no state.
+pub fn explain_no_state(notes: &mut String) -> Result<(), AllocError> {
+    notes.push_str(
+        "note: the log of the flash holds no state: run `provision` first, with the same device \
+         file\n",
+    )
+}
+
+/// Adds what a device has to do first, if it refuses an event because of its state.
+pub fn explain_state(
+    notes: &mut String,
+    device: &DeviceFile,
+    event: &Event<Vec<u8>>,
+    fault: Fault,
+) -> Result<(), AllocError> {
+    match fault {
+        Fault::NotBooted => notes.push_str(
+            "note: the device isn't booted: it needs a `boot` first, also after a `reset` and after \
+             a power cut\n",
+        ),
+        Fault::OnTrial => notes.push_str(
+            "note: a set of images is on trial: the device takes no uploads and withdrawals until a \
+             boot ends the trial\n",
+        ),
+        Fault::NotProvisioned => explain_no_state(notes),
+        Fault::NotOnTrial | Fault::Upload(UploadError::NoSession | UploadError::NothingRequested) =>
+            { explain_image_of(notes, device, event) }
+        _ => Ok(()),
+    }
+}
+
+/// Adds why an event can't be done for its image.
+fn explain_image_of(
+    notes: &mut String,
+    device: &DeviceFile,
+    event: &Event<Vec<u8>>,
+) -> Result<(), AllocError> {
+    let (image, why) = match event {
+        Event::Piece(image, _) | Event::Finish(image) => (
+            *image,
+            "no upload is open: `accept` of a manifest that names it opens one, and `finish`, \
+             `boot`, `reset` and a power cut close it",
+        ),
+        Event::Withdraw(image) => (
+            *image,
+            "no request is pending: `finish` of its upload requests it, until a boot takes it",
+        ),
+        Event::Confirm(image) => (
+            *image,
+            "it isn't on trial: a boot that says `trial` begins one, and a later boot ends it",
+        ),
+        _ => return Ok(()),
+    };
+    let images = device.map.images;
+    if image >= images {
+        return writeln!(
+            notes,
+            "note: there is no image {image}; there are {images}, from 0 on"
+        );
+    }
+    writeln!(notes, "note: image {image}: {why}")
+}

@@ -1,0 +1,108 @@
+//! Why a file can't be read or written.
+
+use crate::order_sources::OrderSources;
+use crate::remembering::Remembering;
+use crate::scripts::explain_place;
+use command_line::Order;
+use host::{Host, Source, SourceFault, SourceRefusal};
+use std::alloc::AllocError;
+
+/// The error number of a write to a file that is open for reading only (`EBADF`).
+const BAD_FILE: i32 = 9;
+
+/// Adds why a source is refused: the system's reason, the first script line that names a file which
+/// can't be read, and how a file that holds no image can be replaced.
+pub fn explain_source<H: Host>(
+    notes: &mut String,
+    order: &Order<'_>,
+    refused: &SourceRefusal,
+    host: &Remembering<H>,
+) -> Result<(), AllocError> {
+    let source = refused.source();
+    match refused.fault {
+        SourceFault::CannotRead => {
+            explain_error(notes, source, host)?;
+            let script = OrderSources::of(order).script;
+            explain_place(notes, source, host.bytes_of(script))
+        }
+        SourceFault::CannotReplace => explain_error(notes, source, host),
+        SourceFault::NoImage => explain_names(notes, order, source),
+        SourceFault::TooLong(_) => Ok(()),
+    }
+}
+
+/// Adds how a file that holds no image can be replaced, and the order of the names of `make-image`.
+fn explain_names(
+    notes: &mut String,
+    order: &Order<'_>,
+    source: Source<'_>,
+) -> Result<(), AllocError> {
+    match order {
+        Order::MakeImage { body, .. } => {
+            let body = Source::named(body);
+            writeln!(
+                notes,
+                "note: OUT comes first, then BODY: `--force` replaces {source} by an image of {body}"
+            )
+        }
+        _ => writeln!(notes, "note: `--force` replaces {source} by the image"),
+    }
+}
+
+/// Adds the system's reason for which a file can't be read or written.
+fn explain_error<H: Host>(
+    notes: &mut String,
+    source: Source<'_>,
+    host: &Remembering<H>,
+) -> Result<(), AllocError> {
+    match host.error.get() {
+        Some(error) => writeln!(notes, "note: {source}: {error}"),
+        None => Ok(()),
+    }
+}
+
+/// Adds which file another program has locked, if the order names it.
+pub fn explain_lock(notes: &mut String, name: Option<&str>) -> Result<(), AllocError> {
+    match name {
+        Some(name) => {
+            let file = Source::File(name);
+            writeln!(
+                notes,
+                "note: another program holds {file}, or is replacing it: one that writes it holds \
+                 it alone"
+            )
+        }
+        None => Ok(()),
+    }
+}
+
+/// Adds the system's reason for which a flash file can't be made or written.
+pub fn explain_flash<H: Host>(
+    notes: &mut String,
+    order: &Order<'_>,
+    host: &Remembering<H>,
+) -> Result<(), AllocError> {
+    match order {
+        Order::Run { flash, .. } if is_read_only(host) => {
+            let file = Source::File(flash);
+            writeln!(
+                notes,
+                "note: {file} can't be opened for writing: its permissions, or those of its file \
+                 system, allow only reading"
+            )
+        }
+        Order::Run { flash, .. } | Order::Provision { flash, .. } => {
+            explain_error(notes, Source::named(flash), host)
+        }
+        _ => Ok(()),
+    }
+}
+
+/// Whether the last error of the system is that a file is open for reading only. A flash that can't
+/// be opened for writing is opened so.
+fn is_read_only<H: Host>(host: &Remembering<H>) -> bool {
+    match host.error.get() {
+        Some(error) => error.raw_os_error() == Some(BAD_FILE),
+        None => false,
+    }
+}

@@ -1,0 +1,66 @@
+//! Which sizes and counts a device file asks for.
+
+use crate::order_sources::{OrderSources, flash_name};
+use crate::remembering::Remembering;
+use command_line::Order;
+use device_texts::DeviceFile;
+use host::{Host, Refusal, Source};
+use std::alloc::{AllocError, Global};
+
+/// Adds the size or the count that the device file asks for, and the length of a flash of another
+/// one.
+pub fn explain_size<H: Host>(
+    alloc: Global,
+    notes: &mut String,
+    order: &Order<'_>,
+    refusal: &Refusal,
+    host: &Remembering<H>,
+) -> Result<(), AllocError> {
+    let device = host.bytes_of(OrderSources::of(order).device);
+    let Ok(device) = DeviceFile::read(alloc, device) else {
+        return Ok(());
+    };
+    let map = device.map;
+    match *refusal {
+        Refusal::FlashSize => explain_flash_size(notes, order, map.bytes_in_all(), host),
+        Refusal::ImageTooBig(image) if image < map.images => {
+            let bytes = map.slot_length(image);
+            writeln!(notes, "note: the slot of image {image} has {bytes} bytes")
+        }
+        _ => {
+            let images = map.images;
+            writeln!(notes, "note: the device has {images} images, from 0 on")
+        }
+    }
+}
+
+/// Adds the length of the flash of an order, if it is known, and `wanted`, the length that it has
+/// to have. Of standard input one byte more than that is read at most.
+fn explain_flash_size<H: Host>(
+    notes: &mut String,
+    order: &Order<'_>,
+    wanted: u32,
+    host: &Remembering<H>,
+) -> Result<(), AllocError> {
+    let Some(name) = flash_name(order) else {
+        return Ok(());
+    };
+    let source = Source::named(name);
+    let is_input = source.is_standard_input();
+    let length = if is_input {
+        Some(host.log.input().len() as u64)
+    } else {
+        host.length.get()
+    };
+    match length {
+        Some(length) if is_input && length > u64::from(wanted) => writeln!(
+            notes,
+            "note: {source} has more bytes than the flash of the device, which has {wanted}"
+        ),
+        Some(length) => writeln!(
+            notes,
+            "note: {source} has {length} bytes, and the flash of the device has {wanted}"
+        ),
+        None => writeln!(notes, "note: the flash of the device has {wanted} bytes"),
+    }
+}

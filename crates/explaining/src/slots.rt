@@ -1,0 +1,61 @@
+//! Why a slot doesn't begin with an intact image.
+
+ghost use Rattle.std.specs.Prelude.{◌≡◌, ◌<◌};
+ghost use Rattle.device_texts.specs.FlashOf.{IsFlashOf, flash_of};
+ghost use Rattle.image_reading.specs.Slot.{slot_bytes};
+
+use diagnostics::explain_image;
+use image_reading::{ImageError, describe};
+use sector_map::{SectorMap, Side};
+use std::alloc::AllocError;
+
+/// The bytes of a slot on a flash of these bytes. There are none if the flash has no such slot.
+fn slot_of<'f>(map: &SectorMap, flash: &'f [u8], image: u8, side: Side) -> &'f [u8]
+    ensures { image < map.now.images → IsFlashOf map.now flash.now
+        → result.now ≡ slot_bytes map.now (flash_of map.now flash.now) image side }
+{
+    if image >= map.images {
+        return &[];
+    }
+    let start = map.slot_start(image, side) as usize;
+    let end = start + map.slot_length(image) as usize;
+    if end > flash.len() {
+        return &[];
+    }
+    &flash[start..end]
+}
+
+/// Whether a slot of a flash of these bytes begins with an intact image. More bytes may follow it.
+pub fn begins_intact(map: &SectorMap, flash: &[u8], image: u8, side: Side) -> bool {
+    matches!(
+        describe(slot_of(map, flash, image, side)),
+        Ok(_) | Err(ImageError::TrailingBytes)
+    )
+}
+
+/// Adds why a slot of a flash of these bytes doesn't begin with an intact image: it is erased, or a
+/// check of its bytes fails.
+pub fn explain_slot(
+    notes: &mut String,
+    map: &SectorMap,
+    flash: &[u8],
+    image: u8,
+    side: Side,
+) -> Result<(), AllocError> {
+    let slot = slot_of(map, flash, image, side);
+    let name = match side {
+        Side::Primary => "primary",
+        Side::Secondary => "secondary",
+    };
+    if !slot.is_empty() && slot.iter().all(|byte| *byte == 0xff) {
+        let count = slot.len();
+        return writeln!(
+            notes,
+            "note: the {name} slot of image {image} is erased: its {count} bytes are 0xff"
+        );
+    }
+    match describe(slot) {
+        Ok(_) => Ok(()),
+        Err(fault) => explain_image(notes, slot, fault),
+    }
+}

@@ -1,0 +1,94 @@
+//! Which images are on trial though they were requested permanently.
+
+use certificate::Report;
+use common::limits::MOST_IMAGES;
+use sector_map::{SectorMap, Side, is_member};
+use std::alloc::AllocError;
+
+/// The distance of the unit `image_ok` from the end of its trailer's sector, in bytes. The unit is
+/// set if the request is permanent.
+const IMAGE_OK: usize = 24;
+
+/// The length of a unit in bytes.
+const UNIT: usize = 8;
+
+/// Which requests of a device are permanent, as far as the run shows it.
+#[derive(Clone, Copy, Default)]
+pub struct Trials {
+    /// Whether the request of each image is permanent.
+    permanent: [bool; MOST_IMAGES],
+    /// Whether each image is on trial, and was requested permanently.
+    tried: [bool; MOST_IMAGES],
+}
+
+impl Trials {
+    /// The requests on the flash of these bytes, and no trial.
+    pub fn on(map: &SectorMap, flash: &[u8]) -> Trials {
+        let mut trials = Trials::default();
+        for image in 0..map.images {
+            trials.request(image, is_permanent(map, flash, image));
+        }
+        trials
+    }
+
+    /// The image is requested, permanently or for a test.
+    pub fn request(&mut self, image: u8, permanent: bool) {
+        if let Some(one) = self.permanent.get_mut(usize::from(image)) {
+            *one = permanent;
+        }
+    }
+
+    /// A boot reported this, and the images that it took are permanent (`stays`) or on trial. Adds
+    /// which images are on trial though they were requested permanently.
+    pub fn begin(
+        &mut self,
+        notes: &mut String,
+        report: &Report,
+        stays: bool,
+    ) -> Result<(), AllocError> {
+        self.tried = [false; MOST_IMAGES];
+        for (image, reported) in report.images.iter().enumerate() {
+            let permanent = self.permanent.get(image).copied().unwrap_or(false);
+            if reported.is_taken && permanent && !stays {
+                if let Some(one) = self.tried.get_mut(image) {
+                    *one = true;
+                }
+                writeln!(
+                    notes,
+                    "note: image {image} is requested permanently, and on trial: another image of \
+                     the set is for a test, and the set is tried and reverts as a whole"
+                )?;
+            }
+        }
+        Ok(())
+    }
+
+    /// The images of a set reverted. Adds which of them were requested permanently.
+    pub fn revert(&mut self, notes: &mut String, set: u8) -> Result<(), AllocError> {
+        for image in 0..MOST_IMAGES as u8 {
+            let tried = self.tried.get(usize::from(image)).copied().unwrap_or(false);
+            if tried && is_member(set, image) {
+                writeln!(
+                    notes,
+                    "note: image {image} was requested permanently, and reverts: the set was on \
+                     trial as a whole"
+                )?;
+            }
+        }
+        self.tried = [false; MOST_IMAGES];
+        Ok(())
+    }
+}
+
+/// Whether the request of an image is permanent on the flash of these bytes, if there is one.
+fn is_permanent(map: &SectorMap, flash: &[u8], image: u8) -> bool {
+    if image >= map.images {
+        return false;
+    }
+    let end = map.trailer_start(image, Side::Secondary) as usize + map.sector_size as usize;
+    let start = end.saturating_sub(IMAGE_OK);
+    match flash.get(start..start.saturating_add(UNIT)) {
+        Some(unit) => unit.iter().any(|byte| *byte != 0xff),
+        None => false,
+    }
+}
