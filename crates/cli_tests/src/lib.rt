@@ -1,5 +1,9 @@
-//! The program, as one sees it who runs it: words, files and standard input go in, and texts and an
-//! exit status come out. All is over files in memory.
+//! Worked runs of the program, over files in memory.
+//!
+//! - Allocates: files in memory.
+//!
+//! The program is tested as its user sees it: arguments, files and standard input go in, and texts
+//! and an exit status come out.
 #![tactic(auto)]
 
 #[cfg(test)]

@@ -7,10 +7,10 @@
 
 use crate::tests::decisions::DECISIONS;
 use crate::tests::devices::DEVICES;
-use crate::tests::host::MemoryHost;
 use crate::tests::making::MAKING;
+use crate::tests::memory_host::MemoryHost;
 use crate::tests::samples::FILES;
-use boot_cli::{Remembering, cli};
+use boot_cli::cli;
 use std::alloc::Global;
 use std::test::Fail;
 
@@ -46,11 +46,7 @@ struct Outcome {
 }
 
 /// Runs the program with the words of a line, which stand behind its name.
-fn outcome_of(
-    alloc: Global,
-    host: MemoryHost,
-    line: &'static str,
-) -> Result<(MemoryHost, Outcome), Fail> {
+fn outcome_of(alloc: Global, host: &mut MemoryHost, line: &'static str) -> Result<Outcome, Fail> {
     let mut words = vec![in alloc; "bootswap"]?;
     for word in line.split(' ') {
         if !word.is_empty() {
@@ -58,16 +54,15 @@ fn outcome_of(
         }
     }
     let (mut out, mut err) = (Vec::new(alloc), Vec::new(alloc));
-    let mut host = Remembering::over(alloc, host);
-    let status = cli(alloc, words.as_slice(), &mut host, &mut out, &mut err);
-    Ok((host.host, Outcome { status, out, err }))
+    let status = cli(alloc, words.as_slice(), host, &mut out, &mut err);
+    Ok(Outcome { status, out, err })
 }
 
 /// Makes a run, and fails unless it leaves what it has to.
 fn make(alloc: Global, mut host: MemoryHost, run: Run, status: &str) -> Result<MemoryHost, Fail> {
     host.put(alloc, "text", run.text)?;
     host.input = run.input;
-    let (mut host, outcome) = outcome_of(alloc, host, run.words)?;
+    let outcome = outcome_of(alloc, &mut host, run.words)?;
     host.close();
     if status.parse() == Ok(outcome.status) && outcome.out == run.out && outcome.err == run.err {
         return Ok(host);

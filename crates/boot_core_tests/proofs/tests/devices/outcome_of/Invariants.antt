@@ -1,4 +1,0 @@
-use Rattle.boot_core_tests.proofs.tests.devices.outcome_of.Given as goal
-
-abbrev pub ghosts-play : goal.ghosts-play
-ghosts-play g a = record { name = a.blank.name; parts = a.blank.parts }

@@ -1,4 +1,0 @@
-use Rattle.boot_core_tests.proofs.tests.given_manifests.refused_of.Given as goal
-
-abbrev pub ghosts-refused : goal.ghosts-refused
-ghosts-refused g a = record { name = a.blank.name; parts = a.blank.parts }

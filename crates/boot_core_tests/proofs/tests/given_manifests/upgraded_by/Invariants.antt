@@ -1,4 +1,0 @@
-use Rattle.boot_core_tests.proofs.tests.given_manifests.upgraded_by.Given as goal
-
-abbrev pub ghosts-upgraded : goal.ghosts-upgraded
-ghosts-upgraded g a = record { name = a.blank.name; parts = a.blank.parts }

@@ -1,4 +1,0 @@
-use Rattle.boot_core_tests.proofs.tests.provisioning.answer_to.Given as goal
-
-abbrev pub ghosts-make : goal.ghosts-make
-ghosts-make g a = record { name = a.blank.name; parts = a.blank.parts }

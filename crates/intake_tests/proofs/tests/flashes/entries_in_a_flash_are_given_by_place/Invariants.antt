@@ -1,4 +1,0 @@
-use Rattle.intake_tests.proofs.tests.flashes.entries_in_a_flash_are_given_by_place.Given as goal
-
-abbrev pub ghosts-walked : goal.ghosts-walked
-ghosts-walked g a = record { name = a.blank.name; parts = a.blank.parts }

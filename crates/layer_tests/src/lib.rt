@@ -1,0 +1,19 @@
+//! Tests of the layers below the program, for what no run of the program shows and no clause says.
+//!
+//! - Allocates: flashes in memory, texts, images.
+//!
+//! They are of flashes and maps, records on a flash, images and uploads, the device, and values.
+//! Each module tests its layer as a caller of it sees it. Expected bytes, sectors and addresses are
+//! written out; digests were made by another program. No crate calls this one.
+#![tactic(auto)]
+
+#[cfg(test)]
+mod device;
+#[cfg(test)]
+mod intake;
+#[cfg(test)]
+mod medium;
+#[cfg(test)]
+mod records;
+#[cfg(test)]
+mod values;

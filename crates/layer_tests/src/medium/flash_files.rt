@@ -1,0 +1,149 @@
+//! What a caller of a flash in a file sees, where a write of the file fails and where one is cut,
+//! by the bytes written out.
+
+ghost use Rattle.std.specs.Prelude.{◌≡◌, ◌+◌, ◌≤◌, Some};
+
+use crate::medium::calls::{
+    Answered, CUT, Call, DONE, ERASED_1, ERASED_12, OFF, OLD, PROGRAMMED_12, are_answered, words_of,
+};
+use flash_model::{MemFlash, Torn};
+use inputs::{FileFlash, FlashFile};
+use std::alloc::{AllocError, Global};
+use std::io;
+use std::io::ErrorKind;
+use std::marker::Brand;
+use std::sync::ledger::{Blank, Ledger};
+
+/// A file in memory that keeps count of its writes. One of them can fail, and then changes nothing.
+#[derive(Drop)]
+struct RecordedFile {
+    bytes: Vec<u8>,
+    /// How many writes came, also those that failed; where the last one began, and its length.
+    writes: [usize; 3],
+    /// Which one fails, counted from 1.
+    failing: usize,
+}
+
+impl FlashFile for RecordedFile {
+    ghost contents = { λ file. Some file.bytes.items };
+
+    fn write_at(&mut self, at: u32, bytes: &[u8]) -> io::Result<()> {
+        let from = at as usize;
+        let number = self.writes[0].saturating_add(1);
+        self.writes = [number, from, bytes.len()];
+        if number == self.failing {
+            return Err(io::Error::from(ErrorKind::StorageFull));
+        }
+        self.bytes[from..from + bytes.len()].copy_from_slice(bytes);
+        Ok(())
+    }
+}
+
+/// A write that is cut and leaves what it was to leave, a write of the file that fails, the calls,
+/// and what is seen then: the bytes of the flash and of the file, and the writes of the file.
+struct Story {
+    cut: u8,
+    failing: usize,
+    calls: &'static [Answered],
+    memory: [u64; 4],
+    file: [u64; 4],
+    writes: [usize; 3],
+}
+
+/// A flash over a file, with other bytes than erased ones.
+fn flash_of<L: Ledger, M: Ledger>(
+    alloc: Global,
+    blanks: (Blank, Blank),
+    story: &Story,
+) -> Result<FileFlash<RecordedFile, L, M>, AllocError>
+    requires name { blanks.0.name ≡ L.name }
+    requires parts { blanks.0.parts ≡ L.parts }
+    requires two { L.parts ≡ 2 }
+    requires memory_name { blanks.1.name ≡ M.name }
+    requires memory_parts { blanks.1.parts ≡ M.parts }
+    requires memory_two { M.parts ≡ 2 }
+{
+    let file = RecordedFile {
+        bytes: vec![in alloc; 0x07; 32]?,
+        writes: [0; 3],
+        failing: story.failing,
+    };
+    let bytes = vec![in alloc; 0x07; 32]?;
+    let mut memory = MemFlash::<M>::from_bytes(alloc, blanks.1, 8, bytes);
+    memory.arm(u64::from(story.cut), Torn::Done)?;
+    Ok(FileFlash::over(memory, blanks.0, file))
+}
+
+/// Whether a flash and its file are at the end of a story.
+fn is_at_end<L: Ledger, M: Ledger>(flash: &FileFlash<RecordedFile, L, M>, story: &Story) -> bool {
+    let file = flash.file();
+    flash.has_failed()
+        && words_of(flash.bytes()) == story.memory
+        && words_of(&file.bytes) == story.file
+        && file.writes == story.writes
+}
+
+/// Whether a story is seen so.
+fn is_told<L: Ledger, M: Ledger>(
+    alloc: Global,
+    blanks: (Blank, Blank),
+    story: &Story,
+) -> Result<bool, AllocError>
+    requires name { blanks.0.name ≡ L.name }
+    requires parts { blanks.0.parts ≡ L.parts }
+    requires two { L.parts ≡ 2 }
+    requires memory_name { blanks.1.name ≡ M.name }
+    requires memory_parts { blanks.1.parts ≡ M.parts }
+    requires memory_two { M.parts ≡ 2 }
+{
+    let mut flash = flash_of::<L, M>(alloc, blanks, story)?;
+    Ok(are_answered(&mut flash, story.calls) && is_at_end(&flash, story))
+}
+
+fn is_seen(alloc: Global, story: &Story) -> Result<bool, AllocError> {
+    is_told::<Brand, Brand>(alloc, (Blank::new(2), Blank::new(2)), story)
+}
+
+/// A program that fails in the file, and a write that is cut twice over, which is cut once.
+const STORIES: [Story; 2] = [
+    Story {
+        cut: 0,
+        failing: 3,
+        calls: &[
+            (Call::Erase(1), DONE),
+            (Call::Erase(2), DONE),
+            (Call::Program, CUT),
+            (Call::Erase(0), OFF),
+            (Call::Restart, DONE),
+            (Call::Erase(0), CUT),
+        ],
+        memory: PROGRAMMED_12,
+        file: ERASED_12,
+        writes: [3, 8, 16],
+    },
+    Story {
+        cut: 1,
+        failing: 1,
+        calls: &[
+            (Call::Erase(1), CUT),
+            (Call::Erase(1), OFF),
+            (Call::Restart, DONE),
+            (Call::Erase(0), CUT),
+        ],
+        memory: ERASED_1,
+        file: OLD,
+        writes: [1, 8, 8],
+    },
+];
+
+#[test]
+fn a_write_that_fails_in_the_file_is_cut_and_so_are_later_ones(
+    rt: HostRuntime,
+) -> Result<(), AllocError> {
+    let mut are_right = true;
+    for story in &STORIES {
+        are_right = is_seen(rt.alloc(), story)? && are_right;
+    }
+    assert!(rt; are_right);
+    Ok(())
+}

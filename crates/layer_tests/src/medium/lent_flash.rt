@@ -1,0 +1,172 @@
+//! What a flash leaves in bytes that are lent to it, seen once it is gone, by the bytes written
+//! out.
+
+ghost use Rattle.std.specs.Prelude.{◌≡◌, ◌+◌, ◌<◌, ◌≤◌, ◌⊎◌, ℕ, length, slice_index, IsTrue};
+
+use crate::medium::calls::{
+    Answered, CUT, Call, DONE, ERASED, ERASED_1, ERASED_2, ERASED_12, OFF, OLD, PROGRAMMED,
+    PROGRAMMED_12, TORN_1, TORN_PROGRAM, are_answered, words_of,
+};
+use flash_model::{FLAG, is_erased, set_unit};
+use slice_flash::{Cut, Left, SliceFlash};
+use std::marker::Brand;
+use std::sync::ledger::{Blank, Ledger};
+
+/// Makes these calls on a flash over the bytes, and tells whether each answered as it has to.
+fn play<L: Ledger>(blank: Blank, bytes: &mut [u8], table: &[Cut<'_>], calls: &[Answered]) -> bool
+    requires name { blank.name ≡ L.name }
+    requires parts { blank.parts ≡ L.parts }
+    requires two { L.parts ≡ 2 }
+    requires whole { length bytes.old ≡ 32 }
+{
+    let mut flash = SliceFlash::<L>::new(blank, bytes, 8, table);
+    are_answered(&mut flash, calls)
+}
+
+/// Whether bytes that were all the same are those wanted after these calls, each of which answered
+/// as it has to.
+fn are_left(before: u8, table: &[Cut<'_>], calls: &[Answered], wanted: &[u64; 4]) -> bool {
+    let mut bytes = [before; 32];
+    play::<Brand>(Blank::new(2), &mut bytes, table, calls) && words_of(&bytes) == *wanted
+}
+
+/// Each byte before, the table, the calls, and the bytes in the end.
+type Played = (u8, &'static [Cut<'static>], &'static [Answered], [u64; 4]);
+
+/// Each way to cut the first write.
+const KEPT: &[Cut<'static>] = &[Cut {
+    write: 1,
+    left: Left::Keep,
+}];
+
+const WHOLE: &[Cut<'static>] = &[Cut {
+    write: 1,
+    left: Left::Done,
+}];
+
+const TORN: &[Cut<'static>] = &[Cut {
+    write: 1,
+    left: Left::Bytes(&[0x5a, 0xa5, 0x00]),
+}];
+
+const NO_BYTES: &[Cut<'static>] = &[Cut {
+    write: 1,
+    left: Left::Bytes(&[]),
+}];
+
+const PROGRAM: &[Answered] = &[(Call::Program, CUT)];
+
+const ERASE: &[Answered] = &[(Call::Erase(1), CUT)];
+
+/// A program and an erase that are cut in each way; writes that the table doesn't name; writes that
+/// are refused; and two rows for a write.
+const PLAYED: [Played; 11] = [
+    (0xff, KEPT, PROGRAM, ERASED),
+    (0xff, WHOLE, PROGRAM, PROGRAMMED),
+    (0xff, TORN, PROGRAM, TORN_PROGRAM),
+    (0xff, NO_BYTES, PROGRAM, ERASED),
+    (0x07, KEPT, ERASE, OLD),
+    (0x07, WHOLE, ERASE, ERASED_1),
+    (0x07, TORN, ERASE, TORN_1),
+    (0x07, NO_BYTES, ERASE, OLD),
+    (
+        0x07,
+        &[
+            Cut {
+                write: 0,
+                left: Left::Keep,
+            },
+            Cut {
+                write: 4,
+                left: Left::Keep,
+            },
+        ],
+        &[
+            (Call::Erase(2), DONE),
+            (Call::Erase(1), DONE),
+            (Call::Program, DONE),
+        ],
+        PROGRAMMED_12,
+    ),
+    (
+        0x07,
+        &[
+            Cut {
+                write: 1,
+                left: Left::Keep,
+            },
+            Cut {
+                write: 2,
+                left: Left::Done,
+            },
+        ],
+        &[
+            (Call::Erase(0), CUT),
+            (Call::Erase(0), OFF),
+            (Call::Erase(2), OFF),
+            (Call::Restart, DONE),
+            (Call::Erase(2), CUT),
+            (Call::Restart, DONE),
+            (Call::Erase(1), DONE),
+        ],
+        ERASED_12,
+    ),
+    (
+        0x07,
+        &[
+            Cut {
+                write: 2,
+                left: Left::Bytes(&[0]),
+            },
+            Cut {
+                write: 1,
+                left: Left::Done,
+            },
+            Cut {
+                write: 1,
+                left: Left::Keep,
+            },
+        ],
+        &[(Call::Erase(2), CUT)],
+        ERASED_2,
+    ),
+];
+
+#[test]
+fn writes_are_cut_as_the_first_row_for_them_says(rt: HostRuntime) {
+    let mut are_right = true;
+    for (before, table, calls, wanted) in &PLAYED {
+        are_right = are_left(*before, table, calls, wanted) && are_right;
+    }
+    assert!(rt; are_right);
+}
+
+/// Sets the second unit of bytes that are lent, where it is erased, and tells whether it did. Both
+/// calls of the flash are generic in it, and what they leave is known of the bytes once the flash
+/// is gone.
+fn set_second_unit<L: Ledger>(blank: Blank, bytes: &mut [u8]) -> bool
+    requires name { blank.name ≡ L.name }
+    requires parts { blank.parts ≡ L.parts }
+    requires two { L.parts ≡ 2 }
+    requires whole { length bytes.old ≡ 32 }
+    ensures beside { (k : ℕ) → (k < 8) ⊎ (16 ≤ k)
+        → slice_index bytes.new k ≡ slice_index bytes.old k }
+    ensures set { IsTrue result → (i : ℕ) → i < 8
+        → slice_index bytes.new (8 + i) ≡ slice_index FLAG i }
+{
+    let mut flash = SliceFlash::<L>::new(blank, bytes, 8, &[]);
+    is_erased(&mut flash, 8, 8) == Ok(true) && set_unit(&mut flash, 8).is_ok()
+}
+
+fn second_unit_set(bytes: &mut [u8; 32]) -> bool {
+    set_second_unit::<Brand>(Blank::new(2), bytes)
+}
+
+#[test]
+fn a_unit_is_set_in_bytes_that_are_lent(rt: HostRuntime) {
+    let mut bytes = [0xff; 32];
+    let answers = [second_unit_set(&mut bytes), second_unit_set(&mut bytes)];
+    let mut wanted = [0xff; 32];
+    wanted[8] = 0x01;
+    assert!(rt; answers == [true, false] && bytes == wanted);
+}

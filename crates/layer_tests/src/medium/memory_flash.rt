@@ -1,0 +1,156 @@
+//! Cuts of a flash in memory, its counts, and what is erased, with the bytes written out.
+
+ghost use Rattle.std.specs.Prelude.{◌≡◌};
+
+use crate::medium::calls::{
+    Answered, CUT, Call, DONE, ERASED, ERASED_12, OFF, OLD, TORN_1, are_answered, words_of,
+};
+use flash_model::{MemFlash, Torn, is_erased};
+use std::alloc::{AllocError, Global};
+use std::marker::Brand;
+use std::sync::ledger::{Blank, Ledger};
+
+/// Each byte before, the writes that are done before any is armed, the writes that are armed then
+/// and the bytes that they leave, the calls, the bytes in the end, and the writes and erases in
+/// all.
+struct Story {
+    before: u8,
+    done: &'static [Answered],
+    armed: &'static [(u8, &'static [u8])],
+    calls: &'static [Answered],
+    after: [u64; 4],
+    counts: [u64; 2],
+}
+
+fn arm<L: Ledger>(
+    alloc: Global,
+    flash: &mut MemFlash<L>,
+    armed: &[(u8, &[u8])],
+) -> Result<(), AllocError> {
+    for (number, pattern) in armed {
+        let torn = Torn::Bytes(Vec::from_slice(alloc, *pattern)?);
+        flash.arm(u64::from(*number), torn)?;
+    }
+    Ok(())
+}
+
+/// Whether a story is told so.
+fn is_told<L: Ledger>(alloc: Global, blank: Blank, story: &Story) -> Result<bool, AllocError>
+    requires name { blank.name ≡ L.name }
+    requires parts { blank.parts ≡ L.parts }
+    requires two { L.parts ≡ 2 }
+{
+    let bytes = vec![in alloc; story.before; 32]?;
+    let mut flash = MemFlash::<L>::from_bytes(alloc, blank, 8, bytes);
+    let is_done = are_answered(&mut flash, story.done);
+    arm(alloc, &mut flash, story.armed)?;
+    let are_right = are_answered(&mut flash, story.calls) && is_done;
+    let counts = [flash.writes(), flash.erases()];
+    Ok(are_right && counts == story.counts && words_of(flash.bytes()) == story.after)
+}
+
+fn is_seen(alloc: Global, story: &Story) -> Result<bool, AllocError> {
+    is_told::<Brand>(alloc, Blank::new(2), story)
+}
+
+/// An erase that is torn; a program and an erase that are torn into no bytes; and an erase of which
+/// the first of two arms counts, beside arms for no write and for one that is over, behind which
+/// one is refused and one more is done.
+const STORIES: [Story; 4] = [
+    Story {
+        before: 0x07,
+        done: &[],
+        armed: &[(1, &[0x5a, 0xa5, 0x00])],
+        calls: &[(Call::Erase(1), CUT)],
+        after: TORN_1,
+        counts: [1, 0],
+    },
+    Story {
+        before: 0xff,
+        done: &[],
+        armed: &[(1, &[])],
+        calls: &[(Call::Program, CUT)],
+        after: ERASED,
+        counts: [1, 0],
+    },
+    Story {
+        before: 0x07,
+        done: &[],
+        armed: &[(1, &[])],
+        calls: &[(Call::Erase(1), CUT)],
+        after: OLD,
+        counts: [1, 0],
+    },
+    Story {
+        before: 0x07,
+        done: &[(Call::Erase(1), DONE)],
+        armed: &[(2, &[]), (2, &[0]), (0, &[0]), (1, &[0])],
+        calls: &[
+            (Call::Erase(0), CUT),
+            (Call::Erase(0), OFF),
+            (Call::Restart, DONE),
+            (Call::Erase(2), DONE),
+        ],
+        after: ERASED_12,
+        counts: [3, 2],
+    },
+];
+
+#[test]
+fn cuts_leave_what_was_armed_and_are_counted(rt: HostRuntime) -> Result<(), AllocError> {
+    let mut are_right = true;
+    for story in &STORIES {
+        are_right = is_seen(rt.alloc(), story)? && are_right;
+    }
+    assert!(rt; are_right);
+    Ok(())
+}
+
+/// Whether so many bytes from 8 on are erased, of 264 that are but for the one at `set`.
+fn is_erased_up_to<L: Ledger>(
+    alloc: Global,
+    blank: Blank,
+    set: u8,
+    len: u8,
+) -> Result<bool, AllocError>
+    requires name { blank.name ≡ L.name }
+    requires parts { blank.parts ≡ L.parts }
+    requires two { L.parts ≡ 2 }
+{
+    let mut bytes = vec![in alloc; 0xff; 264]?;
+    bytes[usize::from(set)] = 0xfe;
+    let mut flash = MemFlash::<L>::from_bytes(alloc, blank, 8, bytes);
+    Ok(is_erased(&mut flash, 8, u32::from(len)) == Ok(true))
+}
+
+fn answer_over_pieces(alloc: Global, set: u8, len: u8) -> Result<bool, AllocError> {
+    is_erased_up_to::<Brand>(alloc, Blank::new(2), set, len)
+}
+
+/// The byte that isn't erased, how many are looked at, and the answer.
+const RANGES: [(u8, u8, bool); 14] = [
+    (7, 255, true),
+    (8, 0, true),
+    (71, 63, true),
+    (72, 64, true),
+    (136, 128, true),
+    (199, 191, true),
+    (8, 1, false),
+    (8, 248, false),
+    (71, 64, false),
+    (72, 65, false),
+    (136, 129, false),
+    (199, 192, false),
+    (255, 247, true),
+    (255, 248, false),
+];
+
+#[test]
+fn each_byte_of_a_range_is_looked_at(rt: HostRuntime) -> Result<(), AllocError> {
+    let mut are_right = true;
+    for (set, len, wanted) in RANGES {
+        are_right = answer_over_pieces(rt.alloc(), set, len)? == wanted && are_right;
+    }
+    assert!(rt; are_right);
+    Ok(())
+}

@@ -1,4 +1,0 @@
-use Rattle.medium_tests.proofs.tests.lent_flash.are_left.Given as goal
-
-abbrev pub ghosts-play : goal.ghosts-play
-ghosts-play a = record { name = a.blank.name; parts = a.blank.parts }

@@ -1,4 +1,0 @@
-use Rattle.medium_tests.proofs.tests.memory_flash.is_seen.Given as goal
-
-abbrev pub ghosts-is_told : goal.ghosts-is_told
-ghosts-is_told a = record { name = a.blank.name; parts = a.blank.parts }

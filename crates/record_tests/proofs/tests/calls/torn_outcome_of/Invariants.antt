@@ -1,4 +1,0 @@
-use Rattle.record_tests.proofs.tests.calls.torn_outcome_of.Given as goal
-
-abbrev pub ghosts-made : goal.ghosts-made
-ghosts-made g a = record { name = a.blank.name; parts = a.blank.parts }
