@@ -1,0 +1,33 @@
+"""The arguments of commands that several tests run."""
+
+from support.files import EXAMPLES, ONE, PAIR
+
+
+def make_device(sector, slots, vendor, name, *boots):
+    """The arguments of `make-device`."""
+    arguments = ["make-device", "--sector", str(sector), "--slots", ",".join(map(str, slots))]
+    arguments += ["--vendor", vendor, "--class", name]
+    return arguments + [it for many in boots for it in ("--trial-boots", str(many))]
+
+
+COMMANDS = ("choose", "check", "image", "manifest", "make-device", "make-image", "make-manifest", "provision")
+COMMANDS += ("extract", "show", "slots", "run", "sweep", "codes")
+
+
+def make_manifest(*options, of=PAIR, sequence=1):
+    """The arguments of `make-manifest` for a device, a sequence number and options."""
+    return ["make-manifest", of, "--sequence", str(sequence), *options]
+
+
+# The commands that make a file: the arguments, the file, and how they end if it can't be made.
+MAKING = [
+    (["provision", PAIR, "flash", ONE, ONE], "flash", (4, b"", b"error: flash file\n")),
+    (["extract", PAIR, "flash", "0", "primary", "copied"], "copied", (1, b"", b"error: cannot write copied\n")),
+    (
+        ["make-image", "made", "body", "--version=1.0.0", "--counter=5", "--needs=1 2.0.0", "--needs-one=1 2 2 2"],
+        "made",
+        (1, b"", b"error: cannot write made\n"),
+    ),
+]
+
+ABC_MANIFEST = f"{EXAMPLES}/manifests/abc.json"

@@ -1,0 +1,38 @@
+"""The files of the examples, and files that tests compare."""
+
+import os
+import stat
+
+ROOT = os.path.dirname(os.path.dirname(os.path.dirname(os.path.realpath(__file__))))
+EXAMPLES = f"{ROOT}/examples"
+
+# The device file of the examples of manifests and scripts, and the image at the front of its flash.
+PAIR = f"{EXAMPLES}/devices/pair.json"
+
+ONE = f"{EXAMPLES}/images/one.img"
+
+
+def read(path):
+    with open(path, "rb") as it:
+        return it.read()
+
+
+def names_in(folder):
+    return sorted(os.path.splitext(it)[0] for it in os.listdir(f"{EXAMPLES}/{folder}"))
+
+
+def table(name):
+    return f"{EXAMPLES}/tables/{name}.txt"
+
+
+def report(name):
+    return f"{EXAMPLES}/reports/{name}.txt"
+
+
+def files_in(folder):
+    """The files of a folder: the name, the mode, the target of a link, and the contents of a plain file."""
+    for name in sorted(os.listdir(folder)):
+        path = f"{folder}/{name}"
+        kind = os.lstat(path).st_mode
+        link = os.readlink(path) if os.path.islink(path) else ""
+        yield name, kind, link, read(path) if stat.S_ISREG(kind) else b""

@@ -1,0 +1,57 @@
+"""The static library behind include/bootswap.h, for the tests that link it.
+
+Tests don't prove it anew. They take what `bindings/build` and `web/build` built. In the complete gate they build it over
+the libraries of the crates below it that `rt ci` proved in the folder BOOTSWAP_PROVED.
+"""
+
+import os
+import subprocess
+import sys
+import unittest
+
+from support.files import ROOT
+from support.program import short
+
+sys.path.insert(0, f"{ROOT}/tools")
+
+from builder import TARGET, WEB_TARGET, asked_of_rt, library_crates, link_for_web
+from proved_copy import library_in
+
+BUILDERS = {TARGET: "bindings/build", WEB_TARGET: "web/build"}
+
+
+def archive_for(target, folder):
+    """Returns the file of the library for a target. Skips the tests that need it if it isn't built."""
+    crates, proved = library_crates(target), os.environ.get("BOOTSWAP_PROVED")
+    if proved:
+        return built_over(proved, crates, f"{folder}/library.a")
+    if not crates[-1].is_built(asked_of_rt("version")):
+        raise unittest.SkipTest(f"the library isn't built, or not of these sources: {BUILDERS[target]} builds it")
+    return crates[-1].made
+
+
+def built_over(proved, crates, archive):
+    """Builds the library over those of the crates below it, and returns its file."""
+    *below, library = crates
+    for crate in below:
+        crate.made = library_in(proved, crate.name)
+    library.made = archive
+    faults, _ = ran(library.words(os.path.dirname(asked_of_rt("doc"))), cwd=library.folder)
+    if faults:
+        raise AssertionError(f"the library builds: {faults[0]}")
+    return archive
+
+
+def web_module(folder):
+    """Returns the file of the library as a module of WebAssembly, and skips the tests that need it if it isn't built."""
+    module = f"{folder}/bootswap.wasm"
+    is_linked, output = link_for_web(archive_for(WEB_TARGET, folder), module)
+    if not is_linked:
+        raise AssertionError(f"the library of the page is linked: {output}")
+    return module
+
+
+def ran(arguments, **how):
+    """Runs a command, and returns what is wrong with it, if something is, and what it printed."""
+    done = subprocess.run(arguments, stdin=subprocess.DEVNULL, stdout=subprocess.PIPE, stderr=subprocess.STDOUT, **how)
+    return [f"status {done.returncode}: {short(done.stdout[-2000:])}"] if done.returncode else [], done.stdout

@@ -1,0 +1,102 @@
+"""Runs the built program, and counts each case of a test."""
+
+import os
+import resource
+import shutil
+import subprocess
+import tempfile
+import threading
+import time
+import unittest
+
+from support.files import EXAMPLES, ROOT
+
+# How many seconds a run of the program may take.
+LIMIT = 20
+
+
+class CaseTest(unittest.TestCase):
+    """A test whose cases are subtests, each of a name and its faults."""
+
+    def case(self, name, faults):
+        """Passes a case, unless there are faults."""
+        with self.subTest(name):
+            if faults:
+                self.fail("\n".join(map(str, faults)))
+
+
+class ProgramTest(CaseTest):
+    """A test of the built program, in a folder of its own."""
+
+    def setUp(self):
+        self.program = os.environ.get("BOOTSWAP_PROGRAM") or f"{ROOT}/out/bootswap"
+        if not os.access(self.program, os.X_OK):
+            self.fail(f"there is no {self.program}: run `./bootswap codes`, or name a program in BOOTSWAP_PROGRAM")
+        self.folder = tempfile.mkdtemp(prefix="bootswap-test-")
+        self.addCleanup(shutil.rmtree, self.folder, ignore_errors=True)
+        # Scripts name files relative to the root of the repository.
+        os.symlink(EXAMPLES, f"{self.folder}/examples")
+
+    def file(self, name, contents):
+        """Writes a file where the program runs, and returns its name."""
+        with open(f"{self.folder}/{name}", "wb") as it:
+            it.write(contents)
+        return name
+
+    def run_program(self, arguments, given=b"", pieces=0, closed=None, most=None, **streams):
+        """Returns the status, standard output and standard error of a run.
+
+        Standard input is `given`, written whole or in N `pieces`. `streams` are other ends of the three streams.
+        `closed` is the number of a stream that the program finds closed. With `most`, a file takes no byte from this
+        offset on: a write there fails.
+        """
+        streams = {"stdin": subprocess.PIPE, "stdout": subprocess.PIPE, "stderr": subprocess.PIPE, **streams}
+        if closed is not None:
+            streams["preexec_fn"] = lambda: os.close(closed)
+        if most is not None:
+            # The signal of such a write stays ignored, as in this process.
+            limit = lambda: resource.setrlimit(resource.RLIMIT_FSIZE, (most, most))
+            streams.update(preexec_fn=limit, restore_signals=False)
+        ran = subprocess.Popen([self.program, *arguments], cwd=self.folder, **streams)
+        if pieces:
+            threading.Thread(target=feed, args=(ran.stdin, given, pieces)).start()
+            ran.stdin = None
+        try:
+            out, err = ran.communicate(None if pieces else given, timeout=LIMIT)
+        except subprocess.TimeoutExpired:
+            ran.kill()
+            ran.communicate()
+            return f"not ended after {LIMIT} seconds", b"", b""
+        return ran.returncode, out or b"", err or b""
+
+    def expect(self, name, arguments, status, out=b"", err=b"", **how):
+        """A case: the run has this status, and prints exactly this."""
+        got = self.run_program(arguments, **how)
+        printed = zip(("status", "standard output", "standard error"), got, (status, out, err))
+        faults = [f"{what}: {short(one)}, and not {short(other)}" for what, one, other in printed if one != other]
+        self.case(name, faults)
+
+
+def short(value):
+    """The text of a value, without its middle if it is long."""
+    text = repr(value)
+    return text if len(text) < 400 else f"{text[:190]} .. {text[-190:]}"
+
+
+def shown(arguments):
+    """The arguments of a run as a name shows them."""
+    return " ".join(map(os.path.basename, arguments)) or "with no argument"
+
+
+def feed(stream, given, pieces):
+    """Writes to a program's standard input in N pieces, with a pause after each."""
+    size = -(-len(given) // pieces)
+    try:
+        with stream:
+            for at in range(0, len(given), size):
+                stream.write(given[at : at + size])
+                stream.flush()
+                time.sleep(0.02)
+    except BrokenPipeError:
+        # The program stopped reading. Its output is compared all the same.
+        pass

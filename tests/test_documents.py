@@ -1,0 +1,56 @@
+"""Checks that the commands of the documents print what the documents show."""
+
+import os
+import re
+import subprocess
+import sys
+import tempfile
+
+from support.files import EXAMPLES, ROOT, read
+from support.program import LIMIT, ProgramTest, short
+
+
+def quick_start():
+    """The first command of the README and its output: the next block that begins with `done`."""
+    text = read(f"{ROOT}/README.md").decode()
+    return re.search(r"^```sh\n(.*?)^\./gate$.*?^```\n.*?^```\n(done\n.*?)^```$", text, re.M | re.S).groups()
+
+
+def formats_script():
+    """A command that runs the script of docs/FORMATS.md, and the output that is shown there."""
+    text = read(f"{ROOT}/docs/FORMATS.md").decode()
+    script, output = re.search(r"^```\n(cut .*?)^```$.*?^```\n(1 .*?)^```$", text, re.M | re.S).groups()
+    files = "examples/devices/pair.json out/script.flash"
+    made = f"./bootswap provision {files} examples/images/one.img examples/images/one.img"
+    return f"{made} && ./bootswap run {files} - <<'END'\n{script}END\n", f"done\n{output}"
+
+
+def commands_of(document):
+    """The commands of a document and their outputs: `$ ` and a command, and the lines below it."""
+    for block in re.findall(r"^```console\n(.*?)^```$", read(f"{ROOT}/{document}").decode(), re.M | re.S):
+        for part in re.split(r"^\$ ", block, flags=re.M)[1:]:
+            yield part.split("\n", 1)
+
+
+class DocumentTest(ProgramTest):
+    """README, the tutorial, and docs/FORMATS.md."""
+
+    def test_documents(self):
+        """Each command of the documents prints what they show below it."""
+        os.mkdir(f"{self.folder}/out")
+        os.symlink(self.program, f"{self.folder}/bootswap")
+        commands = [("README.md, quick start", *quick_start()), ("docs/FORMATS.md, the script", *formats_script())]
+        for number, (command, wanted) in enumerate(commands_of("docs/TUTORIAL.md"), 1):
+            commands.append((f"docs/TUTORIAL.md, command {number}", command, wanted))
+        for name, command, wanted in commands:
+            both = {"stdout": subprocess.PIPE, "stderr": subprocess.STDOUT}
+            ran = subprocess.run(["bash", "-c", command], cwd=self.folder, timeout=LIMIT, **both)
+            got = ran.stdout.decode()
+            self.case(name, [] if got == wanted else [command, f"{short(got)}, and not {short(wanted)}"])
+
+    def test_made_examples(self):
+        """The script examples/make_images.py makes the images of the examples."""
+        with tempfile.TemporaryDirectory() as made:
+            subprocess.run([sys.executable, f"{EXAMPLES}/make_images.py", made], check=True)
+            other = [it for it in os.listdir(made) if read(f"{made}/{it}") != read(f"{EXAMPLES}/images/{it}")]
+            self.case("examples/make_images.py makes the images of the examples", other)

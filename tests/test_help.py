@@ -1,0 +1,252 @@
+"""What the help of each command contains."""
+
+from support.commands import COMMANDS
+from support.program import ProgramTest, short
+
+# Texts that each help contains, by the arguments that print it. Short helps give the exit status and an
+# example, long ones what is read and printed.
+HELPS = {
+    "-h": [
+        "Usage: bootswap [COMMAND]\n",
+        "  choose         Reads a table",
+        "  check          Says whether",
+        "  image          Checks an image",
+        "  manifest       Checks a manifest",
+        "  make-device    Makes the device file",
+        "  make-image     Makes an image",
+        "  make-manifest  Makes a manifest",
+        "  provision      Makes the flash file",
+        "  extract        Copies the image",
+        "  show           Prints what stands",
+        "  slots          Prints what the slots",
+        "  run            Runs a device",
+        "  sweep          Cuts each write",
+        "  codes          Lists what the codes",
+        "Exit status: 0 done, 1 refused, 2",
+    ],
+    "--help": [
+        "A bootloader core",
+        "Usage: bootswap [COMMAND]\n",
+        "  2  the words",
+        "  4  the flash file",
+        "  bootswap choose table.txt\n",
+        "  bootswap run device.json flash.bin script.txt\n",
+    ],
+    "help": ["  2  the words"],
+    "choose -h": ["Usage: bootswap choose <TABLE>\n", "Exit status: 0 ", "Example: bootswap choose "],
+    "choose --help": [
+        "  image IMAGE VERSION COUNTER FLOOR\n",
+        "  image 0 1.0.0+0 0 0\n  request 2.0.0+0 0\n  needs 1 2.0.0+0\n",
+        "  take 0 2.0.0+0\n",
+        "  2  the words",
+        "  bootswap choose table.txt\n",
+    ],
+    "help choose": ["  image IMAGE VERSION COUNTER FLOOR\n", "  needs 0 2.0.0+0\n", "  2  the words"],
+    "check -h": ["Usage: bootswap check <TABLE> <REPORT>\n", "Exit status: 0 ", "Example: bootswap check "],
+    "help check": ["  refuse 0 older\n", "  2  the words", "  bootswap check table.txt report.txt\n"],
+    "image -h": ["Usage: bootswap image <FILE>\n", "Exit status: 0 ", "Example: bootswap image "],
+    "help image": ["refused 10 BadDigest", "  2  the words", "  bootswap image firmware.img\n"],
+    "manifest -h": ["Usage: bootswap manifest <DEVICE> <FILE>\n", "Exit status: 0 ", "Example: bootswap manifest "],
+    "help manifest": [
+        '  {"sector":512,"sectors":[2,2],\n',
+        '  {"manifest-version":1,"sequence-number":1,\n',
+        "refused 4 WrongVendor",
+        "refused map 1 BadSector",
+        "  2  the words",
+        "  bootswap manifest device.json manifest.json\n",
+    ],
+    "make-device -h": [
+        "Usage: bootswap make-device --sector <BYTES> --slots <N,N,..>\n"
+        "           --vendor <DOMAIN> --class <NAME> [--trial-boots <N>] [--explain]\n",
+        "  --slots <N,N,..> ",
+        "Exit status: 0 ",
+        "Example: bootswap make-device ",
+    ],
+    "help make-device": [
+        "  bootswap make-device --sector 512 --slots 2,2 --vendor python.org \\\n      --class sensor > device.json\n",
+        '  {"sector":512,"sectors":[2,2],\n',
+        '   "class-id":"9ed1b5d5-f629-5008-93c6-1958ba5b9953"}\n',
+        "  slot 0 primary 0 1024\n  trailer 0 primary 1024 512\n",
+        "  largest 1 1024\n  flash 8192\n",
+        "  --trial-boots <N>\n",
+        "  refused map 4 TooLarge ",
+        "  2  the words",
+    ],
+    "make-image -h": [
+        "Usage: bootswap make-image <OUT> <BODY> --version <VERSION> [--counter <N>]\n",
+        "  --counter <N> ",
+        "security-counter",
+        "  --force ",
+        "Exit status: 0 ",
+        "Example: bootswap make-image ",
+    ],
+    "help make-image": [
+        "  bootswap make-image a.img body.bin --version 2.0.0 --counter 5 \\\n      --needs '1 2.0.0'\n",
+        "  length 104\n",
+        "  refused 6 BadGroups ",
+        "OUT comes before BODY",
+        "`NAME is no image`",
+        "  2  the words",
+    ],
+    "make-manifest -h": [
+        "Usage: bootswap make-manifest <DEVICE> --sequence <N> [--precursor <FLASH>]\n"
+        "           [--test <I=FILE>].. [--permanent <I=FILE>].. [--strict] [--explain]\n",
+        "The same, to stay; beside --test it may revert too\n",
+        "Exit status: 0 ",
+        "Example: bootswap make-manifest ",
+    ],
+    "extract -h": [
+        "Usage: bootswap extract <DEVICE> <FLASH> <IMAGE> <SIDE> <OUT>\n",
+        "  --force ",
+        "Exit status: 0 ",
+        "Example: bootswap extract ",
+    ],
+    "help extract": [
+        "  bootswap extract device.json flash.bin 0 primary running.img\n",
+        "refused CODE NAME",
+        "`no image 2`",
+        "`NAME is no image`",
+        "  2  the words",
+    ],
+    "help make-manifest": [
+        '  {"manifest-version":1,"sequence-number":1,\n',
+        "The device tries the images of one boot as a set.",
+        "refused 6 NoComponent",
+        "refused 7 RepeatedComponent",
+        "refused boot 5 RunningDamaged",
+        "refused map CODE NAME",
+        "  2  the words",
+        "  bootswap make-manifest device.json --sequence 2 --test 0=a.img > manifest.json\n",
+    ],
+    "provision -h": [
+        "Usage: bootswap provision <DEVICE> <FLASH> <IMAGE>...\n",
+        "Exit status: 0 ",
+        "Example: bootswap provision ",
+    ],
+    "help provision": [
+        '  {"sector":512,"sectors":[2,2],\n',
+        "refused boot 5 RunningDamaged 1",
+        "refused boot 6 InvalidSet",
+        "refused map 1 BadSector",
+        "image count",
+        "image 1 too big",
+        "`flash size` ",
+        "a block device ",
+        "  2  the words",
+        "  4  ",
+        "error: flash file",
+        "  bootswap provision device.json flash.bin a.img b.img\n",
+    ],
+    "show -h": ["Usage: bootswap show <DEVICE> <FLASH>\n", "Exit status: 0 ", "Example: bootswap show "],
+    "help show": [
+        "  state trial ",
+        "`back-settle`",
+        "  set 0 1 ",
+        "  left 1 ",
+        "  sequence 1 ",
+        "  floor 0 0 ",
+        "  swap 0 revert ",
+        "refused boot 4 NotProvisioned",
+        "  2  the words",
+        "  bootswap show device.json flash.bin\n",
+    ],
+    "slots -h": ["Usage: bootswap slots <DEVICE> <FLASH>\n", "Exit status: 0 ", "Example: bootswap slots "],
+    "help slots": [
+        "  slot 0 primary ",
+        "  erased ",
+        "  damaged 1 BadMagic ",
+        "  request 0 test ",
+        "  moved 0 4 of 12 ",
+        "refused boot 5 RunningDamaged 0",
+        "refused boot 4 NotProvisioned",
+        "  2  the words",
+        "  bootswap slots device.json flash.bin\n",
+    ],
+    "run -h": [
+        "Usage: bootswap run <DEVICE> <FLASH> <SCRIPT>\n",
+        "  --durable ",
+        "Exit status: 0 ",
+        "Example: bootswap run ",
+    ],
+    "help run": [
+        "  cut WRITE TORN\n",
+        "`hex:00ff`",
+        "  accept FILE ",
+        "  piece IMAGE FILE ",
+        "  piece IMAGE FILE FROM COUNT ",
+        "  finish IMAGE ",
+        "  withdraw IMAGE ",
+        "  confirm IMAGE ",
+        "  boot ",
+        "  reset ",
+        " done ",
+        " plain ",
+        " trial ",
+        " permanent ",
+        " reverted 0 1 ",
+        "  6 trial-again 0 1 left 1\n",
+        " cut ",
+        " refused GROUP CODE NAME\n",
+        "  2  the words",
+        "  3  the last reply",
+        "  4  ",
+        "error: flash file",
+        "\nWith `--durable` each write ",
+        "  --durable\n",
+        "  bootswap run device.json flash.bin script.txt\n",
+        "  bootswap run --durable device.json flash.bin script.txt\n",
+    ],
+    "sweep -h": [
+        "Usage: bootswap sweep <DEVICE> <SCRIPT> <IMAGE>... [--twice] [--sample <N>]\n"
+        "           [--seed <N>] [--svg <FILE>] [--explain]\n",
+        "  --twice ",
+        "  --sample <N> ",
+        "  --seed <N> ",
+        "  --svg <FILE> ",
+        "Exit status: 0 ",
+        "Example: bootswap sweep ",
+    ],
+    "help sweep": [
+        "  7 boot from 9 ttttt",
+        "  t  it took a set on trial ",
+        "\n  runs 547\n  end 547 uncut\n",
+        "`half`",
+        "`other COUNT cut WRITE TORN`",
+        "`refused COUNT cut WRITE TORN`",
+        "  2  the words",
+        "  bootswap sweep --twice --svg sweep.svg device.json script.txt a.img b.img\n",
+    ],
+    "codes -h": ["Usage: bootswap codes\n", "Exit status: 0 ", "Example: bootswap codes"],
+    "help codes": [
+        "\n  10 BadDigest            the digest entry isn't the SHA-256",
+        "\n   5 RunningDamaged       the running bytes",
+        "  2  the words",
+    ],
+}
+
+
+class HelpTest(ProgramTest):
+    """Help, and the version."""
+
+    def test_helps(self):
+        """Each help is printed on standard output and contains these texts. Lines without a digest have at most
+        80 columns."""
+        for arguments, parts in HELPS.items():
+            status, out, err = self.run_program(arguments.split())
+            text = out.decode()
+            faults = [] if (status, err) == (0, b"") else [f"{status} {err}"]
+            faults += [f"it lacks {part!r}" for part in parts if part not in text]
+            faults += [f"too long: {line}" for line in text.splitlines() if len(line) > 80 and "-digest" not in line]
+            self.case(f"what help teaches: {arguments}", faults)
+
+    def test_spellings_of_help(self):
+        """Each spelling of a request for help prints it on standard output."""
+        for arguments in [["--help"], ["-h"], ["help"], *([it, "--help"] for it in COMMANDS)]:
+            status, out, err = self.run_program(arguments)
+            is_help = (status, err) == (0, b"") and b"Usage: bootswap" in out and b"xit status" in out
+            self.case(f"help: {' '.join(arguments)}", [] if is_help else [f"{status} {short(out)} {short(err)}"])
+
+    def test_version(self):
+        """`--version` and `-V` print the version."""
+        self.expect("the version", ["--version"], 0, b"bootswap 0.1.0\n")
+        self.expect("the version, by its letter", ["-V"], 0, b"bootswap 0.1.0\n")

@@ -1,0 +1,109 @@
+"""What the library behind include/bootswap.h does from C and from Python, and as bindings/README.md shows it."""
+
+import os
+import re
+import shutil
+import subprocess
+import sys
+import tempfile
+
+from support.compiled import needs_compiler
+from support.files import EXAMPLES, ROOT, read
+from support.libraries import TARGET, archive_for, ran
+from support.program import CaseTest, short
+
+LIFE = f"{ROOT}/bindings/c/life.c"
+STRICT = ["-std=c11", "-Wall", "-Wextra", "-Werror", "-I", f"{ROOT}/include"]
+
+# What life.c prints, whichever write of the boot is cut, after the line that names the write.
+ENDS = b"permanent\ntake 0 1.1.0+0\n"
+
+# What the library calls that it doesn't have itself. So it never allocates.
+CALLED = {"memcpy", "memmove", "memset"}
+
+# How many seconds the tests of the Python names, and a command of the page, may take.
+LIMIT = 120
+
+
+@needs_compiler
+class LibraryTest(CaseTest):
+    """The library as `bindings/build` builds it."""
+
+    @classmethod
+    def setUpClass(cls):
+        cls.folder = tempfile.mkdtemp(prefix="bootswap-library-")
+        cls.addClassCleanup(shutil.rmtree, cls.folder, ignore_errors=True)
+        cls.archive = archive_for(TARGET, cls.folder)
+        cls.shared = f"{cls.folder}/libbootswap.so"
+        faults, _ = ran(["cc", "-shared", "-o", cls.shared, "-Wl,--whole-archive", cls.archive, "-Wl,--no-whole-archive"])
+        if faults:
+            raise AssertionError(f"the library for Python is linked: {faults[0]}")
+
+    def test_program_in_c(self):
+        """It compiles without a warning, has fewer than 100 lines, and ends with the new image whichever write is cut."""
+        program = f"{self.folder}/life"
+        faults, _ = ran(["cc", *STRICT, LIFE, self.archive, "-o", program])
+        lines = len(read(LIFE).splitlines())
+        self.case("life.c compiles", faults + [f"{lines} lines"] * (lines >= 100))
+        images = [f"{EXAMPLES}/images/{name}.img" for name in ("one", "patched")]
+        for write in () if faults else (1, 5, 9, 13, 17):
+            faults, output = ran([program, *images, str(write)])
+            wanted = b"power failed in write %d\n" % write + ENDS
+            self.case(f"life.c with a cut of write {write}", faults or [short(output)] * (output != wanted))
+
+    def test_header_in_cpp(self):
+        file = f"{self.folder}/header.cpp"
+        with open(file, "wb") as it:
+            it.write(b"#include <bootswap.h>")
+        faults, _ = ran(["cc", "-x", "c++", "-Wall", "-Wextra", "-Werror", "-I", f"{ROOT}/include", "-fsyntax-only", file])
+        self.case("the header compiles as C++", faults)
+
+    def test_requests_no_memory(self):
+        """The library calls no allocator, in a boot as in any other call."""
+        faults, output = ran(["nm", "--undefined-only", "--format=posix", self.archive])
+        called = {line.split()[0] for line in output.decode().splitlines() if line.split()[1:] == ["U"]}
+        faults += [f"what it calls: {it}" for it in sorted(called ^ CALLED)]
+        self.case("the library requests no memory", faults)
+
+    def test_python_names(self):
+        tests = [sys.executable, "-B", f"{ROOT}/bindings/python/test_bootswap.py"]
+        faults, _ = ran(tests, env={**os.environ, "BOOTSWAP_LIBRARY": self.shared}, timeout=LIMIT)
+        self.case("the tests of the Python names", faults)
+
+    def test_readme(self):
+        """The commands and the Python program of bindings/README.md print what it shows, at the top of a clone in which
+        `bindings/build` made the libraries."""
+        text = read(f"{ROOT}/bindings/README.md").decode()
+        (commands, printed), *_ = fenced(text, "sh") or [("", "")]
+        (program, report), *_ = fenced(text, "python") or [("", "")]
+        first, _, others = commands.partition("\n")
+        self.case("bindings/README.md begins with a build", [first] * (first != "bindings/build"))
+        clone = self.clone()
+        self.expect_printed(clone, "commands", ["bash", "-ec", others], printed)
+        self.expect_printed(clone, "Python program", [sys.executable, "-c", program], report)
+
+    def clone(self):
+        """Makes the folders of a clone that bindings/README.md names, with the libraries."""
+        clone = f"{self.folder}/clone"
+        for name in ("bindings", "examples", "include"):
+            shutil.copytree(f"{ROOT}/{name}", f"{clone}/{name}")
+        os.mkdir(f"{clone}/out")
+        shutil.copy(self.archive, f"{clone}/out/libbootswap.a")
+        shutil.copy(self.shared, f"{clone}/out/libbootswap.so")
+        return clone
+
+    def expect_printed(self, clone, what, arguments, wanted):
+        """A case: what bindings/README.md has one type prints exactly what it shows."""
+        environment = {name: value for name, value in os.environ.items() if name not in ("BOOTSWAP_LIBRARY", "PYTHONPATH")}
+        streams = {"stdin": subprocess.DEVNULL, "stdout": subprocess.PIPE, "stderr": subprocess.PIPE, "text": True}
+        done = subprocess.run(arguments, cwd=clone, env=environment, timeout=LIMIT, **streams)
+        faults = [f"status {done.returncode}: {short(done.stderr[-2000:])}"] * (done.returncode != 0)
+        faults += [f"it prints {short(done.stdout)}, and not {short(wanted)}"] * (not wanted or done.stdout != wanted)
+        self.case(f"the {what} of bindings/README.md", faults)
+
+
+def fenced(text, language):
+    """The blocks of a page in Markdown that are in a language, each with the block of its output if one is next."""
+    blocks = re.findall(r"^```(\w*)\n(.*?)^```$", text, re.MULTILINE | re.DOTALL)
+    pairs = zip(blocks, [*blocks[1:], ("none", "")])
+    return [(body, more if not kind else "") for (own, body), (kind, more) in pairs if own == language]
