@@ -1,25 +1,25 @@
-"""The programs that `./bootswap` runs: the whole one, and its core, which has fewer commands and is quicker to prove.
+"""The programs that `./bootswap` runs: the complete one, and its core, which has fewer commands and is proved faster.
 
-Both answer an order of the core alike. A program is current where its stamp, NAME.stamp beside it in out, names the
-sources, the program and the toolchain as they are now.
+Both answer the commands of the core alike. A program is current if its stamp, NAME.stamp beside it in out/, names the sources,
+the program and the toolchain as they are now.
 """
 
 import hashlib
 import os
 import shutil
 
-from program import OUT, NotBuilt, asked_of_rt, build, crates_of, text_of
+from builder import OUT, NotBuilt, asked_of_rt, build, crates_of, text_of
 
 WHOLE, CORE = "bootswap", "bootswap_core"
 
-# The commands that the core doesn't have, and the word that it doesn't take.
+# The commands that the core lacks, and the option that it doesn't accept.
 OF_WHOLE = (
     *("choose", "check", "image", "manifest", "show", "slots", "codes"),
     *("make-device", "make-image", "make-manifest", "extract", "sweep"),
 )
 EXPLAIN = "--explain"
 
-# The words that ask for the help of a command, which the core has of all commands.
+# The options for the help of a command. The core has the help of all commands.
 HELP = ("--help", "-h")
 
 
@@ -28,7 +28,7 @@ class NoToolchain(NotBuilt):
 
 
 def needed_for(words):
-    """Returns the name of the program that the words of a command need at least. Without a word it is `choose`."""
+    """Returns the name of the smallest program that does what these arguments ask for. Without arguments that is `choose`."""
     command, rest = words[:1], words[1:2]
     if EXPLAIN in words or not command:
         return WHOLE
@@ -40,14 +40,14 @@ def file_of(name):
 
 
 def stamp_of(name, crates, toolchain):
-    """Returns what the stamp of a program as it is now has to say."""
+    """Returns the stamp of a program as it is now."""
     with open(file_of(name), "rb") as it:
         program = hashlib.sha256(it.read()).hexdigest()
     return f"sources {crates[-1].digest('')}\nprogram {program}\ntoolchain {toolchain}\n"
 
 
 def toolchain_of_stamp(name):
-    """Returns the toolchain of the last build: without one nothing says that it is another one now."""
+    """Returns the toolchain of the last build. Without `rt` it counts as the current one."""
     lines = (text_of(f"{file_of(name)}.stamp") or "").splitlines()
     return next((it.partition(" ")[2] for it in lines if it.startswith("toolchain ")), None)
 
@@ -60,14 +60,13 @@ def is_current(name, toolchain):
 
 
 def current_for(name):
-    """Returns the file of a current program that does what this one does, which is proved and built where there is
-    none."""
+    """Returns the file of a current program that does what this one does. If there is none, proves and builds it."""
     toolchain = asked_of_rt("version") if shutil.which("rt") else None
     for enough in dict.fromkeys((WHOLE, name)):
         if is_current(enough, toolchain):
             return file_of(enough)
     if not toolchain:
-        raise NoToolchain
+        raise NoToolchain("the Rattle toolchain's command rt is not on the PATH; it proves and builds the program")
     stamp, crates = f"{file_of(name)}.stamp", crates_of(name)
     if os.path.exists(stamp):
         os.remove(stamp)

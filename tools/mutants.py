@@ -1,14 +1,13 @@
-"""Tries the wrong bodies of the crates, for `./gate`: edits of the code that break a promise, which the prover has to
-refuse.
+"""Tries the mutants of the crates for `./gate`: edits of the code that break a promise, each of which the prover has to refuse.
 
-A wrong body is a file must-fail/NAME.edit of a crate, as `rt must-fail` reads it: behind `file:` stands a file, and behind
-each `old:` a text that stands there once, and which gives way to that behind `new:`. Behind `function:`, which `rt` passes
-over, stands the function that must not be proved any more, the edited one or its caller, as a check names it below the crate.
+A mutant is a file must-fail/NAME.edit of a crate, as `rt must-fail` reads it. The line `file:` names a file. Each line `old:`
+has a text that occurs once there, and the line `new:` after it has its replacement. The line `function:`, which `rt` skips,
+names the function that can't be proved any more, the edited one or its caller, as its path below the crate.
 
-`rt must-fail` checks a whole crate with each edit. Here a check is of the functions that edits name, and of what they call.
-A function is proved from its own body and from the contracts of what it calls, so that edits of several bodies are tried in
-one check: each has to be refused at its function, and all others have to be proved. Where a function calls another one that
-is refused, its edit is tried in the check behind that. An edit that changes more than the body of its function is tried alone.
+`rt must-fail` checks a complete crate for each mutant. This checks only the functions that mutants name, and what they call.
+A function is proved from its own body and from the contracts of what it calls. So mutants of several functions are tried in
+one check: each has to be refused at its function, and all other functions have to be proved. If a function calls another one
+that is refused, its mutant is tried in the next check. A mutant that changes more than the body of its function is tried alone.
 """
 
 import os
@@ -17,8 +16,8 @@ import shutil
 import subprocess
 import tempfile
 
-from checking import Checks
-from program import ROOT, asked_of_rt, crates_of, text_of
+from builder import ROOT, asked_of_rt, crates_of, text_of
+from results import Counts, report
 
 # The last line of a check of some functions: how many there were, those that they call among them, and were proved.
 ENDED = re.compile(r"only=(\d+) proved=(\d+)")
@@ -28,7 +27,7 @@ FUNCTION = re.compile(r"fn (\S+): (.*)")
 OWN_GOAL = re.compile(r"not proved$|no proof: expected answers in ")
 CALLS = re.compile(r"\bit calls `")
 
-# What it says of a function that isn't named by a wrong body: it is proved, or its turn comes when those that it calls are.
+# What it says of a function that isn't named by a mutant: it is proved, or its turn comes when those that it calls are.
 FINE = re.compile(rf"proved|.*{CALLS.pattern}")
 
 # What a check says where it can't read a text, as where a proof names what an edit took away.
@@ -47,10 +46,10 @@ COUNTED = re.compile(r"(statements|crate) \w+: modules |logic ")
 
 
 class BadEdit(Exception):
-    """Why a wrong body can't be tried."""
+    """Why a mutant can't be tried."""
 
 
-class WrongBody:
+class Mutant:
     """An edit of a crate's code, and the function that is not to be proved with it."""
 
     def __init__(self, path):
@@ -99,22 +98,22 @@ def place_of(function, folder, file, text):
     return file, begins[-1] + 1, lines.index(end, at) + 1
 
 
-def bodies_of(name):
-    """Returns the wrong bodies of a crate that the gate tries."""
+def mutants_of(name):
+    """Returns the mutants of a crate that the gate tries."""
     folder = f"{ROOT}/crates/{name}/must-fail"
     files = sorted(os.listdir(folder)) if os.path.isdir(folder) else []
-    return [WrongBody(f"{folder}/{it}") for it in files if it.endswith(".edit")]
+    return [Mutant(f"{folder}/{it}") for it in files if it.endswith(".edit")]
 
 
-def crates_with_bodies():
-    """Returns the names of the crates that have wrong bodies, those first whose trials take longest."""
-    counts = {name: len(bodies_of(name)) for name in sorted(os.listdir(f"{ROOT}/crates"))}
+def crates_with_mutants():
+    """Returns the names of the crates that have mutants, those first whose trials take longest."""
+    counts = {name: len(mutants_of(name)) for name in sorted(os.listdir(f"{ROOT}/crates"))}
     seconds = {name: crates_of(name)[-1].seconds / 3 + 6 * count for name, count in counts.items() if count}
     return sorted(seconds, key=lambda name: -seconds[name])
 
 
 class Trial:
-    """The wrong bodies of a crate, tried over the libraries of the crates below it."""
+    """The mutants of a crate, tried over the libraries of the crates below it."""
 
     def __init__(self, name, library_of, kept):
         *below, self.crate = crates_of(name)
@@ -122,56 +121,56 @@ class Trial:
             crate.made = library_of(crate.name)
         self.kit, self.kept = os.path.dirname(asked_of_rt("doc")), kept
 
-    def together(self, bodies):
-        """Returns those of some wrong bodies that are tried in one check: each is one of another function."""
-        of_one = {it.function: it for it in reversed(bodies) if it.place(self.crate.folder)}
-        return bodies[:1] if bodies[0] not in of_one.values() else [*of_one.values()]
+    def together(self, mutants):
+        """Returns those of some mutants that are tried in one check: each is one of another function."""
+        of_one = {it.function: it for it in reversed(mutants) if it.place(self.crate.folder)}
+        return mutants[:1] if mutants[0] not in of_one.values() else [*of_one.values()]
 
-    def check(self, bodies):
-        """Checks the functions that wrong bodies name, and what they call, with these edits. Returns the status and what was
+    def check(self, mutants):
+        """Checks the functions that mutants name, and what they call, with these edits. Returns the status and what was
         said, by lines. What was proved is kept for the next check."""
-        with tempfile.TemporaryDirectory(prefix="bootswap-wrong-body-") as room:
+        with tempfile.TemporaryDirectory(prefix="bootswap-mutant-") as room:
             for part in ("src", "specs", "proofs"):
                 if os.path.isdir(f"{self.crate.folder}/{part}"):
                     shutil.copytree(f"{self.crate.folder}/{part}", f"{room}/{part}")
             texts = {}
-            for body in bodies:
-                body.edit(self.crate.folder, texts)
+            for mutant in mutants:
+                mutant.edit(self.crate.folder, texts)
             for file, text in texts.items():
                 with open(f"{room}/{file}", "w", encoding="utf-8") as it:
                     it.write(text)
-            functions = sorted({it.function for it in bodies})
+            functions = sorted({it.function for it in mutants})
             words = [*self.crate.check_words(self.kit, functions), "--incremental", self.kept]
             streams = {"stdin": subprocess.DEVNULL, "stdout": subprocess.PIPE, "stderr": subprocess.STDOUT}
             ran = subprocess.run(words, cwd=room, text=True, errors="replace", **streams)
         return ran.returncode, ran.stdout.rstrip("\n").split("\n")
 
-    def tried(self, bodies):
-        """Tries wrong bodies in one check. Returns what is wrong with each, nothing where it is refused at its function for
+    def tried(self, mutants):
+        """Tries mutants in one check. Returns what is wrong with each, nothing where it is refused at its function for
         what it does, and None where it has to be tried again: its function calls another one that is refused, or there is no
-        verdict on some wrong bodies together."""
-        is_alone = len(bodies) == 1
+        verdict on some mutants together."""
+        is_alone = len(mutants) == 1
         try:
-            status, lines = self.check(bodies)
+            status, lines = self.check(mutants)
         except BadEdit as why:
-            return dict.fromkeys(bodies, [str(why)] if is_alone else None)
+            return dict.fromkeys(mutants, [str(why)] if is_alone else None)
         said = dict(it.groups() for it in map(FUNCTION.fullmatch, lines) if it)
-        named = {f"{self.crate.name}::{it.function}" for it in bodies}
+        named = {f"{self.crate.name}::{it.function}" for it in mutants}
         others = [it for it, verdict in said.items() if not FINE.match(verdict) and it not in named]
         if status not in (0, 1) or not ENDED.fullmatch(lines[-1]) or others:
             why = ["the check didn't end as it has to", *others, *last_of(lines)]
-            return dict.fromkeys(bodies, why if is_alone else None)
-        verdicts = {it: said.get(f"{self.crate.name}::{it.function}", "") for it in bodies}
+            return dict.fromkeys(mutants, why if is_alone else None)
+        verdicts = {it: said.get(f"{self.crate.name}::{it.function}", "") for it in mutants}
         return {it: self.faults_of(it, verdict, lines, is_alone) for it, verdict in verdicts.items()}
 
-    def faults_of(self, body, verdict, lines, is_alone):
-        """Returns what is wrong with a wrong body by the verdict on its function."""
+    def faults_of(self, mutant, verdict, lines, is_alone):
+        """Returns what is wrong with a mutant by the verdict on its function."""
         if CALLS.search(verdict):
             return None
         if not OWN_GOAL.match(verdict):
             return [f"of its function the check says: {verdict}", *last_of(lines)]
         # What is found wrong in the proof of the function, which has a folder of its path, or at a goal of it.
-        folder, place = f"./proofs/{body.function.replace('::', '/')}/", body.place(self.crate.folder)
+        folder, place = f"./proofs/{mutant.function.replace('::', '/')}/", mutant.place(self.crate.folder)
         told = [it for it in lines if it.startswith(folder) and ": error: " in it]
         goals = [it for it in map(GOAL.match, lines) if it]
         of_it = [it for it in goals if is_alone or it[1] == place[0] and place[1] <= int(it[2]) <= place[2]]
@@ -185,20 +184,20 @@ def last_of(lines):
     return [it for it in lines if not COUNTED.match(it)][-MOST_SHOWN:]
 
 
-def try_bodies(name, library_of):
-    """Tries the wrong bodies of a crate, over the libraries that this names by their crates, and returns the counts of
+def try_mutants(name, library_of):
+    """Tries the mutants of a crate, over the libraries that this names by their crates, and returns the counts of
     those that were refused, and weren't."""
-    left = bodies_of(name)
+    left = mutants_of(name)
     with tempfile.TemporaryDirectory(prefix="bootswap-kept-") as kept:
-        checks, trial = Checks(None, "", kept), Trial(name, library_of, f"{kept}/proved")
+        counts, trial = Counts(), Trial(name, library_of, f"{kept}/proved")
         while left:
             chosen = trial.together(left)
             tried = trial.tried(chosen)
             if all(faults is None for faults in tried.values()):
                 alone = trial.tried(chosen[:1])[chosen[0]]
                 tried = {chosen[0]: ["its function calls one that isn't proved"] if alone is None else alone}
-            for body, faults in tried.items():
+            for mutant, faults in tried.items():
                 if faults is not None:
-                    left.remove(body)
-                    checks.tell(f"wrong body {name}/{body.name} is refused at {body.function}", faults)
-        return checks.counts
+                    left.remove(mutant)
+                    counts = counts.and_then(report(f"mutant {name}/{mutant.name} is refused at {mutant.function}", faults))
+        return counts

@@ -1,7 +1,6 @@
-"""A copy of the repository in which `rt ci` proves and builds all from nothing, for `./gate`.
+"""A copy of the repository in which `rt ci` proves and builds everything from nothing, for `./gate`.
 
-The copy is without wrong bodies: `rt ci` would try each by a check of the whole crate, over one proof more of it. They are
-tried over what it proved (`wrong_bodies.py`).
+The copy has no mutants: `rt ci` would check the complete crate for each. They are tried over what it proved (`mutants.py`).
 """
 
 import os
@@ -9,8 +8,8 @@ import re
 import shutil
 import subprocess
 
-from checking import Counts
-from program import ROOT, free_memory
+from builder import ROOT, free_memory
+from results import Counts
 
 LEFT_OUT = shutil.ignore_patterns(".git", "out", "must-fail", "mutants")
 
@@ -22,28 +21,29 @@ SUM = re.compile(r"(\d+) passed, (\d+) failed")
 
 
 def checks_at_a_time(largest):
-    """Returns how many checks fit: one a processor, as far as the free memory goes for what the largest takes, in bytes."""
+    """Returns how many checks may run at the same time: one on each processor, if the free memory holds the largest of them
+    that often, in bytes."""
     return min(len(os.sched_getaffinity(0)), free_memory() // largest)
 
 
 def environment_of_rt():
-    """Returns the environment for `rt ci`, which says how many checks it makes at a time, unless its caller does or
-    memory is short: then it plans for itself."""
+    """Returns the environment for `rt ci`, with the number of checks at the same time. If the caller gives that number, or
+    memory is short, `rt` plans for itself."""
     number = checks_at_a_time(LARGEST_CHECK)
     return {"RT_JOBS": str(number), **os.environ} if number > 1 else dict(os.environ)
 
 
 class ProvedCopy:
-    """A copy of the repository below a folder, and what stands there once `rt ci` has run."""
+    """A copy of the repository in a folder, and what `rt ci` leaves there."""
 
     def __init__(self, folder):
         self.folder = f"{folder}/bootswap"
         shutil.copytree(ROOT, self.folder, ignore=LEFT_OUT)
 
     def check_by_rt(self):
-        """Runs `rt ci`, passes on what it says, and returns the counts.
+        """Runs `rt ci`, prints its output, and returns the counts.
 
-        Its own last line is passed on behind `rt ci: `, so that no line but the gate's last one is a sum.
+        Its last line gets a prefix `rt ci: `, so that only the gate's last line is a sum.
         """
         streams = {"stdin": subprocess.DEVNULL, "stdout": subprocess.PIPE}
         try:
@@ -66,18 +66,22 @@ class ProvedCopy:
         return f"{self.folder}/crates/{name}/out/{name}"
 
     def programs(self):
-        """Returns the programs that were built, by LLVM and by Rattle's own compiler, and what is said of each behind a
-        check's name. Where the second one wasn't built, `rt ci` has said so."""
+        """Returns the programs that LLVM and Rattle's own compiler built, each with the suffix of its tests' names. If the
+        second one wasn't built, `rt ci` has reported that."""
         suffixes = {self.program(): "", f"{self.program()}.by-rattle": ", built by Rattle's own compiler"}
         return {it: suffix for it, suffix in suffixes.items() if not suffix or os.path.exists(it)}
 
     def library(self, name):
-        """Returns the library of a crate, which has the statements of what was proved."""
-        return f"{self.folder}/crates/{name}/out/rlib/{name}.rlib"
+        return library_in(self.folder, name)
+
+
+def library_in(folder, name):
+    """Returns the library that `rt ci` made of a crate in a repository, which has the statements of what was proved."""
+    return f"{folder}/crates/{name}/out/rlib/{name}.rlib"
 
 
 def passed_on(stream):
-    """Passes on what `rt ci` says, and returns how many it says passed and failed."""
+    """Prints the output of `rt ci`, and returns how many passed and failed by its last line."""
     sum = None
     for line in stream:
         text = line.decode(errors="replace").rstrip("\n")

@@ -1,10 +1,9 @@
-"""Proves and builds the program `bootswap` or its core, for the command of that name, and the static library of
-`bindings/build` and `web/build`.
+"""Proves and builds the program `bootswap` or its core for `./bootswap`, and the static libraries of `bindings/build`,
+`web/build` and `bench/run`.
 
-Each crate is proved by the toolchain's `rattle build` in one process, over the statements of the crates below it. As
-many work at once as there are processors, and as memory allows. What is built stands in out/build: a library NAME.rlib
-for each crate, and beside it NAME.stamp, which says of what sources it was made. So a build that was broken off goes on
-with the crates that it had not yet built.
+The toolchain's `rattle build` proves each crate over the statements of the crates below it. Crates are built side by side,
+as far as processors and memory allow. Each has a library NAME.rlib in the folder BUILD, and beside it a file NAME.stamp with
+a digest of the sources that it was made of. So an interrupted build continues with the crates that it had not yet built.
 """
 
 import contextlib
@@ -19,65 +18,29 @@ import sys
 import time
 from concurrent.futures import FIRST_COMPLETED, ThreadPoolExecutor, wait
 
+from schedule import SECONDS, Schedule
+
 ROOT = os.path.dirname(os.path.dirname(os.path.realpath(__file__)))
 OUT = f"{ROOT}/out"
-BUILD = f"{OUT}/build"
 LOG = f"{OUT}/bootswap.log"
 
-# What is told before a build: as measured on 4 processors, all of them taken.
+# A library is a folder with sources, and `rt` stops at a source that is in no crate. It accepts those below a crate's
+# out/rlib, where it has the library of that crate. A program has none, so `rt` needs nothing there.
+BUILD = f"{ROOT}/crates/bootswap/out/rlib"
+
+# What a build prints first, as measured on 4 processors while all of them were busy.
 COSTS = {
     "bootswap": "the program: from nothing it takes 45 to 80 minutes of one processor, 1.8 GB of disk",
     "bootswap_core": "the core of the program: from nothing it takes 25 to 45 minutes of one processor, 1.1 GB of disk",
-    "device_calls": "the library: from nothing it takes 25 to 45 minutes of one processor, 1 GB of disk",
+    "c_interface": "the library: from nothing it takes 25 to 45 minutes of one processor, 1 GB of disk",
+    "bench_exports": "the library of the bench: from nothing it takes 10 to 20 minutes of one processor, 0.5 GB of disk",
 }
 
 # The most memory that the check of a crate has taken, in bytes.
 MEMORY = 2_300_000_000
 
-# What the proof of a crate took, in seconds of a processor, in a first build on 4 of them. It says
-# which crates others wait for longest, and nothing else. Lines are a poor guess of it: much of
-# `command_words` and `manifest` is what `clap` and JSON bring.
-SECONDS = {
-    "answers": 114,
-    "boot_cli": 89,
-    "boot_core": 155,
-    "bootswap": 70,
-    "bootswap_core": 60,
-    "certificate": 185,
-    "chooser": 62,
-    "command_ends": 47,
-    "command_line": 160,
-    "command_words": 143,
-    "common": 19,
-    "core_cli": 110,
-    "decision": 35,
-    "device_calls": 150,
-    "device_texts": 67,
-    "events": 16,
-    "explaining_commands": 126,
-    "explanations": 218,
-    "file_flash": 29,
-    "flash_model": 53,
-    "image_header": 29,
-    "image_reading": 105,
-    "machine": 40,
-    "making_commands": 142,
-    "manifest": 83,
-    "random_numbers": 8,
-    "reading_commands": 52,
-    "reading_inputs": 86,
-    "script": 52,
-    "sector_map": 31,
-    "set_log": 62,
-    "slice_flash": 45,
-    "swap_scratch": 36,
-    "sweep": 144,
-    "system_files": 65,
-    "tlv": 53,
-    "trailer": 80,
-    "upload": 90,
-    "version_order": 27,
-}
+# The crate of the library behind include/bootswap.h.
+LIBRARY = "c_interface"
 
 TARGET = "x86_64-unknown-linux-gnu"
 WEB_TARGET = "wasm64-unknown-unknown"
@@ -107,7 +70,7 @@ class Crate:
 
     @functools.lru_cache(maxsize=None)
     def below(self):
-        """Returns the crates that it stands on, each after those that it stands on itself."""
+        """Returns the crates that it depends on, each after those that it depends on itself."""
         found = []
         for crate in self.own:
             found += [it for it in [*crate.below(), crate] if it not in found]
@@ -115,18 +78,18 @@ class Crate:
 
     @functools.lru_cache(maxsize=None)
     def digest(self, toolchain):
-        """Returns a digest of all that it is made of."""
+        """Returns a digest of everything that it is made of."""
         sum = hashlib.sha256(repr((self.name, self.of_kit, toolchain, self.target, self.files)).encode())
         for crate in self.own:
             sum.update(crate.digest(toolchain).encode())
         return sum.hexdigest()
 
     def is_built(self, toolchain):
-        """Returns whether a build before this one made it of these sources. Of a program only its own stamp tells."""
+        """Returns whether an earlier build made it of these sources. A program has a stamp of its own, in programs.py."""
         return not self.is_program and os.path.exists(self.made) and text_of(self.stamp) == self.digest(toolchain)
 
-    def words(self, kit):
-        """Returns the order to prove and build it."""
+    def words(self, kit, jobs=1):
+        """Returns the command that proves and builds it, in N processes."""
         words = [f"{kit}/bin/rattle", "build", "--crate-name", self.name]
         words += ["src/main.rt" if self.is_program else "src/lib.rt"]
         for name in ["std", *self.of_kit]:
@@ -136,7 +99,7 @@ class Crate:
         for folder in sorted({f"{kit}/rlibs", *(os.path.dirname(it.made) for it in self.below())}):
             words += ["-L", f"dependency={folder}"]
         words += ["--antt-project", f"{kit}/rattle/logic/antt-project.json", "--logic-built", f"{kit}/logic_built"]
-        words += ["--jobs", "1", "--links", f"{self.name}=", "-o", self.made]
+        words += ["--jobs", str(jobs), "--links", f"{self.name}=", "-o", self.made]
         if self.is_program:
             return [*words, "--toolchain", f"{kit}/toolchain", "--backend", "rattle"]
         if self.is_static:
@@ -145,7 +108,8 @@ class Crate:
         return [*words, "--statements"]
 
     def check_words(self, kit, functions):
-        """Returns the order to check it, or these functions of it and what they call, each given as its path in the crate."""
+        """Returns the command that checks it, or these functions of it and what they call, each given as its path in the
+        crate."""
         words = self.words(kit)
         # A check takes no place to write to, and makes no statements or code.
         for word, values in (("-o", 1), ("--statements", 0), ("--toolchain", 1), ("--backend", 1)):
@@ -170,7 +134,7 @@ def files_of(folder):
 
 
 def text_of(path):
-    """Returns the text of a file, or None where it can't be read."""
+    """Returns the text of a file, or None if it can't be read."""
     try:
         with open(path, encoding="utf-8") as it:
             return it.read()
@@ -179,7 +143,7 @@ def text_of(path):
 
 
 def crates_of(last="bootswap"):
-    """Returns the crates that a program or a static library stands on, and its own, lowest first."""
+    """Returns the crates that a crate depends on, and this one, lowest first."""
     lines = [line.partition("#")[0] for line in (text_of(f"{ROOT}/crates.txt") or "").splitlines()]
     parts = [(name.split(), below.split()) for name, colon, below in (it.partition(":") for it in lines) if colon]
     rows = {name: below for (name, *_), below in parts}
@@ -198,67 +162,53 @@ def crates_of(last="bootswap"):
 
 
 def free_memory():
-    """Returns the bytes of memory that are free, as far as the system tells."""
+    """Returns the bytes of free memory, as the system reports them."""
     found = re.search(r"MemAvailable: +(\d+)", text_of("/proc/meminfo") or "")
     return 1024 * int(found[1]) if found else MEMORY
 
 
 class Build:
-    """A build that is under way: what is left, what runs, and what may start."""
+    """A running build: what is left, what runs, and what may start."""
 
     def __init__(self, crates, toolchain, kit, held):
         self.toolchain, self.kit, self.held, self.start = toolchain, kit, held, time.monotonic()
-        self.what = COSTS[crates[-1].name]
-        self.left = [it for it in crates if not it.is_built(toolchain)]
+        self.what, self.processors = COSTS[crates[-1].name], len(os.sched_getaffinity(0))
+        self.most = int(0.9 * free_memory() // MEMORY)
+        left = [it for it in crates if not it.is_built(toolchain)]
+        self.schedule = Schedule(crates, left, self.processors, self.most)
         self.running, self.processes, self.is_stopped = {}, set(), False
-        # A check could have several processes, but each reads the libraries below for itself: a second one takes a fifth
-        # to a half more of a processor.
-        self.most, self.fit = len(os.sched_getaffinity(0)), int(0.9 * free_memory() // MEMORY)
-        # How long the proofs take that wait for each other, from a crate on.
-        self.behind = {it: it.seconds for it in crates}
-        for crate in reversed(crates):
-            for it in crate.own:
-                self.behind[it] = max(self.behind[it], it.seconds + self.behind[crate])
 
     def seconds(self):
         return f"{time.monotonic() - self.start:.0f} s"
 
     def run(self):
-        """Proves and builds all that is left."""
-        if self.fit <= 0:
+        """Proves and builds everything that is left."""
+        if self.most <= 0:
             raise NotBuilt(f"a check takes up to {MEMORY / 1e9:.1f} GB of memory, and less is free")
-        at_once = min(self.most, self.fit, len(self.left))
+        at_once = min(self.processors, self.most)
         tell(
-            f"proving and building {self.what}, and up to {at_once * MEMORY / 1e9:.1f} GB of memory; {len(self.left)} "
-            f"crates are left, at most {at_once} side by side"
+            f"proving and building {self.what}, and up to {at_once * MEMORY / 1e9:.1f} GB of memory; "
+            f"{len(self.schedule.left)} crates are left, at most {at_once} side by side"
         )
-        with ThreadPoolExecutor(self.most) as pool:
+        with ThreadPoolExecutor(self.processors) as pool:
             try:
-                while self.left or self.running:
-                    self.start_what_fits(pool)
+                while self.schedule.left or self.running:
+                    for crate, jobs in self.schedule.started().items():
+                        self.running[pool.submit(self.build, crate, jobs)] = crate
                     for ran in wait(self.running, return_when=FIRST_COMPLETED).done:
                         self.end(self.running.pop(ran), ran.result())
             finally:
                 self.stop()
         tell(f"built ({self.seconds()})")
 
-    def start_what_fits(self, pool):
-        """Starts the crates that are ready, those with the longest way behind them first."""
-        waits = [*self.left, *self.running.values()]
-        ready = [it for it in self.left if not any(crate in waits for crate in it.below())]
-        ready.sort(key=lambda it: -self.behind[it])
-        for crate in ready[: min(self.most, self.fit) - len(self.running)]:
-            self.left.remove(crate)
-            self.running[pool.submit(self.build, crate)] = crate
-
-    def build(self, crate):
-        """Proves and builds a crate, and returns whether that was done, and what was said."""
+    def build(self, crate, jobs):
+        """Proves and builds a crate in N processes, and returns whether that succeeded, and the output."""
         if os.path.isfile(crate.stamp):
             os.remove(crate.stamp)
         digest = crate.digest(self.toolchain)
-        status, said = self.call(crate.words(self.kit), crate.folder)
+        status, said = self.call(crate.words(self.kit, jobs), crate.folder)
         if status == -signal.SIGKILL and not self.is_stopped:
-            # Most likely for memory, of which there may be more now.
+            # Most likely for memory, of which there may be more now, and one process takes least.
             status, said = self.call(crate.words(self.kit), crate.folder)
         if not status and crate.is_program:
             status, more = self.call(link_words(self.kit, crate.made, f"{OUT}/{crate.name}"), crate.folder)
@@ -269,13 +219,13 @@ class Build:
         return not status, said
 
     def call(self, words, folder):
-        """Runs a command of the toolchain, and returns its status and what it said.
+        """Runs a command of the toolchain, and returns its status and output.
 
-        It holds the lock of the build too, so that no other build starts while it runs, should this one be killed.
+        The command holds the lock of the build too. So no other build starts while it runs, even if this process is killed.
         """
         streams = {"stdin": subprocess.DEVNULL, "stdout": subprocess.PIPE, "stderr": subprocess.STDOUT}
         start = time.monotonic()
-        ran = subprocess.Popen(words, cwd=folder, pass_fds=[self.held.fileno()], **streams)
+        ran = subprocess.Popen(words, cwd=folder, pass_fds=[self.held], **streams)
         self.processes.add(ran)
         if self.is_stopped:
             kill(ran)
@@ -288,26 +238,27 @@ class Build:
         return ran.returncode, f"{' '.join(words)}\n{said}took {cost}\n"
 
     def end(self, crate, result):
-        """Tells that a crate is proved, and what is left, or why it isn't."""
+        """Reports that a crate is proved, and what is left, or raises why it isn't."""
         is_done, said = result
         with open(LOG, "a", encoding="utf-8") as it:
             it.write(f"== {crate.name}\n{said}\n")
         if not is_done:
             raise NotBuilt(f"{crate.name} isn't proved, or can't be built; what was said is in {LOG}")
+        self.schedule.end(crate)
         under_way = ", ".join(it.name for it in self.running.values())
         more = f", {under_way} under way" if under_way else ""
-        left = len(self.left) + len(self.running)
+        left = len(self.schedule.left) + len(self.running)
         tell(f"{crate.name} is proved ({self.seconds()}); {left} left{more}")
 
     def stop(self):
-        """Ends what still runs, where the build failed or was broken off."""
+        """Ends what still runs, if the build failed or was interrupted."""
         self.is_stopped = True
         for ran in [*self.processes]:
             kill(ran)
 
 
 def kill(ran):
-    """Ends a process that `Build.call` waits for. `Popen.kill` might wait for it too, and then its times were lost."""
+    """Ends a process that `Build.call` waits for. `Popen.kill` might wait for it too, and take its times away."""
     with contextlib.suppress(ProcessLookupError):
         os.kill(ran.pid, signal.SIGKILL)
 
@@ -318,7 +269,7 @@ def link_words(kit, made, program):
 
 
 def asked_of_rt(word):
-    """Returns the line that the toolchain's command answers."""
+    """Returns the line that `rt` prints for a command."""
     try:
         ran = subprocess.run(["rt", word], stdin=subprocess.DEVNULL, stdout=subprocess.PIPE, check=True)
     except (OSError, subprocess.CalledProcessError) as error:
@@ -327,43 +278,57 @@ def asked_of_rt(word):
 
 
 def build(crates, toolchain):
-    """Proves and builds these crates: a program as out/NAME, a library as out/build/NAME.a."""
-    try:
-        os.makedirs(BUILD, exist_ok=True)
-        held = open(f"{BUILD}/lock", "w", encoding="utf-8")
-    except OSError as error:
-        raise NotBuilt(f"{error.filename} can't be written ({error.strerror})") from error
-    with held:
-        lock(held)
-        open(LOG, "w", encoding="utf-8").close()
+    """Proves and builds these crates: a program as out/NAME, a library as NAME.a in the folder BUILD."""
+    with locked() as held:
+        try:
+            for folder in (OUT, BUILD):
+                os.makedirs(folder, exist_ok=True)
+            open(LOG, "w", encoding="utf-8").close()
+        except OSError as error:
+            raise NotBuilt(f"{error.filename} can't be written ({error.strerror})") from error
         # The gate has its own way to end.
         if signal.getsignal(signal.SIGTERM) is signal.SIG_DFL:
             signal.signal(signal.SIGTERM, lambda *_: sys.exit(128 + signal.SIGTERM))
         Build(crates, toolchain, os.path.dirname(asked_of_rt("doc")), held).run()
 
 
-def lock(held):
-    """Waits until no other build goes on in this clone. What that built isn't built again."""
+@contextlib.contextmanager
+def locked():
+    """Waits until no other build runs in this clone, and yields the lock's descriptor. What the other one built isn't built
+    again.
+
+    The lock is the folder of the program's crate, as `rt` locks it: `rt ci` moves the crate's out/ away while it runs.
+    """
+    held = os.open(os.path.dirname(os.path.dirname(BUILD)), os.O_RDONLY)
     try:
-        fcntl.flock(held, fcntl.LOCK_EX | fcntl.LOCK_NB)
-    except BlockingIOError:
-        tell("waiting for another build here")
-        fcntl.flock(held, fcntl.LOCK_EX)
+        try:
+            fcntl.flock(held, fcntl.LOCK_EX | fcntl.LOCK_NB)
+        except BlockingIOError:
+            tell("waiting for another build, or `rt`, to end here")
+            fcntl.flock(held, fcntl.LOCK_EX)
+        yield held
+    finally:
+        os.close(held)
 
 
-def static_library(target=TARGET):
-    """Proves and builds the library behind include/bootswap.h for a target, where that isn't done yet, and returns its
-    file."""
-    crates, toolchain = crates_of("device_calls"), asked_of_rt("version")
+def library_crates(target=TARGET, name=LIBRARY):
+    """Returns the crates of a static library for a target, lowest first."""
+    crates = crates_of(name)
     if target != TARGET:
         crates[-1].aim(target)
+    return crates
+
+
+def static_library(target=TARGET, name=LIBRARY):
+    """Proves and builds a static library for a target, if that isn't done yet, and returns its file."""
+    crates, toolchain = library_crates(target, name), asked_of_rt("version")
     if not crates[-1].is_built(toolchain):
         build(crates, toolchain)
     return crates[-1].made
 
 
 def link_for_web(archive, module):
-    """Links a static library to a module of WebAssembly, and returns whether that was done, and what was said."""
+    """Links a static library to a module of WebAssembly, and returns whether that succeeded, and the output."""
     kit = os.path.dirname(asked_of_rt("doc"))
     words = [f"{kit}/bin/rattle-link", "--target", WEB_TARGET, "--toolchain", f"{kit}/toolchain", "-o", module, archive]
     ran = subprocess.run(words, stdin=subprocess.DEVNULL, stdout=subprocess.PIPE, stderr=subprocess.STDOUT)

@@ -1,0 +1,63 @@
+"""Which crates a build starts next, and how many processes check each.
+
+A crate is checked by one process while others keep the other processors busy: a second process costs a fifth to a half more
+CPU time, since each reads the libraries below for itself. Near the end of a build fewer crates are ready than processors are
+free. There a crate gets several processes. Their number is fixed when its check starts.
+"""
+
+# How long the check of a crate takes, in CPU-seconds, as measured in a first build on 4 processors. Lines are a poor guess of
+# it: much of `command_line` and `manifest` is what `clap` and JSON bring.
+SECONDS = {
+    "boot_cli": 89, "boot_core": 155, "bootswap": 70, "bootswap_core": 60, "c_interface": 150, "certificate": 185,
+    "chooser": 62, "command_line": 230, "common": 27, "creating": 142, "decision": 35, "device_commands": 110,
+    "device_texts": 67, "diagnostics": 218, "explaining": 126, "flash_model": 53, "host": 97,
+    "image_header": 29, "image_reading": 105, "inputs": 115, "inspecting": 151, "machine": 40, "manifest": 83,
+    "script": 52, "sector_map": 31, "set_log": 62, "slice_flash": 45, "swap_scratch": 36, "sweep": 144, "tlv": 53,
+    "trailer": 80, "upload": 90, "version_order": 27,
+}
+
+# More processes than these hardly make the check of a crate faster.
+MOST_JOBS = 4
+
+
+class Schedule:
+    """The crates of a build: those that are left, and those that run, each with its number of processes."""
+
+    def __init__(self, crates, left, processors, most):
+        """Takes the crates of a build, those of them that aren't built, the number of processors, and how many processes the
+        memory allows."""
+        self.left, self.running, self.processors, self.most = left, {}, processors, most
+        # How long the checks take that have to follow each other, from a crate on.
+        self.chain = {it: it.seconds for it in crates}
+        for crate in reversed(crates):
+            for it in crate.own:
+                self.chain[it] = max(self.chain[it], it.seconds + self.chain[crate])
+
+    def started(self):
+        """Starts the crates that are ready, those with the longest chain first, and returns each with its number of
+        processes."""
+        waits = {*self.left, *self.running}
+        ready = [it for it in self.left if waits.isdisjoint(it.below())]
+        ready.sort(key=lambda it: -self.chain[it])
+        ready = ready[: self.processors - len(self.running)]
+        started = {}
+        for number, crate in enumerate(ready):
+            room = self.most - sum(self.running.values())
+            if room > 0:
+                started[crate] = min(self.jobs_of(crate, len(ready) - number), room)
+                self.running[crate] = started[crate]
+                self.left.remove(crate)
+        return started
+
+    def jobs_of(self, crate, ready):
+        """Returns how many processes check a crate, which is one of some that are ready: its share of the free processors.
+
+        If its chain takes longer than the rest of the build would on all processors, it gets one more than are free.
+        """
+        free = max(self.processors - sum(self.running.values()), 0)
+        rest = sum(it.seconds for it in [*self.left, *self.running]) / self.processors
+        share, wanted = -(-free // ready), min(int(self.chain[crate] / rest), free + 1)
+        return min(max(1, share, wanted), MOST_JOBS)
+
+    def end(self, crate):
+        del self.running[crate]
