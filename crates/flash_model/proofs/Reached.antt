@@ -1,7 +1,7 @@
 -- How many armed writes a flash took, one write further.
 use Rattle.std.proofs.Common.{◌≡◌, ℕ, zero, suc, ◌+◌, ◌-◌, ◌^◌, ◌<◌, ◌≤◌, ◌==◌, ◌||◌, true, false, List, [], ◌∷◌, ◌++◌}
 use Rattle.std.proofs.Common.{Bool, Some, None, refl, sym, ◌∙◌, ap, arith, ⊎_elim}
-use Rattle.std.specs.Prelude.{if◌then◌else◌}
+use Rattle.std.specs.Prelude.{find, if◌then◌else◌, map, option_map}
 use Rattle.std.specs.List.{list_any}
 use Rattle.std.specs.Option.{is_some}
 use Rattle.std.proofs.lemmas.Bool.{cases_Bool, cases_lt, ne_eqb}
@@ -44,14 +44,20 @@ reached_beside numbers k (suc n) beside =
 pub numbers_more : (armed : List Armed) (write : Armed) → numbers_of (armed ++ write ∷ []) ≡ numbers_of armed ++ write.at ∷ []
 numbers_more armed write = map-append (λ (w : Armed). w.at) armed (write ∷ [])
 
--- A number is among them where a cut of that write leaves something.
+-- A number is among those of some rows where a row of it is found.
+pub any_of_rows : {X Y : Type 0} (key : X → ℕ) (value : X → Y) (number : ℕ) (rows : List X)
+    → list_any (λ n. n == number) (map key rows)
+    ≡ is_some (option_map value (find (λ row. key row == number) rows))
+any_of_rows key value number [] = refl
+any_of_rows key value number (row ∷ rows) = ⊎_elim
+    (λ (is : (key row == number) ≡ true). rw is refl)
+    (λ (isnt : (key row == number) ≡ false). rw isnt (any_of_rows key value number rows))
+    (cases_Bool (key row == number))
+
+-- So it is among those of the armed writes where a cut of that write leaves something.
 pub any_number : (number : ℕ) (armed : List Armed)
     → list_any (λ n. n == number) (numbers_of armed) ≡ is_some (torn_for number armed)
-any_number number [] = refl
-any_number number (write ∷ armed) = ⊎_elim
-    (λ (is : (write.at == number) ≡ true). rw is refl)
-    (λ (isnt : (write.at == number) ≡ false). rw isnt (any_number number armed))
-    (cases_Bool (write.at == number))
+any_number number armed = any_of_rows (λ (write : Armed). write.at) (λ (write : Armed). write.torn) number armed
 
 -- A write that isn't armed ..
 pub reached_unarmed : (armed : List Armed) (writes next : ℕ) → writes < 2 ^ 64 → next ≡ one_more writes

@@ -32,5 +32,6 @@ pub use error::FlashError;
 pub use flash::Flash;
 pub use memory::MemFlash;
 pub use origin::Origin;
+pub use tearing::repeat;
 pub use torn::{Armed, Torn};
 pub use unit::{FLAG, UNIT, is_unit_erased, set_unit};

@@ -7,10 +7,12 @@ ghost use Rattle.flash_model.specs.declared.torn.Torn.TheVariants as Torn;
 
 use crate::torn::Torn;
 
-/// Puts a pattern over the bytes, again and again from the first one on.
+/// Puts a pattern over the bytes, again and again from the first one on; none where it is empty.
+/// Does not allocate.
 #[tactic(auto, using(crate::proofs::TornBytes::with_pattern_none, crate::proofs::TornBytes::with_pattern_each))]
-fn repeat(bytes: &mut [u8], pattern: &[u8])
-    ensures { bytes.new ≡ with_pattern pattern.now bytes.old }
+pub fn repeat(bytes: &mut [u8], pattern: &[u8])
+    ensures bytes { bytes.new ≡ with_pattern pattern.now bytes.old }
+    ensures are_bytes { (k : ℕ) → slice_index bytes.new k < 256 }
 {
     if pattern.is_empty() {
         return;

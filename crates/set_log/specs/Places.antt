@@ -11,13 +11,13 @@ use Rattle.set_log.specs.Log.{log_bytes, log_of}
 use Rattle.set_log.specs.Ring.{is_closed, places_in, reads_erased}
 use Rattle.set_log.specs.Written.{HasClosingFlag}
 
--- A call tells whether a sector is closed.
-pub record TellsClosed (map : SectorMap) (sector : ℕ) (old new : Chip)
-    (result : Result Bool FlashError) : Type 0 where
+-- A call tells a value that it reads.
+pub record Tells {V : Type 0} (value : V) (old new : Chip) (result : Result V FlashError)
+    : Type 0 where
   -- Nothing changes,
   pub same : new ≡ old
-  -- and the answer is exact.
-  pub ok : IfOk result (λ yes. yes ≡ is_closed map.sector_size (log_bytes map old) sector)
+  -- and the answer is the value.
+  pub ok : IfOk result (λ answer. answer ≡ value)
   -- There is none of a flash that is off.
   pub on : OnOk result (old.is_on ≡ true)
   pub ends : Ends result old new

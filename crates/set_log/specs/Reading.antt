@@ -1,24 +1,13 @@
 -- What a call does that looks for the record that stands, or for a place of the next one: each
 -- record is one call.
-use Rattle.std.specs.Prelude.{◌≡◌, ℕ, Bool, true, false, List, Option, None, MatchOption}
+use Rattle.std.specs.Prelude.{◌≡◌, ℕ, true, false, List, Option, None, MatchOption}
 use Rattle.std.specs.Prelude.{Result, OnOk, IfOk}
 use Rattle.flash_model.specs.declared.error.FlashError.{FlashError}
 use Rattle.flash_model.specs.Chip.{Chip, Ends}
 use Rattle.sector_map.specs.declared.layout.SectorMap.{SectorMap}
-use Rattle.set_log.specs.Log.{log_bytes, log_of, record_of}
-use Rattle.set_log.specs.Ring.{IsActive, active_of, has_room, is_active, last_of}
+use Rattle.set_log.specs.Log.{log_bytes, log_of}
+use Rattle.set_log.specs.Ring.{IsActive, active_of, has_room, last_of}
 use Rattle.set_log.specs.Written.{IsFirstFree}
-
--- A call tells whether a sector is the active one.
-pub record TellsActive (map : SectorMap) (sector : ℕ) (old new : Chip)
-    (result : Result Bool FlashError) : Type 0 where
-  -- Nothing changes,
-  pub same : new ≡ old
-  -- and the answer is exact.
-  pub ok : IfOk result (λ yes. yes ≡ is_active map.sector_size (log_bytes map old) sector)
-  -- There is none of a flash that is off.
-  pub on : OnOk result (old.is_on ≡ true)
-  pub ends : Ends result old new
 
 -- A call finds the active sector.
 pub record FindsActive (map : SectorMap) (old new : Chip) (result : Result (Option ℕ) FlashError)
@@ -40,17 +29,6 @@ pub record ReadsLast (map : SectorMap) (sector : ℕ) (old new : Chip)
   pub same : new ≡ old
   -- and the answer is exact.
   pub ok : IfOk result (λ found. found ≡ last_of map.sector_size (log_bytes map old) sector)
-  pub ends : Ends result old new
-
--- A call reads the record that stands.
-pub record ReadsRecord (map : SectorMap) (old new : Chip)
-    (result : Result (Option (List ℕ)) FlashError) : Type 0 where
-  -- Nothing changes,
-  pub same : new ≡ old
-  -- and the answer is exact.
-  pub ok : IfOk result (λ found. found ≡ record_of map old)
-  -- There is none of a flash that is off.
-  pub on : OnOk result (old.is_on ≡ true)
   pub ends : Ends result old new
 
 -- A call finds a place of a sector for the next record.

@@ -9,8 +9,8 @@ use Rattle.sector_map.specs.Map.{IsLaidOut, Keeps}
 use Rattle.sector_map.specs.Part.{Log, only}
 use Rattle.set_log.specs.Layout.{PLACE}
 use Rattle.set_log.specs.Log.{is_place_free, log_bytes, log_of, record_of}
-use Rattle.set_log.specs.Ring.{IsActive, IsFree, is_closed, last_of}
-use Rattle.set_log.specs.Written.{HasClosingFlag, IsBesideNext, IsFirstFree, IsMovedOn, IsWritten}
+use Rattle.set_log.specs.Ring.{IsFree, is_closed, last_of}
+use Rattle.set_log.specs.Written.{HasClosingFlag, IsBesideNext, IsMovedOn, IsWritten, PutsRecord}
 
 -- The map is laid out on the flash, the log has a sector of this number, and from the place of this
 -- index on all places of the sector are erased.
@@ -66,26 +66,8 @@ pub record AppendsRecord (map : SectorMap) (body : List ℕ) (old new : Chip) {T
   pub either : (record_of map new ≡ record_of map old) ⊎ (record_of map new ≡ Some body)
   -- and the new one where the call ends.
   pub ok : OnOk result (record_of map new ≡ Some body)
-  -- Where a place of the active sector is free, nothing but the first such place is written,
-  pub within : (sector place : ℕ) → IsActive map.sector_size (log_bytes map old) sector
-      → IsFirstFree map.sector_size (log_of map old) sector place
-      → SameOutside (sector * map.sector_size + PLACE * place) PLACE (log_of map old)
-      (log_of map new)
-  -- and the record stands there where the call ends.
-  pub written : OnOk result ((sector place : ℕ)
-      → IsActive map.sector_size (log_bytes map old) sector
-      → IsFirstFree map.sector_size (log_of map old) sector place
-      → IsWritten map.sector_size (log_of map new) sector place body)
-  -- Where none is free, nothing but the next sector and the closing unit of the active one is
-  -- written,
-  pub beside : (sector : ℕ) → IsActive map.sector_size (log_bytes map old) sector
-      → is_place_free map old ≡ false
-      → IsBesideNext map.sector_size sector (log_of map old) (log_of map new)
-  -- and the record stands at the first place of that sector where the call ends, and a flag closes
-  -- the active one.
-  pub moved : OnOk result ((sector : ℕ) → IsActive map.sector_size (log_bytes map old) sector
-      → is_place_free map old ≡ false
-      → IsMovedOn map.sector_size sector body (log_of map new))
+  -- It stands at the first free place of the active sector, or at the first one of the next.
+  pub put : PutsRecord map body old new result
   -- No sector is erased where a place is free, and else one.
   pub erases : OnOk result (new.erases ≡ old.erases + (if is_place_free map old then 0 else 1))
   -- A flash without power is answered so.
@@ -106,23 +88,29 @@ pub record ErasesLog (map : SectorMap) (old new : Chip) {T : Type 0} (result : R
   pub on : OnOk result (old.is_on ≡ true)
   pub ends : Ends result old new
 
--- A call begins a log with a record.
-pub record StartsRecord (map : SectorMap) (body : List ℕ) (old new : Chip) {T : Type 0}
-    (result : Result T FlashError) : Type 0 where
-  -- No part but the log is written,
+-- A call begins a log with a record, by which something stands in it.
+pub record BeginsLog (map : SectorMap) (bytes : List ℕ) (stands : Type 0) (old new : Chip)
+    {T : Type 0} (result : Result T FlashError) : Type 0 where
+  -- No part of the flash but the log is written.
   pub outside : Keeps map (only Log) old new
-  -- and the record stands where the call ends:
-  pub ok : OnOk result (record_of map new ≡ Some body)
-  -- at the first place of the first sector, and a flag closes the third.
-  pub written : OnOk result (IsWritten map.sector_size (log_of map new) 0 0 body
+  -- It stands where the call ends.
+  pub ok : OnOk result stands
+  -- The record stands at the first place of the first sector then, and a flag closes the third.
+  pub written : OnOk result (IsWritten map.sector_size (log_of map new) 0 0 bytes
       × HasClosingFlag map.sector_size (log_of map new) 2)
-  -- The flag is written last: once the three sectors are erased, the third is closed only where the
-  -- record stands.
+  -- The flag is written last: once the three sectors are erased, the third is closed only where it
+  -- stands.
   pub last : new.erases ≡ old.erases + 3
-      → is_closed map.sector_size (log_bytes map new) 2 ≡ true
-      → record_of map new ≡ Some body
-  -- Three sectors are erased.
+      → is_closed map.sector_size (log_bytes map new) 2 ≡ true → stands
+  -- A call that ends has erased three sectors.
   pub erases : OnOk result (new.erases ≡ old.erases + 3)
   -- A flash without power is answered so.
   pub off : old.is_on ≡ false → IsErrOf result Off
+  -- A call that ends was not cut, a cut turns the flash off, and one that was off stays as it is.
   pub ends : Ends result old new
+
+-- A call begins a log with a record, which then stands.
+abbrev pub StartsRecord : SectorMap → List ℕ → Chip → Chip → {T : Type 0} → Result T FlashError
+    → Type 0
+StartsRecord map body old new result =
+    BeginsLog map body (record_of map new ≡ Some body) old new result

@@ -2,8 +2,10 @@
 
 ghost use Rattle.std.specs.Prelude.{◌≡◌, ◌<◌, ◌≤◌, MatchOption};
 ghost use Rattle.sector_map.specs.Map.{IsLaidOut};
-ghost use Rattle.set_log.specs.Reading.{FindsActive, FindsFree, ReadsLast, ReadsRecord, TellsActive};
-ghost use Rattle.set_log.specs.Ring.{next_of, previous_of};
+ghost use Rattle.set_log.specs.Log.{log_bytes, record_of};
+ghost use Rattle.set_log.specs.Places.{Tells};
+ghost use Rattle.set_log.specs.Reading.{FindsActive, FindsFree, ReadsLast};
+ghost use Rattle.set_log.specs.Ring.{is_active, next_of, previous_of};
 
 use crate::format::RECORD;
 use crate::places::{is_closed, is_gated, is_place_erased, read_place};
@@ -33,7 +35,8 @@ fn previous_of(sector: u32) -> u32
 fn is_active<F: Flash>(flash: &mut F, map: &SectorMap, sector: u32) -> Result<bool, FlashError>
     requires laid_out { IsLaidOut map.now (F.chip flash.old) }
     requires sector { sector < 3 }
-    ensures { TellsActive map.now sector (F.chip flash.old) (F.chip flash.new) result }
+    ensures { Tells (is_active map.now.sector_size (log_bytes map.now (F.chip flash.old)) sector)
+        (F.chip flash.old) (F.chip flash.new) result }
 {
     let closed = is_closed(flash, map, sector)?;
     let follows_closed = is_closed(flash, map, previous_of(sector))?;
@@ -83,7 +86,8 @@ pub(crate) fn read_record<F: Flash>(
     map: &SectorMap,
 ) -> Result<Option<[u8; RECORD]>, FlashError>
     requires { IsLaidOut map.now (F.chip flash.old) }
-    ensures { ReadsRecord map.now (F.chip flash.old) (F.chip flash.new) result }
+    ensures { Tells (record_of map.now (F.chip flash.old))
+        (F.chip flash.old) (F.chip flash.new) result }
 {
     let Some(active) = find_active(flash, map)? else {
         return Ok(None);

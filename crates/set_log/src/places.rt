@@ -2,7 +2,9 @@
 
 ghost use Rattle.std.specs.Prelude.{◌<◌};
 ghost use Rattle.sector_map.specs.Map.{IsLaidOut};
-ghost use Rattle.set_log.specs.Places.{CanClose, CanSetGate, CanWriteBody, Closes, ErasesSector, HasPlace, ReadsPlace, SetsGate, TellsClosed, TellsErased, TellsGated, WritesBody};
+ghost use Rattle.set_log.specs.Places.{CanClose, CanSetGate, CanWriteBody, Closes, ErasesSector, HasPlace, ReadsPlace, SetsGate, Tells, TellsErased, TellsGated, WritesBody};
+ghost use Rattle.set_log.specs.Log.{log_bytes};
+ghost use Rattle.set_log.specs.Ring.{is_closed};
 
 use crate::format::{GATE, PLACE, RECORD};
 use flash_model::{Flash, FlashError, is_erased, is_unit_erased, set_unit};
@@ -16,7 +18,8 @@ pub(crate) fn is_closed<F: Flash>(
 ) -> Result<bool, FlashError>
     requires laid_out { IsLaidOut map.now (F.chip flash.old) }
     requires sector { sector < 3 }
-    ensures { TellsClosed map.now sector (F.chip flash.old) (F.chip flash.new) result }
+    ensures { Tells (is_closed map.now.sector_size (log_bytes map.now (F.chip flash.old)) sector)
+        (F.chip flash.old) (F.chip flash.new) result }
 {
     let erased = is_unit_erased(flash, map.closing_unit(sector))?;
     Ok(!erased)

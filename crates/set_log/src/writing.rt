@@ -62,10 +62,9 @@ pub(crate) fn append_record<F: Flash>(
         return Ok(());
     };
     match free_place(flash, map, active)? {
-        Some(place) => write_record(flash, map, active, place, body)?,
-        None => move_on(flash, map, active, body)?,
+        Some(place) => write_record(flash, map, active, place, body),
+        None => move_on(flash, map, active, body),
     }
-    Ok(())
 }
 
 /// Erases the three sectors.

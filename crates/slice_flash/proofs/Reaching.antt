@@ -1,13 +1,13 @@
 -- How many writes of the table a flash took, one write further.
-use Rattle.std.proofs.Common.{◌≡◌, ℕ, suc, ◌+◌, ◌-◌, ◌^◌, ◌<◌, ◌≤◌, ◌==◌, true, false, List, [], ◌∷◌}
-use Rattle.std.proofs.Common.{Some, None, refl, ◌∙◌, ap, arith, ⊎_elim}
+use Rattle.std.proofs.Common.{◌≡◌, ℕ, suc, ◌+◌, ◌-◌, ◌^◌, ◌<◌, ◌≤◌, ◌==◌, List}
+use Rattle.std.proofs.Common.{Some, None, ◌∙◌, ap, arith, ⊎_elim}
 use Rattle.std.specs.List.{list_any}
 use Rattle.std.specs.Option.{is_some}
-use Rattle.std.proofs.lemmas.Bool.{cases_Bool, cases_lt, le-ltb, lt-ltb}
+use Rattle.std.proofs.lemmas.Bool.{cases_lt, le-ltb, lt-ltb}
 use Rattle.std.proofs.lemmas.Option.{none-some}
 use Rattle.flash_model.specs.Chip.{reached}
 use Rattle.flash_model.specs.Memory.{one_more}
-use Rattle.flash_model.proofs.Reached.{reached_none, reached_one}
+use Rattle.flash_model.proofs.Reached.{any_of_rows, reached_none, reached_one}
 use Rattle.slice_flash.specs.declared.table.Cut as row
 use Rattle.slice_flash.specs.declared.table.Left.{Left}
 use Rattle.slice_flash.specs.Rows.{left_after, left_for, numbers_in}
@@ -15,11 +15,7 @@ use Rattle.slice_flash.specs.Rows.{left_after, left_for, numbers_in}
 -- A number is among those of the table where a cut of that write leaves something.
 pub any_number : (number : ℕ) (table : List row.Cut)
     → list_any (λ n. n == number) (numbers_in table) ≡ is_some (left_for number table)
-any_number number [] = refl
-any_number number (cut ∷ table) = ⊎_elim
-    (λ (is : (cut.write == number) ≡ true). rw is refl)
-    (λ (isnt : (cut.write == number) ≡ false). rw isnt (any_number number table))
-    (cases_Bool (cut.write == number))
+any_number number table = any_of_rows (λ (cut : row.Cut). cut.write) (λ (cut : row.Cut). cut.left) number table
 
 -- A write that isn't in the table ..
 pub reached_uncut : (table : List row.Cut) (writes next : ℕ) → writes < 2 ^ 64 → next ≡ one_more writes

@@ -7,8 +7,8 @@ ghost use Rattle.flash_model.specs.Chip.{reached};
 ghost use Rattle.flash_model.specs.Written.{IsWrittenBy};
 ghost use Rattle.slice_flash.specs.Rows.{fixed_by, numbers_in};
 
-use crate::table::{Cut, Left, left_after, repeat, tear};
-use flash_model::{Flash, FlashError, Origin};
+use crate::table::{Cut, Left, left_after, tear};
+use flash_model::{Flash, FlashError, Origin, repeat};
 use std::sync::ledger::{Blank, Book, Ledger, Share};
 
 /// A flash over borrowed bytes, of which any write can be cut.

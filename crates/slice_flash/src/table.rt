@@ -4,6 +4,8 @@ ghost use Rattle.std.specs.Prelude.{◌≡◌, ◌<◌, ℕ, slice_index};
 ghost use Rattle.flash_model.specs.Torn.{with_pattern};
 ghost use Rattle.slice_flash.specs.Rows.{left_after, left_for, torn_bytes};
 
+use flash_model::repeat;
+
 /// What a cut leaves in its range.
 #[derive(Clone, Copy, Debug, PartialEq, Eq)]
 pub enum Left<'a> {
@@ -42,20 +44,6 @@ pub(crate) fn left_after<'a>(table: &[Cut<'a>], writes: u64) -> Option<Left<'a>>
         return None;
     }
     left_for(table, writes + 1)
-}
-
-/// Repeats a pattern over a range from its first byte on.
-#[tactic(auto, using(flash_model::proofs::TornBytes::with_pattern_none, flash_model::proofs::TornBytes::with_pattern_each))]
-pub(crate) fn repeat(range: &mut [u8], pattern: &[u8])
-    ensures bytes { range.new ≡ with_pattern pattern.now range.old }
-    ensures are_bytes { (k : ℕ) → slice_index range.new k < 256 }
-{
-    if pattern.is_empty() {
-        return;
-    }
-    for i in 0..range.len() {
-        range[i] = pattern[i % pattern.len()];
-    }
 }
 
 /// Leaves in a range what the cut of a write leaves that was to repeat a pattern over it.

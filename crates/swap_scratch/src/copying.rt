@@ -22,8 +22,7 @@ fn copy_piece<F: Flash>(
     ensures { Copies from to (length piece.old) (F.chip flash.old) (F.chip flash.new) result }
 {
     flash.read(from, piece)?;
-    flash.program(to, piece)?;
-    Ok(())
+    flash.program(to, piece)
 }
 
 /// Copies a range to an erased one that lies apart.
@@ -46,13 +45,11 @@ fn copy_range<F: Flash>(flash: &mut F, from: u32, to: u32, len: u32) -> Result<(
 }
 
 /// Erases a sector and copies another one to it.
-#[tactic(auto, using(flash_model::proofs::Frame::product_le, flash_model::proofs::Frame::products_apart, flash_model::proofs::Units::aligned))]
 pub(crate) fn copy_sector<F: Flash>(flash: &mut F, from: u32, to: u32) -> Result<(), FlashError>
     requires { CanCopySector from to (F.chip flash.old) }
     ensures { CopiesSector from to (F.chip flash.old) (F.chip flash.new) result }
 {
     let size = flash.sector_size();
     flash.erase(to)?;
-    copy_range(flash, from * size, to * size, size)?;
-    Ok(())
+    copy_range(flash, from * size, to * size, size)
 }

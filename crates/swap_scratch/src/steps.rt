@@ -41,8 +41,7 @@ fn move_sector<F: Flash>(
     ensures { MovesSector map.now image used status (F.chip flash.old) (F.chip flash.new) result }
 {
     let (from, to) = sectors_of_step(map, image, used, status);
-    copy_sector(flash, from, to)?;
-    Ok(())
+    copy_sector(flash, from, to)
 }
 
 /// Takes the step after so many, and counts it. Where the flash is at no place of a swap, units
@@ -60,6 +59,5 @@ pub(crate) fn take_step<F: Flash>(
     ensures { TakesStep map.now image side status (F.chip flash.old) (F.chip flash.new) result }
 {
     move_sector(flash, map, image, used, status)?;
-    push_status(flash, map, image, side)?;
-    Ok(())
+    push_status(flash, map, image, side)
 }

@@ -20,10 +20,10 @@ fn swap_member<F: Flash>(
     requires there { image < map.now.images }
     ensures { SwapsMember map.now mask side image (F.chip flash.old) (F.chip flash.new) result }
 {
-    if is_member(mask, image) {
-        swap_image(flash, map, image, side)?;
+    if !is_member(mask, image) {
+        return Ok(());
     }
-    Ok(())
+    swap_image(flash, map, image, side)
 }
 
 /// Swaps the primary and the secondary slot of each image of a mask through scratch, in ascending

@@ -127,6 +127,15 @@ whole_trailer : (map : SectorMap) (chip : Chip) (image : ℕ) (side : Side) → 
 whole_trailer map chip image side laid lt = whole_range (trailer_bytes map chip image side) map.sector_size
     (trailer_length map chip image side laid lt)
 
+-- so a test of all bytes of its sector is a test of it
+pub whole_erased : (map : SectorMap) (chip : Chip) (image : ℕ) (side : Side) → IsLaidOut map chip
+    → image < map.images → are_erased (slice_range (trailer_bytes map chip image side) 0 (0 + map.sector_size))
+    ≡ are_erased (trailer_bytes map chip image side)
+whole_erased map chip image side laid lt =
+    ap (λ n. are_erased (slice_range (trailer_bytes map chip image side) 0 n))
+    (let all : 0 + map.sector_size ≡ map.sector_size = omega arith in all)
+    ∙ ap (λ (xs : List ℕ). are_erased xs) (whole_trailer map chip image side laid lt)
+
 -- a trailer is erased where its sector is
 pub trailer_erased : (map : SectorMap) (chip : Chip) (image sector n : ℕ) (side : Side) → IsErased chip (sector * n) n
     → IsLaidOut map chip → image < map.images
@@ -139,16 +148,6 @@ trailer_erased map chip image sector n side erased laid lt is width =
     ∙ range_erased map chip (TrailerOf image side) (sector * n) n 0 map.sector_size erased laid
     (omega (arith, trailer_size map image side laid.is_map lt)) (omega (arith, start)) (omega (arith, start))
 
--- .. and a test of the sector is a test of the trailer
-pub tells_trailer : (map : SectorMap) (chip : Chip) (image at n : ℕ) (side : Side) (told : Bool)
-    → (IsTrue told ↔ IsErased chip at n) → IsLaidOut map chip → image < map.images
-    → at ≡ start_of map (TrailerOf image side) → n ≡ map.sector_size → told ≡ are_erased
-    (trailer_bytes map chip image side)
-tells_trailer map chip image at n side told tells laid lt is width =
-    tells_range map chip (TrailerOf image side) at n 0 map.sector_size told tells laid
-    (omega (arith, trailer_size map image side laid.is_map lt)) (omega arith) (omega arith)
-    ∙ ap (λ (xs : List ℕ). are_erased xs) (whole_trailer map chip image side laid lt)
-
 -- erased units of a trailer are erased on the flash
 pub units_erased : (map : SectorMap) (chip : Chip) (image at from_end n : ℕ) (side : Side)
     → are_erased (bytes_at map chip image side from_end n) ≡ true → IsLaidOut map chip → image < map.images
@@ -156,15 +155,6 @@ pub units_erased : (map : SectorMap) (chip : Chip) (image at from_end n : ℕ) (
 units_erased map chip image at from_end n side all laid lt is room le =
     range_is_erased map chip (TrailerOf image side) at n (map.sector_size - from_end) (map.sector_size - from_end + n)
     all laid (omega (arith, trailer_size map image side laid.is_map lt)) (omega arith) (omega arith)
-
--- .. and a test of them is a test of the trailer's
-pub tells_units : (map : SectorMap) (chip : Chip) (image at from_end n : ℕ) (side : Side) (told : Bool)
-    → (IsTrue told ↔ IsErased chip at n) → IsLaidOut map chip → image < map.images
-    → at ≡ place_of map image side from_end → n ≤ from_end → from_end ≤ map.sector_size → told ≡ are_erased
-    (bytes_at map chip image side from_end n)
-tells_units map chip image at from_end n side told tells laid lt is room le =
-    tells_range map chip (TrailerOf image side) at n (map.sector_size - from_end) (map.sector_size - from_end + n) told
-    tells laid (omega (arith, trailer_size map image side laid.is_map lt)) (omega arith) (omega arith)
 
 -- an erased trailer has the fields of one
 pub erased_fields_at : (map : SectorMap) (chip : Chip) (image : ℕ) (side : Side)

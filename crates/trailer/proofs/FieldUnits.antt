@@ -6,8 +6,9 @@ use Rattle.sector_map.specs.declared.layout.SectorMap.{SectorMap}
 use Rattle.sector_map.specs.declared.layout.Side.{Side}
 use Rattle.trailer.specs.declared.kinds.Magic.{Magic}
 use Rattle.trailer.specs.declared.kinds.Magic.TheVariants.{Good, Unset, Bad}
+use Rattle.trailer.specs.declared.kinds.Trailer.{Trailer}
 use Rattle.flash_model.specs.Units.{are_erased}
-use Rattle.trailer.specs.Fields.{Fields, is_set, flag, good_magic, magic_in, bytes_at, fields_in, fields_at}
+use Rattle.trailer.specs.Fields.{Fields, is_set, flag, good_magic, magic_in, bytes_at, fields_in, fields_at, trailer_of}
 use Rattle.trailer.specs.Standing.{is_good}
 
 -- a unit that isn't set is erased
@@ -32,21 +33,27 @@ unset_magic bytes e = by (bytes_eq bytes good_magic) (are_erased bytes) refl ref
 
 -- the units of the fields of a trailer
 module _ (map : SectorMap) (chip : Chip) (image : ℕ) (side : Side) where
-  pub magic_is : (fields_at map chip image side).magic ≡ magic_in (bytes_at map chip image side 16 16)
+  -- each field but the size and the status units
+  fields_are : trailer_of (fields_at map chip image side) ≡ record {
+    magic = magic_in (bytes_at map chip image side 16 16);
+    copy_done = is_set (bytes_at map chip image side 32 8);
+    image_ok = is_set (bytes_at map chip image side 24 8);
+    withdrawn = is_set (bytes_at map chip image side 56 8);
+  }
   unfolding fields_at fields_in
-  magic_is = refl
+  fields_are = refl
+
+  pub magic_is : (fields_at map chip image side).magic ≡ magic_in (bytes_at map chip image side 16 16)
+  magic_is = ap (λ (t : Trailer). t.magic) fields_are
 
   pub image_ok_is : (fields_at map chip image side).image_ok ≡ is_set (bytes_at map chip image side 24 8)
-  unfolding fields_at fields_in
-  image_ok_is = refl
+  image_ok_is = ap (λ (t : Trailer). t.image_ok) fields_are
 
-  pub copy_done_is : (fields_at map chip image side).copy_done ≡ is_set (bytes_at map chip image side 32 8)
-  unfolding fields_at fields_in
-  copy_done_is = refl
+  copy_done_is : (fields_at map chip image side).copy_done ≡ is_set (bytes_at map chip image side 32 8)
+  copy_done_is = ap (λ (t : Trailer). t.copy_done) fields_are
 
-  pub withdrawn_is : (fields_at map chip image side).withdrawn ≡ is_set (bytes_at map chip image side 56 8)
-  unfolding fields_at fields_in
-  withdrawn_is = refl
+  withdrawn_is : (fields_at map chip image side).withdrawn ≡ is_set (bytes_at map chip image side 56 8)
+  withdrawn_is = ap (λ (t : Trailer). t.withdrawn) fields_are
 
   pub erased_magic : (fields_at map chip image side).magic ≡ Unset → are_erased (bytes_at map chip image side 16 16) ≡
       true

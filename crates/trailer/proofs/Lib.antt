@@ -7,6 +7,6 @@ pub mod Withdrawal
 pub mod Marks
 pub mod SizeUnits
 pub mod StatusUnits
-pub mod BlankFields
+pub mod Empty
 pub mod FailedCalls
 pub mod FieldWritten

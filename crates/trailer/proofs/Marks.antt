@@ -1,9 +1,7 @@
 -- The units that settling writes, one after the other.
-use Rattle.std.proofs.Common.{◌≡◌, ℕ, ◌-◌, ◌<◌, Bool, true, false, not, arith, sym, ◌∙◌, ap, subst, refl, inl, inr, ⊎_elim, List, IsTrue, ◌↔◌, ◌||◌, if◌then◌else◌}
+use Rattle.std.proofs.Common.{◌≡◌, ◌⊎◌, ℕ, ◌+◌, ◌-◌, ◌<◌, ◌≤◌, Bool, true, false, not, arith, sym, ◌∙◌, ap, subst, refl, inl, inr, ⊎_elim, List, IsTrue, ◌↔◌, ◌||◌}
 use Rattle.std.specs.Str.{bytes_eq}
 use Rattle.std.proofs.lemmas.Slice.Eq.{bytes_eq-Decides}
-use Rattle.trailer.specs.declared.kinds.Magic.{Magic}
-use Rattle.trailer.specs.declared.kinds.Magic.TheVariants.{Good, Unset, Bad}
 use Rattle.flash_model.specs.Chip.{Chip, SameOutside}
 use Rattle.flash_model.proofs.Frame.{same_outside_trans, same_outside_wider}
 use Rattle.sector_map.specs.declared.layout.SectorMap.{SectorMap}
@@ -14,9 +12,9 @@ use Rattle.sector_map.specs.Map.{IsMap, IsLaidOut, Keeps}
 use Rattle.sector_map.proofs.Parts.{keeps_trans, keeps_wider, laid_out_kept}
 use Rattle.sector_map.proofs.Touched.{trailer_of_both}
 use Rattle.flash_model.specs.Units.{are_erased}
-use Rattle.trailer.specs.Fields.{flag, good_magic, magic_in, bytes_at, bytes_in, trailer_bytes, fields_at, erased_fields, place_of}
+use Rattle.trailer.specs.Fields.{flag, good_magic, bytes_at, bytes_in, trailer_bytes, fields_at, erased_fields, place_of}
 use Rattle.trailer.specs.declared.kinds.Settling.{Settling}
-use Rattle.trailer.specs.Settled.{before_marks, is_confirmed, is_whole_magic, IsSpared, IsFree, IsOkFree, IsWhole, HasMarks, IsSettled}
+use Rattle.trailer.specs.Settled.{before_marks, is_confirmed, IsSpared, IsFree, IsOkFree, IsWhole, HasMarks, IsSettled}
 use Rattle.trailer.proofs.Places.{units_alone, range_besides, trailer_size}
 use Rattle.trailer.proofs.Erased.{erased_range}
 use Rattle.trailer.proofs.OwnFields.{unit_kept, fields_kept}
@@ -27,46 +25,25 @@ pub holds_value : (units bytes : List ℕ) → IsFree units bytes → are_erased
 holds_value units bytes free not_all = ⊎_elim (λ (all : are_erased units ≡ true). let wrong : true ≡ false = sym all ∙
     not_all in absurd (cc wrong)) (λ (is : units ≡ bytes). is) free
 
--- what tells that a magic isn't torn
-pub tells_magic : (bytes : List ℕ) (magic : Magic) (told : Bool) → magic ≡ magic_in bytes → told ≡ is_whole_magic magic
-    → IsTrue told ↔ IsFree bytes good_magic
-tells_magic bytes magic told is tells = by (bytes_eq bytes good_magic) (are_erased bytes) refl refl
+-- what tells that units aren't torn
+pub tells_free : (units bytes : List ℕ) (told : Bool) → told ≡ (bytes_eq units bytes || are_erased units)
+    → IsTrue told ↔ IsFree units bytes
+tells_free units bytes told tells = by (bytes_eq units bytes) (are_erased units) refl refl
   where
-    by : (good erased : Bool) → bytes_eq bytes good_magic ≡ good → are_erased bytes ≡ erased → IsTrue told ↔ IsFree
-        bytes good_magic
+    by : (held erased : Bool) → bytes_eq units bytes ≡ held → are_erased units ≡ erased
+        → IsTrue told ↔ IsFree units bytes
     by true erased e all =
-        let there : magic ≡ Good = is ∙ ap (λ t. if t then Good else if are_erased bytes then Unset else Bad) e in
-        (λ _. inr ((bytes_eq-Decides bytes good_magic).0 e), λ _. tells ∙ ap is_whole_magic there)
-    by false true e all =
-        let there : magic ≡ Unset = is ∙ ap (λ t. if t then Good else if are_erased bytes then Unset else Bad) e ∙ ap
-        (λ t. if t then Unset else Bad) all in
-        (λ _. inl all, λ _. tells ∙ ap is_whole_magic there)
+        (λ _. inr ((bytes_eq-Decides units bytes).0 e), λ _. tells ∙ ap (λ t. t || are_erased units) e)
+    by false true e all = (λ _. inl all, λ _. tells ∙ ap (λ t. t || are_erased units) e ∙ all)
     by false false e not_all =
-        let there : magic ≡ Bad = is ∙ ap (λ t. if t then Good else if are_erased bytes then Unset else Bad) e ∙ ap
-        (λ t. if t then Unset else Bad) not_all in
-        let untold : told ≡ false = tells ∙ ap is_whole_magic there in (
+        let untold : told ≡ false = tells ∙ ap (λ t. t || are_erased units) e ∙ not_all in (
           λ yes. let wrong : true ≡ false = sym yes ∙ untold in absurd (cc wrong),
-          λ free. ⊎_elim (λ (all : are_erased bytes ≡ true). let wrong : true ≡ false = sym all ∙ not_all in absurd
-              (cc wrong))
-              (λ (same : bytes ≡ good_magic). let wrong : true ≡ false = sym
-              ((bytes_eq-Decides bytes good_magic).1 same) ∙ e in absurd (cc wrong)) free,
-        )
-
--- what tells that a flag isn't torn
-pub tells_flag : (unit : List ℕ) (told : Bool) → told ≡ (bytes_eq unit flag || are_erased unit)
-    → IsTrue told ↔ IsFree unit flag
-tells_flag unit told tells = by (bytes_eq unit flag) (are_erased unit) refl refl
-  where
-    by : (held erased : Bool) → bytes_eq unit flag ≡ held → are_erased unit ≡ erased → IsTrue told ↔ IsFree unit flag
-    by true erased e all = (λ _. inr ((bytes_eq-Decides unit flag).0 e), λ _. tells ∙ ap (λ t. t || are_erased unit) e)
-    by false true e all = (λ _. inl all, λ _. tells ∙ ap (λ t. t || are_erased unit) e ∙ all)
-    by false false e not_all =
-        let untold : told ≡ false = tells ∙ ap (λ t. t || are_erased unit) e ∙ not_all in (
-          λ yes. let wrong : true ≡ false = sym yes ∙ untold in absurd (cc wrong),
-          λ free. ⊎_elim (λ (all : are_erased unit ≡ true). let wrong : true ≡ false = sym all ∙ not_all in absurd
-              (cc wrong))
-              (λ (same : unit ≡ flag). let wrong : true ≡ false = sym ((bytes_eq-Decides unit flag).1 same) ∙ e in
-              absurd (cc wrong)) free,
+          λ free. ⊎_elim
+              (λ (all : are_erased units ≡ true).
+              let wrong : true ≡ false = sym all ∙ not_all in absurd (cc wrong))
+              (λ (same : units ≡ bytes).
+              let wrong : true ≡ false = sym ((bytes_eq-Decides units bytes).1 same) ∙ e in absurd (cc wrong))
+              free,
         )
 
 -- an erased trailer has no torn unit
@@ -81,35 +58,34 @@ erased_whole map chip image side confirmed all =
     }
 
 module _ (map : SectorMap) (image : ℕ) (side : Side) (fits : IsMap map) (lt : image < map.images) where
-  ok_beside_copy_done : (old new : Chip) → SameOutside (place_of map image side 32) 8 old new → bytes_at map new image
-      side 24 8 ≡ bytes_at map old image side 24 8
-  ok_beside_copy_done old new same = unit_kept map old new image _ 32 8 24 8 side same fits lt refl (omega arith)
-      (omega arith) (omega arith) (omega arith) (inl (omega arith))
+  -- units beside those of `width` bytes at the place `own` stay when these are written
+  abbrev Stays : ℕ → ℕ → ℕ → ℕ → Type 0
+  Stays own width from_end n = (old new : Chip) → SameOutside (place_of map image side own) width old new
+      → bytes_at map new image side from_end n ≡ bytes_at map old image side from_end n
 
-  magic_beside_copy_done : (old new : Chip) → SameOutside (place_of map image side 32) 8 old new → bytes_at map new
-      image side 16 16 ≡ bytes_at map old image side 16 16
-  magic_beside_copy_done old new same = unit_kept map old new image _ 32 8 16 16 side same fits lt refl (omega arith)
-      (omega arith) (omega arith) (omega arith) (inl (omega arith))
+  stays : (own width from_end n : ℕ) → width ≤ own → own ≤ 56 → n ≤ from_end → from_end ≤ 56
+      → (from_end + width ≤ own) ⊎ (own + n ≤ from_end) → Stays own width from_end n
+  stays own width from_end n small own_le n_le le apart old new same =
+      unit_kept map old new image _ own width from_end n side same fits lt refl small own_le n_le le apart
 
-  copy_done_beside_ok : (old new : Chip) → SameOutside (place_of map image side 24) 8 old new → bytes_at map new image
-      side 32 8 ≡ bytes_at map old image side 32 8
-  copy_done_beside_ok old new same = unit_kept map old new image _ 24 8 32 8 side same fits lt refl (omega arith)
-      (omega arith) (omega arith) (omega arith) (inr (omega arith))
+  ok_beside_copy_done : Stays 32 8 24 8
+  ok_beside_copy_done = stays _ _ _ _ (omega arith) (omega arith) (omega arith) (omega arith) (inl (omega arith))
 
-  magic_beside_ok : (old new : Chip) → SameOutside (place_of map image side 24) 8 old new → bytes_at map new image side
-      16 16 ≡ bytes_at map old image side 16 16
-  magic_beside_ok old new same = unit_kept map old new image _ 24 8 16 16 side same fits lt refl (omega arith)
-      (omega arith) (omega arith) (omega arith) (inl (omega arith))
+  magic_beside_copy_done : Stays 32 8 16 16
+  magic_beside_copy_done = stays _ _ _ _ (omega arith) (omega arith) (omega arith) (omega arith) (inl (omega arith))
 
-  copy_done_beside_magic : (old new : Chip) → SameOutside (place_of map image side 16) 16 old new → bytes_at map new
-      image side 32 8 ≡ bytes_at map old image side 32 8
-  copy_done_beside_magic old new same = unit_kept map old new image _ 16 16 32 8 side same fits lt refl (omega arith)
-      (omega arith) (omega arith) (omega arith) (inr (omega arith))
+  copy_done_beside_ok : Stays 24 8 32 8
+  copy_done_beside_ok = stays _ _ _ _ (omega arith) (omega arith) (omega arith) (omega arith) (inr (omega arith))
 
-  pub ok_beside_magic : (old new : Chip) → SameOutside (place_of map image side 16) 16 old new → bytes_at map new image
-      side 24 8 ≡ bytes_at map old image side 24 8
-  ok_beside_magic old new same = unit_kept map old new image _ 16 16 24 8 side same fits lt refl (omega arith)
-      (omega arith) (omega arith) (omega arith) (inr (omega arith))
+  magic_beside_ok : Stays 24 8 16 16
+  magic_beside_ok = stays _ _ _ _ (omega arith) (omega arith) (omega arith) (omega arith) (inl (omega arith))
+
+  copy_done_beside_magic : Stays 16 16 32 8
+  copy_done_beside_magic = stays _ _ _ _ (omega arith) (omega arith) (omega arith) (omega arith) (inr (omega arith))
+
+  pub ok_beside_magic : (old new : Chip) → SameOutside (place_of map image side 16) 16 old new
+      → bytes_at map new image side 24 8 ≡ bytes_at map old image side 24 8
+  ok_beside_magic = stays 16 16 24 8 (omega arith) (omega arith) (omega arith) (omega arith) (inr (omega arith))
 
   -- what is still free after the first unit, and after the second
   pub ok_still_free : (old new : Chip) (confirmed : Bool) → IsWhole map old image side confirmed → SameOutside

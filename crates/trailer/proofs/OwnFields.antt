@@ -93,14 +93,6 @@ module _ (map : SectorMap) (old new : Chip) (image at : ℕ) (side : Side) (fits
         same_fields _ _ (kept.magic (inl (omega arith))) (kept.copy_done (inl (omega arith)))
         (kept.image_ok (inl (omega arith))) (kept.withdrawn (inr (omega arith))) refl kept.is_fresh
 
-    pub own_copy_done : SameOutside at 8 old new → at ≡ place_of map image side 32
-        → fields_at map new image side ≡ record (fields_at map old image side)
-        { copy_done = (fields_at map new image side).copy_done }
-    own_copy_done same is =
-        let kept = beside_kept 32 8 same is (omega arith) (omega arith) in
-        same_fields _ _ (kept.magic (inl (omega arith))) refl (kept.image_ok (inl (omega arith)))
-        (kept.withdrawn (inr (omega arith))) (kept.size (inr (omega arith))) kept.is_fresh
-
     pub own_image_ok : SameOutside at 8 old new → at ≡ place_of map image side 24
         → fields_at map new image side ≡ record (fields_at map old image side)
         { image_ok = (fields_at map new image side).image_ok }

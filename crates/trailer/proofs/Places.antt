@@ -7,7 +7,7 @@ use Rattle.flash_model.proofs.Ranges.{length_range, range_same, range_of_reads}
 use Rattle.sector_map.specs.declared.layout.SectorMap.{SectorMap}
 use Rattle.sector_map.specs.declared.layout.Side.{Side}
 use Rattle.sector_map.specs.Part.{Part, Slot, TrailerOf, only}
-use Rattle.sector_map.specs.Map.{first_of, count_of, start_of, length_of, sectors_of, IsMap, IsLaidOut, IsIn, Keeps, part_of}
+use Rattle.sector_map.specs.Map.{first_of, count_of, start_of, length_of, sectors_of, IsMap, IsLaidOut, Keeps, part_of}
 use Rattle.sector_map.proofs.Places.{first_within}
 use Rattle.sector_map.proofs.Products.{mul_le}
 use Rattle.sector_map.proofs.PartBytes.{part_inside, part_kept_at, range_of_part, keeps_write, keeps_erase}
@@ -56,67 +56,38 @@ range_besides map old new part at n a b same le apart =
     (⊎_elim (λ (l : start_of map part + b ≤ at). inl (omega arith))
     (λ (r : at + n ≤ start_of map part + a). inr (omega arith)) apart))
 
--- trailers ..
-pub trailer_within : (map : SectorMap) (chip : Chip) (image : ℕ) (side : Side) → IsLaidOut map chip
-    → image < map.images → first_of map (TrailerOf image side) < chip.sectors
-trailer_within map chip image side laid lt = omega (
-  arith,
-  first_within map (TrailerOf image side) laid.is_map
-      (some_trailer map image side laid.is_map lt),
-  laid.sectors,
-)
+-- and lies in the flash
+pub part_within : (map : SectorMap) (chip : Chip) (part : Part) → IsLaidOut map chip → 0 < count_of map part
+    → first_of map part < chip.sectors
+part_within map chip part laid some = omega (arith, first_within map part laid.is_map some, laid.sectors)
 
+part_fits : (map : SectorMap) (chip : Chip) (part : Part) → IsLaidOut map chip → 0 < count_of map part
+    → start_of map part + map.sector_size ≤ size_of chip
+part_fits map chip part laid some =
+    omega (arith, part_inside map chip part laid some, sector_of_part map part some)
+
+-- an erase of it leaves all other parts
+pub part_alone : (map : SectorMap) (old new : Chip) (part : Part) (sector : ℕ)
+    → SameOutside (sector * old.sector_size) old.sector_size old new → IsLaidOut map old → 0 < count_of map part
+    → sector ≡ first_of map part → Keeps map (only part) old new
+part_alone map old new part sector same laid some is =
+    keeps_erase map part sector old new laid same (record { low = omega arith; high = omega arith })
+
+-- so do trailers and slots
 pub trailer_fits : (map : SectorMap) (chip : Chip) (image : ℕ) (side : Side) → IsLaidOut map chip → image < map.images
     → start_of map (TrailerOf image side) + map.sector_size ≤ size_of chip
 trailer_fits map chip image side laid lt =
-    omega (
-      arith,
-      part_inside map chip (TrailerOf image side) laid (some_trailer map image side laid.is_map lt),
-      sector_of_part map (TrailerOf image side) (some_trailer map image side laid.is_map lt),
-    )
+    part_fits map chip (TrailerOf image side) laid (some_trailer map image side laid.is_map lt)
+
+pub slot_fits : (map : SectorMap) (chip : Chip) (image : ℕ) (side : Side) → IsLaidOut map chip → image < map.images
+    → start_of map (Slot image side) + map.sector_size ≤ size_of chip
+slot_fits map chip image side laid lt =
+    part_fits map chip (Slot image side) laid (some_slot map image side laid.is_map lt)
 
 pub trailer_addressed : (map : SectorMap) (image : ℕ) (side : Side) → IsMap map → image < map.images
     → start_of map (TrailerOf image side) + map.sector_size < 2 ^ 32
 trailer_addressed map image side fits lt = part_addressed map (TrailerOf image side) fits
     (some_trailer map image side fits lt)
-
-first_in : (map : SectorMap) (part : Part) (sector : ℕ) → sector ≡ first_of map part → 0 < count_of map part
-    → IsIn map part sector
-first_in map part sector is some = record { low = omega arith; high = omega arith }
-
-pub trailer_alone : (map : SectorMap) (old new : Chip) (image sector : ℕ) (side : Side)
-    → SameOutside (sector * old.sector_size) old.sector_size old new → IsLaidOut map old → image < map.images
-    → sector ≡ first_of map (TrailerOf image side) → Keeps map (only (TrailerOf image side)) old new
-trailer_alone map old new image sector side same laid lt is =
-    keeps_erase map (TrailerOf image side) sector old new laid same
-    (first_in map (TrailerOf image side) sector is (some_trailer map image side laid.is_map lt))
-
--- .. and slots
-pub slot_within : (map : SectorMap) (chip : Chip) (image : ℕ) (side : Side) → IsLaidOut map chip → image < map.images
-    → first_of map (Slot image side) < chip.sectors
-slot_within map chip image side laid lt = omega (
-  arith,
-  first_within map (Slot image side) laid.is_map
-      (some_slot map image side laid.is_map lt),
-  laid.sectors,
-)
-
-pub slot_fits : (map : SectorMap) (chip : Chip) (image : ℕ) (side : Side) → IsLaidOut map chip → image < map.images
-    → start_of map (Slot image side) + map.sector_size ≤ size_of chip
-slot_fits map chip image side laid lt =
-    omega (
-      arith,
-      part_inside map chip (Slot image side) laid (some_slot map image side laid.is_map lt),
-      sector_of_part
-          map (Slot image side) (some_slot map image side laid.is_map lt),
-    )
-
-pub slot_alone : (map : SectorMap) (old new : Chip) (image sector : ℕ) (side : Side)
-    → SameOutside (sector * old.sector_size) old.sector_size old new → IsLaidOut map old → image < map.images
-    → sector ≡ first_of map (Slot image side) → Keeps map (only (Slot image side)) old new
-slot_alone map old new image sector side same laid lt is =
-    keeps_erase map (Slot image side) sector old new laid same
-    (first_in map (Slot image side) sector is (some_slot map image side laid.is_map lt))
 
 -- a place in a trailer lies in the flash, at a whole unit
 pub place_fits : (map : SectorMap) (chip : Chip) (image from_end : ℕ) (side : Side) → IsLaidOut map chip

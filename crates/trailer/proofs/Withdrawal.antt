@@ -16,7 +16,7 @@ use Rattle.trailer.specs.declared.kinds.Kind.{Kind}
 use Rattle.flash_model.specs.Units.{are_erased}
 use Rattle.trailer.specs.Fields.{Fields, fields_at, trailer_of, trailer_bytes}
 use Rattle.trailer.specs.Standing.{KeepsBehindFirst, is_good, first_is_set, first_sector, standing_kind, standing_of, incoming_slot}
-use Rattle.trailer.proofs.Places.{some_slot, sector_of_part, slot_alone}
+use Rattle.trailer.proofs.Places.{part_alone, some_slot, sector_of_part}
 use Rattle.trailer.proofs.Erased.{range_erased, erased_fields_at}
 use Rattle.trailer.proofs.OwnFields.{fields_kept}
 use Rattle.trailer.proofs.FieldUnits.{either_withdrawn}
@@ -188,7 +188,9 @@ rest_of_erase map old new image sector side same laid lt is = record {
         (subst (λ s. SameOutside (s * old.sector_size) old.sector_size old new) is same)
 
     still : IsLaidOut map new
-    still = laid_out_kept map _ old new laid (slot_alone map old new image sector side same laid lt is)
+    still =
+        let some = some_slot map image side laid.is_map lt in
+        laid_out_kept map _ old new laid (part_alone map old new (Slot image side) sector same laid some is)
 
 -- .. or nothing of the slot is touched ..
 pub rest_refl : (map : SectorMap) (image : ℕ) (side : Side) (chip : Chip) → KeepsBehindFirst map image side chip chip

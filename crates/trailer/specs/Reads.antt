@@ -1,11 +1,11 @@
 -- What a call does that reads a trailer: each record is what many calls promise alike.
-use Rattle.std.specs.Prelude.{◌≡◌, ◌↔◌, ℕ, ◌*◌, ◌<◌, ◌≤◌, Bool, false, IsTrue}
+use Rattle.std.specs.Prelude.{◌≡◌, ◌↔◌, ℕ, ◌+◌, ◌<◌, ◌≤◌, Bool, false, IsTrue}
 use Rattle.std.specs.Prelude.{Result, IsErrOf, OnOk, IfOk}
 use Rattle.flash_model.specs.declared.error.FlashError.{FlashError}
 use Rattle.flash_model.specs.declared.error.FlashError.TheVariants.{Off}
 use Rattle.flash_model.specs.Chip.{Chip, Ends}
 use Rattle.sector_map.specs.declared.layout.SectorMap.{SectorMap}
-use Rattle.sector_map.specs.Map.{IsLaidOut, slot_sectors}
+use Rattle.sector_map.specs.Map.{IsLaidOut}
 use Rattle.sector_map.specs.declared.layout.Side.{Side}
 use Rattle.trailer.specs.Fields.{erased_fields, fields_at}
 use Rattle.trailer.specs.Places.{withdrawn_place}
@@ -18,12 +18,13 @@ pub record HasPlace (map : SectorMap) (image from_end n : ℕ) (chip : Chip) : T
   pub room : n ≤ from_end
   pub within : from_end ≤ withdrawn_place
 
--- The map is laid out on the flash, has the image, and its trailers have that status unit: there
--- are three for each sector of the slot.
-pub record HasStatus (map : SectorMap) (image status : ℕ) (chip : Chip) : Type 0 where
+-- The map is laid out on the flash, has the image, and its trailers have n bytes, one at least,
+-- from an offset on.
+pub record HasRange (map : SectorMap) (image offset n : ℕ) (chip : Chip) : Type 0 where
   pub laid_out : IsLaidOut map chip
   pub there : image < map.images
-  pub below : status < 3 * slot_sectors map image
+  pub some : 0 < n
+  pub within : offset + n ≤ map.sector_size
 
 -- A call tells a value that it reads.
 pub record Tells {V : Type 0} (value : V) (old new : Chip) (result : Result V FlashError)

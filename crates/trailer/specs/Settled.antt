@@ -4,8 +4,7 @@ use Rattle.flash_model.specs.Chip.{Chip}
 use Rattle.sector_map.specs.declared.layout.SectorMap.{SectorMap}
 use Rattle.sector_map.specs.declared.layout.Side.{Side}
 use Rattle.trailer.specs.Places.{copy_done_place, image_ok_place, magic_place}
-use Rattle.trailer.specs.declared.kinds.Magic.{Magic}
-use Rattle.trailer.specs.declared.kinds.Magic.TheVariants.{Good, Unset, Bad}
+use Rattle.trailer.specs.declared.kinds.Magic.TheVariants.{Good}
 use Rattle.trailer.specs.declared.kinds.Settling.{Settling}
 use Rattle.trailer.specs.declared.kinds.Settling.TheVariants.{Test, Permanent, Back}
 use Rattle.flash_model.specs.Units.{are_erased}
@@ -37,12 +36,6 @@ IsMagicFree map chip image side = IsFree (bytes_at map chip image side magic_pla
 pub record IsOkFree (confirmed : Bool) (unit : List ℕ) : Type 0 where
   pub kept : confirmed ≡ true → IsFree unit flag
   pub tried : confirmed ≡ false → are_erased unit ≡ true
-
--- A magic isn't torn: it is good or unset.
-abbrev pub is_whole_magic : Magic → Bool
-is_whole_magic Good = true
-is_whole_magic Unset = true
-is_whole_magic Bad = false
 
 -- None of copy_done, image_ok and the magic is torn.
 pub record IsWhole (map : SectorMap) (chip : Chip) (image : ℕ) (side : Side) (confirmed : Bool)

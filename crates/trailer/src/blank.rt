@@ -2,14 +2,15 @@
 
 ghost use Rattle.std.specs.Prelude.{◌≡◌, ◌↔◌, IsTrue};
 ghost use Rattle.sector_map.specs.Map.{HasImage};
-ghost use Rattle.trailer.specs.Fields.{erased_fields, fields_at, trailer_of};
-ghost use Rattle.trailer.specs.Reads.{Tells, TellsBlank};
+ghost use Rattle.trailer.specs.Fields.{erased_fields, trailer_of};
+ghost use Rattle.trailer.specs.Reads.{TellsBlank};
 
 use crate::kinds::{Magic, Trailer};
 use crate::sizes::read_size;
 use crate::statuses::status_units;
 use crate::trailer_reading::read_trailer;
-use flash_model::{Flash, FlashError, UNIT, is_erased};
+use crate::units::is_range_erased;
+use flash_model::{Flash, FlashError, UNIT};
 use sector_map::{SectorMap, Side};
 
 /// Whether none of these fields is set.
@@ -27,21 +28,6 @@ fn says_nothing(trailer: &Trailer) -> bool
     )
 }
 
-/// Whether the status units of a trailer are erased.
-fn are_statuses_erased<F: Flash>(
-    flash: &mut F,
-    map: &SectorMap,
-    image: u8,
-    side: Side,
-) -> Result<bool, FlashError>
-    requires { HasImage map.now image (F.chip flash.old) }
-    ensures { Tells (fields_at map.now (F.chip flash.old) image side).is_fresh
-        (F.chip flash.old) (F.chip flash.new) result }
-{
-    let length = UNIT * status_units(map, image);
-    is_erased(flash, map.trailer_start(image, side), length)
-}
-
 /// Whether the trailer behind a slot reads as an erased one: no field of it is set, and no status
 /// unit. Bytes that belong to none of these are not looked at. Does not allocate.
 ///
@@ -49,7 +35,7 @@ fn are_statuses_erased<F: Flash>(
 ///
 /// # Errors
 /// `Off` where the flash was off. Nothing changes in any case.
-#[tactic(auto, using(crate::proofs::BlankFields::blank_fields))]
+#[tactic(auto, using(crate::proofs::Empty::blank_fields, crate::proofs::Empty::fresh_is))]
 pub fn is_blank<F: Flash>(
     flash: &mut F,
     map: &SectorMap,
@@ -61,6 +47,7 @@ pub fn is_blank<F: Flash>(
 {
     let trailer = read_trailer(flash, map, image, side)?;
     let size = read_size(flash, map, image, side)?;
-    let is_fresh = are_statuses_erased(flash, map, image, side)?;
+    let statuses = UNIT * status_units(map, image);
+    let is_fresh = is_range_erased(flash, map, image, side, 0, statuses)?;
     Ok(is_fresh && size.is_none() && says_nothing(&trailer))
 }

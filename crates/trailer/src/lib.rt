@@ -14,7 +14,6 @@
 
 mod blank;
 mod clearing;
-mod fields;
 mod format;
 mod kinds;
 mod marking;

@@ -9,20 +9,20 @@ ghost use Rattle.trailer.specs.Writes.{HasUnits, WritesUnits};
 ghost use Rattle.trailer.specs.Settles.{MarksOk, MarksTrailer};
 
 use crate::format::{COPY_DONE, IMAGE_OK, MAGIC, MAGIC_PLACE};
-use crate::units::{are_units_erased, write_units};
-use flash_model::{FLAG, Flash, FlashError};
+use crate::units::{read_bytes, write_units};
+use flash_model::{FLAG, Flash, FlashError, are_erased};
 use sector_map::{SectorMap, Side};
 
 /// Writes units that are erased or hold these bytes already; nothing is written where they hold
 /// them.
 #[tactic(auto, using(crate::proofs::Marks::holds_value))]
-fn mark<F: Flash>(
+fn mark<F: Flash, const N: usize>(
     flash: &mut F,
     map: &SectorMap,
     image: u8,
     side: Side,
     from_end: u32,
-    units: &[u8],
+    units: &[u8; N],
 ) -> Result<(), FlashError>
     requires units { HasUnits map.now image from_end (length units.now) (F.chip flash.old) }
     requires free { IsFree
@@ -30,7 +30,8 @@ fn mark<F: Flash>(
     ensures { WritesUnits map.now image side from_end units.now
         (F.chip flash.old) (F.chip flash.new) result }
 {
-    if !are_units_erased(flash, map, image, side, from_end, units.len() as u32)? {
+    let held: [u8; N] = read_bytes(flash, map, image, side, from_end)?;
+    if !are_erased(&held) {
         return Ok(());
     }
     write_units(flash, map, image, side, from_end, units)

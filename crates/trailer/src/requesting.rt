@@ -6,10 +6,10 @@ ghost use Rattle.sector_map.specs.declared.layout.Side.TheVariants.{Secondary};
 ghost use Rattle.trailer.specs.Fields.{erased_fields, fields_at};
 ghost use Rattle.trailer.specs.Requests.{Confirms, MarksKind, Requests};
 
-use crate::fields::{set_image_ok, write_magic};
+use crate::format::{IMAGE_OK, MAGIC, MAGIC_PLACE};
 use crate::kinds::Kind;
-use crate::trailer_reading::is_image_ok_set;
-use flash_model::{Flash, FlashError};
+use crate::units::{is_unit_set, write_units};
+use flash_model::{FLAG, Flash, FlashError};
 use sector_map::{SectorMap, Side};
 
 /// Says in an erased trailer how an image is to be requested.
@@ -25,7 +25,7 @@ fn mark_kind<F: Flash>(
 {
     match kind {
         Kind::Test => Ok(()),
-        Kind::Permanent => set_image_ok(flash, map, image, Side::Secondary),
+        Kind::Permanent => write_units(flash, map, image, Side::Secondary, IMAGE_OK, &FLAG),
     }
 }
 
@@ -48,7 +48,7 @@ pub fn request<F: Flash>(
     ensures { Requests map.now image kind (F.chip flash.old) (F.chip flash.new) result }
 {
     mark_kind(flash, map, image, kind)?;
-    write_magic(flash, map, image, Side::Secondary)
+    write_units(flash, map, image, Side::Secondary, MAGIC_PLACE, &MAGIC)
 }
 
 /// Confirms the image in a primary slot: sets `image_ok` of its trailer, unless it is set.
@@ -62,8 +62,8 @@ pub fn set_ok<F: Flash>(flash: &mut F, map: &SectorMap, image: u8) -> Result<(),
     requires { HasImage map.now image (F.chip flash.old) }
     ensures { Confirms map.now image (F.chip flash.old) (F.chip flash.new) result }
 {
-    if is_image_ok_set(flash, map, image, Side::Primary)? {
+    if is_unit_set(flash, map, image, Side::Primary, IMAGE_OK)? {
         return Ok(());
     }
-    set_image_ok(flash, map, image, Side::Primary)
+    write_units(flash, map, image, Side::Primary, IMAGE_OK, &FLAG)
 }

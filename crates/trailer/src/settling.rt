@@ -1,21 +1,18 @@
 //! Settling the trailers of an image after a swap.
 
-ghost use Rattle.std.specs.Prelude.{◌≡◌, ◌||◌};
-ghost use Rattle.std.specs.Str.{bytes_eq};
+ghost use Rattle.std.specs.Prelude.{◌≡◌};
 ghost use Rattle.sector_map.specs.Map.{HasImage};
-ghost use Rattle.flash_model.specs.Units.{are_erased};
-ghost use Rattle.trailer.specs.Fields.{bytes_at, flag};
+ghost use Rattle.trailer.specs.Fields.{bytes_at};
 ghost use Rattle.trailer.specs.Places.{image_ok_place};
-ghost use Rattle.trailer.specs.Settled.{IsFree, IsMagicFree, IsOkFree, IsWhole, is_confirmed};
-ghost use Rattle.trailer.specs.Settled.{is_whole_magic};
+ghost use Rattle.trailer.specs.Settled.{IsFree, IsOkFree, IsWhole, is_confirmed};
 ghost use Rattle.trailer.specs.Reads.{Decides, HasPlace};
 ghost use Rattle.trailer.specs.Settles.{MakesWhole, Settles};
 
 use crate::clearing::erase_trailer;
-use crate::format::{COPY_DONE, IMAGE_OK};
-use crate::kinds::{Magic, Settling};
+use crate::format::{COPY_DONE, IMAGE_OK, MAGIC, MAGIC_PLACE};
+use crate::kinds::Settling;
 use crate::marking::mark_trailer;
-use crate::units::{is_unit_set, read_magic, read_unit};
+use crate::units::{is_unit_set, read_bytes};
 use flash_model::{FLAG, Flash, FlashError, are_erased};
 use sector_map::{SectorMap, Side};
 
@@ -26,51 +23,22 @@ fn is_confirmed(settling: Settling) -> bool
     matches!(settling, Settling::Permanent | Settling::Back)
 }
 
-/// Whether a unit is erased or set as a flag.
-fn is_flag_or_erased(unit: &[u8; 8]) -> bool
-    ensures { result ≡ (bytes_eq unit.now flag || are_erased unit.now) }
-{
-    *unit == FLAG || are_erased(unit)
-}
-
-/// Whether a magic is good or unset.
-fn is_whole_magic(magic: Magic) -> bool
-    ensures { result ≡ is_whole_magic magic }
-{
-    matches!(magic, Magic::Good | Magic::Unset)
-}
-
-/// Whether a flag of a trailer is erased or holds its value, so that no write of it was torn.
-#[tactic(auto, using(crate::proofs::Marks::tells_flag))]
-fn is_flag_free<F: Flash>(
+/// Whether units of a trailer are erased or hold their value, so that no write of them was torn.
+#[tactic(auto, using(crate::proofs::Marks::tells_free))]
+fn are_units_free<F: Flash, const N: usize>(
     flash: &mut F,
     map: &SectorMap,
     image: u8,
     side: Side,
     from_end: u32,
+    value: &[u8; N],
 ) -> Result<bool, FlashError>
-    requires { HasPlace map.now image from_end 8 (F.chip flash.old) }
-    ensures { Decides (IsFree (bytes_at map.now (F.chip flash.old) image side from_end 8) flag)
+    requires { HasPlace map.now image from_end N (F.chip flash.old) }
+    ensures { Decides (IsFree (bytes_at map.now (F.chip flash.old) image side from_end N) value.now)
         (F.chip flash.old) (F.chip flash.new) result }
 {
-    let unit = read_unit(flash, map, image, side, from_end)?;
-    Ok(is_flag_or_erased(&unit))
-}
-
-/// Whether the magic of a trailer is erased or good.
-#[tactic(auto, using(crate::proofs::Marks::tells_magic))]
-fn is_magic_free<F: Flash>(
-    flash: &mut F,
-    map: &SectorMap,
-    image: u8,
-    side: Side,
-) -> Result<bool, FlashError>
-    requires { HasImage map.now image (F.chip flash.old) }
-    ensures { Decides (IsMagicFree map.now (F.chip flash.old) image side)
-        (F.chip flash.old) (F.chip flash.new) result }
-{
-    let magic = read_magic(flash, map, image, side)?;
-    Ok(is_whole_magic(magic))
+    let units: [u8; N] = read_bytes(flash, map, image, side, from_end)?;
+    Ok(units == *value || are_erased(&units))
 }
 
 /// Whether `image_ok` of a trailer isn't torn; of an image that is to be tried it is erased.
@@ -87,7 +55,7 @@ fn is_ok_free<F: Flash>(
         (F.chip flash.old) (F.chip flash.new) result }
 {
     if confirmed {
-        let free = is_flag_free(flash, map, image, side, IMAGE_OK)?;
+        let free = are_units_free(flash, map, image, side, IMAGE_OK, &FLAG)?;
         return Ok(free);
     }
     let set = is_unit_set(flash, map, image, side, IMAGE_OK)?;
@@ -106,9 +74,9 @@ fn is_trailer_whole<F: Flash>(
     ensures { Decides (IsWhole map.now (F.chip flash.old) image side confirmed)
         (F.chip flash.old) (F.chip flash.new) result }
 {
-    let copy_done = is_flag_free(flash, map, image, side, COPY_DONE)?;
+    let copy_done = are_units_free(flash, map, image, side, COPY_DONE, &FLAG)?;
     let image_ok = is_ok_free(flash, map, image, side, confirmed)?;
-    let magic = is_magic_free(flash, map, image, side)?;
+    let magic = are_units_free(flash, map, image, side, MAGIC_PLACE, &MAGIC)?;
     Ok(copy_done && image_ok && magic)
 }
 

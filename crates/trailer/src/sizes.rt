@@ -9,7 +9,7 @@ ghost use Rattle.trailer.specs.Reads.{Tells};
 ghost use Rattle.trailer.specs.Writes.{WritesSize};
 
 use crate::format::SWAP_SIZE;
-use crate::units::{read_unit, write_units};
+use crate::units::{read_bytes, write_units};
 use byteorder::{ByteOrder, LittleEndian};
 use flash_model::{Flash, FlashError};
 use sector_map::{SectorMap, Side};
@@ -76,6 +76,6 @@ pub fn read_size<F: Flash>(
     ensures { Tells (fields_at map.now (F.chip flash.old) image side).size
         (F.chip flash.old) (F.chip flash.new) result }
 {
-    let unit = read_unit(flash, map, image, side, SWAP_SIZE)?;
+    let unit = read_bytes(flash, map, image, side, SWAP_SIZE)?;
     Ok(size_in(&unit, map.slot_length(image)))
 }

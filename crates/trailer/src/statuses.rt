@@ -3,13 +3,12 @@
 ghost use Rattle.std.specs.Prelude.{◌≡◌, ◌+◌, ◌*◌, ◌<◌, ◌≤◌};
 ghost use Rattle.sector_map.specs.Map.{HasImage, slot_sectors};
 ghost use Rattle.trailer.specs.Places.{withdrawn_place};
-ghost use Rattle.flash_model.specs.Units.{are_erased};
-ghost use Rattle.trailer.specs.Fields.{trailer_bytes};
-ghost use Rattle.trailer.specs.Status.{status_count_of, status_unit};
-ghost use Rattle.trailer.specs.Reads.{HasStatus, Tells};
+ghost use Rattle.trailer.specs.Status.{status_count_of};
+ghost use Rattle.trailer.specs.Reads.{Tells};
 ghost use Rattle.trailer.specs.Writes.{PushesStatus};
 
-use flash_model::{Flash, FlashError, UNIT, is_unit_erased, set_unit};
+use crate::units::is_range_erased;
+use flash_model::{Flash, FlashError, UNIT, set_unit};
 use sector_map::{SectorMap, Side};
 
 /// How many status units a trailer has: three for each sector of the slot.
@@ -20,22 +19,6 @@ pub(crate) fn status_units(map: &SectorMap, image: u8) -> u32
     ensures fit { 8 * result + withdrawn_place ≤ map.now.sector_size }
 {
     3 * map.slot_sectors(image)
-}
-
-/// Whether a status unit of a trailer is erased. Status units are counted from 0.
-fn is_status_erased<F: Flash>(
-    flash: &mut F,
-    map: &SectorMap,
-    image: u8,
-    side: Side,
-    status: u32,
-) -> Result<bool, FlashError>
-    requires { HasStatus map.now image status (F.chip flash.old) }
-    ensures { Tells (are_erased
-        (status_unit (trailer_bytes map.now (F.chip flash.old) image side) status))
-        (F.chip flash.old) (F.chip flash.new) result }
-{
-    is_unit_erased(flash, map.trailer_start(image, side) + UNIT * status)
 }
 
 /// Counts the status units of a trailer that are set, from its first one up to the first that is
@@ -57,7 +40,7 @@ pub fn status_count<F: Flash>(
 {
     let all = status_units(map, image);
     for status in 0..all {
-        if is_status_erased(flash, map, image, side, status)? {
+        if is_range_erased(flash, map, image, side, UNIT * status, UNIT)? {
             return Ok(status);
         }
     }
@@ -72,7 +55,6 @@ pub fn status_count<F: Flash>(
 /// # Errors
 /// `Cut` where power failed: the unit holds any bytes, so it counts or not, and all else is as it
 /// was. `Off` where the flash was off before: nothing changed.
-#[tactic(auto, using(crate::proofs::Places::trailer_fits, crate::proofs::Places::trailer_addressed, crate::proofs::StatusUnits::status_alone, crate::proofs::StatusUnits::own_status, crate::proofs::StatusUnits::pushed, crate::proofs::StatusUnits::status_is_erased))]
 pub fn push_status<F: Flash>(
     flash: &mut F,
     map: &SectorMap,

@@ -1,27 +1,27 @@
 //! Reading the fields of a trailer.
 
+ghost use Rattle.std.specs.Prelude.{◌≡◌};
 ghost use Rattle.sector_map.specs.Map.{HasImage};
-ghost use Rattle.trailer.specs.Fields.{fields_at, trailer_of};
+ghost use Rattle.trailer.specs.Fields.{fields_at, magic_in, trailer_of};
 ghost use Rattle.trailer.specs.Reads.{Tells};
 
-use crate::format::{COPY_DONE, IMAGE_OK, WITHDRAWN};
-use crate::kinds::Trailer;
-use crate::units::{is_unit_set, read_magic};
-use flash_model::{Flash, FlashError};
+use crate::format::{COPY_DONE, IMAGE_OK, MAGIC, MAGIC_PLACE, WITHDRAWN};
+use crate::kinds::{Magic, Trailer};
+use crate::units::{is_unit_set, read_bytes};
+use flash_model::{Flash, FlashError, are_erased};
 use sector_map::{SectorMap, Side};
 
-/// Whether `image_ok` of a trailer is set.
-pub(crate) fn is_image_ok_set<F: Flash>(
-    flash: &mut F,
-    map: &SectorMap,
-    image: u8,
-    side: Side,
-) -> Result<bool, FlashError>
-    requires { HasImage map.now image (F.chip flash.old) }
-    ensures { Tells (fields_at map.now (F.chip flash.old) image side).image_ok
-        (F.chip flash.old) (F.chip flash.new) result }
+/// What the bytes of a magic say.
+fn magic_in(bytes: &[u8; 16]) -> Magic
+    ensures { result ≡ magic_in bytes.now }
 {
-    is_unit_set(flash, map, image, side, IMAGE_OK)
+    if *bytes == MAGIC {
+        Magic::Good
+    } else if are_erased(bytes) {
+        Magic::Unset
+    } else {
+        Magic::Bad
+    }
 }
 
 /// Reads the fields of the trailer behind a slot.
@@ -41,12 +41,12 @@ pub fn read_trailer<F: Flash>(
     ensures { Tells (trailer_of (fields_at map.now (F.chip flash.old) image side))
         (F.chip flash.old) (F.chip flash.new) result }
 {
-    let magic = read_magic(flash, map, image, side)?;
+    let magic: [u8; 16] = read_bytes(flash, map, image, side, MAGIC_PLACE)?;
     let copy_done = is_unit_set(flash, map, image, side, COPY_DONE)?;
     let image_ok = is_unit_set(flash, map, image, side, IMAGE_OK)?;
     let withdrawn = is_unit_set(flash, map, image, side, WITHDRAWN)?;
     Ok(Trailer {
-        magic,
+        magic: magic_in(&magic),
         copy_done,
         image_ok,
         withdrawn,

@@ -1,12 +1,14 @@
 //! Taking a request back.
 
 ghost use Rattle.sector_map.specs.Map.{HasImage};
+ghost use Rattle.sector_map.specs.declared.layout.Side.TheVariants.{Secondary};
 ghost use Rattle.trailer.specs.Withdraws.{ErasesFront, TakesBack, Withdraws};
 
 use crate::clearing::clear;
-use crate::fields::set_withdrawn;
+use crate::format::WITHDRAWN;
 use crate::standing_request::{is_front_set, standing};
-use flash_model::{Flash, FlashError};
+use crate::units::write_units;
+use flash_model::{FLAG, Flash, FlashError};
 use sector_map::{SectorMap, Side};
 
 /// Sets the withdrawn unit, where a request stands.
@@ -16,25 +18,19 @@ fn take_back<F: Flash>(flash: &mut F, map: &SectorMap, image: u8) -> Result<(), 
 {
     match standing(flash, map, image)? {
         None => Ok(()),
-        Some(_) => set_withdrawn(flash, map, image, Side::Secondary),
+        Some(_) => write_units(flash, map, image, Side::Secondary, WITHDRAWN, &FLAG),
     }
 }
 
-/// Erases the first sector of a slot, unless its first unit is erased.
-#[tactic(auto, using(crate::proofs::Places::slot_alone, crate::proofs::Places::slot_within, crate::proofs::Withdrawal::front_erased, crate::proofs::Withdrawal::sector_erased))]
-fn erase_front<F: Flash>(
-    flash: &mut F,
-    map: &SectorMap,
-    image: u8,
-    side: Side,
-) -> Result<(), FlashError>
+/// Erases the first sector of a secondary slot, unless its first unit is erased.
+fn erase_front<F: Flash>(flash: &mut F, map: &SectorMap, image: u8) -> Result<(), FlashError>
     requires { HasImage map.now image (F.chip flash.old) }
-    ensures { ErasesFront map.now image side (F.chip flash.old) (F.chip flash.new) result }
+    ensures { ErasesFront map.now image Secondary (F.chip flash.old) (F.chip flash.new) result }
 {
-    if !is_front_set(flash, map, image, side)? {
+    if !is_front_set(flash, map, image, Side::Secondary)? {
         return Ok(());
     }
-    flash.erase(map.slot(image, side))
+    flash.erase(map.slot(image, Side::Secondary))
 }
 
 /// Takes back the request of an image, if one stands: sets the withdrawn unit, then erases the
@@ -52,6 +48,6 @@ pub fn withdraw<F: Flash>(flash: &mut F, map: &SectorMap, image: u8) -> Result<(
     ensures { Withdraws map.now image (F.chip flash.old) (F.chip flash.new) result }
 {
     take_back(flash, map, image)?;
-    erase_front(flash, map, image, Side::Secondary)?;
+    erase_front(flash, map, image)?;
     clear(flash, map, image, Side::Secondary)
 }

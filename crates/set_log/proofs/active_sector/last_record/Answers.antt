@@ -1,6 +1,4 @@
-use Rattle.std.proofs.Common.{rules, ◌≡◌, ◌*◌, ◌+◌, ◌-◌, arith, ap, refl, sym, ◌∙◌, not, true, false, suc, Some}
-use Rattle.set_log.specs.Log.{log_bytes}
-use Rattle.set_log.specs.Ring.{reads_erased}
+use Rattle.std.proofs.Common.{rules, ◌≡◌, ◌-◌, arith, ap, refl, sym, ◌∙◌, not, suc, Some}
 use Rattle.set_log.proofs.Last.{last_step, last_here, last_of_is}
 use Rattle.set_log.proofs.active_sector.last_record.Goals as goal
 
@@ -13,10 +11,7 @@ loop-place-init g c = record {
 
 pub loop-place-preserved : goal.loop-place-preserved
 loop-place-preserved g c =
-    let map = c.args.map.now in
-    let reads : reads_erased (log_bytes map (g.F.Flash.chip c.args.flash.now))
-    (c.args.sector * map.sector_size + 64 * (c.loop-place.place - 1) + 56) 8 ≡ true =
-    rw c.loop-place.invariant.same at (c.in_ok-is_gated.ensures.ok ∙ ap not c.if-branch.false) in
+    let reads = rw c.loop-place.invariant.same at (c.in_ok-is_gated.ensures.ok ∙ ap not c.if-branch.false) in
     let next : c.loop-place.place ≡ suc (c.loop-place.place - 1) = omega arith in
     record {
       same = c.is_gated.ensures.same ∙ c.loop-place.invariant.same;
@@ -26,10 +21,7 @@ loop-place-preserved g c =
 
 pub returns-then-branch : goal.returns-then-branch
 returns-then-branch g c =
-    let map = c.args.map.now in
-    let reads : reads_erased (log_bytes map (g.F.Flash.chip c.args.flash.now))
-    (c.args.sector * map.sector_size + 64 * (c.loop-place.place - 1) + 56) 8 ≡ false =
-    rw c.loop-place.invariant.same at (c.in_ok-is_gated.ensures.ok ∙ ap not c.if-branch.true) in
+    let reads = rw c.loop-place.invariant.same at (c.in_ok-is_gated.ensures.ok ∙ ap not c.if-branch.true) in
     let next : c.loop-place.place ≡ suc (c.loop-place.place - 1) = omega arith in
     let body = rw (c.is_gated.ensures.same, c.loop-place.invariant.same) at c.in_ok-body.ensures.ok in
     record {

@@ -16,10 +16,7 @@ returns g c =
       ok = on_ok_weaker c.append_record.result (λ stands.
           said c.args.map.now (g.F.Flash.chip c.append_record.new.flash) (Some c.to_bytes-body.result) stands ∙ back)
           c.append_record.ensures.ok;
-      within = c.append_record.ensures.within;
-      written = rw c.to_bytes-body.ensures.is at c.append_record.ensures.written;
-      beside = c.append_record.ensures.beside;
-      moved = rw c.to_bytes-body.ensures.is at c.append_record.ensures.moved;
+      put = rw c.to_bytes-body.ensures.is at c.append_record.ensures.put;
       erases = c.append_record.ensures.erases;
       off = c.append_record.ensures.off;
       ends = c.append_record.ensures.ends;

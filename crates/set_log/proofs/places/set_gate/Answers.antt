@@ -1,39 +1,39 @@
-use Rattle.std.proofs.Common.{rules, ◌+◌, arith, ap, refl}
-use Rattle.flash_model.specs.Chip.{Reads}
+use Rattle.std.proofs.Common.{rules, ◌≡◌, ℕ, ◌+◌, ◌*◌, arith, ap, refl}
+use Rattle.flash_model.specs.Chip.{Chip, Reads}
+use Rattle.sector_map.specs.declared.layout.SectorMap.{SectorMap}
+use Rattle.sector_map.specs.Map.{place_of_record}
 use Rattle.set_log.specs.Layout.{flag}
+use Rattle.set_log.specs.Places.{CanSetGate}
 use Rattle.flash_model.specs.Units.{IsSet}
 use Rattle.std.proofs.lemmas.Result.{on_ok_weaker}
 use Rattle.sector_map.proofs.Parts.{laid_out_kept}
-use Rattle.set_log.proofs.View.{at_gate, at_inside, flash_erased, place_aligned, log_alone, log_same, log_set, log_reads}
+use Rattle.set_log.proofs.View.{IsAt, at_gate, at_inside, flash_erased, place_aligned, log_alone, log_same, log_set, log_reads}
 use Rattle.set_log.proofs.places.set_gate.Goals as goal
+
+-- where the gate lies
+gate_at : (map : SectorMap) (chip : Chip) (sector place start : ℕ) → CanSetGate map sector place chip
+    → start ≡ place_of_record map sector place
+    → IsAt map (start + 56) (sector * map.sector_size + 64 * place + 56) 8
+gate_at map chip sector place start can is =
+    at_gate map (start + 56) sector place can.laid_out.is_map can.sector can.place (ap (λ a. a + 56) is)
 
 pub set_unit-requires-clause-inside : goal.set_unit-requires-clause-inside
 set_unit-requires-clause-inside g c =
-    let map = c.args.map.now in
-    at_inside map _ _ _ 8 c.requires.laid_out
-    (at_gate map _ c.args.sector c.args.place c.requires.laid_out.is_map c.requires.sector c.requires.place
-    (ap (λ a. a + 56) c.record_start.ensures))
+    at_inside c.args.map.now _ _ _ 8 c.requires.laid_out (gate_at _ _ _ _ _ c.requires c.record_start.ensures)
 
 pub set_unit-requires-clause-erased : goal.set_unit-requires-clause-erased
 set_unit-requires-clause-erased g c =
-    let map = c.args.map.now in
-    flash_erased map _ _ _ 8 c.requires.erased
-    (at_gate map _ c.args.sector c.args.place c.requires.laid_out.is_map c.requires.sector c.requires.place
-    (ap (λ a. a + 56) c.record_start.ensures))
+    flash_erased c.args.map.now _ _ _ 8 c.requires.erased (gate_at _ _ _ _ _ c.requires c.record_start.ensures)
 
 pub set_unit-requires-clause-place : goal.set_unit-requires-clause-place
 set_unit-requires-clause-place g c =
-    omega (
-      arith,
-      c.record_start.ensures,
-      place_aligned c.args.map.now c.args.sector c.args.place c.requires.laid_out.is_map,
-    )
+    let aligned = place_aligned c.args.map.now c.args.sector c.args.place c.requires.laid_out.is_map in
+    omega (arith, c.record_start.ensures, aligned)
 
 pub returns : goal.returns
 returns g c =
     let map = c.args.map.now in
-    let here = at_gate map (c.record_start.result + 56) c.args.sector c.args.place c.requires.laid_out.is_map
-    c.requires.sector c.requires.place (ap (λ a. a + 56) c.record_start.ensures) in
+    let here = gate_at _ _ _ _ _ c.requires c.record_start.ensures in
     let alone = log_alone map _ _ _ _ 8 c.requires.laid_out c.set_unit.ensures.outside here in
     record {
       outside = alone;

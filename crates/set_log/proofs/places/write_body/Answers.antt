@@ -20,12 +20,7 @@ program-requires-clause-erased g c =
     c.record_start.ensures))
 
 pub program-requires-clause-place : goal.program-requires-clause-place
-program-requires-clause-place g c =
-    omega (
-      arith,
-      c.record_start.ensures,
-      place_aligned c.args.map.now c.args.sector c.args.place c.requires.laid_out.is_map,
-    )
+program-requires-clause-place g c = grind (arith, place_aligned)
 
 pub returns : goal.returns
 returns g c =

@@ -1,7 +1,8 @@
 use Rattle.std.proofs.Common.{refl, ◌∙◌}
+use Rattle.std.proofs.lemmas.Result.{on_ok_weaker}
 use Rattle.flash_model.proofs.Copies.{copy_after_erase}
 use Rattle.swap_scratch.proofs.SectorCopies.{copied_outside, sector_addressed, sector_copyable, sectors_apart}
-use Rattle.flash_model.proofs.Ending.{at_error, ends_passed, ends_then, ends_done}
+use Rattle.flash_model.proofs.Ending.{at_error, ends_passed, ends_then}
 use Rattle.swap_scratch.proofs.copying.copy_sector.Goals as goal
 
 pub returns-in_err-erase : goal.returns-in_err-erase
@@ -20,22 +21,13 @@ copy_range-requires g c = record {
   apart = sectors_apart _ _ _ _ _ _ _ c.requires c.sector_size-size.ensures c.erase.ensures.outside;
 }
 
-pub returns-in_err-copy_range : goal.returns-in_err-copy_range
-returns-in_err-copy_range g c = record {
-  outside = copied_outside _ _ _ _ _ _ _ c.requires c.sector_size-size.ensures c.erase.ensures.outside _
-      c.erase.ensures.outside c.copy_range.ensures.outside;
-  ok = at_error _ _ c.from_residual-in_err-copy_range.ensures.0;
-  erases = at_error _ _ c.from_residual-in_err-copy_range.ensures.0;
-  ends = ends_then _ _ _ _ _ c.in_ok-erase.ensures.ends
-      (ends_passed _ _ _ _ c.from_residual-in_err-copy_range.ensures.1 c.in_err-copy_range.ensures.ends);
-}
-
 pub returns : goal.returns
 returns g c = record {
   outside = copied_outside _ _ _ _ _ _ _ c.requires c.sector_size-size.ensures c.erase.ensures.outside _
       c.erase.ensures.outside c.copy_range.ensures.outside;
-  ok = copy_after_erase _ _ _ _ _ _ _ _ c.in_ok-copy_range.ensures.ok c.erase.ensures.outside c.requires.apart
-      c.sector_size-size.ensures refl;
-  erases = c.in_ok-copy_range.ensures.erases ∙ c.in_ok-erase.ensures.erases;
-  ends = ends_then _ _ _ _ _ c.in_ok-erase.ensures.ends (ends_done _ _ _ _ c.in_ok-copy_range.ensures.ends);
+  ok = on_ok_weaker c.copy_range.result (λ copied.
+      copy_after_erase _ _ _ _ _ _ _ _ copied c.erase.ensures.outside c.requires.apart c.sector_size-size.ensures refl)
+      c.copy_range.ensures.ok;
+  erases = on_ok_weaker c.copy_range.result (λ none. none ∙ c.in_ok-erase.ensures.erases) c.copy_range.ensures.erases;
+  ends = ends_then _ _ _ _ _ c.in_ok-erase.ensures.ends c.copy_range.ensures.ends;
 }

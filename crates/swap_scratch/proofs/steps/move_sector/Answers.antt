@@ -1,4 +1,5 @@
 use Rattle.std.proofs.Common.{rules, arith, refl}
+use Rattle.std.proofs.lemmas.Result.{on_ok_weaker}
 use Rattle.swap_scratch.proofs.ImagePlaces.{order_of, keeps_move, behind_move, step_inside}
 use Rattle.swap_scratch.proofs.Moves.{partway_beside, free_target, next}
 use Rattle.swap_scratch.proofs.steps.move_sector.Goals as goal
@@ -16,24 +17,6 @@ copy_sector-requires g c =
       units = search rules;
     }
 
-pub returns-in_err-copy_sector : goal.returns-in_err-copy_sector
-returns-in_err-copy_sector g c = record {
-  outside = keeps_move c.args.map.now c.args.image c.args.used c.args.status _ _ _ _
-      c.requires.laid_out c.requires.step.there c.requires.step.few c.requires.step.below c.sectors_of_step-from.ensures
-      c.copy_sector.ensures.outside;
-  kept = λ x y was.
-      partway_beside _ _ _ _ _ _ _ _ _ _ was c.copy_sector.ensures.outside refl refl
-      (free_target _ _ _ _ _
-      (order_of c.args.map.now c.args.image c.args.used c.requires.laid_out.is_map c.requires.step.there
-      c.requires.step.few) c.sectors_of_step-from.ensures (omega arith) (omega arith));
-  moved = search rules;
-  behind = behind_move c.args.map.now c.args.image c.args.used c.args.status _ _ _ _
-      c.requires.laid_out c.requires.step.there c.requires.step.few c.requires.step.below c.sectors_of_step-from.ensures
-      c.copy_sector.ensures.outside;
-  erases = search rules;
-  ends = search rules;
-}
-
 pub returns : goal.returns
 returns g c = record {
   outside = keeps_move c.args.map.now c.args.image c.args.used c.args.status _ _ _ _
@@ -44,17 +27,18 @@ returns g c = record {
       (free_target _ _ _ _ _
       (order_of c.args.map.now c.args.image c.args.used c.requires.laid_out.is_map c.requires.step.there
       c.requires.step.few) c.sectors_of_step-from.ensures (omega arith) (omega arith));
-  moved = λ x y was.
+  moved = on_ok_weaker c.copy_sector.result (λ copied. λ x y was.
       next _ x y _ _ _ _ _ _ _ c.args.status refl (record {
         order = order_of c.args.map.now c.args.image c.args.used c.requires.laid_out.is_map c.requires.step.there
             c.requires.step.few;
         below = omega arith;
         move = c.sectors_of_step-from.ensures;
-        copied = c.in_ok-copy_sector.ensures.ok;
+        copied = copied;
         same = c.copy_sector.ensures.outside;
         size = refl;
         whole = refl;
-      }) was;
+      }) was)
+      c.copy_sector.ensures.ok;
   behind = behind_move c.args.map.now c.args.image c.args.used c.args.status _ _ _ _
       c.requires.laid_out c.requires.step.there c.requires.step.few c.requires.step.below c.sectors_of_step-from.ensures
       c.copy_sector.ensures.outside;

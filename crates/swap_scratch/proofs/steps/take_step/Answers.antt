@@ -1,6 +1,7 @@
 use Rattle.std.proofs.Common.{arith, inl, ◌∙◌}
+use Rattle.std.proofs.lemmas.Result.{on_ok_weaker}
 use Rattle.sector_map.proofs.Parts.{keeps_wider}
-use Rattle.flash_model.proofs.Ending.{at_error, ends_passed, ends_then, ends_done}
+use Rattle.flash_model.proofs.Ending.{at_error, ends_passed, ends_then}
 use Rattle.swap_scratch.proofs.ImagePlaces.{move_of_swap}
 use Rattle.swap_scratch.proofs.Sizes.{used_within}
 use Rattle.swap_scratch.proofs.Taking.{counted_past, move_kept, move_rest, step_outside, step_rest, step_room, step_taken, step_torn}
@@ -33,32 +34,23 @@ pub push_status-requires-clause-room : goal.push_status-requires-clause-room
 push_status-requires-clause-room g c =
     step_room _ _ _ _ _ _ _ _ c.requires.image c.requires.step c.move_sector.ensures
 
-pub returns-in_err-push_status : goal.returns-in_err-push_status
-returns-in_err-push_status g c = record {
-  outside = step_outside _ _ _ _ _ _ _ _ c.requires.image c.requires.step c.move_sector.ensures _ _
-      c.push_status.ensures;
-  rest = step_rest _ _ _ _ _ _ _ _ c.requires.image c.requires.step c.move_sector.ensures _ _ c.push_status.ensures;
-  resumes = step_torn _ _ _ _ _ _ _ _ c.requires.image c.requires.step c.move_sector.ensures _ _
-      c.push_status.ensures c.in_ok-move_sector.ensures.moved;
-  taken = at_error _ _ c.from_residual-in_err-push_status.ensures.0;
-  counted = at_error _ _ c.from_residual-in_err-push_status.ensures.0;
-  erases = at_error _ _ c.from_residual-in_err-push_status.ensures.0;
-  ends = ends_then _ _ _ _ _ c.in_ok-move_sector.ensures.ends
-      (ends_passed _ _ _ _ c.from_residual-in_err-push_status.ensures.1 c.in_err-push_status.ensures.ends);
-}
-
 pub returns : goal.returns
-returns g c = record {
-  outside = step_outside _ _ _ _ _ _ _ _ c.requires.image c.requires.step c.move_sector.ensures _ _
-      c.push_status.ensures;
-  rest = step_rest _ _ _ _ _ _ _ _ c.requires.image c.requires.step c.move_sector.ensures _ _ c.push_status.ensures;
-  resumes = step_torn _ _ _ _ _ _ _ _ c.requires.image c.requires.step c.move_sector.ensures _ _
-      c.push_status.ensures c.in_ok-move_sector.ensures.moved;
-  taken = step_taken _ _ _ _ _ _ _ _ c.requires.image c.requires.step c.move_sector.ensures _ _
-      c.push_status.ensures c.in_ok-move_sector.ensures.moved c.in_ok-push_status.ensures.ok;
-  counted = counted_past _ _ _ _ _ _ _ _ c.requires.image c.requires.step c.move_sector.ensures _
-      c.in_ok-push_status.ensures.ok;
-  erases = c.in_ok-push_status.ensures.erases ∙ c.in_ok-move_sector.ensures.erases;
-  ends = ends_then _ _ _ _ _ c.in_ok-move_sector.ensures.ends
-      (ends_done _ _ _ _ c.in_ok-push_status.ensures.ends);
-}
+returns g c =
+    let moved = c.in_ok-move_sector.ensures.moved in
+    record {
+      outside = step_outside _ _ _ _ _ _ _ _ c.requires.image c.requires.step c.move_sector.ensures _ _
+          c.push_status.ensures;
+      rest = step_rest _ _ _ _ _ _ _ _ c.requires.image c.requires.step c.move_sector.ensures _ _
+          c.push_status.ensures;
+      resumes = step_torn _ _ _ _ _ _ _ _ c.requires.image c.requires.step c.move_sector.ensures _ _
+          c.push_status.ensures moved;
+      taken = on_ok_weaker c.push_status.result
+          (step_taken _ _ _ _ _ _ _ _ c.requires.image c.requires.step c.move_sector.ensures _ _ c.push_status.ensures
+          moved) c.push_status.ensures.ok;
+      counted = on_ok_weaker c.push_status.result
+          (counted_past _ _ _ _ _ _ _ _ c.requires.image c.requires.step c.move_sector.ensures _)
+          c.push_status.ensures.ok;
+      erases = on_ok_weaker c.push_status.result (λ none. none ∙ c.in_ok-move_sector.ensures.erases)
+          c.push_status.ensures.erases;
+      ends = ends_then _ _ _ _ _ c.in_ok-move_sector.ensures.ends c.push_status.ensures.ends;
+    }

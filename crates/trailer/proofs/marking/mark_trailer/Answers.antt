@@ -1,4 +1,4 @@
-use Rattle.std.proofs.Common.{◌∙◌, arith, refl}
+use Rattle.std.proofs.Common.{◌∙◌, arith, refl, rules}
 use Rattle.std.proofs.lemmas.Result.{on_ok_weaker}
 use Rattle.trailer.proofs.Places.{units_alone}
 use Rattle.trailer.proofs.Marks.{ok_still_free, magic_still_free, marked, two_alone, three_alone, two_of_units, three_of_units}
@@ -37,11 +37,12 @@ returns-in_err-mark_ok g c =
           (ends_passed _ _ _ _ c.from_residual-in_err-mark_ok.ensures.1 c.in_err-mark_ok.ensures.ends);
     }
 
-pub mark-requires-2-clause-free : goal.mark-requires-2-clause-free
-mark-requires-2-clause-free g c =
-    magic_still_free c.args.map.now c.args.image c.args.side c.requires.image.laid_out.is_map
+pub mark-requires-2 : goal.mark-requires-2
+mark-requires-2 g c =
+    let free = magic_still_free c.args.map.now c.args.image c.args.side c.requires.image.laid_out.is_map
     c.requires.image.there _ _ _ c.args.confirmed c.requires.whole c.mark.ensures.outside
-    c.mark_ok.ensures.outside
+    c.mark_ok.ensures.outside in
+    (omega arith, (search rules, free))
 
 pub returns : goal.returns
 returns g c =

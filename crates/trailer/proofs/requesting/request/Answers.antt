@@ -3,12 +3,13 @@ use Rattle.std.proofs.lemmas.Result.{on_ok_weaker}
 use Rattle.flash_model.proofs.Ending.{at_error, ends_passed, ends_then}
 use Rattle.flash_model.proofs.Frame.{same_outside_trans, same_outside_wider}
 use Rattle.sector_map.specs.declared.layout.Side.TheVariants.{Secondary}
-use Rattle.sector_map.proofs.Parts.{keeps_trans}
+use Rattle.sector_map.proofs.Parts.{keeps_trans, laid_out_kept}
 use Rattle.trailer.specs.declared.kinds.Kind.{Kind}
 use Rattle.trailer.specs.declared.kinds.Magic.TheVariants.{Good}
 use Rattle.trailer.specs.Fields.{Fields, erased_fields}
 use Rattle.trailer.specs.Standing.{is_good, is_permanent, requested_fields}
-use Rattle.trailer.proofs.FieldUnits.{either_magic}
+use Rattle.trailer.proofs.FieldUnits.{either_magic, erased_magic}
+use Rattle.trailer.proofs.FieldWritten.{writes_magic}
 use Rattle.trailer.proofs.Gone.{stands_or_none}
 use Rattle.trailer.proofs.Marks.{ok_beside_magic}
 use Rattle.trailer.proofs.FailedCalls.{refuses_failed}
@@ -28,6 +29,10 @@ whole_once_good : (kind : Kind) (mid new : Fields) → mid ≡ record erased_fie
 whole_once_good kind mid new marked own good = own ∙ ap (λ m. record mid { magic = m }) good
     ∙ ap (λ (f : Fields). record f { magic = Good }) marked
 
+pub write_units-requires-clause-erased : goal.write_units-requires-clause-erased
+write_units-requires-clause-erased g c =
+    erased_magic c.args.map.now _ c.args.image Secondary (ap (λ (f : Fields). f.magic) c.mark_kind.ensures.own)
+
 pub returns-in_err-mark_kind : goal.returns-in_err-mark_kind
 returns-in_err-mark_kind g c =
     let bad = ap (λ (f : Fields). is_good f.magic) c.mark_kind.ensures.own in
@@ -46,23 +51,26 @@ returns-in_err-mark_kind g c =
 
 pub returns : goal.returns
 returns g c =
-    let either = whole_or_not_good c.args.kind _ _ c.in_ok-mark_kind.ensures.ok c.write_magic.ensures.own in
+    let good = writes_magic c.args.map.now c.args.image Secondary _ _ _ (record {
+      laid_out = laid_out_kept _ _ _ _ c.requires.image.laid_out c.mark_kind.ensures.outside;
+      there = c.requires.image.there;
+    }) c.write_units.ensures in
+    let either = whole_or_not_good c.args.kind _ _ c.in_ok-mark_kind.ensures.ok good.own in
     record {
-      outside = keeps_trans _ _ _ _ _ c.mark_kind.ensures.outside c.write_magic.ensures.outside;
+      outside = keeps_trans _ _ _ _ _ c.mark_kind.ensures.outside good.outside;
       units = same_outside_trans _ 24 _ _ _
           (same_outside_wider _ 8 _ 24 _ _ c.mark_kind.ensures.unit (omega arith) (omega arith))
-          (same_outside_wider _ 16 _ 24 _ _ c.write_magic.ensures.unit (omega arith) (omega arith));
+          (same_outside_wider _ 16 _ 24 _ _ good.unit (omega arith) (omega arith));
       either = either;
       stands = stands_or_none c.args.map.now _ c.args.image c.args.kind either;
-      ok = on_ok_weaker c.write_magic.result (λ good.
-          whole_once_good c.args.kind _ _ c.in_ok-mark_kind.ensures.ok c.write_magic.ensures.own good)
-          c.write_magic.ensures.ok;
-      flag = on_ok_weaker c.write_magic.result (λ good. λ permanent.
+      ok = on_ok_weaker c.write_units.result
+          (λ is. whole_once_good c.args.kind _ _ c.in_ok-mark_kind.ensures.ok good.own is)
+          good.ok;
+      flag = on_ok_weaker c.write_units.result (λ is. λ permanent.
           ok_beside_magic c.args.map.now c.args.image Secondary c.requires.image.laid_out.is_map
-          c.requires.image.there _ _ c.write_magic.ensures.unit ∙ c.in_ok-mark_kind.ensures.flag permanent)
-          c.write_magic.ensures.ok;
-      erases = on_ok_weaker c.write_magic.result (λ none. none ∙ c.in_ok-mark_kind.ensures.erases)
-          c.write_magic.ensures.erases;
-      off = λ off. c.write_magic.ensures.off (c.in_ok-mark_kind.ensures.ends.uncut.on ∙ off);
-      ends = ends_then _ _ _ _ _ c.in_ok-mark_kind.ensures.ends c.write_magic.ensures.ends;
+          c.requires.image.there _ _ good.unit ∙ c.in_ok-mark_kind.ensures.flag permanent)
+          good.ok;
+      erases = on_ok_weaker c.write_units.result (λ none. none ∙ c.in_ok-mark_kind.ensures.erases) good.erases;
+      off = λ off. good.off (c.in_ok-mark_kind.ensures.ends.uncut.on ∙ off);
+      ends = ends_then _ _ _ _ _ c.in_ok-mark_kind.ensures.ends good.ends;
     }

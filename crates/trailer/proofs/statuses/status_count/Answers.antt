@@ -15,7 +15,7 @@ returns-then-branch g c =
       ok = sym (units_are (trailer_bytes c.args.map.now (g.F.Flash.chip c.args.flash.now) c.args.image c.args.side)
           _ _ (omega arith) c.loop-status.invariant.set (λ lt. free));
       erases = search rules;
-      off = refuses_first _ _ _ (rw c.loop-status.invariant.same at c.in_ok-is_status_erased.ensures.off);
+      off = refuses_first _ _ _ (rw c.loop-status.invariant.same at c.in_ok-is_range_erased.ensures.off);
       ends = search rules;
     }
 

@@ -1,9 +1,8 @@
-use Rattle.std.proofs.Common.{◌≡◌, arith, length, sym, ap, ◌∙◌}
+use Rattle.std.proofs.Common.{◌≡◌, arith, length, sym}
 use Rattle.flash_model.proofs.Ending.{ends_passed, ends_done}
 use Rattle.trailer.proofs.Places.{read_of_trailer, place_fits}
 use Rattle.trailer.proofs.FailedCalls.{refuses, tells_nothing}
-use Rattle.trailer.specs.Fields.{magic_in}
-use Rattle.trailer.proofs.units.read_magic.Goals as goal
+use Rattle.trailer.proofs.units.read_bytes.Goals as goal
 
 pub returns-in_err-read : goal.returns-in_err-read
 returns-in_err-read g c = tells_nothing _ _ _ _ c.read.ensures.same c.from_residual.ensures.0
@@ -11,13 +10,14 @@ returns-in_err-read g c = tells_nothing _ _ _ _ c.read.ensures.same c.from_resid
 
 pub returns : goal.returns
 returns g c =
-    let long : 16 ≡ length c.read.new.out = omega arith in
-    let read = read_of_trailer c.args.map.now _ c.args.image _ 16 16 c.args.side _ c.in_ok-read.ensures.ok
-    c.place_of.ensures long (omega arith) (omega (arith, c.requires.laid_out.is_map.trailers 0)) c.requires.laid_out
-    c.requires.there in
+    let long : g.row.N ≡ length c.read.new.out = omega arith in
+    let read = read_of_trailer c.args.map.now _ c.args.image _ c.args.from_end g.row.N c.args.side _
+    c.in_ok-read.ensures.ok
+    c.place_of.ensures long c.requires.room
+    (omega (arith, c.requires.within, c.requires.laid_out.is_map.trailers 0)) c.requires.laid_out c.requires.there in
     record {
       same = c.read.ensures.same;
-      ok = c.magic_in.ensures ∙ ap magic_in (sym read);
+      ok = sym read;
       erases = c.in_ok-read.ensures.erases;
       off = refuses _ _ _ c.in_ok-read.ensures.on (ends_done _ _ _ _ c.in_ok-read.ensures.ends);
       ends = ends_done _ _ _ _ c.in_ok-read.ensures.ends;
@@ -27,6 +27,6 @@ pub read-requires : goal.read-requires
 read-requires g c = omega (
   arith,
   c.place_of.ensures,
-  place_fits c.args.map.now (g.F.Flash.chip c.args.flash.now) c.args.image 16
-      c.args.side c.requires.laid_out c.requires.there (omega arith),
+  place_fits c.args.map.now (g.F.Flash.chip c.args.flash.now) c.args.image
+      c.args.from_end c.args.side c.requires.laid_out c.requires.there c.requires.within,
 )
