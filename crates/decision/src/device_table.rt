@@ -10,7 +10,7 @@ use arrayvec::ArrayVec;
 use certificate::{Entry, Image, Request, Table};
 use common::limits::MOST_IMAGES;
 use flash_model::{Flash, FlashError};
-use image_reading::{Desc, SlotError, describe_slot};
+use image_reading::{Desc, intact_image};
 use machine::Reading;
 use sector_map::{SectorMap, Side, is_member};
 use trailer::standing;
@@ -37,11 +37,9 @@ pub fn read_slot<F: Flash>(
     requires { HasImage map.now image (F.chip flash.old) }
     ensures { ReadsSlot map.now image side (F.chip flash.old) (F.chip flash.new) result }
 {
-    match describe_slot(flash, map, image, side) {
-        Ok(description) => Ok(Some(entry_of(description))),
-        Err(SlotError::Image(_)) => Ok(None),
-        Err(SlotError::Flash(error)) => Err(error),
-        Err(SlotError::NoMemory) => unreachable!(),
+    match intact_image(flash, map, image, side)? {
+        Some(description) => Ok(Some(entry_of(description))),
+        None => Ok(None),
     }
 }
 

@@ -49,30 +49,42 @@ only_fault Intact Fails (Ok found) one described failed fault fails =
     absurd (one.apart found fault described fails)
 only_fault Intact Fails (Err first) one described failed fault fails = ap Err (one.fault first fault failed fails)
 
--- .. and in a flash that is on.
 not_off : (was_on : Bool) → was_on ≡ true → was_on ≡ false → ⊥
 not_off was_on on off = cc
 
-pub only_slot_description : (Intact : Desc → Type 0) (Fails : ImageError → Type 0) (was_on : Bool)
-    (result : Result Desc SlotError) → IsAnswered Intact Fails → IfOk result Intact
-    → IfErr result (IsSlotFault was_on Fails) → was_on ≡ true
-    → (description : Desc) → Intact description → result ≡ Ok description
-only_slot_description Intact Fails was_on (Ok found) one described failed on description intact =
-    ap Ok (one.description found description described intact)
-only_slot_description Intact Fails was_on (Err (Image fault)) one described failed on description intact =
-    absurd (one.apart description fault intact failed.1)
-only_slot_description Intact Fails was_on (Err (Flash error)) one described failed on description intact =
-    absurd (not_off was_on on failed.0)
-only_slot_description Intact Fails was_on (Err NoMemory) one described failed on description intact = absurd failed
+-- .. and in a flash that is on.
+pub record IsOnlyInSlot (Intact : Desc → Type 0) (Fails : ImageError → Type 0) (was_on : Bool)
+    (result : Result Desc SlotError) : Type 0 where
+  pub only : was_on ≡ true → (description : Desc) → Intact description → result ≡ Ok description
+  pub refused : was_on ≡ true → (fault : ImageError) → Fails fault → result ≡ Err (Image fault)
 
-pub only_slot_fault : (Intact : Desc → Type 0) (Fails : ImageError → Type 0) (was_on : Bool)
-    (result : Result Desc SlotError) → IsAnswered Intact Fails → IfOk result Intact
-    → IfErr result (IsSlotFault was_on Fails) → was_on ≡ true
-    → (fault : ImageError) → Fails fault → result ≡ Err (Image fault)
-only_slot_fault Intact Fails was_on (Ok found) one described failed on fault fails =
-    absurd (one.apart found fault described fails)
-only_slot_fault Intact Fails was_on (Err (Image first)) one described failed on fault fails =
-    ap (λ (e : ImageError). Err (Image e)) (one.fault first fault failed.1 fails)
-only_slot_fault Intact Fails was_on (Err (Flash error)) one described failed on fault fails =
-    absurd (not_off was_on on failed.0)
-only_slot_fault Intact Fails was_on (Err NoMemory) one described failed on fault fails = absurd failed
+only_in_slot : (Intact : Desc → Type 0) (Fails : ImageError → Type 0) (was_on : Bool) (result : Result Desc SlotError)
+    → IsAnswered Intact Fails → IfOk result Intact → IfErr result (IsSlotFault was_on Fails)
+    → IsOnlyInSlot Intact Fails was_on result
+only_in_slot Intact Fails was_on (Ok found) one described failed = record {
+  only = λ on description intact. ap Ok (one.description found description described intact);
+  refused = λ on fault fails. absurd (one.apart found fault described fails);
+}
+only_in_slot Intact Fails was_on (Err (Image first)) one described failed = record {
+  only = λ on description intact. absurd (one.apart description first intact failed.1);
+  refused = λ on fault fails. ap (λ (e : ImageError). Err (Image e)) (one.fault first fault failed.1 fails);
+}
+only_in_slot Intact Fails was_on (Err (Flash error)) one described failed = record {
+  only = λ on description intact. absurd (not_off was_on on failed.0);
+  refused = λ on fault fails. absurd (not_off was_on on failed.0);
+}
+only_in_slot Intact Fails was_on (Err NoMemory) one described failed = absurd failed
+
+-- So it is for the image that a slot begins with ..
+pub only_front_in_slot : (bytes : List ℕ) (was_on : Bool) (result : Result Desc SlotError)
+    → IfOk result (BeginsIntact bytes) → IfErr result (IsSlotFault was_on (IsFrontFault bytes))
+    → IsOnlyInSlot (BeginsIntact bytes) (IsFrontFault bytes) was_on result
+only_front_in_slot bytes was_on result described failed =
+    only_in_slot (BeginsIntact bytes) (IsFrontFault bytes) was_on result (front_answered bytes) described failed
+
+-- .. and for the whole bytes of a file there.
+pub only_file_in_slot : (bytes : List ℕ) (was_on : Bool) (result : Result Desc SlotError)
+    → IfOk result (IsIntact bytes) → IfErr result (IsSlotFault was_on (IsFirstFault bytes))
+    → IsOnlyInSlot (IsIntact bytes) (IsFirstFault bytes) was_on result
+only_file_in_slot bytes was_on result described failed =
+    only_in_slot (IsIntact bytes) (IsFirstFault bytes) was_on result (whole_answered bytes) described failed

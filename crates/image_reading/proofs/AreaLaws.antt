@@ -153,72 +153,61 @@ first_entry-parts bytes entry rest fits e =
 
 -- ---- all entries
 
--- any count that is at least the length gives the same
-entries_within-same : (n m : ℕ) (bytes : List ℕ) → length bytes ≤ n → length bytes ≤ m
-    → entries_within n bytes ≡ entries_within m bytes
-unfolding entries_within
-entries_within-same zero zero bytes p q = refl
-entries_within-same zero (suc m) bytes p q = rw (first_entry-short bytes (omega arith)) refl
-entries_within-same (suc n) zero bytes p q = rw (first_entry-short bytes (omega arith)) refl
-entries_within-same (suc n) (suc m) bytes p q =
-    elim (first_entry bytes) as
-    (λ o. first_entry bytes ≡ o
-    → option_map_or (λ found. found.0 ∷ entries_within n found.1) o [] ≡ option_map_or
-    (λ found. found.0 ∷ entries_within m found.1) o []) [
-      | None ↦ λ e. refl
-      | Some found ↦ λ e.
-          let shorter = first_entry-shorter bytes found e in
-          ap (λ (entries : List Entry). found.0 ∷ entries) (entries_within-same n m found.1 (omega arith) (omega arith))
-    ] refl
+-- A walk over entries, by a count of steps at most: what it gives where no entry begins, and what one
+-- more entry adds.
+module _ {A : Type 0} (walk : ℕ → List ℕ → A) (none : List ℕ → A) (more : Entry → A → A)
+    (at_zero : (bytes : List ℕ) → walk zero bytes ≡ none bytes)
+    (at_suc : (n : ℕ) (bytes : List ℕ) → walk (suc n) bytes
+    ≡ option_map_or (λ found. more found.0 (walk n found.1)) (first_entry bytes) (none bytes)) where
+  walk-none : (n : ℕ) (bytes : List ℕ) → first_entry bytes ≡ None → walk n bytes ≡ none bytes
+  walk-none zero bytes e = at_zero bytes
+  walk-none (suc n) bytes e =
+      at_suc n bytes ∙ ap (λ o. option_map_or (λ found. more found.0 (walk n found.1)) o (none bytes)) e
 
-rest_within-same : (n m : ℕ) (bytes : List ℕ) → length bytes ≤ n → length bytes ≤ m
-    → rest_within n bytes ≡ rest_within m bytes
-unfolding rest_within
-rest_within-same zero zero bytes p q = refl
-rest_within-same zero (suc m) bytes p q = rw (first_entry-short bytes (omega arith)) refl
-rest_within-same (suc n) zero bytes p q = rw (first_entry-short bytes (omega arith)) refl
-rest_within-same (suc n) (suc m) bytes p q =
-    elim (first_entry bytes) as
-    (λ o. first_entry bytes ≡ o
-    → option_map_or (λ found. rest_within n found.1) o bytes ≡ option_map_or (λ found. rest_within m found.1) o
-    bytes) [
-      | None ↦ λ e. refl
-      | Some found ↦ λ e.
-          let shorter = first_entry-shorter bytes found e in
-          rest_within-same n m found.1 (omega arith) (omega arith)
-    ] refl
+  -- Any count that is at least the length gives the same.
+  walk-same : (n m : ℕ) (bytes : List ℕ) → length bytes ≤ n → length bytes ≤ m → walk n bytes ≡ walk m bytes
+  walk-same zero m bytes p q = at_zero bytes ∙ sym (walk-none m bytes (first_entry-short bytes (omega arith)))
+  walk-same (suc n) zero bytes p q =
+      walk-none (suc n) bytes (first_entry-short bytes (omega arith)) ∙ sym (at_zero bytes)
+  walk-same (suc n) (suc m) bytes p q =
+      at_suc n bytes
+      ∙ (elim (first_entry bytes) as
+      (λ o. first_entry bytes ≡ o
+      → option_map_or (λ found. more found.0 (walk n found.1)) o (none bytes)
+      ≡ option_map_or (λ found. more found.0 (walk m found.1)) o (none bytes)) [
+        | None ↦ λ e. refl
+        | Some found ↦ λ e.
+            let shorter = first_entry-shorter bytes found e in
+            ap (more found.0) (walk-same n m found.1 (omega arith) (omega arith))
+      ] refl)
+      ∙ sym (at_suc m bytes)
+
+  -- The walk over all entries goes on behind the first.
+  walk-step : (bytes : List ℕ) → walk (length bytes) bytes
+      ≡ option_map_or (λ found. more found.0 (walk (length found.1) found.1)) (first_entry bytes) (none bytes)
+  walk-step bytes =
+      walk-same (length bytes) (suc (length bytes)) bytes (omega arith) (omega arith)
+      ∙ at_suc (length bytes) bytes
+      ∙ (elim (first_entry bytes) as
+      (λ o. first_entry bytes ≡ o
+      → option_map_or (λ found. more found.0 (walk (length bytes) found.1)) o (none bytes)
+      ≡ option_map_or (λ found. more found.0 (walk (length found.1) found.1)) o (none bytes)) [
+        | None ↦ λ e. refl
+        | Some found ↦ λ e.
+            let shorter = first_entry-shorter bytes found e in
+            ap (more found.0) (walk-same (length bytes) (length found.1) found.1 (omega arith) (omega arith))
+      ] refl)
 
 -- All entries are the first one and those after it.
 pub entries_of-step : (bytes : List ℕ)
     → entries_of bytes ≡ option_map_or (λ found. found.0 ∷ entries_of found.1) (first_entry bytes) []
 unfolding entries_within
-entries_of-step bytes =
-    entries_within-same (length bytes) (suc (length bytes)) bytes (omega arith) (omega arith)
-    ∙ (elim (first_entry bytes) as
-    (λ o. first_entry bytes ≡ o
-    → option_map_or (λ found. found.0 ∷ entries_within (length bytes) found.1) o [] ≡ option_map_or
-    (λ found. found.0 ∷ entries_of found.1) o []) [
-      | None ↦ λ e. refl
-      | Some found ↦ λ e.
-          let shorter = first_entry-shorter bytes found e in
-          ap (λ (entries : List Entry). found.0 ∷ entries)
-          (entries_within-same (length bytes) (length found.1) found.1 (omega arith) (omega arith))
-    ] refl)
+entries_of-step = walk-step entries_within (λ b. []) (λ entry entries. entry ∷ entries) (λ b. refl) (λ n b. refl)
 
 -- What stands after all entries stands after those after the first one.
 pub rest_of-step : (bytes : List ℕ) → rest_of bytes ≡ option_map_or (λ found. rest_of found.1) (first_entry bytes) bytes
 unfolding rest_within
-rest_of-step bytes =
-    rest_within-same (length bytes) (suc (length bytes)) bytes (omega arith) (omega arith)
-    ∙ (elim (first_entry bytes) as
-    (λ o. first_entry bytes ≡ o
-    → option_map_or (λ found. rest_within (length bytes) found.1) o bytes ≡ option_map_or
-    (λ found. rest_of found.1) o bytes) [
-      | None ↦ λ e. refl
-      | Some found ↦ λ e.
-          let shorter = first_entry-shorter bytes found e in
-          rest_within-same (length bytes) (length found.1) found.1 (omega arith) (omega arith)
-    ] refl)
+rest_of-step = walk-step rest_within (λ b. b) (λ entry rest. rest) (λ b. refl) (λ n b. refl)
 
 -- The same two where the first entry is known ..
 pub entries_of-first : (bytes : List ℕ) (entry : Entry) (rest : List ℕ) → first_entry bytes ≡ Some (entry, rest)
@@ -229,6 +218,13 @@ entries_of-first bytes entry rest e = entries_of-step bytes
 pub rest_of-first : (bytes : List ℕ) (entry : Entry) (rest : List ℕ) → first_entry bytes ≡ Some (entry, rest)
     → rest_of bytes ≡ rest_of rest
 rest_of-first bytes entry rest e = rest_of-step bytes ∙ ap (λ o. option_map_or (λ found. rest_of found.1) o bytes) e
+
+pub read_first : (bytes : List ℕ) (entry : Entry) (rest : List ℕ)
+    → ◌≡◌ {A = Option (Entry × List ℕ)} (Some (entry, rest)) (first_entry bytes)
+    → (entries_of bytes ≡ entry ∷ entries_of rest) × (rest_of rest ≡ rest_of bytes)
+read_first bytes entry rest e =
+    let found : first_entry bytes ≡ Some (entry, rest) = sym {a = Some (entry, rest)} e in
+    (entries_of-first bytes entry rest found, sym (rest_of-first bytes entry rest found))
 
 -- .. and where there is none.
 pub entries_of-none : (bytes : List ℕ) → first_entry bytes ≡ None → entries_of bytes ≡ []

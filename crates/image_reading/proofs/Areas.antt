@@ -133,11 +133,17 @@ pub magic_read : (bytes area : List ℕ) (place magic : ℕ) → area ≡ drop p
 magic_read bytes area place magic at is = ap (little_number 2) (sym at) ∙ sym is
 
 -- .. and its length.
-pub total_read : (bytes area : List ℕ) (place total : ℕ) → area ≡ drop place bytes
+total_read : (bytes area : List ℕ) (place total : ℕ) → area ≡ drop place bytes
     → total ≡ little_number 2 (drop 2 area) → total_at bytes place ≡ total
 total_read bytes area place total at is =
     ap (little_number 2) (sym (drop-from 2 place (place + 2) bytes refl))
     ∙ ap (λ (x : List ℕ). little_number 2 (drop 2 x)) (sym at) ∙ sym is
+
+-- What was read of the first four bytes: both.
+pub head_read : (bytes area : List ℕ) (place magic total : ℕ) → area ≡ drop place bytes → magic ≡ little_number 2 area
+    → total ≡ little_number 2 (drop 2 area) → (magic_at bytes place ≡ magic) × (total_at bytes place ≡ total)
+head_read bytes area place magic total at magic_is total_is =
+    (magic_read bytes area place magic at magic_is, total_read bytes area place total at total_is)
 
 -- What was read of an area: its magic number, its length and the bytes of its entries.
 pub record AreaRead (bytes : List ℕ) (place magic total : ℕ) (entries : List ℕ) : Type 0 where

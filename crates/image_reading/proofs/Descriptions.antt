@@ -1,32 +1,21 @@
 -- Bytes are an intact image by one description, and no check fails of them.
-use Rattle.std.proofs.Common.{◌≡◌, ◌≢◌, ℕ, ◌+◌, ◌^◌, ◌<◌, ◌≤◌, inl, inr, List, [], ◌∷◌, ◌++◌, length, drop, refl, sym, ap, subst, ◌∙◌, arith}
+use Rattle.std.proofs.Common.{◌≡◌, ℕ, ◌+◌, ◌^◌, ◌<◌, ◌≤◌, inl, inr, List, [], ◌∷◌, ◌++◌, length, refl, sym, ap, subst, ◌∙◌, arith}
 use Rattle.std.proofs.lemmas.List.{append-nil, length-append, nil_from_length}
 use Rattle.byteorder.specs.Endian.{little_number}
 use Rattle.byteorder.specs.Numbers.{little_number-reads_back}
-use Rattle.sha2.specs.Sha256.{sha256}
-use Rattle.arrayvec.specs.ArrayVec.{ArrayVec}
 use Rattle.common.proofs.Items.{same_cons}
 use Rattle.version_order.specs.declared.dependency.Dependency.{Dependency}
 use Rattle.version_order.specs.declared.group.Group.{Group}
 use Rattle.version_order.specs.declared.version.Version.{Version}
-use Rattle.image_header.specs.declared.header.Header.{Header}
 use Rattle.image_header.specs.declared.error.HeaderError.{HeaderError}
 use Rattle.image_header.proofs.Faults.{accepted_has_no_fault}
 use Rattle.image_header.specs.Header.{IsHeaderFault}
-use Rattle.flash_model.specs.Chip.{Chip}
 use Rattle.image_reading.specs.declared.desc.Desc.{Desc}
 use Rattle.image_reading.specs.declared.error.ImageError.{ImageError}
 use Rattle.image_reading.specs.declared.error.ImageError.TheVariants.{NoDigest, TwoDigests, BadDigest, BadDependency, TooManyDependencies, TrailingBytes, BadCounter, TooManyGroups}
-use Rattle.image_reading.specs.declared.front.Front.{Front}
-use Rattle.image_reading.specs.Area.{values_of}
 use Rattle.image_reading.specs.Fault.{IsEntryFault, IsFirstFault, IsFrontFault}
-use Rattle.image_reading.specs.Fields.{IsCounterFault, IsDependencyFault, IsDigestFault, SpellCounter, SpellDependencies, SpellDigest, SpellGroups, counter_bytes, counter_kind, dependency_kind, digest_kind, group_kind}
-use Rattle.image_reading.specs.Front.{IsFrontOf}
-use Rattle.image_reading.specs.Image.{BeginsIntact, BeginsWithImage, Describes, Image, IsIntact, PassesCounter, PassesDigest, PassesEntries, PassesGroupCount, counter_values, dependency_values, digest_values, group_values, hashed_bytes, image_bytes}
-use Rattle.image_reading.specs.Reading.{entries_of}
-use Rattle.image_reading.specs.SlotTlvs.{values_at}
-use Rattle.image_reading.specs.Span.{bytes_of}
-use Rattle.image_reading.proofs.AreaLaws.{entries_of-entries_bytes}
+use Rattle.image_reading.specs.Fields.{IsCounterFault, IsDependencyFault, IsDigestFault, SpellCounter, SpellDigest, counter_bytes}
+use Rattle.image_reading.specs.Image.{BeginsIntact, BeginsWithImage, Describes, Image, IsIntact, PassesCounter, PassesEntries, PassesGroupCount, counter_values, dependency_values, digest_values, group_values, hashed_bytes, image_bytes}
 use Rattle.image_reading.proofs.Fronts.{no_image_in_protected, no_image_in_unprotected}
 use Rattle.image_reading.proofs.ImageLaws.{parts_of_image, image-unique}
 use Rattle.image_reading.proofs.Needs.{dependencies-unique, groups-unique}
@@ -57,7 +46,7 @@ counter-unique values first second a b =
     ]
 
 -- Descriptions with the same fields are the same.
-abbrev desc : Version → ℕ → ℕ → ℕ → List Dependency → List Group → List ℕ → Desc
+abbrev pub desc : Version → ℕ → ℕ → ℕ → List Dependency → List Group → List ℕ → Desc
 desc version counter flags length dependencies groups digest = record {
   version = version;
   counter = counter;
@@ -215,141 +204,3 @@ intact_whole bytes description intact whole =
     let same : intact.0 ≡ bytes =
     sym (append-nil intact.0) ∙ ap (λ (rest : List ℕ). intact.0 ++ rest) (sym none) ∙ sym intact.2 in
     subst (λ (front : List ℕ). IsIntact front description) same intact.3
-
--- ---- what is found of a front
-
--- The values of a front's entries are the image's.
-unprotected_values : (chip : Chip) (bytes : List ℕ) (front : Front) (image : Image) (kind : ℕ)
-    → IsFrontOf chip bytes front image
-    → values_at kind chip front.unprotected.entries ≡ values_of kind image.unprotected
-unprotected_values chip bytes front image kind is =
-    let read = (entries_of-entries_bytes image.unprotected is.begins.formed.unprotected.each).0 in
-    ap (values_of kind) (ap entries_of is.unprotected ∙ read)
-
-protected_values : (chip : Chip) (bytes : List ℕ) (front : Front) (image : Image) (kind : ℕ)
-    → IsFrontOf chip bytes front image → values_at kind chip front.protected.entries ≡ values_of kind image.protected
-protected_values chip bytes front image kind is =
-    let read = (entries_of-entries_bytes image.protected is.begins.formed.protected.each).0 in
-    ap (values_of kind) (ap entries_of is.protected ∙ read)
-
--- The digest entry of a front that holds its digest is the image's digest.
-pub passes_digest : (chip : Chip) (bytes : List ℕ) (front : Front) (image : Image) → IsFrontOf chip bytes front image
-    → SpellDigest (values_at digest_kind chip front.unprotected.entries) (bytes_of chip front.hashed)
-    → PassesDigest image
-passes_digest chip bytes front image is own =
-    sym (unprotected_values chip bytes front image digest_kind is) ∙ own
-    ∙ ap (λ (hashed : List ℕ). sha256 hashed ∷ []) is.hashed
-
-pub has_dependencies : (chip : Chip) (bytes : List ℕ) (front : Front) (image : Image) (dependencies : List Dependency)
-    → IsFrontOf chip bytes front image
-    → SpellDependencies (values_at dependency_kind chip front.protected.entries) dependencies
-    → SpellDependencies (dependency_values image) dependencies
-has_dependencies chip bytes front image dependencies is spelled =
-    let same = protected_values chip bytes front image dependency_kind is in
-    subst (λ (values : List (List ℕ)). SpellDependencies values dependencies) same spelled
-
-pub has_groups : (chip : Chip) (bytes : List ℕ) (front : Front) (image : Image) (groups : List Group)
-    → IsFrontOf chip bytes front image
-    → SpellGroups (values_at group_kind chip front.protected.entries) groups
-    → SpellGroups (group_values image) groups
-has_groups chip bytes front image groups is spelled =
-    let same = protected_values chip bytes front image group_kind is in
-    subst (λ (values : List (List ℕ)). SpellGroups values groups) same spelled
-
-pub has_counter : (chip : Chip) (bytes : List ℕ) (front : Front) (image : Image) (counter : ℕ)
-    → IsFrontOf chip bytes front image → SpellCounter (values_at counter_kind chip front.protected.entries) counter
-    → SpellCounter (counter_values image) counter
-has_counter chip bytes front image counter is spelled =
-    let same = protected_values chip bytes front image counter_kind is in
-    subst (λ (values : List (List ℕ)). SpellCounter values counter) same spelled
-
--- No fault of an entry is that bytes follow.
-digest_not_behind : (values : List (List ℕ)) (hashed : List ℕ) (fault : ImageError) → IsDigestFault values hashed fault
-    → fault ≢ TrailingBytes
-digest_not_behind values hashed NoDigest failed = λ behind. cc
-digest_not_behind values hashed TwoDigests failed = λ behind. cc
-digest_not_behind values hashed BadDigest failed = λ behind. cc
-digest_not_behind values hashed other failed = absurd failed
-
-dependencies_not_behind : (values groups : List (List ℕ)) (fault : ImageError)
-    → IsDependencyFault values groups fault → fault ≢ TrailingBytes
-dependencies_not_behind values groups BadDependency failed = λ behind. cc
-dependencies_not_behind values groups TooManyDependencies failed = λ behind. cc
-dependencies_not_behind values groups TooManyGroups failed = λ behind. cc
-dependencies_not_behind values groups other failed = absurd failed
-
-counter_not_behind : (values : List (List ℕ)) (fault : ImageError) → IsCounterFault values fault
-    → fault ≢ TrailingBytes
-counter_not_behind values BadCounter failed = λ behind. cc
-counter_not_behind values other failed = absurd failed
-
--- What fails of the digest entry is the first fault ..
-pub first_in_digest : (chip : Chip) (bytes : List ℕ) (front : Front) (image : Image) (fault : ImageError)
-    → IsFrontOf chip bytes front image
-    → IsDigestFault (values_at digest_kind chip front.unprotected.entries) (bytes_of chip front.hashed) fault
-    → IsFrontFault bytes fault
-first_in_digest chip bytes front image fault is failed =
-    let read = values_at digest_kind chip front.unprotected.entries in
-    let same = unprotected_values chip bytes front image digest_kind is in
-    let of_hashed = subst (λ (hashed : List ℕ). IsDigestFault read hashed fault) is.hashed failed in
-    let own = subst (λ (values : List (List ℕ)). IsDigestFault values (hashed_bytes image) fault) same of_hashed in (
-      IsFirstFault.in_entries image (drop front.length bytes) is.begins (IsEntryFault.in_digest own),
-      digest_not_behind read (bytes_of chip front.hashed) fault failed,
-    )
-
--- .. and then that of the dependencies and groups ..
-pub first_in_dependencies : (chip : Chip) (bytes : List ℕ) (front : Front) (image : Image) (fault : ImageError)
-    → IsFrontOf chip bytes front image → PassesDigest image
-    → IsDependencyFault (values_at dependency_kind chip front.protected.entries)
-    (values_at group_kind chip front.protected.entries) fault → IsFrontFault bytes fault
-first_in_dependencies chip bytes front image fault is digest failed =
-    let read = values_at group_kind chip front.protected.entries in
-    let same = protected_values chip bytes front image dependency_kind is in
-    let same_groups = protected_values chip bytes front image group_kind is in
-    let half = subst (λ (values : List (List ℕ)). IsDependencyFault values read fault) same failed in
-    let own = subst (λ (groups : List (List ℕ)). IsDependencyFault (dependency_values image) groups fault) same_groups
-    half in (
-      IsFirstFault.in_entries image (drop front.length bytes) is.begins (IsEntryFault.in_dependencies digest own),
-      dependencies_not_behind (dependency_values image) (group_values image) fault own,
-    )
-
--- .. and that of the security counter.
-pub first_in_counter : (chip : Chip) (bytes : List ℕ) (front : Front) (image : Image) (fault : ImageError)
-    → IsFrontOf chip bytes front image → PassesGroupCount image
-    → IsCounterFault (values_at counter_kind chip front.protected.entries) fault → IsFrontFault bytes fault
-first_in_counter chip bytes front image fault is passes failed =
-    let same = protected_values chip bytes front image counter_kind is in
-    let own = subst (λ (values : List (List ℕ)). IsCounterFault values fault) same failed in (
-      IsFirstFault.in_entries image (drop front.length bytes) is.begins (IsEntryFault.in_counter passes own),
-      counter_not_behind (values_at counter_kind chip front.protected.entries) fault failed,
-    )
-
--- A front that passes all checks is an intact image, which the bytes begin with.
-pub intact_front : (chip : Chip) (bytes : List ℕ) (front : Front) (image : Image) (digest : List ℕ)
-    (dependencies : ArrayVec Dependency) (groups : ArrayVec Group) (counter : ℕ) → IsFrontOf chip bytes front image
-    → digest ≡ sha256 (bytes_of chip front.hashed)
-    → SpellDependencies (dependency_values image) dependencies.items
-    → SpellGroups (group_values image) groups.items → SpellCounter (counter_values image) counter
-    → PassesEntries image
-    → BeginsIntact bytes
-    (desc front.header.version counter front.header.flags front.length dependencies.items groups.items digest)
-intact_front chip bytes front image digest dependencies groups counter is digest_is spelled spelled_groups counts
-    passes = (
-      image_bytes image,
-      drop front.length bytes,
-      is.begins.parts,
-      (
-        image,
-        record { formed = is.begins.formed; parts = sym (append-nil (image_bytes image)) },
-        record {
-          version = ap (λ (header : Header). header.version) is.header;
-          flags = ap (λ (header : Header). header.flags) is.header;
-          length_of = is.length_of;
-          digest = digest_is ∙ ap sha256 is.hashed;
-          dependencies = spelled;
-          groups = spelled_groups;
-          counter = counts;
-        },
-        passes,
-      ),
-    )

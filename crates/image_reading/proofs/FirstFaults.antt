@@ -12,7 +12,7 @@ use Rattle.image_header.proofs.Laws.{header-unique}
 use Rattle.image_reading.specs.declared.error.ImageError.{ImageError}
 use Rattle.image_reading.specs.declared.error.ImageError.TheVariants.{Truncated, BadTlvMagic, BadTlvSize, NoDigest, TwoDigests, BadDigest, BadDependency, TooManyDependencies, TrailingBytes, BadCounter, TooManyGroups}
 use Rattle.image_reading.specs.Area.{protected_magic, unprotected_magic}
-use Rattle.image_reading.specs.Fault.{BeginsAccepted, HasAreaHead, HasProtectedArea, IsAreaFault, IsEntryFault, IsFilled, IsFirstFault, IsProtectedFault, IsTotal, IsUnprotectedFault, entries_at, image_fault, magic_at, protected_place, total_at, unprotected_place}
+use Rattle.image_reading.specs.Fault.{BeginsAccepted, HasAreaHead, HasProtectedArea, IsAreaFault, IsEntryFault, IsFilled, IsFirstFault, IsProtectedFault, IsTotal, entries_at, image_fault, magic_at, protected_place, total_at, unprotected_place}
 use Rattle.image_reading.specs.Fields.{HasBadCounter, HaveForms, IsCounterFault, IsDependencyFault, IsDigestFault}
 use Rattle.image_reading.specs.Image.{BeginsWithImage, Image, PassesDependencies, PassesDependencyCount, PassesDigest, PassesGroupCount, counter_values, dependency_values, digest_values, group_values, hashed_bytes}
 use Rattle.image_reading.proofs.Areas.{area_has_no_fault}
@@ -61,23 +61,15 @@ area_fault-unique bytes place magic expected first second a b =
     at.2 ∙ ap area_fault_at (FailsFirst-unique (area_check bytes place magic expected) at.0 too.0 at.1 too.1)
     ∙ sym too.2
 
--- The two areas of one header have one fault each.
-protected_fault-unique : (bytes : List ℕ) (header own : Header) (first second : ImageError)
-    → BeginsWith bytes header → BeginsWith bytes own
-    → IsProtectedFault bytes header first → IsProtectedFault bytes own second → first ≡ second
-protected_fault-unique bytes header own first second begins own_begins a b =
+-- An area whose place and length one header says has one fault.
+header_area_fault-unique : (place : Header → ℕ) (magic : ℕ) (expected : Header → Option ℕ) (bytes : List ℕ)
+    (header own : Header) (first second : ImageError) → BeginsWith bytes header → BeginsWith bytes own
+    → IsAreaFault bytes (place header) magic (expected header) first
+    → IsAreaFault bytes (place own) magic (expected own) second → first ≡ second
+header_area_fault-unique place magic expected bytes header own first second begins own_begins a b =
     let same = header-unique bytes own header own_begins begins in
-    let too = subst (λ (h : Header). IsProtectedFault bytes h second) same b in
-    let size = Some header.protected_size in
-    area_fault-unique bytes (protected_place header) protected_magic size first second a too
-
-unprotected_fault-unique : (bytes : List ℕ) (header own : Header) (first second : ImageError)
-    → BeginsWith bytes header → BeginsWith bytes own
-    → IsUnprotectedFault bytes header first → IsUnprotectedFault bytes own second → first ≡ second
-unprotected_fault-unique bytes header own first second begins own_begins a b =
-    let same = header-unique bytes own header own_begins begins in
-    let too = subst (λ (h : Header). IsUnprotectedFault bytes h second) same b in
-    area_fault-unique bytes (unprotected_place header) unprotected_magic None first second a too
+    let too = subst (λ (h : Header). IsAreaFault bytes (place h) magic (expected h) second) same b in
+    area_fault-unique bytes (place header) magic (expected header) first second a too
 
 -- A protected area that is there or absent has no fault.
 no_protected_fault : (bytes : List ℕ) (header own : Header) (fault : ImageError)
@@ -227,7 +219,7 @@ first_fault-unique bytes first second a b =
       | IsFirstFault.in_protected header begins some area ↦ elim b [
         | IsFirstFault.in_header other too is_too ↦ absurd (no_header_fault bytes header other begins too)
         | IsFirstFault.in_protected own own_begins own_some own_area ↦
-            protected_fault-unique bytes header own first second begins.0 own_begins.0 area own_area
+            header_area_fault-unique protected_place protected_magic (λ h. Some h.protected_size) bytes header own first second begins.0 own_begins.0 area own_area
         | IsFirstFault.in_unprotected own own_begins before own_area ↦
             absurd (no_protected_fault bytes header own first begins.0 own_begins.0 before area some)
         | IsFirstFault.in_entries image trailing is entry ↦
@@ -238,7 +230,7 @@ first_fault-unique bytes first second a b =
         | IsFirstFault.in_protected own own_begins some own_area ↦
             absurd (no_protected_fault bytes own header second own_begins.0 begins.0 before own_area some)
         | IsFirstFault.in_unprotected own own_begins own_before own_area ↦
-            unprotected_fault-unique bytes header own first second begins.0 own_begins.0 area own_area
+            header_area_fault-unique unprotected_place unprotected_magic (λ h. None) bytes header own first second begins.0 own_begins.0 area own_area
         | IsFirstFault.in_entries image trailing is entry ↦
             absurd (no_image_in_unprotected bytes header first begins.0 area image trailing is)
       ]

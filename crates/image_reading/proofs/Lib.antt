@@ -4,6 +4,7 @@ pub mod Descriptions
 pub mod FieldLaws
 pub mod FirstFaults
 pub mod Answered
+pub mod FrontChecks
 pub mod Fronts
 pub mod GroupLaws
 pub mod Headers

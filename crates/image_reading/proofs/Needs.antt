@@ -6,8 +6,9 @@ use Rattle.common.proofs.Items.{AllByRecursion-no_Any, same_cons}
 use Rattle.version_order.specs.declared.dependency.Dependency.{Dependency}
 use Rattle.version_order.specs.declared.group.Group.{Group}
 use Rattle.image_reading.specs.declared.error.ImageError.TheVariants.{TooManyDependencies, TooManyGroups}
+use Rattle.image_reading.specs.declared.met.Met.{Met}
 use Rattle.image_reading.specs.Fields.{HasBadDependency, HasBadGroup, HaveForms, IsDependencyFault, SpellCounter, SpellDependencies, SpellGroups, dependency_bytes}
-use Rattle.image_reading.specs.Gathered.{AreKept, Spelling, dependency_spelling, group_spelling}
+use Rattle.image_reading.specs.Gathered.{AreKept, HaveMetDependencies, HaveMetGroups, Spelling, dependency_spelling, group_spelling}
 use Rattle.image_reading.specs.Image.{Image, PassesDigest, PassesEntries, PassesGroupCount, counter_values, dependency_values, group_values}
 use Rattle.image_reading.proofs.FieldLaws.{IsDependencyForm-dependency_bytes, SpellCounter-good, dependency_bytes-same}
 use Rattle.image_reading.proofs.GroupLaws.{IsGroupForm-group_bytes, group_bytes-same}
@@ -72,37 +73,37 @@ groups-good = spelled-good group_spelling IsGroupForm-group_bytes
 -- ---- what a walk has kept
 
 -- Where none is bad, each has its form.
-forms_kept : (values others : List (List ℕ)) (dependencies : List Dependency) (groups : List Group)
-    (many_dependencies many_groups : Bool)
-    → AreKept dependency_spelling MOST_DEPENDENCIES values [] dependencies many_dependencies
-    → AreKept group_spelling MOST_GROUPS others [] groups many_groups → HaveForms values others
-forms_kept values others dependencies groups many_dependencies many_groups kept kept_groups = (
-  dependencies-good values kept.found
-      (found_at_end dependency_spelling 16 values dependencies many_dependencies kept),
-  groups-good others kept_groups.found (found_at_end group_spelling 4 others groups many_groups kept_groups),
-)
+forms_kept : (values others : List (List ℕ)) (dependencies : Met Dependency MOST_DEPENDENCIES)
+    (groups : Met Group MOST_GROUPS) → HaveMetDependencies values [] dependencies → HaveMetGroups others [] groups
+    → dependencies.bad ≡ false → groups.bad ≡ false → HaveForms values others
+forms_kept values others dependencies groups met met_groups good good_groups =
+    let kept = met.kept good in
+    let kept_groups = met_groups.kept good_groups in (
+      dependencies-good values kept.found
+          (found_at_end dependency_spelling 16 values dependencies.kept.items dependencies.too_many kept),
+      groups-good others kept_groups.found
+          (found_at_end group_spelling 4 others groups.kept.items groups.too_many kept_groups),
+    )
 
 -- There were too many dependencies ..
-pub too_many_dependencies : (values others : List (List ℕ)) (dependencies : List Dependency) (groups : List Group)
-    (many_dependencies many_groups : Bool)
-    → AreKept dependency_spelling MOST_DEPENDENCIES values [] dependencies many_dependencies
-    → AreKept group_spelling MOST_GROUPS others [] groups many_groups → many_dependencies ≡ true
+pub too_many_dependencies : (values others : List (List ℕ)) (dependencies : Met Dependency MOST_DEPENDENCIES)
+    (groups : Met Group MOST_GROUPS) → HaveMetDependencies values [] dependencies → HaveMetGroups others [] groups
+    → dependencies.bad ≡ false → groups.bad ≡ false → dependencies.too_many ≡ true
     → IsDependencyFault values others TooManyDependencies
-too_many_dependencies values others dependencies groups many_dependencies many_groups kept kept_groups many = (
-  forms_kept values others dependencies groups many_dependencies many_groups kept kept_groups,
-  many_at_end dependency_spelling 16 values dependencies many_dependencies kept many,
+too_many_dependencies values others dependencies groups met met_groups good good_groups many = (
+  forms_kept values others dependencies groups met met_groups good good_groups,
+  many_at_end dependency_spelling 16 values dependencies.kept.items dependencies.too_many (met.kept good) many,
 )
 
 -- .. or not, but too many groups.
-pub too_many_groups : (values others : List (List ℕ)) (dependencies : List Dependency) (groups : List Group)
-    (many_dependencies many_groups : Bool)
-    → AreKept dependency_spelling MOST_DEPENDENCIES values [] dependencies many_dependencies
-    → AreKept group_spelling MOST_GROUPS others [] groups many_groups → many_dependencies ≡ false → many_groups ≡ true
+pub too_many_groups : (values others : List (List ℕ)) (dependencies : Met Dependency MOST_DEPENDENCIES)
+    (groups : Met Group MOST_GROUPS) → HaveMetDependencies values [] dependencies → HaveMetGroups others [] groups
+    → dependencies.bad ≡ false → groups.bad ≡ false → dependencies.too_many ≡ false → groups.too_many ≡ true
     → IsDependencyFault values others TooManyGroups
-too_many_groups values others dependencies groups many_dependencies many_groups kept kept_groups few many = (
-  forms_kept values others dependencies groups many_dependencies many_groups kept kept_groups,
-  few_at_end dependency_spelling 16 values dependencies many_dependencies kept few,
-  many_at_end group_spelling 4 others groups many_groups kept_groups many,
+too_many_groups values others dependencies groups met met_groups good good_groups few many = (
+  forms_kept values others dependencies groups met met_groups good good_groups,
+  few_at_end dependency_spelling 16 values dependencies.kept.items dependencies.too_many (met.kept good) few,
+  many_at_end group_spelling 4 others groups.kept.items groups.too_many (met_groups.kept good_groups) many,
 )
 
 -- Where there weren't, all are kept.

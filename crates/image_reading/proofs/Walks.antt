@@ -1,5 +1,5 @@
 -- What a walk over the entries of an area comes to.
-use Rattle.std.proofs.Common.{◌≡◌, ℕ, ◌+◌, ◌^◌, ◌<◌, List, [], ◌∷◌, ◌++◌, length, Option, Some, None, refl, sym, ap, subst, ◌∙◌, append_assoc, arith}
+use Rattle.std.proofs.Common.{◌≡◌, ℕ, ◌+◌, ◌^◌, ◌<◌, List, [], ◌∷◌, ◌++◌, length, Option, Some, None, refl, sym, ap, subst, ◌∙◌, ◌↔◌, append_assoc, arith}
 use Rattle.std.specs.List.{AllByRecursion}
 use Rattle.std.proofs.lemmas.Option.{none-some}
 use Rattle.std.proofs.lemmas.List.{nil_from_length}
@@ -7,8 +7,12 @@ use Rattle.image_reading.specs.Area.{Entry, FitsEntry, entries_bytes, entry_byte
 use Rattle.image_reading.specs.Fault.{IsFilled}
 use Rattle.image_reading.specs.Reading.{entries_of, first_entry, rest_of}
 use Rattle.image_reading.specs.Walk.{BeginsWithEntry, IsWalk}
+use Rattle.flash_model.specs.Chip.{Chip}
+use Rattle.image_reading.specs.declared.span.Span.{Span}
+use Rattle.image_reading.specs.Span.{CanRead, bytes_of}
 use Rattle.common.specs.Bytes.{IsBytes}
 use Rattle.common.proofs.Bytes.{IsBytes-behind}
+use Rattle.image_reading.proofs.Spans.{IsBytes-bytes_of}
 use Rattle.image_reading.proofs.AreaLaws.{IsFilled-rest_of, entries_of-first, entries_of-none, entries_of-parts, first_entry-entry, first_entry-parts, first_entry-rest_of, rest_of-first, rest_of-none}
 
 -- The entries of an area and its rest are a walk over it ..
@@ -53,14 +57,38 @@ only_walk area entries rest fits walk =
     let same = walked entries rest walk.fit (no_entry rest (first_entry rest) bytes walk.ended refl) in
     (same.0 ∙ ap entries_of (sym walk.parts), same.1 ∙ ap rest_of (sym walk.parts))
 
--- Entries fill an area where nothing is left behind them ..
-pub IsFilled-none_left : (area left : List ℕ) → IsBytes area → 4 + length area < 2 ^ 16 → left ≡ rest_of area
-    → length left ≡ 0 → IsFilled area
-IsFilled-none_left area left fits short same none =
-    (IsFilled-rest_of area fits short).1 (sym same ∙ nil_from_length left none)
+-- Entries fill an area exactly where nothing is left behind them.
+pub IsFilled-left : (area left : List ℕ) → IsBytes area → 4 + length area < 2 ^ 16 → left ≡ rest_of area
+    → (length left ≡ 0) ↔ IsFilled area
+IsFilled-left area left fits short same =
+    let filled = IsFilled-rest_of area fits short in
+    (λ none. filled.1 (sym same ∙ nil_from_length left none), λ is. ap length (same ∙ filled.0 is))
 
--- .. and not where something is.
-pub IsFilled-some_left : (area left : List ℕ) → IsBytes area → 4 + length area < 2 ^ 16 → left ≡ rest_of area
-    → 0 < length left → IsFilled area → ⊥
-IsFilled-some_left area left fits short same some filled =
-    omega (arith, some, ap length (same ∙ (IsFilled-rest_of area fits short).0 filled))
+-- A walk over an area has come so far: the flash is as it was, what is left can be read, and what
+-- follows all entries is the same.
+pub record HasWalked (chip now : Chip) (area left : Span) : Type 0 where
+  pub same : now ≡ chip
+  pub readable : CanRead chip left
+  pub rest : rest_of (bytes_of chip left) ≡ rest_of (bytes_of chip area)
+
+-- It goes on by a step.
+pub HasWalked-step : (chip now next : Chip) (area before left : Span) → HasWalked chip now area before → next ≡ now
+    → CanRead now left → rest_of (bytes_of now left) ≡ rest_of (bytes_of now before)
+    → HasWalked chip next area left
+HasWalked-step chip now next area before left so_far same readable rest = record {
+  same = same ∙ so_far.same;
+  readable = rw so_far.same at readable;
+  rest = rw so_far.same at rest ∙ so_far.rest;
+}
+
+-- Where it ends, the entries fill the area exactly if nothing is left.
+pub IsFilled-walked : (chip now : Chip) (area before left : Span) → HasWalked chip now area before
+    → IsBytes chip.bytes → 4 + area.len < 2 ^ 16 → CanRead chip area → CanRead now left
+    → bytes_of now left ≡ rest_of (bytes_of now before) → (left.len ≡ 0) ↔ IsFilled (bytes_of chip area)
+IsFilled-walked chip now area before left so_far fits short readable left_readable ended =
+    let can = rw so_far.same at left_readable in
+    let at_end = rw so_far.same at ended in
+    let filled =
+    IsFilled-left (bytes_of chip area) (bytes_of chip left) (IsBytes-bytes_of chip area fits)
+    (omega (arith, short, readable.whole)) (at_end ∙ so_far.rest) in
+    (λ none. filled.0 (can.whole ∙ none), λ is. sym can.whole ∙ filled.1 is)

@@ -6,12 +6,13 @@ use Rattle.common.specs.Limits.{MOST_DEPENDENCIES, MOST_GROUPS}
 use Rattle.flash_model.specs.Chip.{Chip}
 use Rattle.version_order.specs.declared.dependency.Dependency.{Dependency}
 use Rattle.version_order.specs.declared.group.Group.{Group}
+use Rattle.image_reading.specs.declared.fields.Needs.{Needs}
 use Rattle.image_reading.specs.declared.gathering.Occurrence.{Occurrence}
 use Rattle.image_reading.specs.declared.gathering.Occurrence.TheVariants.{Absent, Once, Repeated}
 use Rattle.image_reading.specs.declared.gathering.ProtectedFields.{ProtectedFields}
 use Rattle.image_reading.specs.declared.gathering.UnprotectedFields.{UnprotectedFields}
 use Rattle.image_reading.specs.declared.met.Met.{Met}
-use Rattle.image_reading.specs.Fields.{FitsDependency, FitsGroup, IsDependencyForm, IsGroupForm, counter_kind, dependency_bytes, dependency_kind, digest_kind, group_bytes, group_kind}
+use Rattle.image_reading.specs.Fields.{FitsDependency, FitsGroup, IsDependencyForm, IsGroupForm, SpellDependencies, SpellGroups, counter_kind, dependency_bytes, dependency_kind, digest_kind, group_bytes, group_kind}
 use Rattle.image_reading.specs.SlotTlvs.{values_at}
 use Rattle.image_reading.specs.Span.{CanRead, bytes_of}
 
@@ -66,6 +67,13 @@ HaveMetDependencies values left met = HasMet dependency_spelling MOST_DEPENDENCI
 -- .. and groups.
 abbrev pub HaveMetGroups : List (List ℕ) → List (List ℕ) → Met Group MOST_GROUPS → Type 0
 HaveMetGroups values left met = HasMet group_spelling MOST_GROUPS values left met
+
+-- Values spell these dependencies and others these groups, no more than an image may have.
+pub record AreNeeds (values others : List (List ℕ)) (needs : Needs) : Type 0 where
+  pub dependencies : SpellDependencies values needs.dependencies.items
+  pub groups : SpellGroups others needs.groups.items
+  pub few_dependencies : length needs.dependencies.items ≤ MOST_DEPENDENCIES
+  pub few_groups : length needs.groups.items ≤ MOST_GROUPS
 
 -- The dependencies, the groups and the security counter of a protected area were gathered ..
 pub record HasGatheredProtected (chip : Chip) (fields : ProtectedFields) : Type 0 where

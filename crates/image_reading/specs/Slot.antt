@@ -1,14 +1,17 @@
 -- The bytes of a slot and of a file in it, and why no image is described there.
-use Rattle.std.specs.Prelude.{◌≡◌, ℕ, Bool, false, true, List, take}
+use Rattle.std.specs.Prelude.{◌≡◌, ℕ, Bool, false, true, List, Option, Some, None, take}
 use Rattle.flash_model.specs.Chip.{Chip}
 use Rattle.flash_model.specs.declared.error.FlashError.TheVariants.{Off}
 use Rattle.sector_map.specs.declared.layout.SectorMap.{SectorMap}
 use Rattle.sector_map.specs.declared.layout.Side.{Side}
 use Rattle.sector_map.specs.Part.{Slot}
 use Rattle.sector_map.specs.Map.{part_of}
+use Rattle.image_reading.specs.declared.desc.Desc.{Desc}
 use Rattle.image_reading.specs.declared.error.ImageError.{ImageError}
 use Rattle.image_reading.specs.declared.error.SlotError.{SlotError}
 use Rattle.image_reading.specs.declared.error.SlotError.TheVariants.{Image, Flash, NoMemory}
+use Rattle.image_reading.specs.Fault.{IsFrontFault}
+use Rattle.image_reading.specs.Image.{BeginsIntact}
 
 -- The bytes of a slot ..
 abbrev pub slot_bytes : SectorMap → Chip → ℕ → Side → List ℕ
@@ -24,3 +27,8 @@ abbrev pub IsSlotFault : Bool → (ImageError → Type 0) → SlotError → Type
 IsSlotFault was_on Fails (Image fault) = (was_on ≡ true) × Fails fault
 IsSlotFault was_on Fails (Flash fault) = (was_on ≡ false) × (fault ≡ Off)
 IsSlotFault was_on Fails NoMemory = ⊥
+
+-- The image that bytes begin with is intact and so described, or one of its checks fails first.
+abbrev pub IsFoundIntact : List ℕ → Option Desc → Type 0
+IsFoundIntact bytes (Some description) = BeginsIntact bytes description
+IsFoundIntact bytes None = (fault : ImageError) × IsFrontFault bytes fault

@@ -3,8 +3,8 @@
 
 ghost use Rattle.std.specs.Prelude.{◌≡◌, ◌≢◌, ◌↔◌, ℕ, ◌≤◌, ◌∷◌, [], List, length, IsTrue, IfOk, IfErr, IfSome, IfNone};
 ghost use Rattle.flash_model.specs.Chip.{Chip};
-ghost use Rattle.image_reading.specs.Fields.{FitsDependency, IsCounterFault, IsDependencyFault, IsDependencyForm, IsDigestFault, SpellCounter, SpellDependencies, SpellGroups, counter_bytes, dependency_bytes};
-ghost use Rattle.image_reading.specs.Gathered.{CanReadOccurrence, HaveMetDependencies, HaveMetGroups, IsOccurrence};
+ghost use Rattle.image_reading.specs.Fields.{FitsDependency, IsCounterFault, IsDependencyFault, IsDependencyForm, IsDigestFault, SpellCounter, counter_bytes, dependency_bytes};
+ghost use Rattle.image_reading.specs.Gathered.{AreNeeds, CanReadOccurrence, HaveMetDependencies, HaveMetGroups, IsOccurrence};
 ghost use Rattle.image_reading.specs.Span.{CanRead, bytes_of};
 
 use crate::error::ImageError;
@@ -139,13 +139,8 @@ pub(crate) fn checked_needs(
     dependencies: Met<Dependency, MOST_DEPENDENCIES>,
     groups: Met<Group, MOST_GROUPS>,
 ) -> Result<Needs, ImageError>
-    ensures dependencies { (values : List (List ℕ)) → HaveMetDependencies values [] dependencies
-        → IfOk result (λ needs. SpellDependencies values needs.dependencies.items) }
-    ensures groups { (values : List (List ℕ)) → HaveMetGroups values [] groups
-        → IfOk result (λ needs. SpellGroups values needs.groups.items) }
-    ensures few_dependencies { IfOk result (λ needs.
-        length needs.dependencies.items ≤ MOST_DEPENDENCIES) }
-    ensures few_groups { IfOk result (λ needs. length needs.groups.items ≤ MOST_GROUPS) }
+    ensures ok { (values others : List (List ℕ)) → HaveMetDependencies values [] dependencies
+        → HaveMetGroups others [] groups → IfOk result (AreNeeds values others) }
     ensures err { (values others : List (List ℕ)) → HaveMetDependencies values [] dependencies
         → HaveMetGroups others [] groups → IfErr result (IsDependencyFault values others) }
 {

@@ -3,12 +3,12 @@
 ghost use Rattle.std.specs.Prelude.{◌≡◌, ◌<◌, ◌≤◌, Err, IfErr, IfOk, Ok, OnErr, OnOk, false, true};
 ghost use Rattle.flash_model.specs.Chip.{Chip, Ends};
 ghost use Rattle.flash_model.specs.declared.error.FlashError.{FlashError};
-ghost use Rattle.sector_map.specs.Map.{IsLaidOut, length_of};
+ghost use Rattle.sector_map.specs.Map.{HasImage, IsLaidOut, length_of};
 ghost use Rattle.sector_map.specs.Part.{Slot};
 ghost use Rattle.sha2.specs.Sha256.{sha256};
 ghost use Rattle.image_reading.specs.Fault.{IsFirstFault, IsFrontFault};
 ghost use Rattle.image_reading.specs.Image.{BeginsIntact, IsIntact};
-ghost use Rattle.image_reading.specs.Slot.{IsSlotFault, file_bytes, slot_bytes};
+ghost use Rattle.image_reading.specs.Slot.{IsFoundIntact, IsSlotFault, file_bytes, slot_bytes};
 ghost use Rattle.image_reading.specs.Span.{CanRead, bytes_of};
 ghost use Rattle.image_reading.specs.declared.desc.Desc.{Desc};
 ghost use Rattle.image_reading.specs.declared.error.ImageError.{ImageError};
@@ -65,6 +65,36 @@ pub fn describe_slot<F: Flash>(
     flash.read(0, &mut [])?;
     let description = describe_front(flash, slot_span(map, image, side))?;
     Ok(description)
+}
+
+/// What the image says of itself that a slot begins with, if it begins with an intact one. Does not
+/// allocate.
+///
+/// The map is laid out on the flash and has the image, which is told by its number from 0. It reads
+/// what [`describe_slot`] does.
+///
+/// # Errors
+/// `Off` where the flash was off. Nothing changes in any case.
+pub fn intact_image<F: Flash>(
+    flash: &mut F,
+    map: &SectorMap,
+    image: u8,
+    side: Side,
+) -> Result<Option<Desc>, FlashError>
+    requires { HasImage map.now image (F.chip flash.old) }
+    ensures same { F.chip flash.new ≡ F.chip flash.old }
+    // The image is described, or a check of it fails first.
+    ensures found { IfOk result
+        (IsFoundIntact (slot_bytes map.now (F.chip flash.old) image side)) }
+    ensures on { OnOk result ((F.chip flash.old).is_on ≡ true) }
+    ensures off { IfErr result (λ error. error ≡ FlashError.Off) }
+    ensures ends { Ends result (F.chip flash.old) (F.chip flash.new) }
+{
+    flash.read(0, &mut [])?;
+    match describe_front(flash, slot_span(map, image, side)) {
+        Ok(description) => Ok(Some(description)),
+        Err(_) => Ok(None),
+    }
 }
 
 /// What the image says of itself that the first `len` bytes of a slot are, all of them:

@@ -21,7 +21,7 @@ use Rattle.machine.specs.Headline.{AreCut, DoesSomething, HasFinished, IsBootedA
 use Rattle.machine.specs.Headline.{StaysForGood, TakesNone, request_by, running_by}
 use Rattle.machine.specs.declared.error.Fault.TheVariants as no
 use Rattle.machine.specs.declared.reply.Reply.{Reply}
-use Rattle.machine.specs.declared.reply.Reply.TheVariants.{Done, Booted, Reverted, TrialAgain, Refused, Cut}
+use Rattle.machine.specs.declared.reply.Reply.TheVariants.{Booted, Reverted, TrialAgain, Refused}
 
 the_one : {X : Type 0} (x y : X) → Some x ≡ Some y → x ≡ y
 the_one x y e = cc
@@ -189,18 +189,13 @@ booted_step : (setup : Setup) (m next : Machine) (happened : DeviceEvent) (table
     (permanent : Bool) → IsStep setup m happened (Booted table report permanent) next
     → (happened ≡ event.Boot) × StartsGreatest setup.boots m.kept table report permanent next.kept
     × (next.is_booted ≡ true) × ((i : ℕ) → next.session i ≡ None)
-booted_step setup m next (event.Accept bytes) table report permanent step = absurd step
-booted_step setup m next (event.Piece i bytes) table report permanent step = absurd step
-booted_step setup m next (event.Finish i) table report permanent step = absurd step
-booted_step setup m next (event.Withdraw i) table report permanent step = absurd step
-booted_step setup m next (event.Confirm i) table report permanent step = absurd step
-booted_step setup m next event.Reset table report permanent step = absurd step
 booted_step setup m next event.Boot table report permanent (booted, is) = (
   refl,
   boot_starts setup.boots m.kept table report permanent next.kept booted,
   ap (λ (k : Machine). k.is_booted) is,
   λ i. ap (λ (k : Machine). k.session i) is,
 )
+booted_step setup m next other table report permanent step = absurd step
 
 pub booted_at : (setup : Setup) (m : Machine) (events : List DeviceEvent) (replies : List Reply) (last : Machine)
     (place : ℕ) (table : Table) (report : Report) (permanent : Bool) → IsRun setup m events replies last
@@ -266,16 +261,7 @@ finished boots s (Reverted mask) next back = inr tt
 finished boots s (TrialAgain set left) next again = inr tt
 finished boots s (Refused (no.RunningDamaged i)) next (reads, steady, damaged) = inl reads
 finished boots s (Refused no.InvalidSet) next (reads, steady, invalid) = inl reads
-finished boots s (Refused no.NotBooted) next never = absurd never
-finished boots s (Refused no.OnTrial) next never = absurd never
-finished boots s (Refused no.NotOnTrial) next never = absurd never
-finished boots s (Refused no.NotProvisioned) next never = absurd never
-finished boots s (Refused (no.Flash error)) next never = absurd never
-finished boots s (Refused no.NoMemory) next never = absurd never
-finished boots s (Refused (no.Manifest error)) next never = absurd never
-finished boots s (Refused (no.Upload error)) next never = absurd never
-finished boots s Done next never = absurd never
-finished boots s Cut next never = absurd never
+finished boots s other next never = absurd never
 
 -- what is read of a state as it is read
 read_again : (s t r : DeviceState) → IsReadAs s t → IsReadAs t r → IsReadAs s r

@@ -16,7 +16,7 @@ use Rattle.trailer.specs.Standing.{first_is_set, is_good, kind_of}
 use Rattle.set_log.specs.declared.state.State.{State}
 use Rattle.upload.specs.View.{view}
 use Rattle.upload.proofs.Views.{view_kept}
-use Rattle.upload.specs.Device.{DeviceState, Trial, Wanted}
+use Rattle.upload.specs.Device.{DeviceState, Trial}
 use Rattle.upload.specs.Steady.{IsFront, IsRequested, IsImageAt, IsSteadyAt, logged}
 use Rattle.machine.specs.States.{settled, with_confirmed}
 use Rattle.machine.specs.Boots.{IsOnTrial}
@@ -218,20 +218,11 @@ trial_over map old new s trial floors keeps recorded was = record {
       (member_or (is_member trial.set i));
 }
 
-pub on_trial_cut : (map : SectorMap) (w : Chip) (state : State) (i : ℕ) → (view map w).log ≡ Some state
-    → i < (view map w).images → is_member state.mask i ≡ true → (s : DeviceState) (trial : Trial)
-    → IsTrialAt (view map w) s trial → IsOnTrial s i trial
-on_trial_cut map w state i read lt member s trial was = on_trial map w s trial state i read was lt member
-
 pub rest_stands : (map : SectorMap) (w : Chip) (s : DeviceState) → IsAtRest (view map w) s → Stands map w s
 rest_stands map w s rest = ⊎_elim (λ (was : IsSteadyAt (view map w) s). Rests was)
     (λ (tried : (trial : Trial) × IsTrialAt (view map w) s trial). Tries tried.0 tried.1) rest
 
 -- a confirmation, by the record that is read
-steady_not : (map : SectorMap) (w : Chip) (s : DeviceState) (i : ℕ) → IsSteadyAt (view map w) s
-    → (trial : Trial) → IsOnTrial s i trial → ⊥
-steady_not map w s i was trial on = let e : None ≡ Some trial = sym was.trial ∙ on.0 in cc
-
 pub trial_kind : (map : SectorMap) (w : Chip) (s : DeviceState) (trial : Trial) (state : State)
     → (view map w).log ≡ Some state → IsTrialAt (view map w) s trial → state.kind ≡ log.Trial
 trial_kind map w s trial state read was = ap (λ (st : State). st.kind)
@@ -241,27 +232,6 @@ pub steady_kind : (map : SectorMap) (w : Chip) (s : DeviceState) (state : State)
     → IsSteadyAt (view map w) s → state.kind ≡ log.Steady
 steady_kind map w s state read was = ap (λ (st : State). st.kind)
     (same_state map w state (logged log.Steady 0 false 0 s) read was.log)
-
-pub not_in_trial : (map : SectorMap) (old mid : Chip) (state : State) (i : ℕ) → mid ≡ old
-    → (view map old).log ≡ Some state → (state.kind ≡ log.Trial → ⊥) → (s : DeviceState)
-    → IsAtRest (view map old) s → EndsConfirm (view map mid) s i false
-not_in_trial map old mid state i same read other s rest = ⊎_elim
-    (λ (was : IsSteadyAt (view map old) s).
-    (steady_not map old s i was, inl (subst (λ w. IsSteadyAt (view map w) s) (sym same) was)))
-    (λ (tried : (trial : Trial) × IsTrialAt (view map old) s trial). absurd
-    (other (trial_kind map old s tried.0 state read tried.1)))
-    rest
-
-pub not_logged : (map : SectorMap) (old mid : Chip) (i : ℕ) → mid ≡ old → (view map old).log ≡ None
-    → (s : DeviceState) → IsAtRest (view map old) s → EndsConfirm (view map mid) s i false
-not_logged map old mid i same none s rest = ⊎_elim
-    (λ (was : IsSteadyAt (view map old) s). absurd (none_record (logged log.Steady 0 false 0 s) (sym none ∙ was.log)))
-    (λ (tried : (trial : Trial) × IsTrialAt (view map old) s trial). absurd
-    (none_record (logged log.Trial tried.0.set tried.1.opened.permanent tried.0.left s)
-    (sym none ∙ tried.1.opened.log)))
-    rest where
-      none_record : (state : State) → None ≡ Some state → ⊥
-      none_record state e = cc
 
 module _ (map : SectorMap) (old mid new : Chip) (state : State) (i : ℕ) (same : mid ≡ old)
     (read : (view map old).log ≡ Some state) (kind : state.kind ≡ log.Trial) where

@@ -1,8 +1,6 @@
 -- An upgrade ends.
 use Rattle.std.proofs.Common.{◌≡◌, ℕ, ◌<◌, ◌⊎◌, Bool, true, false, List, Option, Some, None, refl, sym, ◌∙◌, ap}
 use Rattle.std.proofs.Common.{subst, inl, inr, ⊎_elim, if◌then◌else◌}
-use Rattle.std.proofs.Common.{true≢false}
-use Rattle.std.proofs.lemmas.Bool.{false≢true}
 use Rattle.std.proofs.lemmas.Option.{none-some}
 use Rattle.flash_model.specs.Chip.{Chip}
 use Rattle.sector_map.specs.declared.layout.SectorMap.{SectorMap}
@@ -13,7 +11,7 @@ use Rattle.trailer.specs.Fields.{Fields, erased_fields}
 use Rattle.set_log.specs.declared.state.State.{State}
 use Rattle.upload.specs.View.{view}
 use Rattle.upload.proofs.Views.{view_kept}
-use Rattle.upload.specs.Device.{DeviceState, Wanted}
+use Rattle.upload.specs.Device.{DeviceState}
 use Rattle.upload.specs.Steady.{IsFront, IsRequested, IsImageAt, IsSteadyAt, logged}
 use Rattle.certificate.specs.declared.table.Table.{Table}
 use Rattle.machine.specs.States.{wanted_bytes, settled, taken_for_good, taken_on_trial, bytes_or_none, new_trial}
@@ -191,30 +189,18 @@ good_either map old new state floors read keeps either s table mask was settled 
     (λ recorded. inr (good_ok map old new state floors read keeps recorded s table mask was settled))
     either
 
-pub conclude_good : (map : SectorMap) (old mid new : Chip) (mask : ℕ) (permanent : Bool) (left : ℕ)
-    (floors : List ℕ) → permanent ≡ true → Keeps map (trailers_in mask) old mid
+-- A set that is settled is recorded as one that stays, or as one on trial.
+pub conclude : (map : SectorMap) (old mid new : Chip) (mask : ℕ) (permanent good : Bool) (left : ℕ)
+    (floors : List ℕ) → permanent ≡ good → Keeps map (trailers_in mask) old mid
     → AreSettled (view map mid) mask permanent
-    → ((s : DeviceState) (table : Table) (mask : ℕ) → IsSwapped (view map mid) s table log.Settle mask true
-    → AreSettled (view map mid) mask true
-    → IsSwapped (view map new) s table log.Settle mask true
-    ⊎ IsSteadyAt (view map new) (taken_for_good s mask floors))
+    → ((s : DeviceState) (table : Table) (mask : ℕ) → IsSwapped (view map mid) s table log.Settle mask good
+    → AreSettled (view map mid) mask good
+    → IsSwapped (view map new) s table log.Settle mask good ⊎ IsTakenAt (view map new) s mask good left floors)
     → (s : DeviceState) (table : Table) → IsSwapped (view map old) s table log.Settle mask permanent
     → IsSwapped (view map new) s table log.Settle mask permanent
     ⊎ IsTakenAt (view map new) s mask permanent left floors
-conclude_good map old mid new mask true left floors e keeps settled ends s table was = ends s table mask
-    (settling_kept map old mid mask keeps s table log.Settle true was) settled
-conclude_good map old mid new mask false left floors e keeps settled ends s table was = absurd (false≢true e)
-
-pub conclude_trial : (map : SectorMap) (old mid new : Chip) (mask : ℕ) (permanent : Bool) (left : ℕ)
-    (floors : List ℕ) → permanent ≡ false → Keeps map (trailers_in mask) old mid
-    → AreSettled (view map mid) mask permanent
-    → ((s : DeviceState) (table : Table) (mask : ℕ) → IsSwapped (view map mid) s table log.Settle mask false
-    → AreSettled (view map mid) mask false
-    → IsSwapped (view map new) s table log.Settle mask false
-    ⊎ IsTrialAt (view map new) (taken_on_trial s mask (new_trial s mask left)) (new_trial s mask left))
-    → (s : DeviceState) (table : Table) → IsSwapped (view map old) s table log.Settle mask permanent
-    → IsSwapped (view map new) s table log.Settle mask permanent
-    ⊎ IsTakenAt (view map new) s mask permanent left floors
-conclude_trial map old mid new mask false left floors e keeps settled ends s table was = ends s table mask
-    (settling_kept map old mid mask keeps s table log.Settle false was) settled
-conclude_trial map old mid new mask true left floors e keeps settled ends s table was = absurd (true≢false e)
+conclude map old mid new mask permanent good left floors e keeps settled ends s table was =
+    subst (λ (b : Bool). AreSettled (view map mid) mask b → IsSwapped (view map old) s table log.Settle mask b
+    → IsSwapped (view map new) s table log.Settle mask b ⊎ IsTakenAt (view map new) s mask b left floors) (sym e)
+    (λ now before. ends s table mask (settling_kept map old mid mask keeps s table log.Settle good before) now)
+    settled was

@@ -2,7 +2,7 @@
 use Rattle.std.proofs.Common.{◌≡◌, ℕ, ◌+◌, ◌≤◌, Bool, false, List, length, take, Some, refl, sym, ◌∙◌, ap, subst, arith}
 use Rattle.std.proofs.Math.Bool.{and-false}
 use Rattle.std.proofs.Common.{◌-◌, ◌++◌, drop}
-use Rattle.std.proofs.lemmas.List.{append_assoc, take-append-drop}
+use Rattle.std.proofs.lemmas.List.{append_assoc}
 use Rattle.std.proofs.Math.Seq.{take-add, take-append_seam, drop-append_seam}
 use Rattle.common.specs.Bytes.{Starts}
 use Rattle.flash_model.specs.Chip.{Chip}
@@ -104,7 +104,3 @@ starts_take n whole bytes (rest, is) le =
 pub starts_trans : (whole front bytes : List ℕ) → Starts whole front → Starts front bytes → Starts whole bytes
 starts_trans whole front bytes (rest, is) (more, also) =
     (more ++ rest, is ∙ ap (λ l. l ++ rest) also ∙ append_assoc bytes more rest)
-
-pub starts_of_take : (n : ℕ) (whole bytes : List ℕ) → Starts (take n whole) bytes → Starts whole bytes
-starts_of_take n whole bytes starts = starts_trans whole (take n whole) bytes
-    (drop n whole, sym (take-append-drop n whole)) starts

@@ -8,7 +8,7 @@ use Rattle.machine.specs.Steps.{Completes, DeviceEvent, IsRun, IsStep, IsUncutRu
 use Rattle.machine.specs.Holding.{DeviceView}
 use Rattle.machine.specs.Passing.{StepsTo, RunsTo}
 use Rattle.machine.specs.declared.reply.Reply.{Reply}
-use Rattle.machine.specs.declared.reply.Reply.TheVariants.{Done, Booted, Reverted, TrialAgain, Refused, Cut}
+use Rattle.machine.specs.declared.reply.Reply.TheVariants.{Cut}
 
 -- ---- a run goes on by a run, and is two runs wherever its events are cut
 
@@ -107,28 +107,16 @@ cuts_on replies answered reply first mid last is before after =
 -- a step whose reply isn't Cut is complete
 uncut_step : (setup : Setup) (m next : Machine) (event : DeviceEvent) (reply : Reply) → cut_of reply ≡ 0
     → IsStep setup m event reply next → Completes setup m event reply next
-uncut_step setup m next event Done none step = step
-uncut_step setup m next event (Booted table report permanent) none step = step
-uncut_step setup m next event (Reverted mask) none step = step
-uncut_step setup m next event (TrialAgain set left) none step = step
-uncut_step setup m next event (Refused fault) none step = step
 uncut_step setup m next event Cut none step = absurd (omega (arith, none))
+uncut_step setup m next event other none step = step
 
 -- .. and a complete step is one whose reply isn't Cut
 pub complete_step : (setup : Setup) (m next : Machine) (event : DeviceEvent) (reply : Reply)
     → Completes setup m event reply next → IsStep setup m event reply next × (cut_of reply ≡ 0)
-complete_step setup m next event Done step = (step, refl)
-complete_step setup m next event (Booted table report permanent) step = (step, refl)
-complete_step setup m next event (Reverted mask) step = (step, refl)
-complete_step setup m next event (TrialAgain set left) step = (step, refl)
-complete_step setup m next event (Refused fault) step = (step, refl)
-complete_step setup m next (event.Accept bytes) Cut step = absurd step
-complete_step setup m next (event.Piece i bytes) Cut step = absurd step
-complete_step setup m next (event.Finish i) Cut step = absurd step
-complete_step setup m next (event.Withdraw i) Cut step = absurd step
-complete_step setup m next (event.Confirm i) Cut step = absurd step
 complete_step setup m next event.Boot Cut step = absurd step.0
 complete_step setup m next event.Reset Cut step = absurd step
+complete_step setup m next other Cut step = absurd step
+complete_step setup m next event other step = (step, refl)
 
 pub uncut_run : (setup : Setup) (m last : Machine) (events : List DeviceEvent) (replies : List Reply)
     → IsRun setup m events replies last → cuts_in replies ≡ 0 → IsUncutRun setup m events replies last

@@ -1,5 +1,5 @@
 -- What runs stays intact and valid, through every step.
-use Rattle.std.proofs.Common.{◌≡◌, ℕ, Bool, true, false, not, List, [], ◌∷◌, length, Option, Some, None}
+use Rattle.std.proofs.Common.{◌≡◌, ℕ, Bool, false, not, List, [], ◌∷◌, length, Option, Some, None}
 use Rattle.std.proofs.Common.{refl, sym, ◌∙◌, ap, subst, zero, suc, slice_get, slice_index}
 use Rattle.std.specs.Prelude.{IfSome, IsTrue, ◌&&◌, ◌||◌}
 use Rattle.std.specs.List.{list_all, list_any}

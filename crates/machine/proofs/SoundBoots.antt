@@ -19,7 +19,7 @@ use Rattle.machine.specs.Boots.{Boots, IsAllSound, IsBootCut, IsDecision, IsEntr
 use Rattle.machine.specs.Boots.{IsReadSound, IsRequestOf, IsSound, IsTaken}
 use Rattle.machine.specs.declared.error.Fault.TheVariants as no
 use Rattle.machine.specs.declared.reply.Reply.{Reply}
-use Rattle.machine.specs.declared.reply.Reply.TheVariants.{Done, Booted, Reverted, TrialAgain, Refused, Cut}
+use Rattle.machine.specs.declared.reply.Reply.TheVariants.{Booted, Reverted, TrialAgain, Refused}
 use Rattle.machine.proofs.Answered.{read_same}
 use Rattle.machine.proofs.Beginning.{some_of}
 use Rattle.machine.proofs.Sound.{sound_to, the_one}
@@ -194,16 +194,7 @@ booted_sound boots s (Refused (no.RunningDamaged i)) next (reads, none, damaged)
     all_sound next none (read_sound s next reads all.now)
 booted_sound boots s (Refused no.InvalidSet) next (reads, none, invalid) all =
     all_sound next none (read_sound s next reads all.now)
-booted_sound boots s (Refused no.NotBooted) next never all = absurd never
-booted_sound boots s (Refused no.OnTrial) next never all = absurd never
-booted_sound boots s (Refused no.NotOnTrial) next never all = absurd never
-booted_sound boots s (Refused no.NotProvisioned) next never all = absurd never
-booted_sound boots s (Refused (no.Flash error)) next never all = absurd never
-booted_sound boots s (Refused no.NoMemory) next never all = absurd never
-booted_sound boots s (Refused (no.Manifest error)) next never all = absurd never
-booted_sound boots s (Refused (no.Upload error)) next never all = absurd never
-booted_sound boots s Done next never all = absurd never
-booted_sound boots s Cut next never all = absurd never
+booted_sound boots s other next never all = absurd never
 
 pub boot_cut_sound : (boots : ℕ) (s next : DeviceState) → IsBootCut boots s next → IsAllSound s → IsAllSound next
 boot_cut_sound boots s next cut all = ⊎_elim

@@ -75,14 +75,7 @@ pieces_alike m next i bytes (Err upload.NoSession) (none, is) = kept_same m next
 pieces_alike m next i bytes (Err upload.TooMuch) (session, opened, more, is) = kept_same m next _ refl is
 pieces_alike m next i bytes (Err (upload.Flash error)) (session, opened, room, none, is) =
     kept_same m next _ refl is
-pieces_alike m next i bytes (Err upload.OldSequence) never = absurd never
-pieces_alike m next i bytes (Err upload.TooBig) never = absurd never
-pieces_alike m next i bytes (Err upload.SizeWrong) never = absurd never
-pieces_alike m next i bytes (Err upload.DigestWrong) never = absurd never
-pieces_alike m next i bytes (Err (upload.NotAnImage fault)) never = absurd never
-pieces_alike m next i bytes (Err upload.WrongPrecursor) never = absurd never
-pieces_alike m next i bytes (Err upload.NothingRequested) never = absurd never
-pieces_alike m next i bytes (Err upload.NoMemory) never = absurd never
+pieces_alike m next i bytes (Err other) never = absurd never
 
 withdraws_alike : (m next : Machine) (i : ℕ) (result : Result Unit UploadError) → Withdraws m i result next
     → IsAlike m.kept next.kept
@@ -95,15 +88,7 @@ withdraws_alike m next i (Err (upload.Flash flash.Cut)) (stood, either) = ⊎_el
     alike_asked m next i None (request.None, refl) (ap (λ (k : Machine). k.kept) is))
     either
 withdraws_alike m next i (Err (upload.Flash flash.Off)) is = kept_same m next _ refl is
-withdraws_alike m next i (Err upload.OldSequence) never = absurd never
-withdraws_alike m next i (Err upload.TooBig) never = absurd never
-withdraws_alike m next i (Err upload.NoSession) never = absurd never
-withdraws_alike m next i (Err upload.TooMuch) never = absurd never
-withdraws_alike m next i (Err upload.SizeWrong) never = absurd never
-withdraws_alike m next i (Err upload.DigestWrong) never = absurd never
-withdraws_alike m next i (Err (upload.NotAnImage fault)) never = absurd never
-withdraws_alike m next i (Err upload.WrongPrecursor) never = absurd never
-withdraws_alike m next i (Err upload.NoMemory) never = absurd never
+withdraws_alike m next i (Err other) never = absurd never
 
 -- a good upload is fit to be requested
 good_fits : (session : Session) → IsGoodUpload session
@@ -126,13 +111,7 @@ finishes_alike m next i session (Err (upload.Flash flash.Cut)) (size, none, eith
     alike_asked m next i (Some (asked session)) (good_fits session done.0) (ap (λ (k : Machine). k.kept) done.1))
     either
 finishes_alike m next i session (Err (upload.Flash flash.Off)) (size, none, is) = kept_same m next _ refl is
-finishes_alike m next i session (Err upload.OldSequence) never = absurd never
-finishes_alike m next i session (Err upload.TooBig) never = absurd never
-finishes_alike m next i session (Err upload.NoSession) never = absurd never
-finishes_alike m next i session (Err upload.TooMuch) never = absurd never
-finishes_alike m next i session (Err upload.WrongPrecursor) never = absurd never
-finishes_alike m next i session (Err upload.NothingRequested) never = absurd never
-finishes_alike m next i session (Err upload.NoMemory) never = absurd never
+finishes_alike m next i session (Err other) never = absurd never
 
 finish_alike : (m next : Machine) (i : ℕ) (result : Result Unit UploadError) → FinishRow m i result next
     → IsAlike m.kept next.kept
@@ -183,13 +162,7 @@ accepts_alike map m next sequence cs (Err upload.WrongPrecursor) (newer, fit, wr
 accepts_alike map m next sequence cs (Err (upload.Flash flash.Cut)) (may, cut, is) =
     cut_alike m.kept next.kept sequence cs cut
 accepts_alike map m next sequence cs (Err (upload.Flash flash.Off)) is = kept_same m next _ refl is
-accepts_alike map m next sequence cs (Err upload.NoSession) never = absurd never
-accepts_alike map m next sequence cs (Err upload.TooMuch) never = absurd never
-accepts_alike map m next sequence cs (Err upload.SizeWrong) never = absurd never
-accepts_alike map m next sequence cs (Err upload.DigestWrong) never = absurd never
-accepts_alike map m next sequence cs (Err (upload.NotAnImage fault)) never = absurd never
-accepts_alike map m next sequence cs (Err upload.NothingRequested) never = absurd never
-accepts_alike map m next sequence cs (Err upload.NoMemory) never = absurd never
+accepts_alike map m next sequence cs (Err other) never = absurd never
 
 manifest_alike : (setup : Setup) (m next : Machine) (bytes : List ℕ) (result : Result Unit UploadError)
     → TakesManifest setup m bytes result next → IsAlike m.kept next.kept
@@ -210,17 +183,7 @@ uploads_sound row m next (Refused no.NotBooted) alike (down, is) all = same_soun
 uploads_sound row m next (Refused no.OnTrial) alike (trying, is) all = same_sound m next is all
 uploads_sound row m next (Refused (no.Upload error)) alike (is_ready, none, at) all =
     alike_sound m.kept next.kept (alike (Err error) at) is_ready.rest all
-uploads_sound row m next (Refused no.NotOnTrial) alike never all = absurd never
-uploads_sound row m next (Refused no.NotProvisioned) alike never all = absurd never
-uploads_sound row m next (Refused (no.RunningDamaged i)) alike never all = absurd never
-uploads_sound row m next (Refused no.InvalidSet) alike never all = absurd never
-uploads_sound row m next (Refused (no.Flash error)) alike never all = absurd never
-uploads_sound row m next (Refused no.NoMemory) alike never all = absurd never
-uploads_sound row m next (Refused (no.Manifest error)) alike never all = absurd never
-uploads_sound row m next (Booted table report permanent) alike never all = absurd never
-uploads_sound row m next (Reverted mask) alike never all = absurd never
-uploads_sound row m next (TrialAgain set left) alike never all = absurd never
-uploads_sound row m next Cut alike never all = absurd never
+uploads_sound row m next other alike never all = absurd never
 
 text_sound : (setup : Setup) (m next : Machine) (bytes : List ℕ) (reply : Reply)
     → TakesText setup m bytes reply next → IsAllSound m.kept → IsAllSound next.kept
@@ -232,15 +195,7 @@ text_sound setup m next bytes (Refused (no.Manifest fault)) (is_ready, refused, 
 text_sound setup m next bytes (Refused no.NoMemory) (is_ready, is) all = same_sound m next is all
 text_sound setup m next bytes (Refused no.NotBooted) (down, is) all = same_sound m next is all
 text_sound setup m next bytes (Refused no.OnTrial) (trying, is) all = same_sound m next is all
-text_sound setup m next bytes (Refused no.NotOnTrial) never all = absurd never
-text_sound setup m next bytes (Refused no.NotProvisioned) never all = absurd never
-text_sound setup m next bytes (Refused (no.RunningDamaged i)) never all = absurd never
-text_sound setup m next bytes (Refused no.InvalidSet) never all = absurd never
-text_sound setup m next bytes (Refused (no.Flash error)) never all = absurd never
-text_sound setup m next bytes (Booted table report permanent) never all = absurd never
-text_sound setup m next bytes (Reverted mask) never all = absurd never
-text_sound setup m next bytes (TrialAgain set left) never all = absurd never
-text_sound setup m next bytes Cut never all = absurd never
+text_sound setup m next bytes other never all = absurd never
 
 confirms_sound : (m next : Machine) (i : ℕ) (reply : Reply) → Confirms m i reply next → IsAllSound m.kept
     → IsAllSound next.kept
@@ -248,26 +203,11 @@ confirms_sound m next i Done (up, (trial, on, is)) all = subst (λ (k : Machine)
     (confirmed_sound m.kept trial i on.0 all)
 confirms_sound m next i (Refused no.NotBooted) (down, is) all = same_sound m next is all
 confirms_sound m next i (Refused no.NotOnTrial) (up, other, is) all = same_sound m next is all
-confirms_sound m next i (Refused no.OnTrial) never all = absurd never
-confirms_sound m next i (Refused no.NotProvisioned) never all = absurd never
-confirms_sound m next i (Refused (no.RunningDamaged j)) never all = absurd never
-confirms_sound m next i (Refused no.InvalidSet) never all = absurd never
-confirms_sound m next i (Refused (no.Flash error)) never all = absurd never
-confirms_sound m next i (Refused no.NoMemory) never all = absurd never
-confirms_sound m next i (Refused (no.Manifest error)) never all = absurd never
-confirms_sound m next i (Refused (no.Upload error)) never all = absurd never
-confirms_sound m next i (Booted table report permanent) never all = absurd never
-confirms_sound m next i (Reverted mask) never all = absurd never
-confirms_sound m next i (TrialAgain set left) never all = absurd never
-confirms_sound m next i Cut never all = absurd never
+confirms_sound m next i other never all = absurd never
 
 resets_sound : (m next : Machine) (reply : Reply) → Resets m reply next → IsAllSound m.kept → IsAllSound next.kept
 resets_sound m next Done is all = subst (λ (k : Machine). IsAllSound k.kept) (sym is) all
-resets_sound m next (Booted table report permanent) never all = absurd never
-resets_sound m next (Reverted mask) never all = absurd never
-resets_sound m next (TrialAgain set left) never all = absurd never
-resets_sound m next (Refused fault) never all = absurd never
-resets_sound m next Cut never all = absurd never
+resets_sound m next other never all = absurd never
 
 completes_sound : (setup : Setup) (m next : Machine) (happened : DeviceEvent) (reply : Reply)
     → Completes setup m happened reply next → IsAllSound m.kept → IsAllSound next.kept

@@ -1,6 +1,6 @@
 -- What the calls of a device leave, as steps of the machine: boots, confirmations and resets.
-use Rattle.std.proofs.Common.{◌≡◌, ℕ, ◌<◌, ◌≤◌, ◌==◌, Bool, true, false, List, length, Option, Some, None, Result, Ok}
-use Rattle.std.proofs.Common.{Err, IfOk, refl, sym, ◌∙◌, ap, subst, ⊎_elim, inl, inr}
+use Rattle.std.proofs.Common.{◌≡◌, ℕ, ◌==◌, Bool, true, false, List, Option, Some, None, Result, Ok}
+use Rattle.std.proofs.Common.{Err, IfOk, refl, sym, ◌∙◌, ap, subst}
 use Rattle.std.proofs.Math.Bool.{and-false}
 use Rattle.std.proofs.Common.{true≢false}
 use Rattle.std.proofs.lemmas.Option.{none-some}
@@ -14,9 +14,9 @@ use Rattle.sector_map.proofs.Parts.{keeps_bytes}
 use Rattle.set_log.specs.declared.state.State.{State}
 use Rattle.set_log.specs.declared.state.Kind.TheVariants as log
 use Rattle.certificate.specs.Combination.{IsValid, running_set}
-use Rattle.upload.specs.View.{View, view}
+use Rattle.upload.specs.View.{view}
 use Rattle.upload.specs.Device.{DeviceState, Machine, Session, no_session}
-use Rattle.upload.specs.Sessions.{AllClosed, HasSession, HasSessions, IsWritten, upload_at}
+use Rattle.upload.specs.Sessions.{AllClosed, HasSessions, upload_at}
 use Rattle.upload.specs.declared.sessions.Upload.{Upload}
 use Rattle.upload.proofs.Frames.{session_kept, sessions_closed}
 use Rattle.upload.proofs.Views.{view_kept}
@@ -26,7 +26,7 @@ use Rattle.machine.specs.Intake.{Setup}
 use Rattle.machine.specs.Steps.{DeviceEvent, IsStep}
 use Rattle.machine.specs.Holding.{DeviceView, Holds, IsAtRest, Stands, Rests, Tries, Swaps, Settles, Opens, SwapsBack}
 use Rattle.machine.specs.Holding.{SettlesBack}
-use Rattle.machine.specs.Passing.{CutsBoot, CutsConfirm, EndsBoot, EndsConfirm, StepsTo, needs_up}
+use Rattle.machine.specs.Passing.{EndsBoot, EndsConfirm, StepsTo, needs_up}
 use Rattle.machine.specs.declared.error.Fault.TheVariants as no
 use Rattle.machine.specs.declared.reply.Reply.{Reply}
 use Rattle.machine.specs.declared.reply.Reply.TheVariants.{Done, Booted, Reverted, TrialAgain, Refused, Cut}
@@ -116,23 +116,6 @@ steps_boot setup old new told tnew up answer reply is none ends m holds =
       },
     )
 
-pub steps_boot_cut : (setup : Setup) (old mid new : Chip) (told tnew : List (Option Upload)) (up : Bool)
-    → IsLaidOut setup.map mid → AllClosed tnew
-    → ((s : DeviceState) → Stands setup.map old s → CutsBoot setup.map setup.boots mid s)
-    → new ≡ record mid { is_on = true }
-    → StepsTo setup (record { flash = old; sessions = told; up = up })
-    (record { flash = new; sessions = tnew; up = false }) event.Boot Cut
-steps_boot_cut setup old mid new told tnew up laid none cuts is m holds =
-    let after = cuts m.kept holds.stands in
-    (asleep after.0, (after.1, refl), holds_asleep setup.map mid new tnew after.0 laid is none after.2)
-
-pub steps_reset : (setup : Setup) (old new : Chip) (told tnew : List (Option Upload)) (up : Bool)
-    → IsLaidOut setup.map old → AllClosed tnew → new ≡ record old { is_on = true }
-    → StepsTo setup (record { flash = old; sessions = told; up = up })
-    (record { flash = new; sessions = tnew; up = false }) event.Reset Done
-steps_reset setup old new told tnew up laid none is m holds =
-    (asleep m.kept, refl, holds_asleep setup.map old new tnew m.kept laid is none holds.stands)
-
 -- a flash without a state holds none
 no_state : {X : Type 0} (state : State) → None ≡ Some state → X
 no_state state e = absurd (never e) where
@@ -217,28 +200,6 @@ module _ (setup : Setup) (old : Chip) (told : List (Option Upload)) (up : Bool) 
         },
       )
 
-  pub steps_confirm_cut : (mid new : Chip) (tnew : List (Option Upload)) → IsLaidOut setup.map mid → AllClosed tnew
-      → ((s : DeviceState) → IsAtRest (view setup.map old) s → CutsConfirm (view setup.map mid) s i)
-      → new ≡ record mid { is_on = true }
-      → StepsTo setup (record { flash = old; sessions = told; up = up })
-      (record { flash = new; sessions = tnew; up = false }) (event.Confirm i) Cut
-  steps_confirm_cut mid new tnew laid none cuts is m holds =
-      let here = holds.is_booted ∙ is_booted in
-      let after = cuts m.kept (holds.rest here) in
-      let done = with_confirmed m.kept after.0 i in
-      ⊎_elim
-      (λ (still : IsAtRest (view setup.map mid) m.kept). (
-        asleep m.kept,
-        (here, (after.0, after.1, inl refl)),
-        holds_asleep setup.map mid new tnew m.kept laid is none (rest_stands setup.map mid m.kept still),
-      ))
-      (λ (now : IsAtRest (view setup.map mid) done). (
-        asleep done,
-        (here, (after.0, after.1, inr refl)),
-        holds_asleep setup.map mid new tnew done laid is none (rest_stands setup.map mid done now),
-      ))
-      after.2
-
 -- ---- a device that isn't up holds its state with and without power
 
 holds_repowered : (map : SectorMap) (old new : Chip) (told : List (Option Upload)) (m : Machine) → IsLaidOut map old
@@ -271,32 +232,7 @@ steps_on setup old mid new told happened reply laid is steps m holds =
           after.2,
     )
 
--- .. or isn't back yet
-pub steps_off : (setup : Setup) (old : DeviceView) (mid : Chip) (told : List (Option Upload)) (happened : DeviceEvent)
-    (reply : Reply) → IsLaidOut setup.map mid
-    → StepsTo setup old (record { flash = record mid { is_on = true }; sessions = told; up = false }) happened reply
-    → StepsTo setup old (record { flash = mid; sessions = told; up = false }) happened reply
-steps_off setup old mid told happened reply laid steps m holds =
-    let after = steps m holds in
-    let on : Chip = record mid { is_on = true } in (
-      after.0,
-      after.1,
-      holds_repowered setup.map on mid told after.0
-          (record {
-            sector_size = laid.sector_size;
-            sectors = laid.sectors;
-            is_map = laid.is_map;
-            whole = laid.whole;
-            size = laid.size;
-          })
-          (λ touched. keeps_bytes setup.map touched on mid refl refl refl refl) after.2,
-    )
-
 -- ---- how a run uses steps
-
-pub steps_as : (setup : Setup) (old new : DeviceView) (given other : DeviceEvent) (reply : Reply) → given ≡ other
-    → StepsTo setup old new other reply → StepsTo setup old new given reply
-steps_as setup old new given other reply is steps = subst (λ e. StepsTo setup old new e reply) (sym is) steps
 
 pub if_ok_both : {T E : Type 0} (r : Result T E) (P Q S : T → Type 0) → ((x : T) → P x → Q x → S x) → IfOk r P
     → IfOk r Q → IfOk r S
@@ -317,16 +253,7 @@ boots_answer boots s (Refused (no.RunningDamaged i)) next sound (reads, rest, da
 boots_answer boots s (Refused no.InvalidSet) next sound (reads, rest, (table, rows, invalid)) =
     let whole = sound.each next reads in
     absurd (invalid (subst (λ t. IsValid t running_set) (one_table next whole.0 table whole.1 rows) whole.2))
-boots_answer boots s (Refused no.NotBooted) next sound never = absurd never
-boots_answer boots s (Refused no.OnTrial) next sound never = absurd never
-boots_answer boots s (Refused no.NotOnTrial) next sound never = absurd never
-boots_answer boots s (Refused no.NotProvisioned) next sound never = absurd never
-boots_answer boots s (Refused (no.Flash error)) next sound never = absurd never
-boots_answer boots s (Refused no.NoMemory) next sound never = absurd never
-boots_answer boots s (Refused (no.Manifest error)) next sound never = absurd never
-boots_answer boots s (Refused (no.Upload error)) next sound never = absurd never
-boots_answer boots s Done next sound never = absurd never
-boots_answer boots s Cut next sound never = absurd never
+boots_answer boots s other next sound never = absurd never
 
 pub sound_answers : (map : SectorMap) (boots : ℕ) (w : Chip) (s : DeviceState) (reply : Reply) → IsReadSound s
     → EndsBoot map boots w s reply → is_answer reply ≡ true

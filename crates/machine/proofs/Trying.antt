@@ -25,7 +25,7 @@ use Rattle.machine.specs.Passing.{IsOpenOrAt, IsSwappingBackSome, EndsBoot, Cuts
 use Rattle.machine.specs.Reading.{RunsAt, IsDamagedOr, IsAnyDamaged, AreSetOk, IsPassage, IsFloorOf, IsReadOf}
 use Rattle.machine.specs.declared.finding.Passage.{Passage}
 use Rattle.machine.specs.declared.reply.Reply.{Reply}
-use Rattle.machine.specs.declared.reply.Reply.TheVariants.{Done, Booted, Reverted, TrialAgain, Refused, Cut}
+use Rattle.machine.specs.declared.reply.Reply.TheVariants.{Booted, Reverted, TrialAgain, Refused}
 use Rattle.machine.specs.declared.error.Fault.TheVariants as no
 use Rattle.machine.proofs.Frames.{image_same, rests_with, same_state}
 use Rattle.machine.proofs.Reverting.{tried_same, open_logged}
@@ -35,9 +35,6 @@ use Rattle.machine.proofs.Raising.{entry_counter}
 use Rattle.machine.proofs.Standing.{stands_trial}
 
 -- ---- what is read of one slot
-
-pub slot_damaged : (held : Option (List ℕ)) → IsReadOf held None → IsDamagedOr held true
-slot_damaged held is = is
 
 entry_held : (held : Option (List ℕ)) (entry : Entry) → IsEntryOf held entry → held ≡ None → ⊥
 entry_held None entry is e = is
@@ -60,16 +57,6 @@ floor_raised held entry floor new is at = record {
 }
 
 -- ---- floors raised one by one
-
-pub raised_none : (s : DeviceState) (floors : List ℕ) → s.floors ≡ floors → IsRaised 0 s.running s.floors floors
-raised_none s floors same = record {
-  size = ap length (sym same);
-  raised = λ i bytes d lt e image. absurd (none_below i lt);
-  damaged = λ i lt e. ap (λ l. slice_index l i) (sym same);
-  rest = λ i le. ap (λ l. slice_index l i) (sym same);
-} where
-  none_below : (i : ℕ) → i < 0 → ⊥
-  none_below i lt = omega arith
 
 below_next : (i n : ℕ) → i < n + 1 → i ≢ n → i < n
 below_next i n lt away = omega arith
@@ -147,15 +134,6 @@ module _ (map : SectorMap) (w : Chip) (s : DeviceState) (trial : Trial) (state :
 
 -- ---- how a trial goes on
 
-confirmed_if : (map : SectorMap) (w : Chip) (s : DeviceState) (trial : Trial) (mask : ℕ) (b : Bool)
-    → mask ≡ trial.set → IsTrialOpen (view map w) s trial → AreSetOk (view map w) mask b → b ≡ true
-    → IsConfirmed s trial
-confirmed_if map w s trial mask true is was ok e = record {
-  each = λ i lt member. sym (was.tried i member).confirmed
-      ∙ ok i (subst (λ n. i < n) (sym was.images) lt) (ap (λ m. is_member m i) is ∙ member);
-}
-confirmed_if map w s trial mask false is was ok e = absurd (true≢false (sym e))
-
 confirmed_not : (map : SectorMap) (w : Chip) (s : DeviceState) (trial : Trial) (mask : ℕ) (b : Bool)
     → mask ≡ trial.set → IsTrialOpen (view map w) s trial → AreSetOk (view map w) mask b → b ≡ false
     → IsConfirmed s trial → ⊥
@@ -176,20 +154,10 @@ damaged_not s false damaged e = damaged
 
 module _ (map : SectorMap) (old : Chip) (state : State) (b : Bool) (read : (view map old).log ≡ Some state)
     (ok : AreSetOk (view map old) state.mask b) where
-  pub passage_over : b ≡ true → (s : DeviceState) (trial : Trial) → IsTrialOpen (view map old) s trial
-      → IsConfirmed s trial
-  passage_over e s trial was =
-      confirmed_if map old s trial state.mask b (trial_mask map old s trial state read was) was ok e
-
   not_over : b ≡ false → (s : DeviceState) (trial : Trial) → IsTrialOpen (view map old) s trial
       → IsConfirmed s trial → ⊥
   not_over e s trial was =
       confirmed_not map old s trial state.mask b (trial_mask map old s trial state read was) was ok e
-
-  pub passage_spent : b ≡ false → state.left ≡ 0 → (s : DeviceState) (trial : Trial)
-      → IsTrialOpen (view map old) s trial → GoesBack s trial
-  passage_spent e none s trial was =
-      (was.trial, not_over e s trial was, inl (sym (trial_left map old s trial state read was) ∙ none))
 
   -- the running images were read on a flash that nothing wrote
   found_of : (mid : Chip) (d : Bool) → mid ≡ old
@@ -415,16 +383,7 @@ boots_as_read boots s read (Refused (no.RunningDamaged i)) next reads none (also
     (as_read_as s read next reads none also, rest, damaged)
 boots_as_read boots s read (Refused no.InvalidSet) next reads none (also, rest, invalid) =
     (as_read_as s read next reads none also, rest, invalid)
-boots_as_read boots s read (Refused no.NotBooted) next reads none never = never
-boots_as_read boots s read (Refused no.OnTrial) next reads none never = never
-boots_as_read boots s read (Refused no.NotOnTrial) next reads none never = never
-boots_as_read boots s read (Refused no.NotProvisioned) next reads none never = never
-boots_as_read boots s read (Refused (no.Flash error)) next reads none never = never
-boots_as_read boots s read (Refused no.NoMemory) next reads none never = never
-boots_as_read boots s read (Refused (no.Manifest error)) next reads none never = never
-boots_as_read boots s read (Refused (no.Upload error)) next reads none never = never
-boots_as_read boots s read Done next reads none never = never
-boots_as_read boots s read Cut next reads none never = never
+boots_as_read boots s read other next reads none never = never
 
 pub ends_as_read : (map : SectorMap) (boots : ℕ) (w : Chip) (s read : DeviceState) (reply : Reply)
     → IsReadAs s read → read.trial ≡ None → EndsBoot map boots w read reply → EndsBoot map boots w s reply

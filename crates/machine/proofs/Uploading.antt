@@ -1,16 +1,15 @@
 -- What the calls of uploads leave, as steps of the machine: manifests, pieces, ends of uploads and
 -- withdrawals.
-use Rattle.std.proofs.Common.{◌≡◌, ℕ, ◌+◌, Bool, true, false, List, [], ◌∷◌, Option, Some, Result, Ok, Err, refl, sym}
-use Rattle.std.proofs.Common.{◌∙◌, ap, subst, arith, ⊎_elim, inl}
+use Rattle.std.proofs.Common.{◌≡◌, ℕ, Bool, true, false, List, Option, Some, Result, Ok, Err, refl, sym}
+use Rattle.std.proofs.Common.{◌∙◌, subst, ⊎_elim, inl}
 use Rattle.std.specs.Borrow.{Bor}
 use Rattle.std.proofs.Common.{true≢false}
 use Rattle.common.specs.declared.event.Event.TheVariants as event
 use Rattle.flash_model.specs.Chip.{Chip}
-use Rattle.flash_model.specs.declared.error.FlashError.TheVariants as flash
 use Rattle.sector_map.specs.declared.layout.SectorMap.{SectorMap}
 use Rattle.sector_map.specs.declared.layout.Side.TheVariants.{Primary}
 use Rattle.sector_map.specs.Part.{TrailerOf, only}
-use Rattle.sector_map.specs.Map.{IsLaidOut, Keeps}
+use Rattle.sector_map.specs.Map.{Keeps}
 use Rattle.set_log.specs.declared.state.State.{State}
 use Rattle.set_log.specs.declared.state.Kind.TheVariants as log
 use Rattle.manifest.specs.declared.error.ManifestError.{ManifestError}
@@ -19,27 +18,23 @@ use Rattle.manifest.specs.Fault.{IsManifest, IsRefusal}
 use Rattle.upload.specs.View.{view}
 use Rattle.upload.specs.Device.{DeviceState, Machine, Trial}
 use Rattle.upload.specs.Steady.{IsSteadyAt}
-use Rattle.upload.specs.Sessions.{AllClosed, AllOpenAt, IsUpAt}
-use Rattle.upload.specs.Ending.{EndsUpload, is_flash}
+use Rattle.upload.specs.Sessions.{AllOpenAt, IsUpAt}
+use Rattle.upload.specs.Ending.{is_flash}
 use Rattle.upload.specs.Accepted.{Accepts}
-use Rattle.upload.specs.Piece.{Pieces}
-use Rattle.upload.specs.Finish.{FinishRow}
-use Rattle.upload.specs.Withdrawal.{Withdraws}
 use Rattle.upload.specs.declared.sessions.Upload.{Upload}
 use Rattle.upload.specs.declared.error.UploadError.{UploadError}
 use Rattle.upload.specs.declared.error.UploadError.TheVariants as upload
 use Rattle.upload.proofs.OpenOnes.{open_of_sessions, sessions_of_open}
-use Rattle.machine.specs.States.{asleep}
-use Rattle.machine.specs.Intake.{IsReady, IsTrying, IsUploadsCut, Row, Setup, TakesManifest, TakesText, Uploads}
-use Rattle.machine.specs.Steps.{DeviceEvent, IsStep, cut_of, cuts_in}
+use Rattle.machine.specs.Intake.{IsReady, IsTrying, Row, Setup, TakesManifest, TakesText, Uploads}
+use Rattle.machine.specs.Steps.{Completes, DeviceEvent, IsStep}
 use Rattle.machine.specs.Holding.{DeviceView, Holds, IsAtRest, IsTrialAt, Rests}
 use Rattle.machine.specs.Passing.{StepsTo, needs_rest, upload_reply}
 use Rattle.machine.specs.declared.error.Fault.TheVariants as no
 use Rattle.machine.specs.declared.reply.Reply.{Reply}
-use Rattle.machine.specs.declared.reply.Reply.TheVariants.{Refused, Cut}
+use Rattle.machine.specs.declared.reply.Reply.TheVariants.{Refused}
 use Rattle.machine.proofs.Confirming.{steady_kind, trial_kind}
 use Rattle.machine.proofs.Runs.{complete_step}
-use Rattle.machine.proofs.Stepping.{holds_asleep, sessions_kept}
+use Rattle.machine.proofs.Stepping.{sessions_kept}
 
 -- ---- whether a set is on trial, by the record of the log
 
@@ -118,34 +113,16 @@ holds_up setup new tnew up next is_booted at = record {
 uploads_complete : (row : Row) (m next : Machine) (result : Result Unit UploadError) → is_flash result ≡ false
     → IsReady m → row result next → Uploads row m (upload_reply result) next
 uploads_complete row m next (Ok tt) none is_ready at = (is_ready, at)
-uploads_complete row m next (Err upload.OldSequence) none is_ready at = (is_ready, refl, at)
-uploads_complete row m next (Err upload.TooBig) none is_ready at = (is_ready, refl, at)
-uploads_complete row m next (Err upload.NoSession) none is_ready at = (is_ready, refl, at)
-uploads_complete row m next (Err upload.TooMuch) none is_ready at = (is_ready, refl, at)
-uploads_complete row m next (Err upload.SizeWrong) none is_ready at = (is_ready, refl, at)
-uploads_complete row m next (Err upload.DigestWrong) none is_ready at = (is_ready, refl, at)
-uploads_complete row m next (Err (upload.NotAnImage fault)) none is_ready at = (is_ready, refl, at)
-uploads_complete row m next (Err upload.WrongPrecursor) none is_ready at = (is_ready, refl, at)
-uploads_complete row m next (Err upload.NothingRequested) none is_ready at = (is_ready, refl, at)
-uploads_complete row m next (Err upload.NoMemory) none is_ready at = (is_ready, refl, at)
 uploads_complete row m next (Err (upload.Flash error)) none is_ready at = absurd (true≢false none)
+uploads_complete row m next (Err other) none is_ready at = (is_ready, refl, at)
 
 -- .. and so of manifests
 text_complete : (setup : Setup) (m next : Machine) (bytes : List ℕ) (result : Result Unit UploadError)
     → is_flash result ≡ false → Uploads (TakesManifest setup m bytes) m (upload_reply result) next
     → TakesText setup m bytes (upload_reply result) next
 text_complete setup m next bytes (Ok done) none at = at
-text_complete setup m next bytes (Err upload.OldSequence) none at = at
-text_complete setup m next bytes (Err upload.TooBig) none at = at
-text_complete setup m next bytes (Err upload.NoSession) none at = at
-text_complete setup m next bytes (Err upload.TooMuch) none at = at
-text_complete setup m next bytes (Err upload.SizeWrong) none at = at
-text_complete setup m next bytes (Err upload.DigestWrong) none at = at
-text_complete setup m next bytes (Err (upload.NotAnImage fault)) none at = at
-text_complete setup m next bytes (Err upload.WrongPrecursor) none at = at
-text_complete setup m next bytes (Err upload.NothingRequested) none at = at
-text_complete setup m next bytes (Err upload.NoMemory) none at = at
 text_complete setup m next bytes (Err (upload.Flash error)) none at = absurd (true≢false none)
+text_complete setup m next bytes (Err other) none at = at
 
 module _ (setup : Setup) (old : Chip) (told : List (Option Upload)) (up : Bool) (state : State) (is_booted : up ≡ true)
     (read : (view setup.map old).log ≡ Some state) (rests : state.kind ≡ log.Trial → ⊥) where
@@ -162,92 +139,21 @@ module _ (setup : Setup) (old : Chip) (told : List (Option Upload)) (up : Bool) 
         holds_up setup new tnew up after.0 is_booted after.2,
       )
 
-  row_cut : (mid new : Chip) (tmid tnew : List (Option Upload)) (row : Machine → Row)
-      (result : Result Unit UploadError) → IsLaidOut setup.map mid → AllClosed tnew
-      → result ≡ Err (upload.Flash flash.Cut) → TakesRow setup.map old mid told tmid row result
-      → new ≡ record mid { is_on = true }
-      → (m : Machine) → Holds setup.map (record { flash = old; sessions = told; up = up }) m
-      → (next : Machine) × IsUploadsCut (row m) m next
-      × Holds setup.map (record { flash = new; sessions = tnew; up = false }) next
-  row_cut mid new tmid tnew row result laid none is takes powered m holds =
-      let at = up_at setup old told up m state is_booted read rests holds in
-      let after = takes m at in (
-        asleep after.0.kept,
-        (
-          ready setup old told m at,
-          (after.0, subst (λ r. row m r after.0) is after.1, refl),
-        ),
-        holds_asleep setup.map mid new tnew after.0.kept laid powered none (Rests after.2.rest),
-      )
-
-  -- ---- by event
-
-  pub steps_piece : (new : Chip) (tnew : List (Option Upload)) (i : ℕ) (bytes : Bor (List ℕ))
+  -- A row that a call does is the step of its event, where the event is complete by that row.
+  pub row_steps : (new : Chip) (tnew : List (Option Upload)) (row : Machine → Row) (happened : DeviceEvent)
       (result : Result Unit UploadError) (reply : Reply) → reply ≡ upload_reply result → is_flash result ≡ false
-      → TakesRow setup.map old new told tnew (λ m. Pieces m i bytes.now) result
+      → ((m next : Machine) → Uploads (row m) m (upload_reply result) next
+      → Completes setup m happened (upload_reply result) next)
+      → TakesRow setup.map old new told tnew row result
       → StepsTo setup (record { flash = old; sessions = told; up = up })
-      (record { flash = new; sessions = tnew; up = up }) (event.Piece i bytes) reply
-  steps_piece new tnew i bytes result reply is none takes m holds =
-      let after = row_done new tnew (λ k. Pieces k i bytes.now) result none takes m holds in (
+      (record { flash = new; sessions = tnew; up = up }) happened reply
+  row_steps new tnew row happened result reply is none completes takes m holds =
+      let after = row_done new tnew row result none takes m holds in (
         after.0,
-        subst (λ r. IsStep setup m (event.Piece i bytes) r after.0) (sym is)
-            (complete_step setup m after.0 (event.Piece i bytes) (upload_reply result) after.1).0,
+        subst (λ r. IsStep setup m happened r after.0) (sym is)
+            (complete_step setup m after.0 happened (upload_reply result) (completes m after.0 after.1)).0,
         after.2,
       )
-
-  pub steps_piece_cut : (mid new : Chip) (tmid tnew : List (Option Upload)) (i : ℕ) (bytes : Bor (List ℕ))
-      (result : Result Unit UploadError) → IsLaidOut setup.map mid → AllClosed tnew
-      → result ≡ Err (upload.Flash flash.Cut)
-      → TakesRow setup.map old mid told tmid (λ m. Pieces m i bytes.now) result
-      → new ≡ record mid { is_on = true }
-      → StepsTo setup (record { flash = old; sessions = told; up = up })
-      (record { flash = new; sessions = tnew; up = false }) (event.Piece i bytes) Cut
-  steps_piece_cut mid new tmid tnew i bytes result laid none is takes powered m holds =
-      row_cut mid new tmid tnew (λ k. Pieces k i bytes.now) result laid none is takes powered m holds
-
-  pub steps_finish : (new : Chip) (tnew : List (Option Upload)) (i : ℕ) (result : Result Unit UploadError)
-      (reply : Reply) → reply ≡ upload_reply result → is_flash result ≡ false
-      → TakesRow setup.map old new told tnew (λ m. FinishRow m i) result
-      → StepsTo setup (record { flash = old; sessions = told; up = up })
-      (record { flash = new; sessions = tnew; up = up }) (event.Finish i) reply
-  steps_finish new tnew i result reply is none takes m holds =
-      let after = row_done new tnew (λ k. FinishRow k i) result none takes m holds in (
-        after.0,
-        subst (λ r. IsStep setup m (event.Finish i) r after.0) (sym is)
-            (complete_step setup m after.0 (event.Finish i) (upload_reply result) after.1).0,
-        after.2,
-      )
-
-  pub steps_finish_cut : (mid new : Chip) (tmid tnew : List (Option Upload)) (i : ℕ)
-      (result : Result Unit UploadError) → IsLaidOut setup.map mid → AllClosed tnew
-      → result ≡ Err (upload.Flash flash.Cut) → TakesRow setup.map old mid told tmid (λ m. FinishRow m i) result
-      → new ≡ record mid { is_on = true }
-      → StepsTo setup (record { flash = old; sessions = told; up = up })
-      (record { flash = new; sessions = tnew; up = false }) (event.Finish i) Cut
-  steps_finish_cut mid new tmid tnew i result laid none is takes powered m holds =
-      row_cut mid new tmid tnew (λ k. FinishRow k i) result laid none is takes powered m holds
-
-  pub steps_withdraw : (new : Chip) (tnew : List (Option Upload)) (i : ℕ) (result : Result Unit UploadError)
-      (reply : Reply) → reply ≡ upload_reply result → is_flash result ≡ false
-      → TakesRow setup.map old new told tnew (λ m. Withdraws m i) result
-      → StepsTo setup (record { flash = old; sessions = told; up = up })
-      (record { flash = new; sessions = tnew; up = up }) (event.Withdraw i) reply
-  steps_withdraw new tnew i result reply is none takes m holds =
-      let after = row_done new tnew (λ k. Withdraws k i) result none takes m holds in (
-        after.0,
-        subst (λ r. IsStep setup m (event.Withdraw i) r after.0) (sym is)
-            (complete_step setup m after.0 (event.Withdraw i) (upload_reply result) after.1).0,
-        after.2,
-      )
-
-  pub steps_withdraw_cut : (mid new : Chip) (tmid tnew : List (Option Upload)) (i : ℕ)
-      (result : Result Unit UploadError) → IsLaidOut setup.map mid → AllClosed tnew
-      → result ≡ Err (upload.Flash flash.Cut) → TakesRow setup.map old mid told tmid (λ m. Withdraws m i) result
-      → new ≡ record mid { is_on = true }
-      → StepsTo setup (record { flash = old; sessions = told; up = up })
-      (record { flash = new; sessions = tnew; up = false }) (event.Withdraw i) Cut
-  steps_withdraw_cut mid new tmid tnew i result laid none is takes powered m holds =
-      row_cut mid new tmid tnew (λ k. Withdraws k i) result laid none is takes powered m holds
 
   -- a manifest that was read
   manifest_row : (new : Chip) (tnew : List (Option Upload)) (bytes : List ℕ) (manifest : given.Manifest)
@@ -265,27 +171,10 @@ module _ (setup : Setup) (old : Chip) (told : List (Option Upload)) (up : Bool) 
       (λ m. Accepts setup.map m manifest.sequence manifest.components.items) result
       → StepsTo setup (record { flash = old; sessions = told; up = up })
       (record { flash = new; sessions = tnew; up = up }) (event.Accept bytes) reply
-  steps_accept new tnew bytes manifest result reply is none means takes m holds =
-      let after = row_done new tnew (λ k. TakesManifest setup k bytes.now) result none
-      (manifest_row new tnew bytes.now manifest result means takes) m holds in (
-        after.0,
-        subst (λ r. IsStep setup m (event.Accept bytes) r after.0) (sym is)
-            (complete_step setup m after.0 (event.Accept bytes) (upload_reply result)
-            (text_complete setup m after.0 bytes.now result none after.1)).0,
-        after.2,
-      )
-
-  pub steps_accept_cut : (mid new : Chip) (tmid tnew : List (Option Upload)) (bytes : Bor (List ℕ))
-      (manifest : given.Manifest) (result : Result Unit UploadError) → IsLaidOut setup.map mid → AllClosed tnew
-      → result ≡ Err (upload.Flash flash.Cut) → IsManifest setup.identity bytes.now manifest
-      → TakesRow setup.map old mid told tmid
-      (λ m. Accepts setup.map m manifest.sequence manifest.components.items) result
-      → new ≡ record mid { is_on = true }
-      → StepsTo setup (record { flash = old; sessions = told; up = up })
-      (record { flash = new; sessions = tnew; up = false }) (event.Accept bytes) Cut
-  steps_accept_cut mid new tmid tnew bytes manifest result laid none is means takes powered m holds =
-      row_cut mid new tmid tnew (λ k. TakesManifest setup k bytes.now) result laid none is
-      (manifest_row mid tmid bytes.now manifest result means takes) powered m holds
+  steps_accept new tnew bytes manifest result reply is none means takes =
+      row_steps new tnew (λ m. TakesManifest setup m bytes.now) (event.Accept bytes) result reply is none
+      (λ m next done. text_complete setup m next bytes.now result none done)
+      (manifest_row new tnew bytes.now manifest result means takes)
 
   -- bytes that are no manifest for the device
   pub steps_bad_manifest : (bytes : Bor (List ℕ)) (fault : ManifestError)
@@ -308,48 +197,8 @@ module _ (setup : Setup) (old : Chip) (told : List (Option Upload)) (up : Bool) 
 -- an error that isn't the flash's is refused as such
 pub upload_refused : (error : UploadError) → is_flash {T = Unit} (Err error) ≡ false
     → Refused (no.Upload error) ≡ upload_reply (Err error)
-upload_refused upload.OldSequence none = refl
-upload_refused upload.TooBig none = refl
-upload_refused upload.NoSession none = refl
-upload_refused upload.TooMuch none = refl
-upload_refused upload.SizeWrong none = refl
-upload_refused upload.DigestWrong none = refl
-upload_refused (upload.NotAnImage fault) none = refl
-upload_refused upload.WrongPrecursor none = refl
-upload_refused upload.NothingRequested none = refl
-upload_refused upload.NoMemory none = refl
 upload_refused (upload.Flash error) none = absurd (true≢false none)
-
--- a reply to a call that wasn't cut tells of no cut
-pub upload_uncut : (result : Result Unit UploadError) → is_flash result ≡ false → cut_of (upload_reply result) ≡ 0
-upload_uncut (Ok done) none = refl
-upload_uncut (Err upload.OldSequence) none = refl
-upload_uncut (Err upload.TooBig) none = refl
-upload_uncut (Err upload.NoSession) none = refl
-upload_uncut (Err upload.TooMuch) none = refl
-upload_uncut (Err upload.SizeWrong) none = refl
-upload_uncut (Err upload.DigestWrong) none = refl
-upload_uncut (Err (upload.NotAnImage fault)) none = refl
-upload_uncut (Err upload.WrongPrecursor) none = refl
-upload_uncut (Err upload.NothingRequested) none = refl
-upload_uncut (Err upload.NoMemory) none = refl
-upload_uncut (Err (upload.Flash error)) none = absurd (true≢false none)
-
--- the count of cuts after such a call
-pub upload_cuts : (old new : Chip) (result : Result Unit UploadError) (reply : Reply) → reply ≡ upload_reply result
-    → is_flash result ≡ false → EndsUpload result old new → new.cuts ≡ old.cuts + cuts_in (reply ∷ [])
-upload_cuts old new result reply is none ends =
-    let same : new.cuts ≡ old.cuts = (ends.uncut none).cuts in
-    let zero : cut_of reply ≡ 0 = ap cut_of is ∙ upload_uncut result none in
-    omega arith
-
--- a step from a flash that was only read
-pub steps_read : (setup : Setup) (old mid : Chip) (told : List (Option Upload)) (up : Bool) (new : DeviceView)
-    (happened : DeviceEvent) (reply : Reply) → mid ≡ old
-    → StepsTo setup (record { flash = mid; sessions = told; up = up }) new happened reply
-    → StepsTo setup (record { flash = old; sessions = told; up = up }) new happened reply
-steps_read setup old mid told up new happened reply same steps = subst
-    (λ (w : Chip). StepsTo setup (record { flash = w; sessions = told; up = up }) new happened reply) same steps
+upload_refused other none = refl
 
 -- open uploads stand on while an image is confirmed
 pub open_confirmed : (map : SectorMap) (old new : Chip) (j : ℕ) (told : List (Option Upload))

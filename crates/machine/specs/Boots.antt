@@ -19,7 +19,7 @@ use Rattle.machine.specs.States.{entry_of, IsConfirmed, IsRaised, IsBegun, runni
 use Rattle.machine.specs.States.{taken_on_trial, reverted, tried_again, with_confirmed}
 use Rattle.machine.specs.declared.error.Fault.TheVariants as no
 use Rattle.machine.specs.declared.reply.Reply.{Reply}
-use Rattle.machine.specs.declared.reply.Reply.TheVariants.{Done, Booted, Reverted, TrialAgain, Refused, Cut}
+use Rattle.machine.specs.declared.reply.Reply.TheVariants.{Done, Booted, Reverted, TrialAgain, Refused}
 
 -- ---- the table of a state
 

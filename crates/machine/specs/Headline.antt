@@ -15,7 +15,7 @@ use Rattle.machine.specs.Boots.{Boots, IsReadAs, IsTableOf}
 use Rattle.machine.specs.Intake.{Setup}
 use Rattle.machine.specs.Steps.{DeviceEvent, IsRun}
 use Rattle.machine.specs.declared.reply.Reply.{Reply}
-use Rattle.machine.specs.declared.reply.Reply.TheVariants.{Done, Booted, Reverted, TrialAgain, Refused, Cut}
+use Rattle.machine.specs.declared.reply.Reply.TheVariants.{Booted, Reverted, TrialAgain, Cut}
 
 -- What an image runs where a report is followed: the requested bytes where it is taken, else what
 -- ran.

@@ -13,7 +13,7 @@ use Rattle.upload.specs.Accepted.{Accepts}
 use Rattle.machine.specs.States.{asleep}
 use Rattle.machine.specs.declared.error.Fault.TheVariants as no
 use Rattle.machine.specs.declared.reply.Reply.{Reply}
-use Rattle.machine.specs.declared.reply.Reply.TheVariants.{Done, Booted, Reverted, TrialAgain, Refused, Cut}
+use Rattle.machine.specs.declared.reply.Reply.TheVariants.{Done, Refused}
 
 -- What a device is made with: where the parts of its flash lie, what it is to those who send it
 -- updates, and how many boots a trial has, 1 to 7.

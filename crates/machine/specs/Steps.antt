@@ -57,21 +57,22 @@ IsStep setup m event (TrialAgain set left) next =
 IsStep setup m event (Refused fault) next = Completes setup m event (Refused fault) next
 IsStep setup m event Cut next = IsCutTo setup m event next
 
--- A run: a reply and a step for each event.
+-- A run by steps of one kind: a reply and a step for each event.
+abbrev pub IsRunBy : (Machine → DeviceEvent → Reply → Machine → Type 0)
+    → Machine → List DeviceEvent → List Reply → Machine → Type 0
+IsRunBy Steps m [] [] last = last ≡ m
+IsRunBy Steps m [] (reply ∷ replies) last = ⊥
+IsRunBy Steps m (event ∷ events) [] last = ⊥
+IsRunBy Steps m (event ∷ events) (reply ∷ replies) last = (next : Machine)
+    × Steps m event reply next × IsRunBy Steps next events replies last
+
+-- A run of the machine.
 abbrev pub IsRun : Setup → Machine → List DeviceEvent → List Reply → Machine → Type 0
-IsRun setup m [] [] last = last ≡ m
-IsRun setup m [] (reply ∷ replies) last = ⊥
-IsRun setup m (event ∷ events) [] last = ⊥
-IsRun setup m (event ∷ events) (reply ∷ replies) last = (next : Machine)
-    × IsStep setup m event reply next × IsRun setup next events replies last
+IsRun setup m events replies last = IsRunBy (IsStep setup) m events replies last
 
 -- A run without a cut: each step is complete.
 abbrev pub IsUncutRun : Setup → Machine → List DeviceEvent → List Reply → Machine → Type 0
-IsUncutRun setup m [] [] last = last ≡ m
-IsUncutRun setup m [] (reply ∷ replies) last = ⊥
-IsUncutRun setup m (event ∷ events) [] last = ⊥
-IsUncutRun setup m (event ∷ events) (reply ∷ replies) last = (next : Machine)
-    × Completes setup m event reply next × IsUncutRun setup next events replies last
+IsUncutRun setup m events replies last = IsRunBy (Completes setup) m events replies last
 
 -- How many cuts a reply tells of.
 abbrev pub cut_of : Reply → ℕ

@@ -1,5 +1,5 @@
-//! Manifests, which say what may come to a device (RFC 9019 and RFC 9124, in a JSON form of this
-//! project).
+//! Reads manifests, which list the files that a device may take (RFC 9019 and RFC 9124, in
+//! bootswap's own JSON).
 //!
 //! - Promises: A manifest for this device is read exactly. Any other text gets the lowest refusal
 //!   that applies. Identifiers of vendors and classes are UUIDs of version 5.

@@ -1,6 +1,6 @@
 -- The protected entries that are made: how long they are, that they fit, and which values they
 -- hold.
-use Rattle.std.proofs.Common.{◌≡◌, ℕ, ◌+◌, ◌*◌, ◌^◌, ◌<◌, ◌≤◌, true, false, Option, None, Some, is_some, nat_eq, List, [], ◌∷◌, ◌++◌, length, map, unwrap_or, refl, ap, ◌∙◌, inl, inr, arith, length-append}
+use Rattle.std.proofs.Common.{◌≡◌, ℕ, ◌+◌, ◌*◌, ◌^◌, ◌<◌, ◌≤◌, Option, None, Some, nat_eq, List, [], ◌∷◌, ◌++◌, length, map, unwrap_or, refl, ap, ◌∙◌, inl, inr, arith, length-append}
 use Rattle.std.proofs.lemmas.Grind.{flat_map-append}
 use Rattle.std.proofs.lemmas.List.{append-nil, map-append}
 use Rattle.std.proofs.lemmas.List.Elements.{filter-append}
@@ -48,17 +48,8 @@ groups_size-le (group ∷ groups) each =
     )
 
 -- The length of the counter's entry, where there is one.
-abbrev pub counter_size : Option ℕ → ℕ
-counter_size None = 0
-counter_size (Some counter) = 8
-
-pub counter_size-some : (counter : Option ℕ) → is_some counter ≡ true → counter_size counter ≡ 8
-counter_size-some None e = cc
-counter_size-some (Some counter) e = refl
-
-pub counter_size-none : (counter : Option ℕ) → is_some counter ≡ false → counter_size counter ≡ 0
-counter_size-none None e = refl
-counter_size-none (Some counter) e = cc
+abbrev counter_size : Option ℕ → ℕ
+counter_size counter = length (entries_bytes (counter_entries counter))
 
 counter_size-le : (counter : Option ℕ) → counter_size counter ≤ 8
 counter_size-le None = omega arith

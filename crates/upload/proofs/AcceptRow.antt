@@ -8,7 +8,7 @@ use Rattle.manifest.specs.declared.manifest.Component.{Component}
 use Rattle.upload.specs.View.{View, KeepsView}
 use Rattle.upload.specs.Device.{DeviceState, Machine, Session, Wanted}
 use Rattle.upload.specs.Steady.{IsFront, IsRequested, IsImageAt, IsSteadyAt, logged}
-use Rattle.upload.specs.Sessions.{AllOpenAt, upload_at, IsWritten, session_of, HasSession, IsUpAt}
+use Rattle.upload.specs.Sessions.{AllOpenAt, upload_at, session_of, HasSession, IsUpAt}
 use Rattle.upload.specs.Withdrawal.{IsKeptOrGone}
 use Rattle.upload.specs.Taking.{LeavesAccept}
 use Rattle.upload.specs.Accepted.{latest, OpenedAt, IsOpening, IsOpened, opened, session_after, request_after, accepted, IsAcceptCut}

@@ -1,5 +1,5 @@
 -- How a call ends that makes others.
-use Rattle.std.proofs.Common.{◌≡◌, ◌+◌, ◌↔◌, ℕ, arith, Bool, IsTrue, true, false, refl, Result, Ok, Err, sym, ◌∙◌, ap}
+use Rattle.std.proofs.Common.{◌≡◌, ◌+◌, ◌↔◌, ℕ, arith, Bool, IsTrue, false, refl, Result, Ok, Err, sym, ◌∙◌, ap}
 use Rattle.std.specs.Prelude.{IsErrAnd, IsErrOf}
 use Rattle.std.proofs.Common.{true≢false}
 use Rattle.flash_model.specs.Chip.{Chip, Ends, IsUncut}

@@ -23,8 +23,8 @@ use Rattle.upload.specs.declared.error.UploadError.{UploadError}
 use Rattle.upload.specs.declared.error.UploadError.TheVariants as no
 use Rattle.upload.proofs.Images.{image_is_set}
 use Rattle.upload.proofs.OpenOnes.{open_none, open_nothing, open_to}
-use Rattle.upload.proofs.Frames.{others_kept, steady_to, steady_unasked, erased_stands, sessions_to, sessions_closed, not_asked}
-use Rattle.upload.proofs.PieceRow.{session_here, no_session_here, same_sessions}
+use Rattle.upload.proofs.Frames.{others_kept, steady_to, steady_unasked, erased_stands, sessions_to, closed_up, not_asked}
+use Rattle.upload.proofs.PieceRow.{session_here}
 
 kind_back : (k : Kind) → kind_of (is_permanent k) ≡ k
 kind_back Test = refl
@@ -117,30 +117,20 @@ module _ (i : ℕ) (old new : View) (keeps : KeepsView (incoming_of i) old new)
       let (before, rest) = unasked_before m written at fin.1 up in (
         closed m m.kept,
         (fin.0, before, refl),
-        record { up = up.up; rest = rest; open_ones = sessions_closed new tnew (after.closed refl) },
+        closed_up new tnew m m.kept up.up rest (after.closed refl),
       )
   finishes (Err (no.Flash flash.Cut)) after m up written at fin = ⊎_elim
       (λ (none : request_in new i ≡ None).
       let (before, rest) = unasked_before m written at none up in
-      (closed m m.kept, (fin.0, before, inl refl), record { up = up.up; rest = rest; open_ones = sessions_closed new tnew (after.closed refl) }))
+      (closed m m.kept, (fin.0, before, inl refl), closed_up new tnew m m.kept up.up rest (after.closed refl)))
       (λ (done : IsFinishedAt new i (session_of u written)). (
         closed m (with_request m.kept i (Some (asked (session_of u written)))),
         (fin.0, asked_none m written at up, inr (done.good, refl)),
-        record {
-          up = up.up;
-          rest = steady_asked m
-              (session_of u written) done up.rest;
-          open_ones = sessions_closed new tnew (after.closed refl);
-        },
+        closed_up new tnew m (with_request m.kept i (Some (asked (session_of u written)))) up.up
+            (steady_asked m (session_of u written) done up.rest) (after.closed refl),
       ))
       fin.1
-  finishes (Err no.OldSequence) after m up written at fin = absurd fin
-  finishes (Err no.TooBig) after m up written at fin = absurd fin
-  finishes (Err no.NoSession) after m up written at fin = absurd fin
-  finishes (Err no.TooMuch) after m up written at fin = absurd fin
-  finishes (Err no.WrongPrecursor) after m up written at fin = absurd fin
-  finishes (Err no.NothingRequested) after m up written at fin = absurd fin
-  finishes (Err no.NoMemory) after m up written at fin = absurd fin
+  finishes (Err other) after m up written at fin = absurd fin
 
   pub finish_row : (result : Result Unit UploadError)
       → ((written : List ℕ) → IsUploadAt old i u written → EndsFinish new i (session_of u written) result)
@@ -150,12 +140,6 @@ module _ (i : ℕ) (old new : View) (keeps : KeepsView (incoming_of i) old new)
       let (written, at, is) = session_here old i u told m here up in
       let (next, row, now) = finishes result after m up written at (ends written at) in
       (next, inr (session_of u written, is, row), now)
-
-pub finish_none : (i : ℕ) (w : View) (told tnew : List (Option Upload)) → None ≡ upload_at told i
-    → IsWith i None told tnew → (m : Machine) → IsUpAt w told m
-    → (next : Machine) × FinishRow m i (Err no.NoSession) next × IsUpAt w tnew next
-finish_none i w told tnew is now m up =
-    (m, inl (no_session_here w i told m is up, refl, refl), same_sessions w i told tnew None m is now up)
 
 -- the other uploads stand
 module _ (i : ℕ) (old new : View) (keeps : KeepsView (incoming_of i) old new) (told tmid tnew : List (Option Upload))

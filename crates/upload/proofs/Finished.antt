@@ -24,20 +24,13 @@ not_good_stands t l e = ap (λ g. if g && (not t.withdrawn && first_is_set l) th
 -- the judged slot is refused, or the flash stops the call before the request is written
 pub refused : (w : View) (i : ℕ) (s : Session) (e : UploadError) → length s.received ≡ s.size
     → w.trailer i Secondary ≡ erased_fields → Judges s.received s.digest (Err e) → EndsFinish w i s (Err e)
-refused w i s no.OldSequence long trailer j = absurd j
-refused w i s no.TooBig long trailer j = absurd j
-refused w i s no.NoSession long trailer j = absurd j
-refused w i s no.TooMuch long trailer j = absurd j
-refused w i s no.SizeWrong long trailer j = absurd j
 refused w i s no.DigestWrong long trailer j = (long, j, trailer)
 refused w i s (no.NotAnImage code) long trailer j = ((long, j.0), j.1, trailer)
-refused w i s no.WrongPrecursor long trailer j = absurd j
-refused w i s no.NothingRequested long trailer j = absurd j
-refused w i s no.NoMemory long trailer j = absurd j
 refused w i s (no.Flash flash.Cut) long trailer j =
     (long, inl (erased_stands (w.trailer i Secondary) (w.slot i Secondary) trailer))
 refused w i s (no.Flash flash.Off) long trailer j =
     (long, erased_stands (w.trailer i Secondary) (w.slot i Secondary) trailer)
+refused w i s other long trailer j = absurd j
 
 -- the last unit is written, and the slot is judged
 module _ (i start : ℕ) (old mid judged : View) (u : Upload)

@@ -5,12 +5,11 @@ use Rattle.std.proofs.lemmas.Bool.{eqb-true, ne_eqb}
 use Rattle.std.proofs.lemmas.Option.{none-some}
 use Rattle.sector_map.specs.declared.layout.Side.TheVariants.{Primary, Secondary}
 use Rattle.sector_map.specs.Part.{Slot, only, incoming_of}
-use Rattle.trailer.specs.declared.kinds.Kind.{Kind}
 use Rattle.trailer.specs.Fields.{Fields, erased_fields}
 use Rattle.upload.specs.View.{View, KeepsView}
-use Rattle.upload.specs.Device.{DeviceState, Wanted, Session, no_session}
+use Rattle.upload.specs.Device.{DeviceState, Machine, Wanted, Session, closed, no_session}
 use Rattle.upload.specs.Steady.{IsFront, IsRequested, IsImageAt, IsSteadyAt, told_by}
-use Rattle.upload.specs.Sessions.{upload_at, IsWith, AllClosed, IsWritten, IsUploadAt, session_of, HasSession, HasSessions}
+use Rattle.upload.specs.Sessions.{upload_at, IsWith, AllClosed, IsWritten, IsUploadAt, session_of, HasSession, HasSessions, IsUpAt}
 use Rattle.upload.specs.declared.sessions.Upload.{Upload}
 
 -- an image's slots and trailer, seen from the others
@@ -148,14 +147,19 @@ pub sessions_closed : (w : View) (sessions : List (Option Upload)) → AllClosed
     → HasSessions w sessions no_session
 sessions_closed w sessions none = record { each = λ j. subst (λ u. HasSession w j u None) (sym (none j)) tt }
 
+-- a machine whose uploads are all closed
+pub closed_up : (w : View) (sessions : List (Option Upload)) (m : Machine) (s : DeviceState) → m.is_booted ≡ true
+    → IsSteadyAt w s → AllClosed sessions → IsUpAt w sessions (closed m s)
+closed_up w sessions m s up rest none = record {
+  up = up;
+  rest = rest;
+  open_ones = sessions_closed w sessions none;
+}
+
 pub opened_as : (w : View) (i : ℕ) (u : Upload) (s : Option Session) → HasSession w i (Some u) s
     → (written : List ℕ) × IsUploadAt w i u written × (s ≡ Some (session_of u written))
 opened_as w i u None was = absurd was
 opened_as w i u (Some s) (written, was, is) = (written, was, ap (λ x. Some x) is)
-
-pub none_as : (w : View) (i : ℕ) (s : Option Session) → HasSession w i None s → s ≡ None
-none_as w i None was = refl
-none_as w i (Some s) was = absurd was
 
 -- a session that is taken out and put back
 pub with_with : (i : ℕ) (first second : Option Upload) (a b c : List (Option Upload)) → IsWith i first a b

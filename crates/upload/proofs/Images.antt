@@ -14,9 +14,6 @@ front_image whole bytes image starts begins = record {
   parts = starts.1 ∙ ap (λ l. l ++ starts.0) begins.parts ∙ append_assoc (image_bytes image) [] starts.0;
 }
 
-bare : (bytes : List ℕ) (image : Image) → BeginsWithImage bytes image [] → bytes ≡ image_bytes image ++ []
-bare bytes image begins = begins.parts
-
 -- one front at most is an image
 pub same_front : (whole first second : List ℕ) (a b : Desc) → Starts whole first → Starts whole second
     → IsIntact first a → IsIntact second b → first ≡ second

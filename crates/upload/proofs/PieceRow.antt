@@ -1,6 +1,5 @@
 -- The row of a piece.
-use Rattle.std.proofs.Common.{◌≡◌, ℕ, ◌+◌, ◌<◌, ◌≤◌, ◌==◌, Bool, true, false, List, length, Option, Some, None, Ok, Err, refl, sym, ◌∙◌, ap, subst, arith, length-append, if◌then◌else◌}
-use Rattle.std.proofs.lemmas.Bool.{eqb-true}
+use Rattle.std.proofs.Common.{◌≡◌, ℕ, ◌+◌, ◌<◌, ◌≤◌, ◌==◌, true, List, length, Option, Some, None, Ok, Err, refl, sym, ◌∙◌, ap, subst, arith, length-append, if◌then◌else◌}
 use Rattle.std.proofs.lemmas.Bool.Decides.{nat_tests}
 use Rattle.std.proofs.lemmas.Option.{same_Some}
 use Rattle.flash_model.specs.declared.error.FlashError.{FlashError}
@@ -14,18 +13,13 @@ use Rattle.upload.specs.Piece.{Pieces, TakesMore, appended, with_session}
 use Rattle.upload.specs.declared.sessions.Upload.{Upload}
 use Rattle.upload.specs.declared.error.UploadError.TheVariants as no
 use Rattle.upload.proofs.Views.{view_refl}
-use Rattle.upload.proofs.Frames.{others_slot, steady_unasked, erased_stands, sessions_to, sessions_closed, opened_as, none_as, with_with}
+use Rattle.upload.proofs.Frames.{others_slot, steady_unasked, erased_stands, sessions_to, closed_up, opened_as, with_with}
 
 -- the session of an upload in the table
 pub session_here : (w : View) (i : ℕ) (u : Upload) (sessions : List (Option Upload)) (m : Machine)
     → Some u ≡ upload_at sessions i → IsUpAt w sessions m
     → (written : List ℕ) × IsUploadAt w i u written × (m.session i ≡ Some (session_of u written))
 session_here w i u sessions m is up = opened_as w i u (m.session i)
-    (subst (λ o. HasSession w i o (m.session i)) (sym is) (up.open_ones.each i))
-
-pub no_session_here : (w : View) (i : ℕ) (sessions : List (Option Upload)) (m : Machine)
-    → None ≡ upload_at sessions i → IsUpAt w sessions m → m.session i ≡ None
-no_session_here w i sessions m is up = none_as w i (m.session i)
     (subst (λ o. HasSession w i o (m.session i)) (sym is) (up.open_ones.each i))
 
 pub long_session : (u : Upload) (written : List ℕ) (w : View) (i : ℕ) → IsUploadAt w i u written
@@ -71,34 +65,8 @@ module _ (i : ℕ) (old new : View) (keeps : KeepsView (only (Slot i Secondary))
       let (asked, rest) = rests m up in (
         closed m m.kept,
         (session_of u written, is, omega (arith, long, fits), asked, refl),
-        record { up = up.up; rest = rest; open_ones = sessions_closed new tnew none },
+        closed_up new tnew m m.kept up.up rest none,
       )
-
-same_with : (i : ℕ) (told tnew : List (Option Upload)) (o : Option Upload) → o ≡ upload_at told i
-    → IsWith i o told tnew → (j : ℕ) → upload_at tnew j ≡ upload_at told j
-same_with i told tnew o is now j = by_case (j == i) refl (now j) where
-  by_case : (b : Bool) → (j == i) ≡ b → upload_at tnew j ≡ (if b then o else upload_at told j)
-      → upload_at tnew j ≡ upload_at told j
-  by_case true same e = e ∙ is ∙ ap (λ k. upload_at told k) (sym (eqb-true j i same))
-  by_case false same e = e
-
--- a table that says the same
-pub same_sessions : (w : View) (i : ℕ) (told tnew : List (Option Upload)) (o : Option Upload) (m : Machine)
-    → o ≡ upload_at told i → IsWith i o told tnew → IsUpAt w told m → IsUpAt w tnew m
-same_sessions w i told tnew o m is now up = record {
-  up = up.up;
-  rest = up.rest;
-  open_ones = record {
-    each = λ j. subst (λ u. HasSession w j u (m.session j))
-        (sym (same_with i told tnew o is now j)) (up.open_ones.each j);
-  };
-}
-
-pub piece_none : (i : ℕ) (w : View) (told tnew : List (Option Upload)) (bytes : List ℕ)
-    → None ≡ upload_at told i → IsWith i None told tnew → (m : Machine) → IsUpAt w told m
-    → (next : Machine) × Pieces m i bytes (Err no.NoSession) next × IsUpAt w tnew next
-piece_none i w told tnew bytes is now m up =
-    (m, (no_session_here w i told m is up, refl), same_sessions w i told tnew None m is now up)
 
 pub session_out : (i : ℕ) (w : View) (told tnew : List (Option Upload)) → IsWith i None told tnew
     → (m : Machine) → IsUpAt w told m → IsUpAt w tnew (with_session m i None)

@@ -14,7 +14,7 @@ use Rattle.upload.specs.View.{View}
 use Rattle.upload.specs.Sessions.{IsOpenAt, IsUploadAt, session_of}
 use Rattle.upload.specs.Finish.{EndsFinish, Judges}
 use Rattle.upload.specs.Finishing.{RefusesFinish, WritesLastUnit}
-use Rattle.upload.specs.Slots.{AppendsLast}
+use Rattle.upload.specs.Slots.{Appends}
 use Rattle.upload.proofs.Ends.{not_no_session, not_size}
 use Rattle.std.proofs.lemmas.Option.{same_Some}
 use Rattle.std.proofs.Common.{true≢false}
@@ -58,11 +58,11 @@ module _ (map : SectorMap) (image : ℕ) (old new : Chip) where
 -- the last unit lies where the bytes that are held back begin
 pub last_unit : {T : Type 0} (map : SectorMap) (image held : ℕ) (u : Upload) (old mid new : Chip)
     (result : Result T FlashError) → held ≡ length u.held.items → new ≡ mid
-    → AppendsLast map image (u.received - held) u.held.items old mid result → WritesLastUnit map image u old new
+    → Appends map image (u.received - held) u.held.items 8 old mid result → WritesLastUnit map image u old new
 last_unit map image held u old mid new result long same wrote = record {
   unit = subst (λ (chip : Chip). SameOutside (start_of map (Slot image Secondary)
       + (u.received - length u.held.items)) 8 old chip) (sym same)
-      (subst (λ n. SameOutside (start_of map (Slot image Secondary) + (u.received - n)) 8 old mid) long wrote.unit);
+      (subst (λ n. SameOutside (start_of map (Slot image Secondary) + (u.received - n)) 8 old mid) long wrote.range);
   none = λ none. same ∙ wrote.none none;
 }
 

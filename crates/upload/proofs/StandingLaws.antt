@@ -1,14 +1,16 @@
 -- Uploads that were kept elsewhere, and what has to be so of the flash for them to stand.
-use Rattle.std.proofs.Common.{◌≡◌, ℕ, ◌+◌, ◌<◌, ◌↔◌, Bool, false, IsTrue, Option, Some, Ok, List, ◌++◌, length, take, drop, replicate, arith, refl, sym, ◌∙◌, ap, subst, length-drop}
+use Rattle.std.proofs.Common.{◌≡◌, ℕ, ◌+◌, ◌<◌, ◌≤◌, ◌↔◌, ◌&&◌, Bool, false, IsTrue, Option, Some, Ok, List, ◌++◌, length, take, drop, replicate, arith, refl, sym, ◌∙◌, ap, subst, length-drop}
+use Rattle.std.proofs.lemmas.Bool.{and_parts}
 use Rattle.std.proofs.lemmas.List.{ext_get_or, get_or-drop, get_or-replicate, length-replicate, length-take-le, take-append-drop}
 use Rattle.std.proofs.Math.Seq.{take-append_seam}
 use Rattle.std.proofs.lemmas.Option.{same_Some}
-use Rattle.flash_model.specs.Chip.{Chip, IsErased}
+use Rattle.flash_model.specs.Chip.{Chip, IsErased, size_of}
 use Rattle.sector_map.specs.declared.layout.SectorMap.{SectorMap}
 use Rattle.sector_map.specs.declared.layout.Side.TheVariants.{Secondary}
 use Rattle.sector_map.specs.Part.{Slot}
-use Rattle.sector_map.specs.Map.{IsLaidOut, length_of, start_of}
-use Rattle.sector_map.proofs.PartBytes.{length_part, part_erased_at}
+use Rattle.sector_map.specs.Map.{HasImage, IsLaidOut, length_of, start_of}
+use Rattle.sector_map.proofs.PartBytes.{length_part, part_erased_at, part_inside}
+use Rattle.trailer.proofs.Places.{some_slot}
 use Rattle.trailer.specs.Fields.{erased_fields, fields_at}
 use Rattle.trailer.specs.Standing.{incoming_slot}
 use Rattle.upload.specs.View.{View, view}
@@ -17,6 +19,13 @@ use Rattle.upload.specs.Standing.{HasCounts, IsFirstOpen, TellsOpen, TellsStand}
 use Rattle.upload.specs.declared.sessions.Upload.{Upload}
 use Rattle.upload.proofs.Ends.{decides}
 use Rattle.upload.proofs.Writing.{behind_erased}
+
+-- the secondary slot of an image lies inside the flash
+pub incoming_inside : (map : SectorMap) (chip : Chip) (image : ℕ) → HasImage map image chip
+    → start_of map (Slot image Secondary) + length_of map (Slot image Secondary) ≤ size_of chip
+incoming_inside map chip image has =
+    part_inside map chip (Slot image Secondary) has.laid_out
+    (some_slot map image Secondary has.laid_out.is_map has.there)
 
 -- a slot that is erased from a place on is what it begins with, and erased behind it
 pub erased_is_written : (map : SectorMap) (chip : Chip) (image at n : ℕ) → IsLaidOut map chip
@@ -97,7 +106,7 @@ written_front slot written was =
     subst (λ l. IsWritten slot l) (sym front) was
 
 -- an upload stands where such counts, slot and trailer are found, and nowhere else
-pub tells_open : (map : SectorMap) (chip : Chip) (image written : ℕ) (upload : Upload) (erased blank : Bool)
+tells_open : (map : SectorMap) (chip : Chip) (image written : ℕ) (upload : Upload) (erased blank : Bool)
     → IsLaidOut map chip → HasCounts map image written upload
     → (IsTrue erased ↔ IsWritten (incoming_slot map chip image) (take written (incoming_slot map chip image)))
     → (IsTrue blank ↔ (fields_at map chip image Secondary ≡ erased_fields))
@@ -144,6 +153,23 @@ open_told map image upload answer old new same tells asked =
           (subst (λ (v : Upload). HasCounts map image written v) (sym (same_Some upload u is)) counts));
       ends = told.ends;
     }
+
+-- an upload of such counts, whose slot and trailer were both tested by a flash that is on
+pub counts_told : (map : SectorMap) (image written : ℕ) (upload : Upload) (erased blank answer : Bool) (old new : Chip)
+    → IsLaidOut map old → HasCounts map image written upload
+    → (IsTrue erased ↔ IsWritten (incoming_slot map old image) (take written (incoming_slot map old image)))
+    → (IsTrue blank ↔ (fields_at map old image Secondary ≡ erased_fields)) → new ≡ old
+    → (old.is_on ≡ false → ⊥) → answer ≡ (erased && blank) → TellsOpen map image (Some upload) old new (Ok answer)
+counts_told map image written upload erased blank answer old new laid counts slot trailer same on both =
+    let tells = tells_open map old image written upload erased blank laid counts slot trailer in
+    open_told map image upload answer old new same (
+      λ yes.
+          let passed = and_parts erased blank (sym both ∙ yes) in
+          tells.0 passed.0 passed.1,
+      λ stands.
+          let passed = tells.1 stands in
+          both ∙ ap (λ b. b && blank) passed.0 ∙ passed.1,
+    ) (λ off. absurd (on off))
 
 -- a table whose uploads were judged
 pub table_told : (map : SectorMap) (sessions : List (Option Upload)) (answer : Bool) (old new : Chip) → new ≡ old

@@ -23,7 +23,7 @@ use Rattle.upload.specs.Taking.{CutsAccept, EndsAccept, IsNewer, IsTaken, IsUnch
 use Rattle.upload.specs.declared.sessions.Upload.{Upload}
 use Rattle.upload.specs.declared.error.UploadError.{UploadError}
 use Rattle.upload.specs.declared.error.UploadError.TheVariants as no
-use Rattle.upload.proofs.Frames.{sessions_closed}
+use Rattle.upload.proofs.Frames.{closed_up}
 use Rattle.upload.proofs.OpenOnes.{open_none}
 use Rattle.upload.proofs.AcceptRow.{same_state}
 use Rattle.upload.proofs.Images.{same_front}
@@ -115,24 +115,14 @@ module _ (map : SectorMap) (old new : View) (told tmid tnew : List (Option Uploa
       let (next, cut, rest) = ends.2 m.kept up.rest in (
         closed m next,
         (may_accept m.kept ends.0.0 up.rest ends.0.1, cut, refl),
-        record { up = up.up; rest = rest; open_ones = sessions_closed new tnew (after.closed refl) },
+        closed_up new tnew m next up.up rest (after.closed refl),
       )
   accept_row (Err (no.Flash flash.Off)) ends after m up = (
     closed m m.kept,
     refl,
-    record {
-      up = up.up;
-      rest = subst (λ w. IsSteadyAt w m.kept) (sym ends) up.rest;
-      open_ones = sessions_closed new tnew (after.closed refl);
-    },
+    closed_up new tnew m m.kept up.up (subst (λ w. IsSteadyAt w m.kept) (sym ends) up.rest) (after.closed refl),
   )
-  accept_row (Err no.NoSession) ends after m up = absurd ends
-  accept_row (Err no.TooMuch) ends after m up = absurd ends
-  accept_row (Err no.SizeWrong) ends after m up = absurd ends
-  accept_row (Err no.DigestWrong) ends after m up = absurd ends
-  accept_row (Err (no.NotAnImage code)) ends after m up = absurd ends
-  accept_row (Err no.NothingRequested) ends after m up = absurd ends
-  accept_row (Err no.NoMemory) ends after m up = absurd ends
+  accept_row (Err other) ends after m up = absurd ends
 
   same_open : IsUnchanged old new told tmid → tnew ≡ tmid → AllOpenAt old told → AllOpenAt new tnew
   same_open same after opens = subst (λ w. AllOpenAt w tnew) (sym same.flash)
@@ -146,13 +136,7 @@ module _ (map : SectorMap) (old new : View) (told tmid tnew : List (Option Uploa
   accept_open (Err no.TooBig) ends after opens = same_open ends.1 (after.same refl) opens
   accept_open (Err no.WrongPrecursor) ends after opens = same_open ends.1 (after.same refl) opens
   accept_open (Err (no.Flash error)) ends after opens = open_none new tnew (after.closed refl)
-  accept_open (Err no.NoSession) ends after opens = absurd ends
-  accept_open (Err no.TooMuch) ends after opens = absurd ends
-  accept_open (Err no.SizeWrong) ends after opens = absurd ends
-  accept_open (Err no.DigestWrong) ends after opens = absurd ends
-  accept_open (Err (no.NotAnImage code)) ends after opens = absurd ends
-  accept_open (Err no.NothingRequested) ends after opens = absurd ends
-  accept_open (Err no.NoMemory) ends after opens = absurd ends
+  accept_open (Err other) ends after opens = absurd ends
 
 -- what is left stands after the table is closed, where the flash stopped the call
 module _ (map : SectorMap) (old new : View) (told tmid tnew : List (Option Upload)) (q : ℕ) (cs : List Component) where
@@ -168,13 +152,7 @@ module _ (map : SectorMap) (old new : View) (told tmid tnew : List (Option Uploa
   accept_ends (Err no.WrongPrecursor) ends after = (ends.0, same_table ends.1 (after.same refl))
   accept_ends (Err (no.Flash flash.Cut)) ends after = ends
   accept_ends (Err (no.Flash flash.Off)) ends after = ends
-  accept_ends (Err no.NoSession) ends after = absurd ends
-  accept_ends (Err no.TooMuch) ends after = absurd ends
-  accept_ends (Err no.SizeWrong) ends after = absurd ends
-  accept_ends (Err no.DigestWrong) ends after = absurd ends
-  accept_ends (Err (no.NotAnImage code)) ends after = absurd ends
-  accept_ends (Err no.NothingRequested) ends after = absurd ends
-  accept_ends (Err no.NoMemory) ends after = absurd ends
+  accept_ends (Err other) ends after = absurd ends
 
 -- an equal sequence number takes no record
 pub equal_log : (map : SectorMap) (old mid new : Chip) (state found : State) (q : ℕ) → mid ≡ old
@@ -201,13 +179,7 @@ refuses map w sessions q cs no.TooBig because = (because, record { flash = refl;
 refuses map w sessions q cs no.WrongPrecursor because = (because, record { flash = refl; table = refl })
 refuses map w sessions q cs (no.Flash flash.Cut) because = absurd because
 refuses map w sessions q cs (no.Flash flash.Off) because = refl
-refuses map w sessions q cs no.NoSession because = absurd because
-refuses map w sessions q cs no.TooMuch because = absurd because
-refuses map w sessions q cs no.SizeWrong because = absurd because
-refuses map w sessions q cs no.DigestWrong because = absurd because
-refuses map w sessions q cs (no.NotAnImage code) because = absurd because
-refuses map w sessions q cs no.NothingRequested because = absurd because
-refuses map w sessions q cs no.NoMemory because = absurd because
+refuses map w sessions q cs other because = absurd because
 
 -- the flash stops a manifest that is being taken
 pub stopped : (map : SectorMap) (old new : View) (told tnew : List (Option Upload)) (q : ℕ) (cs : List Component)

@@ -1,5 +1,5 @@
 -- The row of withdrawing.
-use Rattle.std.proofs.Common.{◌≡◌, ◌≢◌, ℕ, ◌<◌, ◌≤◌, ◌==◌, Bool, true, false, List, Option, Some, None, Result, Ok, Err, refl, sym, ◌∙◌, ap, subst, arith, ⊎_elim, inl, inr, if◌then◌else◌}
+use Rattle.std.proofs.Common.{◌≡◌, ◌≢◌, ℕ, ◌<◌, ◌==◌, Bool, true, false, List, Option, Some, None, Result, Ok, Err, refl, sym, ◌∙◌, ap, subst, ⊎_elim, inl, inr, if◌then◌else◌}
 use Rattle.std.specs.Prelude.{option_map}
 use Rattle.std.proofs.lemmas.Bool.{eq-eqb, eqb-true}
 use Rattle.flash_model.specs.declared.error.FlashError.TheVariants as flash
@@ -16,10 +16,7 @@ use Rattle.upload.specs.declared.sessions.Upload.{Upload}
 use Rattle.upload.specs.declared.error.UploadError.{UploadError}
 use Rattle.upload.specs.declared.error.UploadError.TheVariants as no
 use Rattle.upload.proofs.OpenOnes.{open_none, open_of_sessions, sessions_of_open}
-use Rattle.upload.proofs.Frames.{others_kept, steady_to, session_same, sessions_closed, erased_stands, not_asked, unasked}
-
-some_not_none : (u : Upload) (s : Option Session) → Some u ≡ None → ⊥
-some_not_none u s e = cc
+use Rattle.upload.proofs.Frames.{others_kept, steady_to, session_same, closed_up, erased_stands, not_asked, unasked}
 
 -- an image without a session
 still_none : (old new : View) (i : ℕ) (o : Option Upload) (s : Option Session)
@@ -97,32 +94,15 @@ module _ (i : ℕ) (old new : View) (lt : i < old.images) (keeps : KeepsView (in
   withdraw_row (Err (no.Flash flash.Off)) same after m up = (
     closed m m.kept,
     refl,
-    record {
-      up = up.up;
-      rest = subst (λ w. IsSteadyAt w m.kept) (sym same) up.rest;
-      open_ones = sessions_closed new tnew (after.closed refl);
-    },
+    closed_up new tnew m m.kept up.up (subst (λ w. IsSteadyAt w m.kept) (sym same) up.rest) (after.closed refl),
   )
   withdraw_row (Err (no.Flash flash.Cut)) (stands, either) after m up = ⊎_elim
       (λ (same : (new.slot i Secondary ≡ old.slot i Secondary) × (new.trailer i Secondary ≡ old.trailer i Secondary)).
-      (closed m m.kept, (asked m stands up, inl refl), record { up = up.up; rest = steady_kept m.kept same.0 same.1 up.rest; open_ones = sessions_closed new tnew (after.closed refl) }))
+      (closed m m.kept, (asked m stands up, inl refl), closed_up new tnew m m.kept up.up (steady_kept m.kept same.0 same.1 up.rest) (after.closed refl)))
       (λ (none : request_in new i ≡ None).
-      (closed m (with_request m.kept i None), (asked m stands up, inr refl), record { up = up.up; rest = steady_gone m.kept none up.rest; open_ones = sessions_closed new tnew (after.closed refl) }))
+      (closed m (with_request m.kept i None), (asked m stands up, inr refl), closed_up new tnew m (with_request m.kept i None) up.up (steady_gone m.kept none up.rest) (after.closed refl)))
       either
-  withdraw_row (Err no.OldSequence) ends after m up = absurd ends
-  withdraw_row (Err no.TooBig) ends after m up = absurd ends
-  withdraw_row (Err no.NoSession) ends after m up = absurd ends
-  withdraw_row (Err no.TooMuch) ends after m up = absurd ends
-  withdraw_row (Err no.SizeWrong) ends after m up = absurd ends
-  withdraw_row (Err no.DigestWrong) ends after m up = absurd ends
-  withdraw_row (Err (no.NotAnImage code)) ends after m up = absurd ends
-  withdraw_row (Err no.WrongPrecursor) ends after m up = absurd ends
-  withdraw_row (Err no.NoMemory) ends after m up = absurd ends
-
--- an image that the device doesn't have
-pub withdraw_past : (i : ℕ) (w : View) (told : List (Option Upload)) → w.images ≤ i → (m : Machine)
-    → IsUpAt w told m → (next : Machine) × Withdraws m i (Err no.NothingRequested) next × IsUpAt w told next
-withdraw_past i w told le m up = (m, ((λ lt. let n = up.rest.images in absurd (omega arith)), refl), up)
+  withdraw_row (Err other) ends after m up = absurd ends
 
 -- the uploads that stood stand on, or all are closed
 module _ (i : ℕ) (old new : View) (lt : i < old.images) (keeps : KeepsView (incoming_of i) old new)
@@ -137,12 +117,4 @@ module _ (i : ℕ) (old new : View) (lt : i < old.images) (keeps : KeepsView (in
   withdraw_open (Err no.NothingRequested) ends after opens =
       subst (λ w. AllOpenAt w tnew) (sym ends.1) (subst (λ t. AllOpenAt old t) (sym (after.same refl)) opens)
   withdraw_open (Err (no.Flash error)) ends after opens = open_none new tnew (after.closed refl)
-  withdraw_open (Err no.OldSequence) ends after opens = absurd ends
-  withdraw_open (Err no.TooBig) ends after opens = absurd ends
-  withdraw_open (Err no.NoSession) ends after opens = absurd ends
-  withdraw_open (Err no.TooMuch) ends after opens = absurd ends
-  withdraw_open (Err no.SizeWrong) ends after opens = absurd ends
-  withdraw_open (Err no.DigestWrong) ends after opens = absurd ends
-  withdraw_open (Err (no.NotAnImage code)) ends after opens = absurd ends
-  withdraw_open (Err no.WrongPrecursor) ends after opens = absurd ends
-  withdraw_open (Err no.NoMemory) ends after opens = absurd ends
+  withdraw_open (Err other) ends after opens = absurd ends

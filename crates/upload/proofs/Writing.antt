@@ -1,6 +1,6 @@
 -- Writing and erasing a secondary slot.
 use Rattle.std.proofs.Common.{◌≡◌, ℕ, zero, suc, ◌+◌, ◌-◌, ◌*◌, ◌/◌, ◌%◌, ◌<◌, ◌≤◌, List, [], ◌∷◌, ◌++◌, length, take, drop, replicate, slice_index, arith, refl, sym, ◌∙◌, ap, subst, append_assoc, length-append, inl, false, not}
-use Rattle.std.proofs.lemmas.List.{append-nil, length-replicate, get_or-replicate, get_or-append_right, drop-replicate, take-replicate, nil_from_length}
+use Rattle.std.proofs.lemmas.List.{length-replicate, get_or-replicate, get_or-append_right, drop-replicate, take-replicate}
 use Rattle.std.proofs.Math.Seq.{take-append_seam, drop-append_seam}
 use Rattle.std.proofs.lemmas.List.{drop-drop}
 use Rattle.flash_model.specs.Chip.{Chip, IsErased, Reads, SameOutside}
@@ -59,12 +59,6 @@ pub slot_aligned : (map : SectorMap) (image at k : ℕ) → IsMap map → at ≡
 slot_aligned map image at k fits is =
     let start = aligned (first_of map (Slot image Secondary)) map.sector_size (units_of map fits) in
     omega (arith, start)
-
--- nothing is written
-pub written_none : (slot front bytes : List ℕ) → length bytes ≡ 0 → IsWritten slot front
-    → IsWritten slot (front ++ bytes)
-written_none slot front bytes none was =
-    subst (λ l. IsWritten slot l) (sym (ap (λ l. front ++ l) (nil_from_length bytes none) ∙ append-nil front)) was
 
 -- bytes are written behind what is written
 pub written_more : (map : SectorMap) (old new : Chip) (image at place : ℕ) (front bytes : List ℕ) → IsLaidOut map old

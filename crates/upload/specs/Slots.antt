@@ -21,33 +21,13 @@ pub record HasRoomBehind (map : SectorMap) (image at n : ℕ) (chip : Chip) : Ty
   pub written : (front : List ℕ) × (length front ≡ at)
       × IsWritten (incoming_slot map chip image) front
 
--- A call appends bytes to what is written of a secondary slot.
-pub record Appends (map : SectorMap) (image at : ℕ) (bytes : List ℕ) (old new : Chip) {T : Type 0}
-    (result : Result T FlashError) : Type 0 where
-  -- No other part is written,
-  pub outside : Keeps map (only (Slot image Secondary)) old new
-  -- of the slot no more than their own range,
-  pub range : SameOutside (start_of map (Slot image Secondary) + at) (length bytes) old new
-  -- and nothing where there are none.
-  pub none : bytes ≡ [] → new ≡ old
-  -- They stand behind it where the call ends,
-  pub ok : OnOk result ((front : List ℕ) → length front ≡ at
-      → IsWritten (incoming_slot map old image) front
-      → IsWritten (incoming_slot map new image) (front ++ bytes))
-  -- and the flash was on if there are some.
-  pub on : OnOk result (0 < length bytes → old.is_on ≡ true)
-  -- No sector is erased in any case.
-  pub erases : new.erases ≡ old.erases
-  pub ends : Ends result old new
-
--- A call appends bytes that make no whole unit to what is written of a secondary slot, with their
--- unit filled.
-pub record AppendsLast (map : SectorMap) (image at : ℕ) (bytes : List ℕ) (old new : Chip)
+-- A call appends bytes to what is written of a secondary slot, by units that take `width` bytes.
+pub record Appends (map : SectorMap) (image at : ℕ) (bytes : List ℕ) (width : ℕ) (old new : Chip)
     {T : Type 0} (result : Result T FlashError) : Type 0 where
   -- No other part is written,
   pub outside : Keeps map (only (Slot image Secondary)) old new
-  -- of the slot no more than that unit,
-  pub unit : SameOutside (start_of map (Slot image Secondary) + at) 8 old new
+  -- of the slot no more than these units,
+  pub range : SameOutside (start_of map (Slot image Secondary) + at) width old new
   -- and nothing where there are none.
   pub none : bytes ≡ [] → new ≡ old
   -- They stand behind it where the call ends,

@@ -7,7 +7,7 @@ ghost use Rattle.sector_map.specs.declared.layout.Side.TheVariants.{Secondary};
 ghost use Rattle.upload.specs.View.{view};
 ghost use Rattle.upload.specs.Sessions.{IsOpenAt, upload_at};
 ghost use Rattle.upload.specs.declared.sessions.Upload.{Upload};
-ghost use Rattle.upload.specs.Slots.{AppendsLast, HasRoomBehind};
+ghost use Rattle.upload.specs.Slots.{Appends, HasRoomBehind};
 ghost use Rattle.upload.specs.Finishing.{FinishesTaken, FinishesUpload, JudgesSlot, ReadsDigest};
 
 use crate::adding::extend;
@@ -42,7 +42,7 @@ fn write_last<F: Flash>(
 ) -> Result<(), FlashError>
     requires behind { HasRoomBehind map.now image start (length unit.items) (F.chip flash.old) }
     requires few { length unit.items < 8 }
-    ensures { AppendsLast map.now image start unit.items
+    ensures { Appends map.now image start unit.items 8
         (F.chip flash.old) (F.chip flash.new) result }
 {
     if unit.is_empty() {

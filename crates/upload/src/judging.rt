@@ -9,7 +9,7 @@ ghost use Rattle.upload.specs.Judging.{ReadsState};
 
 use crate::error::UploadError;
 use flash_model::{Flash, FlashError};
-use image_reading::{SlotError, describe_slot};
+use image_reading::intact_image;
 use manifest::{Component, Manifest};
 use sector_map::{SectorMap, Side};
 use set_log::{LogError, State, read_state};
@@ -46,11 +46,9 @@ fn follows<F: Flash>(
     let Some(digest) = component.precursor else {
         return Ok(true);
     };
-    match describe_slot(flash, map, component.image, Side::Primary) {
-        Ok(description) => Ok(is_same_digest(&description.digest, &digest)),
-        Err(SlotError::Image(_)) => Ok(false),
-        Err(SlotError::Flash(error)) => Err(error),
-        Err(SlotError::NoMemory) => unreachable!(),
+    match intact_image(flash, map, component.image, Side::Primary)? {
+        Some(description) => Ok(is_same_digest(&description.digest, &digest)),
+        None => Ok(false),
     }
 }
 

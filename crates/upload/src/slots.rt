@@ -17,7 +17,8 @@ pub(crate) fn write_slot<F: Flash>(
 ) -> Result<(), FlashError>
     requires behind { HasRoomBehind map.now image at (length bytes.now) (F.chip flash.old) }
     requires units { (k : ℕ) × (length bytes.now ≡ 8 * k) }
-    ensures { Appends map.now image at bytes.now (F.chip flash.old) (F.chip flash.new) result }
+    ensures { Appends map.now image at bytes.now (length bytes.now)
+        (F.chip flash.old) (F.chip flash.new) result }
 {
     if bytes.is_empty() {
         return Ok(());

@@ -42,6 +42,7 @@ pub fn groups_length(groups: &[&[Dependency]]) -> usize
 }
 
 /// Writes the alternatives of a group at the end of the bytes.
+#[tactic(auto, using(std::proofs::lemmas::List::take_all))]
 fn push_alternatives<A: Allocator>(
     bytes: &mut Vec<u8, A>,
     alternatives: &[Dependency],
@@ -73,6 +74,7 @@ fn push_group<A: Allocator>(
 }
 
 /// Writes the entries of groups at the end of the bytes.
+#[tactic(auto, using(std::proofs::lemmas::List::take_all))]
 pub fn push_groups<A: Allocator>(
     bytes: &mut Vec<u8, A>,
     groups: &[&[Dependency]],

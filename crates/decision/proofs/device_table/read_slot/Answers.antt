@@ -5,30 +5,26 @@ use Rattle.machine.proofs.Rows.{read_some}
 use Rattle.decision.proofs.Described.{described_front, described_held, fault_front, fault_held}
 use Rattle.decision.proofs.device_table.read_slot.Goals as goal
 
-pub returns-in-Ok : goal.returns-in-Ok
-returns-in-Ok g c = record {
-  same = search rules;
-  ok = λ held front.
-      let slot = slot_bytes c.args.map.now (g.F.Flash.chip c.args.flash.now) c.args.image c.args.side in
-      subst (λ entry. IsEntryOf held entry) (sym c.entry_of.ensures)
-      (read_some slot c.in-Ok.description held
-      (described_front slot c.in-Ok.description c.in-Ok.ensures.described) front);
-  front = described_held
-      (slot_bytes c.args.map.now (g.F.Flash.chip c.args.flash.now) c.args.image c.args.side)
-      c.in-Ok.description c.in-Ok.ensures.described;
-  ends = search rules;
-}
+pub returns-in-Some : goal.returns-in-Some
+returns-in-Some g c =
+    let slot = slot_bytes c.args.map.now (g.F.Flash.chip c.args.flash.now) c.args.image c.args.side in
+    let begins = rw c.in-Some.is at c.in_ok-description.ensures.found in
+    record {
+      same = search rules;
+      ok = λ held front.
+          subst (λ entry. IsEntryOf held entry) (sym c.entry_of.ensures)
+          (read_some slot c.in-Some.description held (described_front slot c.in-Some.description begins) front);
+      front = described_held slot c.in-Some.description begins;
+      ends = search rules;
+    }
 
-pub returns-in-Err-Image : goal.returns-in-Err-Image
-returns-in-Err-Image g c = record {
-  same = search rules;
-  ok = λ held front.
-      let slot = slot_bytes c.args.map.now (g.F.Flash.chip c.args.flash.now) c.args.image c.args.side in
-      let fault = rw c.in-Err-Image.field-0-is at c.in-Err-Image.ensures.fault in
-      fault_front slot c.in-Err-Image.field-0-0 held fault.1 front;
-  front =
-      let fault = rw c.in-Err-Image.field-0-is at c.in-Err-Image.ensures.fault in
-      fault_held (slot_bytes c.args.map.now (g.F.Flash.chip c.args.flash.now) c.args.image c.args.side)
-      c.in-Err-Image.field-0-0 fault.1;
-  ends = search rules;
-}
+pub returns-in-None : goal.returns-in-None
+returns-in-None g c =
+    let slot = slot_bytes c.args.map.now (g.F.Flash.chip c.args.flash.now) c.args.image c.args.side in
+    let failed = rw c.in-None.is at c.in_ok-description.ensures.found in
+    record {
+      same = search rules;
+      ok = λ held front. fault_front slot failed.0 held failed.1 front;
+      front = fault_held slot failed.0 failed.1;
+      ends = search rules;
+    }

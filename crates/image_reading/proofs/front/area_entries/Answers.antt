@@ -1,8 +1,8 @@
-use Rattle.std.proofs.Common.{◌+◌, ◌≤◌, length, refl, sym, subst, ◌∙◌, arith}
+use Rattle.std.proofs.Common.{refl, sym, subst, ◌∙◌, arith}
 use Rattle.std.proofs.lemmas.Bool.{true≢false}
 use Rattle.image_reading.specs.Fault.{IsAreaFault, IsTotal}
 use Rattle.image_reading.specs.Span.{bytes_of}
-use Rattle.image_reading.proofs.Areas.{area_read, magic_read, total_read}
+use Rattle.image_reading.proofs.Areas.{area_read, head_read, magic_read}
 use Rattle.image_reading.proofs.front.area_entries.Goals as goal
 
 pub returns-clause-found : goal.returns-clause-found
@@ -45,11 +45,9 @@ returns-then-own_magic-magic-clause-fault g c =
 pub returns-then-not-is_total-clause-fault : goal.returns-then-not-is_total-clause-fault
 returns-then-not-is_total-clause-fault g c =
     let chip = g.M.Medium.chip c.args.medium.now in
-    let bytes = bytes_of chip c.args.bytes in
-    let area = bytes_of chip c.after-area.result in
-    let at = c.after-area.ensures.bytes chip in
-    let magic_is = magic_read bytes area c.args.place c.head-own_magic.result.0 at c.head-own_magic.ensures.first in
-    let total_is = total_read bytes area c.args.place c.head-own_magic.result.1 at c.head-own_magic.ensures.second in
+    let (magic_is, total_is) =
+    head_read (bytes_of chip c.args.bytes) _ c.args.place _ _ (c.after-area.ensures.bytes chip)
+    c.head-own_magic.ensures.first c.head-own_magic.ensures.second in
     IsAreaFault.bad_total
     (omega (arith, c.requires.readable.whole, c.if-bytes-place.false), magic_is ∙ c.if-own_magic-magic.false)
     (λ allowed. true≢false (sym (c.is_total.ensures.1 (subst (IsTotal c.args.expected) total_is allowed))
@@ -58,14 +56,14 @@ returns-then-not-is_total-clause-fault g c =
 pub returns-then-area-total-clause-fault : goal.returns-then-area-total-clause-fault
 returns-then-area-total-clause-fault g c =
     let chip = g.M.Medium.chip c.args.medium.now in
-    let bytes = bytes_of chip c.args.bytes in
-    let area = bytes_of chip c.after-area.result in
-    let at = c.after-area.ensures.bytes chip in
-    let head : c.args.place + 4 ≤ length bytes = omega (arith, c.requires.readable.whole, c.if-bytes-place.false) in
-    let magic_is = magic_read bytes area c.args.place c.head-own_magic.result.0 at c.head-own_magic.ensures.first in
-    let total_is = total_read bytes area c.args.place c.head-own_magic.result.1 at c.head-own_magic.ensures.second in
+    let (magic_is, total_is) =
+    head_read (bytes_of chip c.args.bytes) _ c.args.place _ _ (c.after-area.ensures.bytes chip)
+    c.head-own_magic.ensures.first c.head-own_magic.ensures.second in
     let allowed = subst (IsTotal c.args.expected) (sym total_is) (c.is_total.ensures.0 c.if-not-is_total.false) in
-    IsAreaFault.cut_off ((head, magic_is ∙ c.if-own_magic-magic.false), allowed)
+    IsAreaFault.cut_off (
+      (omega (arith, c.requires.readable.whole, c.if-bytes-place.false), magic_is ∙ c.if-own_magic-magic.false),
+      allowed,
+    )
     (omega (
       arith,
       c.requires.readable.whole,

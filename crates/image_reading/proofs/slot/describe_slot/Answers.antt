@@ -3,7 +3,7 @@ use Rattle.common.proofs.Results.{IfErr-passed}
 use Rattle.image_reading.specs.Fault.{IsFrontFault}
 use Rattle.image_reading.specs.Image.{BeginsIntact}
 use Rattle.image_reading.specs.Slot.{slot_bytes}
-use Rattle.image_reading.proofs.Answered.{front_answered, only_slot_description, only_slot_fault}
+use Rattle.image_reading.proofs.Answered.{only_front_in_slot}
 use Rattle.image_reading.proofs.slot.describe_slot.Goals as goal
 
 pub returns-in_err-description-clause-fault : goal.returns-in_err-description-clause-fault
@@ -26,26 +26,22 @@ pub returns-in_err-description-clause-only : goal.returns-in_err-description-cla
 returns-in_err-description-clause-only g c =
     let chip = g.F.Flash.chip c.args.flash.now in
     let bytes = slot_bytes c.args.map.now chip c.args.image c.args.side in
-    only_slot_description (BeginsIntact bytes) (IsFrontFault bytes) chip.is_on _ (front_answered bytes) (search rules)
-    (returns-in_err-description-clause-fault g c)
+    (only_front_in_slot bytes chip.is_on _ (search rules) (returns-in_err-description-clause-fault g c)).only
 
 pub returns-in_err-description-clause-refused : goal.returns-in_err-description-clause-refused
 returns-in_err-description-clause-refused g c =
     let chip = g.F.Flash.chip c.args.flash.now in
     let bytes = slot_bytes c.args.map.now chip c.args.image c.args.side in
-    only_slot_fault (BeginsIntact bytes) (IsFrontFault bytes) chip.is_on _ (front_answered bytes) (search rules)
-    (returns-in_err-description-clause-fault g c)
+    (only_front_in_slot bytes chip.is_on _ (search rules) (returns-in_err-description-clause-fault g c)).refused
 
 pub returns-clause-only : goal.returns-clause-only
 returns-clause-only g c =
     let chip = g.F.Flash.chip c.args.flash.now in
     let bytes = slot_bytes c.args.map.now chip c.args.image c.args.side in
-    only_slot_description (BeginsIntact bytes) (IsFrontFault bytes) chip.is_on (Ok c.in_ok-description.description)
-    (front_answered bytes) (returns-clause-described g c) tt
+    (only_front_in_slot bytes chip.is_on (Ok c.in_ok-description.description) (returns-clause-described g c) tt).only
 
 pub returns-clause-refused : goal.returns-clause-refused
 returns-clause-refused g c =
     let chip = g.F.Flash.chip c.args.flash.now in
     let bytes = slot_bytes c.args.map.now chip c.args.image c.args.side in
-    only_slot_fault (BeginsIntact bytes) (IsFrontFault bytes) chip.is_on (Ok c.in_ok-description.description)
-    (front_answered bytes) (returns-clause-described g c) tt
+    (only_front_in_slot bytes chip.is_on (Ok c.in_ok-description.description) (returns-clause-described g c) tt).refused

@@ -68,7 +68,6 @@ returns-in_err-write_last g c =
 pub returns-in_err-judge : goal.returns-in_err-judge
 returns-in_err-judge g c =
     let map = c.args.map.now in
-    let was = c.requires.open.1 in
     let n = c.len.ensures.value in
     let first = c.in_ok-write_last.ensures.ends in
     rw (err_passed _ c.in_err-judge.field-0.0 c.from_residual-in_err-judge.ensures.1) (record {
@@ -78,7 +77,7 @@ returns-in_err-judge g c =
           c.write_last.ensures.outside);
       finish = finish_refused c.args.image (c.args.upload.received - c.len.result) _ _ _ c.args.upload
           (view_kept map _ _ _ c.write_last.ensures.outside) (ap (λ chip. view map chip) c.judge.ensures.same)
-          c.in_ok-write_last.ensures.ok (omega (arith, n, was.count)) (omega (arith, c.if-upload.false)) c.in_err-judge.field-0.0
+          c.in_ok-write_last.ensures.ok (omega (arith, n, c.requires.open.1.count)) (omega (arith, c.if-upload.false)) c.in_err-judge.field-0.0
           c.in_err-judge.ensures.judges;
       erases = tt;
       refused = judged_finish map c.args.image _ _ c.args.upload c.in_err-judge.field-0.0 _ _
@@ -95,7 +94,6 @@ returns-in_err-judge g c =
 pub returns : goal.returns
 returns g c =
     let map = c.args.map.now in
-    let was = c.requires.open.1 in
     let n = c.len.ensures.value in
     let first = c.in_ok-write_last.ensures.ends in
     record {
@@ -103,7 +101,7 @@ returns g c =
           c.request.ensures.outside;
       finish = finish_done c.args.image (c.args.upload.received - c.len.result) _ _ _ c.args.upload
           (view_kept map _ _ _ c.write_last.ensures.outside) (ap (λ chip. view map chip) c.judge.ensures.same)
-          c.in_ok-write_last.ensures.ok (omega (arith, n, was.count)) (omega (arith, c.if-upload.false)) _
+          c.in_ok-write_last.ensures.ok (omega (arith, n, c.requires.open.1.count)) (omega (arith, c.if-upload.false)) _
           (view_kept map _ _ _ c.request.ensures.outside) c.in_ok-judge.ensures.judges c.in_ok-request.ensures.ok;
       erases = c.in_ok-request.ensures.erases ∙ ap (λ chip. chip.erases) c.judge.ensures.same
           ∙ c.write_last.ensures.erases;
@@ -117,7 +115,6 @@ returns g c =
 pub returns-in_err-request : goal.returns-in_err-request
 returns-in_err-request g c =
     let map = c.args.map.now in
-    let was = c.requires.open.1 in
     let n = c.len.ensures.value in
     let first = c.in_ok-write_last.ensures.ends in
     rw (err_passed _ (no.Flash c.in_err-request.field-0.0) c.from_residual-in_err-request.ensures.1) (record {
@@ -125,7 +122,7 @@ returns-in_err-request g c =
           c.request.ensures.outside;
       finish = finish_cut c.args.image (c.args.upload.received - c.len.result) _ _ _ c.args.upload
           (view_kept map _ _ _ c.write_last.ensures.outside) (ap (λ chip. view map chip) c.judge.ensures.same)
-          c.in_ok-write_last.ensures.ok (omega (arith, n, was.count)) (omega (arith, c.if-upload.false)) _
+          c.in_ok-write_last.ensures.ok (omega (arith, n, c.requires.open.1.count)) (omega (arith, c.if-upload.false)) _
           (view_kept map _ _ _ c.request.ensures.outside) c.in_ok-judge.ensures.judges c.in_err-request.field-0.0
           c.request.ensures.either
           (λ is. ap (λ chip. view map chip) (same_off c.in_err-request.field-0.0 _ _ c.in_err-request.ensures.ends is));

@@ -36,7 +36,7 @@ returns g c =
     let whole : length c.as_slice.result.now ≡ 8 = omega (arith, m, n, c.requires.few) in
     record {
       outside = c.write_slot.ensures.outside;
-      unit = subst (λ n. SameOutside (start_of c.args.map.now (Slot c.args.image Secondary) + c.args.start) n
+      range = subst (λ n. SameOutside (start_of c.args.map.now (Slot c.args.image Secondary) + c.args.start) n
           (g.F.Flash.chip c.args.flash.now) (g.F.Flash.chip c.write_slot.new.flash)) whole c.write_slot.ensures.range;
       none = λ none. absurd (no_bytes c.args.unit.items none some);
       ok = on_ok_weaker c.write_slot.result (λ ok. λ front long written.

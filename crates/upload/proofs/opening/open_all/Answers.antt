@@ -35,8 +35,6 @@ pub returns-in_err-open_one : goal.returns-in_err-open_one
 returns-in_err-open_one g c =
     let cs = c.args.components.now in
     let map = c.args.map.now in
-    let laid = laid_out_kept map _ _ (g.F.Flash.chip c.loop-component.flash) c.requires.laid_out
-    c.loop-component.invariant.outside in
     let next = latest_at cs c.loop-component.component-index blank c.loop-component-test.true in
     rw (err_passed _ _ c.from_residual.ensures.1) (record {
       outside = keeps_wider map _ (named_parts cs) _ _ (first_parts cs (c.loop-component.component-index + 1))
@@ -47,7 +45,7 @@ returns-in_err-open_one g c =
           (latest_less cs (c.loop-component.component-index + 1))
           (opening_more _ _ _ _ _ (get_or cs c.loop-component.component-index blank) next
           (view_kept map _ _ _ c.open_one.ensures.opens.outside)
-          (view_long map _ _ _ _ _ laid c.open_one.ensures.opens.outside)
+          (view_long map _ _ _ _ _ (laid_out_kept map _ _ (g.F.Flash.chip c.loop-component.flash) c.requires.laid_out c.loop-component.invariant.outside) c.open_one.ensures.opens.outside)
           c.open_one.ensures.opens.either c.loop-component.invariant.opened.opening);
       opened = tt;
       erases = tt;
@@ -64,15 +62,13 @@ pub loop-component-preserved : goal.loop-component-preserved
 loop-component-preserved g c =
     let cs = c.args.components.now in
     let map = c.args.map.now in
-    let laid = laid_out_kept map _ _ (g.F.Flash.chip c.loop-component.flash) c.requires.laid_out
-    c.loop-component.invariant.outside in
     let next = latest_at cs c.loop-component.component-index blank c.loop-component-test.true in
     record {
       outside = keeps_more (take c.loop-component.component-index cs) (take (c.loop-component.component-index + 1) cs)
           (get_or cs c.loop-component.component-index blank) next map _ _ _
           c.loop-component.invariant.outside c.open_one.ensures.opens.outside;
       opened = opened_more _ _ _ _ _ (get_or cs c.loop-component.component-index blank) next
-          (view_kept map _ _ _ c.open_one.ensures.opens.outside) (view_long map _ _ _ _ _ laid c.open_one.ensures.opens.outside)
+          (view_kept map _ _ _ c.open_one.ensures.opens.outside) (view_long map _ _ _ _ _ (laid_out_kept map _ _ (g.F.Flash.chip c.loop-component.flash) c.requires.laid_out c.loop-component.invariant.outside) c.open_one.ensures.opens.outside)
           c.open_one.ensures.opens.either _ _ _
           c.in_ok-open_one.ensures.opens.trailer c.in_ok-open_one.ensures.opens.slot c.in_ok-open_one.ensures.table.0
           c.in_ok-open_one.ensures.table.1 c.in_ok-open_one.ensures.table.2 c.loop-component.invariant.opened;

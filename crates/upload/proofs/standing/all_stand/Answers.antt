@@ -1,4 +1,4 @@
-use Rattle.std.proofs.Common.{◌≡◌, ◌≢◌, ◌<◌, ◌≤◌, ◌↔◌, true, false, IsTrue, Some, None, length}
+use Rattle.std.proofs.Common.{◌≡◌, ◌≢◌, ◌<◌, ◌≤◌, ◌↔◌, true, false, IsTrue, None, length}
 use Rattle.std.proofs.Common.{refl, sym, ◌∙◌, ap, subst, arith, ⊎_elim}
 use Rattle.std.proofs.lemmas.Bool.{cases_eq, cases_lt, false≢true}
 use Rattle.std.proofs.lemmas.List.{get_or_default, get_or_past}
@@ -8,7 +8,6 @@ use Rattle.upload.specs.Sessions.{AllOpenAt, IsOpenAt, upload_at}
 use Rattle.upload.specs.Standing.{HasCounts}
 use Rattle.upload.specs.View.{view}
 use Rattle.flash_model.specs.Chip.{Chip}
-use Rattle.upload.specs.declared.sessions.Upload.{Upload}
 use Rattle.upload.proofs.StandingLaws.{table_told}
 use Rattle.upload.proofs.standing.all_stand.Goals as goal
 

@@ -2,29 +2,19 @@ use Rattle.std.proofs.Common.{◌-◌, arith}
 use Rattle.std.proofs.lemmas.Result.{IfOk-weaker}
 use Rattle.sector_map.specs.Part.{Slot}
 use Rattle.sector_map.specs.Map.{length_of}
-use Rattle.sector_map.proofs.PartBytes.{part_inside}
-use Rattle.trailer.proofs.Places.{some_slot}
 use Rattle.trailer.proofs.FailedCalls.{at_any}
 use Rattle.sector_map.specs.declared.layout.Side.TheVariants.{Secondary}
-use Rattle.upload.proofs.StandingLaws.{tells_written}
+use Rattle.upload.proofs.StandingLaws.{incoming_inside, tells_written}
 use Rattle.upload.proofs.standing.is_erased_behind.Goals as goal
 
 pub overflow_add-start : goal.overflow_add-start
 overflow_add-start g c =
-    let map = c.args.map.now in
-    let laid = c.requires.image.laid_out in
-    let part = Slot c.args.image Secondary in
-    let inside = part_inside map (g.F.Flash.chip c.args.flash.now) part laid
-    (some_slot map c.args.image Secondary laid.is_map c.requires.image.there) in
-    omega (arith, c.slot_start-start.ensures, inside, laid.size, c.requires.within)
+    let inside = incoming_inside c.args.map.now _ c.args.image c.requires.image in
+    omega (arith, c.slot_start-start.ensures, inside, c.requires.image.laid_out.size, c.requires.within)
 
 pub is_erased-requires : goal.is_erased-requires
 is_erased-requires g c =
-    let map = c.args.map.now in
-    let laid = c.requires.image.laid_out in
-    let part = Slot c.args.image Secondary in
-    let inside = part_inside map (g.F.Flash.chip c.args.flash.now) part laid
-    (some_slot map c.args.image Secondary laid.is_map c.requires.image.there) in
+    let inside = incoming_inside c.args.map.now _ c.args.image c.requires.image in
     omega (arith, c.slot_start-start.ensures, c.slot_length.ensures, inside, c.requires.within)
 
 pub returns : goal.returns

@@ -1,9 +1,9 @@
-use Rattle.std.proofs.Common.{◌↔◌, false, IsTrue, refl, sym, ◌∙◌}
+use Rattle.std.proofs.Common.{◌↔◌, false, IsTrue, refl, ◌∙◌}
 use Rattle.std.proofs.lemmas.Bool.{false≢true}
 use Rattle.flash_model.proofs.Ending.{no_error}
 use Rattle.upload.specs.Sessions.{IsOpenAt}
 use Rattle.upload.specs.View.{view}
-use Rattle.upload.proofs.StandingLaws.{no_counts, open_told, tells_open}
+use Rattle.upload.proofs.StandingLaws.{counts_told, no_counts, open_told}
 use Rattle.upload.proofs.standing.stands.Goals as goal
 
 pub returns-in_default : goal.returns-in_default
@@ -19,24 +19,18 @@ returns-in_default g c =
 
 pub returns-then-is_erased : goal.returns-then-is_erased
 returns-then-is_erased g c =
-    let map = c.args.map.now in
-    let chip = g.F.Flash.chip c.args.flash.now in
-    let both = tells_open map chip c.args.image c.in-Some.written c.args.upload.now _ _ c.requires
+    counts_told c.args.map.now c.args.image c.in-Some.written c.args.upload.now _ _ _ _ _ c.requires
     c.in-Some.ensures.some c.in_ok-is_erased.ensures.ok
-    (rw c.is_erased_behind.ensures.same at c.in_ok-is_blank.ensures.ok) in
-    let ok : IsTrue c.in_ok-is_blank.is_blank ↔ IsOpenAt (view map chip) c.args.image c.args.upload.now =
-    (λ yes. both.0 c.if-is_erased.true yes, λ stands. (both.1 stands).1) in
-    open_told map c.args.image c.args.upload.now _ _ _ (c.is_blank.ensures.same ∙ c.is_erased_behind.ensures.same) ok
-    (λ off. absurd (no_error _ _ (c.in_ok-is_blank.ensures.off (c.in_ok-is_erased.ensures.ends.uncut.on ∙ off))))
+    (rw c.is_erased_behind.ensures.same at c.in_ok-is_blank.ensures.ok)
+    (c.is_blank.ensures.same ∙ c.is_erased_behind.ensures.same)
+    (λ off. no_error _ _ (c.in_ok-is_blank.ensures.off (c.in_ok-is_erased.ensures.ends.uncut.on ∙ off)))
+    (rw c.if-is_erased.true refl)
 
 pub returns-else-is_erased : goal.returns-else-is_erased
 returns-else-is_erased g c =
-    let map = c.args.map.now in
-    let chip = g.F.Flash.chip c.args.flash.now in
-    let both = tells_open map chip c.args.image c.in-Some.written c.args.upload.now _ _ c.requires
+    counts_told c.args.map.now c.args.image c.in-Some.written c.args.upload.now _ _ _ _ _ c.requires
     c.in-Some.ensures.some c.in_ok-is_erased.ensures.ok
-    (rw c.is_erased_behind.ensures.same at c.in_ok-is_blank.ensures.ok) in
-    let ok : IsTrue c.in_ok-is_erased.is_erased ↔ IsOpenAt (view map chip) c.args.image c.args.upload.now =
-    (λ yes. absurd (false≢true (sym c.if-is_erased.false ∙ yes)), λ stands. (both.1 stands).0) in
-    open_told map c.args.image c.args.upload.now _ _ _ (c.is_blank.ensures.same ∙ c.is_erased_behind.ensures.same) ok
-    (λ off. absurd (no_error _ _ (c.in_ok-is_blank.ensures.off (c.in_ok-is_erased.ensures.ends.uncut.on ∙ off))))
+    (rw c.is_erased_behind.ensures.same at c.in_ok-is_blank.ensures.ok)
+    (c.is_blank.ensures.same ∙ c.is_erased_behind.ensures.same)
+    (λ off. no_error _ _ (c.in_ok-is_blank.ensures.off (c.in_ok-is_erased.ensures.ends.uncut.on ∙ off)))
+    (rw c.if-is_erased.false refl)

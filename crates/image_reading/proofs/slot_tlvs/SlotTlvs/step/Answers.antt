@@ -1,27 +1,21 @@
-use Rattle.std.proofs.Common.{◌≡◌, Some, None, sym}
+use Rattle.std.proofs.Common.{◌≡◌, None, sym}
 use Rattle.image_reading.specs.Reading.{first_entry}
 use Rattle.image_reading.specs.SlotTlvs.{slot_tlv_view}
 use Rattle.image_reading.specs.Span.{bytes_of}
-use Rattle.image_reading.proofs.AreaLaws.{entries_of-first, entries_of-none, rest_of-first, rest_of-none}
+use Rattle.image_reading.proofs.AreaLaws.{entries_of-none, read_first, rest_of-none}
 use Rattle.image_reading.proofs.slot_tlvs.SlotTlvs.step.Goals as goal
 
 pub returns-clause-steps : goal.returns-clause-steps
 returns-clause-steps g c =
     let chip = g.M.Medium.chip c.args.medium.now in
-    let bytes = bytes_of chip c.args.self.now.rest in
-    let entry = slot_tlv_view chip c.in_ok-tlv.tlv in
-    let rest = bytes_of chip c.in_ok-tlv.rest in
-    let found : first_entry bytes ≡ Some (entry, rest) = sym {a = Some (entry, rest)} c.in_ok-tlv.ensures.first in
-    entries_of-first bytes entry rest found
+    (read_first (bytes_of chip c.args.self.now.rest) (slot_tlv_view chip c.in_ok-tlv.tlv)
+    (bytes_of chip c.in_ok-tlv.rest) c.in_ok-tlv.ensures.first).0
 
 pub returns-clause-rest : goal.returns-clause-rest
 returns-clause-rest g c =
     let chip = g.M.Medium.chip c.args.medium.now in
-    let bytes = bytes_of chip c.args.self.now.rest in
-    let entry = slot_tlv_view chip c.in_ok-tlv.tlv in
-    let rest = bytes_of chip c.in_ok-tlv.rest in
-    let found : first_entry bytes ≡ Some (entry, rest) = sym {a = Some (entry, rest)} c.in_ok-tlv.ensures.first in
-    sym (rest_of-first bytes entry rest found)
+    (read_first (bytes_of chip c.args.self.now.rest) (slot_tlv_view chip c.in_ok-tlv.tlv)
+    (bytes_of chip c.in_ok-tlv.rest) c.in_ok-tlv.ensures.first).1
 
 pub returns-in_err-tlv-clause-steps : goal.returns-in_err-tlv-clause-steps
 returns-in_err-tlv-clause-steps g c =

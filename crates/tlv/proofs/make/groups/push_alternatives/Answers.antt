@@ -1,4 +1,3 @@
-use Rattle.std.proofs.lemmas.List.{take_all}
 use Rattle.image_reading.specs.Fields.{FitsDependency, dependency_bytes}
 use Rattle.tlv.proofs.MakingSteps.{each_more, pieces_more}
 use Rattle.tlv.proofs.make.groups.push_alternatives.Goals as goal
@@ -13,13 +12,3 @@ loop-alternative-preserved g c =
       fit = each_more FitsDependency c.args.alternatives.now i _ c.loop-alternative-test.true
           c.loop-alternative.invariant.fit c.in_ok-push_dependency.ensures.fits;
     }
-
-pub returns-clause-written : goal.returns-clause-written
-returns-clause-written g c =
-    rw (take_all c.loop-alternative.alternative-index c.args.alternatives.now c.loop-alternative-test.false)
-    at c.loop-alternative.invariant.written
-
-pub returns-clause-fit : goal.returns-clause-fit
-returns-clause-fit g c =
-    rw (take_all c.loop-alternative.alternative-index c.args.alternatives.now c.loop-alternative-test.false)
-    at c.loop-alternative.invariant.fit

@@ -1,4 +1,3 @@
-use Rattle.std.proofs.lemmas.List.{take_all}
 use Rattle.tlv.proofs.GroupSteps.{alternatives_at, groups_fit_more, groups_more}
 use Rattle.tlv.proofs.make.groups.push_groups.Goals as goal
 
@@ -17,13 +16,3 @@ loop-alternatives-preserved g c =
       fit = groups_fit_more c.args.groups.now i _ c.loop-alternatives-test.true c.requires
           c.loop-alternatives.invariant.fit c.in_ok-push_group.ensures.fit;
     }
-
-pub returns-clause-entries : goal.returns-clause-entries
-returns-clause-entries g c =
-    rw (take_all c.loop-alternatives.alternatives-index c.args.groups.now c.loop-alternatives-test.false)
-    at c.loop-alternatives.invariant.written
-
-pub returns-clause-fit : goal.returns-clause-fit
-returns-clause-fit g c =
-    rw (take_all c.loop-alternatives.alternatives-index c.args.groups.now c.loop-alternatives-test.false)
-    at c.loop-alternatives.invariant.fit
