@@ -385,59 +385,51 @@ one_first map chip i j first second = ⊎_elim
     both : j ≤ i → i ≤ j → i ≡ j
     both a b = omega (arith, a, b)
 
+-- what holds of each answer holds of the one that is given
+by_answer : (map : SectorMap) (old new : Chip) (P : Result Unit Fault → Type 0)
+    → (IsValidThere map old → P (Ok tt))
+    → ((j : ℕ) → IsFirstDamaged map old j × (new ≡ old) → P (Err (no.RunningDamaged j)))
+    → (IsInvalidThere map old → P (Err no.InvalidSet))
+    → (IsValidThere map old → P (Err (no.Flash flash.Cut)))
+    → (old.is_on ≡ false → P (Err (no.Flash flash.Off)))
+    → (result : Result Unit Fault) → AnswersMaking map old new result → P result
+by_answer map old new P ok damaged invalid cut off (Ok done) (valid, made, uncut) = ok valid
+by_answer map old new P ok damaged invalid cut off (Err (no.RunningDamaged j)) first = damaged j first
+by_answer map old new P ok damaged invalid cut off (Err no.InvalidSet) (there, same) = invalid there
+by_answer map old new P ok damaged invalid cut off (Err (no.Flash flash.Cut)) (valid, last) = cut valid
+by_answer map old new P ok damaged invalid cut off (Err (no.Flash flash.Off)) (is, same) = off is
+by_answer map old new P ok damaged invalid cut off (Err no.NotBooted) never = absurd never
+by_answer map old new P ok damaged invalid cut off (Err no.OnTrial) never = absurd never
+by_answer map old new P ok damaged invalid cut off (Err no.NotOnTrial) never = absurd never
+by_answer map old new P ok damaged invalid cut off (Err no.NotProvisioned) never = absurd never
+by_answer map old new P ok damaged invalid cut off (Err no.NoMemory) never = absurd never
+by_answer map old new P ok damaged invalid cut off (Err (no.Manifest error)) never = absurd never
+by_answer map old new P ok damaged invalid cut off (Err (no.Upload error)) never = absurd never
+
 pub damaged_answer : (map : SectorMap) (old new : Chip) (result : Result Unit Fault) (i : ℕ)
     → AnswersMaking map old new result → old.is_on ≡ true → IsFirstDamaged map old i
     → result ≡ Err (no.RunningDamaged i)
-damaged_answer map old new (Ok done) i (valid, made, uncut) on first =
-    absurd (whole_or_not map old i valid.0 valid.1 first)
-damaged_answer map old new (Err (no.RunningDamaged j)) i (other, same) on first =
-    ap (λ k. Err (no.RunningDamaged k)) (one_first map old j i other first)
-damaged_answer map old new (Err no.InvalidSet) i (there, same) on first =
-    absurd (whole_or_not map old i there.0 there.1 first)
-damaged_answer map old new (Err (no.Flash flash.Cut)) i (valid, cut) on first =
-    absurd (whole_or_not map old i valid.0 valid.1 first)
-damaged_answer map old new (Err (no.Flash flash.Off)) i (off, same) on first =
-    absurd (true≢false (sym on ∙ off))
-damaged_answer map old new (Err no.NotBooted) i never on first = absurd never
-damaged_answer map old new (Err no.OnTrial) i never on first = absurd never
-damaged_answer map old new (Err no.NotOnTrial) i never on first = absurd never
-damaged_answer map old new (Err no.NotProvisioned) i never on first = absurd never
-damaged_answer map old new (Err no.NoMemory) i never on first = absurd never
-damaged_answer map old new (Err (no.Manifest error)) i never on first = absurd never
-damaged_answer map old new (Err (no.Upload error)) i never on first = absurd never
+damaged_answer map old new result i answers on first = by_answer map old new (λ r. r ≡ Err (no.RunningDamaged i))
+    (λ valid. absurd (whole_or_not map old i valid.0 valid.1 first))
+    (λ j other. ap (λ k. Err (no.RunningDamaged k)) (one_first map old j i other.0 first))
+    (λ there. absurd (whole_or_not map old i there.0 there.1 first))
+    (λ valid. absurd (whole_or_not map old i valid.0 valid.1 first))
+    (λ off. absurd (true≢false (sym on ∙ off))) result answers
 
 pub invalid_answer : (map : SectorMap) (old new : Chip) (result : Result Unit Fault)
     → AnswersMaking map old new result → old.is_on ≡ true → IsInvalidThere map old → result ≡ Err no.InvalidSet
-invalid_answer map old new (Ok done) (valid, made, uncut) on there = absurd (valid_or_not map old valid there)
-invalid_answer map old new (Err (no.RunningDamaged j)) (first, same) on there =
-    absurd (whole_or_not map old j there.0 there.1 first)
-invalid_answer map old new (Err no.InvalidSet) (also, same) on there = refl
-invalid_answer map old new (Err (no.Flash flash.Cut)) (valid, cut) on there =
-    absurd (valid_or_not map old valid there)
-invalid_answer map old new (Err (no.Flash flash.Off)) (off, same) on there = absurd (true≢false (sym on ∙ off))
-invalid_answer map old new (Err no.NotBooted) never on there = absurd never
-invalid_answer map old new (Err no.OnTrial) never on there = absurd never
-invalid_answer map old new (Err no.NotOnTrial) never on there = absurd never
-invalid_answer map old new (Err no.NotProvisioned) never on there = absurd never
-invalid_answer map old new (Err no.NoMemory) never on there = absurd never
-invalid_answer map old new (Err (no.Manifest error)) never on there = absurd never
-invalid_answer map old new (Err (no.Upload error)) never on there = absurd never
+invalid_answer map old new result answers on there = by_answer map old new (λ r. r ≡ Err no.InvalidSet)
+    (λ valid. absurd (valid_or_not map old valid there))
+    (λ j first. absurd (whole_or_not map old j there.0 there.1 first.0))
+    (λ also. refl) (λ valid. absurd (valid_or_not map old valid there))
+    (λ off. absurd (true≢false (sym on ∙ off))) result answers
 
 pub whole_answer : (map : SectorMap) (old new : Chip) (result : Result Unit Fault)
     → AnswersMaking map old new result → old.is_on ≡ true → IsValidThere map old → IsDoneOrCut result
-whole_answer map old new (Ok done) (valid, made, uncut) on there = tt
-whole_answer map old new (Err (no.RunningDamaged j)) (first, same) on there =
-    absurd (whole_or_not map old j there.0 there.1 first)
-whole_answer map old new (Err no.InvalidSet) (also, same) on there = absurd (valid_or_not map old there also)
-whole_answer map old new (Err (no.Flash flash.Cut)) (valid, cut) on there = refl
-whole_answer map old new (Err (no.Flash flash.Off)) (off, same) on there = absurd (true≢false (sym on ∙ off))
-whole_answer map old new (Err no.NotBooted) never on there = absurd never
-whole_answer map old new (Err no.OnTrial) never on there = absurd never
-whole_answer map old new (Err no.NotOnTrial) never on there = absurd never
-whole_answer map old new (Err no.NotProvisioned) never on there = absurd never
-whole_answer map old new (Err no.NoMemory) never on there = absurd never
-whole_answer map old new (Err (no.Manifest error)) never on there = absurd never
-whole_answer map old new (Err (no.Upload error)) never on there = absurd never
+whole_answer map old new result answers on there = by_answer map old new IsDoneOrCut (λ valid. tt)
+    (λ j first. absurd (whole_or_not map old j there.0 there.1 first.0))
+    (λ also. absurd (valid_or_not map old there also)) (λ valid. refl)
+    (λ off. absurd (true≢false (sym on ∙ off))) result answers
 
 pub valid_there : (map : SectorMap) (chip : Chip) (floors : List ℕ) → HasCounters map chip floors
     → IsValidThere map chip

@@ -1,44 +1,45 @@
 -- A set is settled as what its record says.
-use Rattle.std.proofs.Common.{◌≡◌, ℕ, Bool, true, false, List, subst, true≢false}
-use Rattle.std.proofs.lemmas.Bool.{false≢true}
-use Rattle.flash_model.specs.Chip.{Chip}
+use Rattle.std.proofs.Common.{◌≡◌, ℕ, ◌+◌, ◌*◌, ◌≤◌, Bool, List, Result, Ok, arith, subst}
+use Rattle.std.proofs.lemmas.Result.{IfOk-weaker}
+use Rattle.flash_model.specs.Chip.{Chip, Ends}
+use Rattle.flash_model.specs.declared.error.FlashError.{FlashError}
 use Rattle.sector_map.specs.declared.layout.SectorMap.{SectorMap}
 use Rattle.sector_map.specs.Part.{trailers_in}
-use Rattle.sector_map.specs.Map.{Keeps}
+use Rattle.sector_map.specs.Map.{IsLaidOut, Keeps}
 use Rattle.set_log.specs.declared.state.Kind.TheVariants as log
+use Rattle.set_log.specs.declared.state.State.{State}
 use Rattle.certificate.specs.declared.table.Table.{Table}
 use Rattle.upload.specs.View.{view}
 use Rattle.upload.specs.Device.{DeviceState}
-use Rattle.upload.specs.Steady.{IsSteadyAt}
-use Rattle.machine.specs.States.{new_trial, taken_for_good, taken_on_trial}
-use Rattle.machine.specs.Holding.{AreSettled, IsSwapped, IsTrialAt}
-use Rattle.machine.specs.Passing.{IsTakenAt}
+use Rattle.machine.specs.Holding.{AreSettled, IsSwapped}
+use Rattle.machine.specs.Wear.{members}
 use Rattle.machine.proofs.Swapping.{settling_kept}
+use Rattle.boot_core.specs.FromSettle.{RecordsTaken, SettlesAndRecords}
+use Rattle.boot_core.proofs.OnMap.{layout_kept, layout_more}
+use Rattle.boot_core.proofs.Passed.{ok_both, then_ends}
 
 -- settled as what the trailers were asked for
 pub settled_as : (map : SectorMap) (chip : Chip) (mask : ℕ) (asked permanent : Bool) → asked ≡ permanent
     → AreSettled (view map chip) mask asked → AreSettled (view map chip) mask permanent
 settled_as map chip mask asked permanent is settled = subst (λ b. AreSettled (view map chip) mask b) is settled
 
--- the set is taken for good ..
-pub good_ends : (map : SectorMap) (old mid new : Chip) (mask : ℕ) (permanent : Bool) (left : ℕ) (floors : List ℕ)
-    → permanent ≡ true → Keeps map (trailers_in mask) old mid → AreSettled (view map mid) mask permanent
-    → ((s : DeviceState) (table : Table) (mask : ℕ) → IsSwapped (view map mid) s table log.Settle mask true
-    → AreSettled (view map mid) mask true → IsSteadyAt (view map new) (taken_for_good s mask floors))
-    → (s : DeviceState) (table : Table) → IsSwapped (view map old) s table log.Settle mask permanent
-    → IsTakenAt (view map new) s mask permanent left floors
-good_ends map old mid new mask true left floors e keeps settled ends s table was = ends s table mask
-    (settling_kept map old mid mask keeps s table log.Settle true was) settled
-good_ends map old mid new mask false left floors e keeps settled ends s table was = absurd (false≢true e)
-
--- .. or on trial
-pub trial_ends : (map : SectorMap) (old mid new : Chip) (mask : ℕ) (permanent : Bool) (left : ℕ) (floors : List ℕ)
-    → permanent ≡ false → Keeps map (trailers_in mask) old mid → AreSettled (view map mid) mask permanent
-    → ((s : DeviceState) (table : Table) (mask : ℕ) → IsSwapped (view map mid) s table log.Settle mask false
-    → AreSettled (view map mid) mask false
-    → IsTrialAt (view map new) (taken_on_trial s mask (new_trial s mask left)) (new_trial s mask left))
-    → (s : DeviceState) (table : Table) → IsSwapped (view map old) s table log.Settle mask permanent
-    → IsTakenAt (view map new) s mask permanent left floors
-trial_ends map old mid new mask false left floors e keeps settled ends s table was = ends s table mask
-    (settling_kept map old mid mask keeps s table log.Settle false was) settled
-trial_ends map old mid new mask true left floors e keeps settled ends s table was = absurd (true≢false e)
+-- a set that is settled, and then recorded as taken
+pub settles_taken : {value : Unit {0}} (map : SectorMap) (old mid new : Chip) (state : State) (left : ℕ) (floors : List ℕ)
+    (result : Result Unit FlashError) → IsLaidOut map old → Keeps map (trailers_in state.mask) old mid
+    → AreSettled (view map mid) state.mask state.permanent
+    → mid.erases ≤ old.erases + 2 * members map state.mask → Ends (Ok value) old mid
+    → RecordsTaken map state.permanent left floors mid new result
+    → SettlesAndRecords map state left floors old new result
+settles_taken {value} map old mid new state left floors result laid keeps settled few ends records =
+    let kept = λ (s : DeviceState) (table : Table)
+    (was : IsSwapped (view map old) s table log.Settle state.mask state.permanent).
+    settling_kept map old mid state.mask keeps s table log.Settle state.permanent was in
+    record {
+      layout = layout_more (layout_kept laid keeps) records.outside;
+      stands = λ s table was. records.stands s table state.mask (kept s table was) settled;
+      done = IfOk-weaker result _ _ (λ done taken. record {
+        ok = λ s table was. taken.0 s table state.mask (kept s table was) settled;
+        erases = omega (arith, taken.1, few);
+      }) (ok_both _ _ result records.ok records.erases);
+      ends = then_ends ends records.ends;
+    }

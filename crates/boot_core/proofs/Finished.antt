@@ -15,9 +15,8 @@ use Rattle.upload.specs.declared.error.UploadError.{UploadError}
 use Rattle.machine.specs.Holding.{DeviceView}
 use Rattle.machine.specs.declared.error.Fault.{Fault}
 use Rattle.boot_core.specs.Device.{seen}
-use Rattle.boot_core.specs.Taking.{AsksReady, FinishesHere, PassesOn, TakesHere}
+use Rattle.boot_core.specs.Taking.{AsksReady, FinishesHere, PassesOn, TakesCall, TakesHere}
 use Rattle.boot_core.proofs.Keeping.{given_size, last_same, own_error}
-use Rattle.boot_core.proofs.Taken.{TakesCall}
 
 if_any_err : {T E : Type 0} (result : Result T E) (P : E → Type 0) → ((e : E) → P e) → IfErr result P
 if_any_err (Ok done) P each = tt
@@ -28,20 +27,12 @@ pub finish_declined : (map : SectorMap) (image : ℕ) (old new : DeviceView) (re
     → new.flash ≡ old.flash → TakesHere map (event.Finish image) (incoming_of image) old new result
     → FinishesHere map image old new result
 finish_declined map image old new result same declined = record {
-  laid = declined.laid;
-  opens = declined.opens;
-  steps = declined.steps;
-  outside = declined.outside;
-  down = declined.down;
-  up = declined.up;
-  kept = declined.kept;
+  call = declined.call;
   size = λ wrong. same;
   slot = if_any_err result _ (λ fault own. subst (λ chip. Keeps map (only (Slot image Secondary)) old.flash chip)
       (sym same) (keeps_refl map (only (Slot image Secondary)) old.flash));
   unit = if_any_err result _ (λ fault own u at. last_same map image u old.flash new.flash same);
   erases = if_any_err result _ (λ fault own. ap (λ (chip : Chip). chip.erases) same);
-  off = declined.off;
-  ends = declined.ends;
 }
 
 -- A call that was passed on left what the table of uploads left.
@@ -52,19 +43,11 @@ pub finish_passed : (map : SectorMap) (image : ℕ) (before : DeviceView) (old n
     → RefusesFinish map image (upload_at told image) old new taken → PassesOn taken tmid up tnew upn result
     → FinishesHere map image before (seen new tnew upn) result
 finish_passed map image before old new told tmid tnew up upn (Ok done) (Ok passed) asked call refused is = record {
-  laid = call.laid;
-  opens = call.opens;
-  steps = call.steps;
-  outside = call.outside;
-  down = call.down;
-  up = tt;
-  kept = tt;
+  call = call;
   size = λ wrong. absurd (no_error passed _ wrong);
   slot = tt;
   unit = tt;
   erases = tt;
-  off = call.off;
-  ends = call.ends;
 }
 finish_passed map image before old new told tmid tnew up upn (Ok done) (Err fault) asked call refused is = absurd is
 finish_passed map image before old new told tmid tnew up upn (Err error) (Ok passed) asked call refused is = absurd is
@@ -72,17 +55,9 @@ finish_passed map image before old new told tmid tnew up upn (Err error) (Err fa
     let left = subst (λ (at : DeviceView). RefusesFinish map image (upload_at at.sessions image) at.flash new (Err error))
     asked.taken refused in
     record {
-      laid = call.laid;
-      opens = call.opens;
-      steps = call.steps;
-      outside = call.outside;
-      down = call.down;
-      up = call.up;
-      kept = call.kept;
+      call = call;
       size = λ wrong. left.size (given_size error fault (Err fault) is.is refl wrong);
       slot = λ own. left.slot (own_error error fault is.is own);
       unit = λ own u at. left.unit (own_error error fault is.is own) u at;
       erases = λ own. left.erases (own_error error fault is.is own);
-      off = call.off;
-      ends = call.ends;
     }

@@ -21,6 +21,9 @@ mod Trials
 mod Keeping
 mod OnMap
 mod Passed
+mod Booted
+mod Undecided
+mod Upgrades
 pub mod Measured
 pub mod Wears
 mod Taken

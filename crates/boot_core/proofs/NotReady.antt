@@ -68,26 +68,30 @@ module _ (map : SectorMap) (old mid : Chip) (told tnew : List (Option Upload)) (
       → IsLaidOut map old → AllOpenAt (view map old) told
       → TakesHere map happened touched (seen old told up) (seen mid tnew upn) (Err given)
   declines touched happened needs rests laid opens = record {
-    laid = subst (λ chip. IsLaidOut map chip) (sym asked.same) laid;
-    opens = opens_stopped (view map mid) fault told tnew up upn (stops fault given told tnew up upn after)
-        (subst (λ chip. AllOpenAt (view map chip) told) (sym asked.same) opens);
-    steps = λ identity boots on. not_ready (made map identity boots) old mid told tnew up upn happened needs rests
-        asked.same given fault after.is asked.ready on (stops fault given told tnew up upn after);
-    outside = subst (λ chip. Keeps map touched old chip) (sym asked.same) (keeps_refl map touched old);
-    down = λ down. record {
-      is = ap (λ f. Err f) (after.is ∙ not_up fault up _ _ asked.ready down);
-      same = seen_same down;
+    call = record {
+      here = record {
+        laid = subst (λ chip. IsLaidOut map chip) (sym asked.same) laid;
+        opens = opens_stopped (view map mid) fault told tnew up upn (stops fault given told tnew up upn after)
+            (subst (λ chip. AllOpenAt (view map chip) told) (sym asked.same) opens);
+        steps = λ identity boots on. not_ready (made map identity boots) old mid told tnew up upn happened needs rests
+            asked.same given fault after.is asked.ready on (stops fault given told tnew up upn after);
+        outside = subst (λ chip. Keeps map touched old chip) (sym asked.same) (keeps_refl map touched old);
+        down = λ down. record {
+          is = ap (λ f. Err f) (after.is ∙ not_up fault up _ _ asked.ready down);
+          same = seen_same down;
+        };
+        off = λ here off. record {
+          is = ap (λ f. Err f) after.is ∙ asked.off here off;
+          same = asked.same;
+        };
+        ends = not_ready_ends (state_of map old) old mid told tnew up upn asked.same given fault after.is asked.ready
+            (stops fault given told tnew up upn after);
+      };
+      up = up_stays old mid mid told told tnew up upn fault given after.is (stops fault given told tnew up upn after);
+      kept = λ keeps. all_stays old mid mid told told tnew up upn fault given after.is
+          (stops fault given told tnew up upn after) asked.same refl (keeps_unstopped (may_close happened) given keeps);
     };
     refused = λ own. asked.same;
-    up = up_stays old mid mid told told tnew up upn fault given after.is (stops fault given told tnew up upn after);
-    kept = λ keeps. all_stays old mid mid told told tnew up upn fault given after.is
-        (stops fault given told tnew up upn after) asked.same refl (keeps_unstopped (may_close happened) given keeps);
-    off = λ here off. record {
-      is = ap (λ f. Err f) after.is ∙ asked.off here off;
-      same = asked.same;
-    };
-    ends = not_ready_ends (state_of map old) old mid told tnew up upn asked.same given fault after.is asked.ready
-        (stops fault given told tnew up upn after);
   }
 
 -- .. by a refusal that is passed on

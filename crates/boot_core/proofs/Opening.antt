@@ -31,13 +31,13 @@ use Rattle.machine.proofs.Uploading.{steps_accept, upload_refused}
 use Rattle.boot_core.specs.Answers.{IsOff, is_stop}
 use Rattle.boot_core.specs.Device.{made, seen}
 use Rattle.boot_core.specs.Ready.{RefusesManifest, RefusesText}
-use Rattle.boot_core.specs.Taking.{AcceptsHere, AsksReady, Named, OpensUploads, PassesOn, TakesManifestHere, Untouched}
+use Rattle.boot_core.specs.Taking.{AcceptsHere, AsksReady, CanOpen, Named, OpensUploads, PassesOn, TakesManifestHere, Untouched}
 use Rattle.boot_core.proofs.Given.{held_down, held_failed, held_up, not_ready_told, ready_not}
 use Rattle.boot_core.proofs.Keeping.{all_stays, own_error}
 use Rattle.boot_core.proofs.NotReady.{declined_all, declines, not_down, refused_after, stops}
-use Rattle.boot_core.proofs.OnMap.{on_more}
+use Rattle.boot_core.proofs.OnMap.{keeps_any}
 use Rattle.boot_core.proofs.Stopping.{accept_down, done_ends, failed, failed_ends, idle_ends, not_ready, opens_stopped}
-use Rattle.boot_core.proofs.Taken.{IsReadyAt}
+use Rattle.boot_core.proofs.Taken.{IsReadyAt, laid_now, opens_now, ready_now}
 use Rattle.boot_core.proofs.Texts.{text_ends, text_steps}
 
 -- ---- no uploads are taken now
@@ -54,22 +54,25 @@ module _ (map : SectorMap) (identity : Identity) (old new : DeviceView) (fault :
       let declined = declines map old.flash new.flash old.sessions new.sessions old.up new.up fault fault asks.asked
       asks.stops (accepted_parts manifest.components.items) (event.Withdraw 0) refl refl laid opens in
       record {
-        laid = declined.laid;
-        opens = declined.opens;
-        steps = λ boots text on means. not_ready (made map identity boots) old.flash new.flash old.sessions new.sessions
-            old.up new.up (event.Accept text) refl refl asks.asked.same fault fault refl asks.asked.ready on stopped;
-        holds = λ on m held.
-            let after = not_ready (made map identity 1) old.flash new.flash old.sessions new.sessions old.up new.up
-            (event.Withdraw 0) refl refl asks.asked.same fault fault refl asks.asked.ready on stopped m held in
-            (after.0, after.2);
-        outside = declined.outside;
+        taken = record {
+          laid = declined.laid;
+          opens = declined.opens;
+          steps = λ boots text on means. not_ready (made map identity boots) old.flash new.flash old.sessions
+              new.sessions old.up new.up (event.Accept text) refl refl asks.asked.same fault fault refl asks.asked.ready
+              on stopped;
+          holds = λ on m held.
+              let after = not_ready (made map identity 1) old.flash new.flash old.sessions new.sessions old.up new.up
+              (event.Withdraw 0) refl refl asks.asked.same fault fault refl asks.asked.ready on stopped m held in
+              (after.0, after.2);
+          outside = declined.outside;
+          refused = declined.refused;
+          kept = all_left;
+          told = not_ready_told identity manifest _ _ _ fault asks.asked.ready;
+          ends = declined.ends;
+        };
         down = declined.down;
         lacks = λ on up rests more. absurd (ready_not _ _ _ fault asks.asked.ready on up rests);
-        refused = declined.refused;
-        kept = all_left;
-        told = not_ready_told identity manifest _ _ _ fault asks.asked.ready;
         off = declined.off;
-        ends = declined.ends;
       }
 
   text_declines : (text : Bor (List ℕ)) → AcceptsHere map identity text old new (Err fault)
@@ -116,21 +119,37 @@ module _ (map : SectorMap) (identity : Identity) (before after : DeviceView)
   manifest_lacks manifest lacks laid opens =
       subst (λ at. TakesManifestHere map identity manifest before at (Err (no.Manifest NoComponent))) (sym asks.taken)
       (record {
-        laid = laid;
-        opens = opens;
-        steps = λ boots text on means. absurd {A = StepsTo (made map identity boots) before before (event.Accept text)
-            (Refused (no.Manifest NoComponent))} (lacks means.meaning.images);
-        holds = λ on m held. (m, held);
-        outside = keeps_refl map (accepted_parts manifest.components.items) before.flash;
+        taken = record {
+          laid = laid;
+          opens = opens;
+          steps = λ boots text on means. absurd {A = StepsTo (made map identity boots) before before (event.Accept text)
+              (Refused (no.Manifest NoComponent))} (lacks means.meaning.images);
+          holds = λ on m held. (m, held);
+          outside = keeps_refl map (accepted_parts manifest.components.items) before.flash;
+          refused = λ own. refl;
+          kept = λ own. refl;
+          told = lacks;
+          ends = idle_ends before.flash before.flash before.sessions before.sessions before.up before.up
+              (Refused (no.Manifest NoComponent)) refl refl refl;
+        };
         down = not_down (Err (no.Manifest NoComponent)) before before asks.asked.ready.0;
         lacks = λ on up rests more. (refl, refl);
-        refused = λ own. refl;
-        kept = λ own. refl;
-        told = lacks;
         off = never_off (Err (no.Manifest NoComponent)) before;
-        ends = idle_ends before.flash before.flash before.sessions before.sessions before.up before.up
-            (Refused (no.Manifest NoComponent)) refl refl refl;
       })
+
+  pub can_open : (manifest : given.Manifest) → IsLaidOut map before.flash → identity.images ≡ map.images
+      → AllOpenAt (view map before.flash) before.sessions → NamesImages identity manifest
+      → CanOpen map identity manifest after
+  can_open manifest laid images opens names =
+      let ready = ready_now map before after asks in
+      record {
+        laid_out = laid_now map before after asks laid;
+        images = images;
+        opens = opens_now map before after asks opens;
+        up = ready.0;
+        rests = ready.1;
+        names = names;
+      }
 
   opened_before : (manifest : given.Manifest) (new : DeviceView) (result : Result Unit Fault)
       → OpensUploads map identity manifest after new result → OpensUploads map identity manifest before new result
@@ -140,22 +159,12 @@ module _ (map : SectorMap) (identity : Identity) (before after : DeviceView)
   pub manifest_opened : (manifest : given.Manifest) (new : DeviceView) (result : Result Unit Fault)
       → NamesImages identity manifest → OpensUploads map identity manifest after new result
       → TakesManifestHere map identity manifest before new result
-  manifest_opened manifest new result names opens =
-      let opened = opened_before manifest new result opens in
-      record {
-        laid = opened.laid;
-        opens = opened.opens;
-        steps = opened.steps;
-        holds = opened.holds;
-        outside = opened.outside;
-        down = not_down result before new asks.asked.ready.0;
-        lacks = λ on up rests more. absurd (more names);
-        refused = opened.refused;
-        kept = opened.kept;
-        told = opened.told;
-        off = never_off result new;
-        ends = opened.ends;
-      }
+  manifest_opened manifest new result names opens = record {
+    taken = opened_before manifest new result opens;
+    down = not_down result before new asks.asked.ready.0;
+    lacks = λ on up rests more. absurd (more names);
+    off = never_off result new;
+  }
 
   pub text_opened : (text : Bor (List ℕ)) (manifest : given.Manifest) (new : DeviceView) (result : Result Unit Fault)
       → IsManifest identity text.now manifest → OpensUploads map identity manifest after new result
@@ -166,8 +175,7 @@ module _ (map : SectorMap) (identity : Identity) (before after : DeviceView)
         laid = opened.laid;
         opens = opened.opens;
         steps = λ boots on. opened.steps boots text on means;
-        outside = on_more map (accepted_parts manifest.components.items) before.flash before.flash new.flash opened.outside
-            (keeps_refl map any_part before.flash);
+        outside = keeps_any opened.outside;
         named = Named manifest means opened.outside;
         down = not_down result before new asks.asked.ready.0;
         refused = opened.refused;

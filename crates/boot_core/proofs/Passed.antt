@@ -1,7 +1,9 @@
 -- How a call ends that passes the error of another on, or comes after others.
-use Rattle.std.proofs.Common.{◌≡◌, Result, Ok, Err, IsErrOf, ap, refl}
+use Rattle.std.proofs.Common.{◌≡◌, Result, Ok, Err, IfOk, IsErrOf, OnOk, ap, refl}
 use Rattle.flash_model.specs.declared.error.FlashError.{FlashError}
 use Rattle.flash_model.specs.Chip.{Chip, Ends}
+use Rattle.sector_map.specs.declared.layout.SectorMap.{SectorMap}
+use Rattle.boot_core.specs.BootEnds.{KeepsLayout, Passes}
 use Rattle.flash_model.proofs.Ending.{ends_after, no_error, uncut_refl}
 
 err_as : {T U : Type 0} (error other : FlashError) → IsErrOf {T = T} (Err error) other
@@ -50,3 +52,15 @@ then_err first last = err_ends (then_ends first last)
 pub then_ok : {S T U : Type 0} {value : S} {next : T} {other : U} {old mid new : Chip} → Ends (Ok value) old mid
     → Ends (Ok next) mid new → Ends (Ok other) old new
 then_ok first last = ok_ends (then_ends first last)
+
+-- a passage that the flash stops
+pub passes_err : {S T : Type 0} {map : SectorMap} {old new : Chip} {whatever : Type 0} {at_end : T → Type 0}
+    {error : FlashError} → KeepsLayout map old new → whatever → Ends {T = S} (Err error) old new
+    → Passes map old new whatever at_end (Err error)
+passes_err layout stands ends = record { layout = layout; stands = stands; done = tt; ends = err_ends ends }
+
+-- what holds of two facts where a call ends
+pub ok_both : {T : Type 0} (A B : Type 0) (result : Result T FlashError) → OnOk result A → OnOk result B
+    → IfOk result (λ value. A × B)
+ok_both A B (Ok value) a b = (a, b)
+ok_both A B (Err error) a b = tt

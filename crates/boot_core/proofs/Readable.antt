@@ -53,11 +53,3 @@ pub decided_alone : (map : SectorMap) (old new : Chip) (state : State) (answer :
     (report : Report) → answer ≡ Decided table report → IsSwapAloneFor map state.mask old new answer
 decided_alone map old new state answer table report is =
     subst (λ f. IsSwapAloneFor map state.mask old new f) (sym is) (search rules)
-
--- what is told stands where the flash was only read
-pub told_here : (map : SectorMap) (old new : Chip) (state : State) (found other : Finding) → new ≡ old
-    → IsToldAgain (view map old) state.mask state.floors found → found ≡ other
-    → IsToldAgain (view map new) state.mask state.floors other
-told_here map old new state found other same told is =
-    subst (λ chip. IsToldAgain (view map chip) state.mask state.floors other) (sym same)
-    (subst (λ f. IsToldAgain (view map old) state.mask state.floors f) is told)

@@ -78,20 +78,12 @@ steady_parts mask left false fits =
     let parts = and_parts (mask == 0) (not false && (left == 0)) fits in
     (eqb-true mask 0 parts.0, refl, eqb-true left 0 parts.1)
 
-abbrev state_of_parts : Kind → ℕ → Bool → ℕ → ℕ → List ℕ → State
-state_of_parts kind mask permanent left sequence floors = record {
-  kind = kind;
-  mask = mask;
-  permanent = permanent;
-  left = left;
-  sequence = sequence;
-  floors = floors;
-}
-
-same_parts : (kind : Kind) (mask : ℕ) (permanent : Bool) (left sequence : ℕ) (floors : List ℕ) → kind ≡ log.Steady
-    → mask ≡ 0 → permanent ≡ false → left ≡ 0
-    → state_of_parts kind mask permanent left sequence floors ≡ state_of_parts log.Steady 0 false 0 sequence floors
-same_parts kind mask permanent left sequence floors is none test over = cc
+at_rest : (state : State) → state.kind ≡ log.Steady → state.mask ≡ 0 → state.permanent ≡ false → state.left ≡ 0
+    → state ≡ record state { kind = log.Steady; mask = 0; permanent = false; left = 0 }
+at_rest state is none test over = ap (λ (k : Kind). record state { kind = k }) is
+    ∙ ap (λ (m : ℕ). record state { kind = log.Steady; mask = m }) none
+    ∙ ap (λ (p : Bool). record state { kind = log.Steady; mask = 0; permanent = p }) test
+    ∙ ap (λ (l : ℕ). record state { kind = log.Steady; mask = 0; permanent = false; left = l }) over
 
 pub rests_somehow : (map : SectorMap) (chip : Chip) (state : State) → state_of map chip ≡ Some state
     → state.kind ≡ log.Steady → ((s : DeviceState) → IsSteadyAt (view map chip) s → ⊥) → ⊥
@@ -111,8 +103,7 @@ rests_somehow map chip state read kind never =
       sequence = state.sequence;
       trial = None;
     } in
-    let rest : state ≡ logged log.Steady 0 false 0 s = same_parts state.kind state.mask state.permanent state.left
-    state.sequence state.floors kind parts.0 parts.1 parts.2 in
+    let rest : state ≡ logged log.Steady 0 false 0 s = at_rest state kind parts.0 parts.1 parts.2 in
     never s (record {
       trial = refl;
       images = refl;

@@ -10,7 +10,6 @@ use Rattle.certificate.specs.declared.table.Table.{Table}
 use Rattle.certificate.specs.declared.report.Report.{Report}
 use Rattle.set_log.specs.Log.{state_of}
 use Rattle.set_log.specs.declared.state.State.{State}
-use Rattle.set_log.specs.declared.state.Kind.{Kind}
 use Rattle.set_log.specs.declared.state.Kind.TheVariants as log
 use Rattle.upload.specs.View.{view}
 use Rattle.machine.specs.Boots.{is_answer}
@@ -87,66 +86,6 @@ pub flash_stopped : (map : SectorMap) (state : State) (old new : Chip) (error : 
     → fault_reply (no.Flash error) ≡ reply_of told q → IsStopped map state old new told
 flash_stopped map state old new error told q e = absurd (flash_stops error told q e)
 
--- whether a record is in the midst of an upgrade
-abbrev pub is_upgrade : Kind → Bool
-is_upgrade log.Steady = false
-is_upgrade log.Swap = true
-is_upgrade log.Settle = true
-is_upgrade log.Trial = false
-is_upgrade log.Back = false
-is_upgrade log.BackSettle = false
-
-swap_settle : log.Swap ≡ log.Settle → ⊥
-swap_settle e = cc
-
--- from a record of another kind nothing is asked
-pub other_stopped : (map : SectorMap) (state : State) (old new : Chip) (told : Finding)
-    → is_upgrade state.kind ≡ false → IsStopped map state old new told
-other_stopped map state old new told other = record {
-  swap = λ e. absurd (true≢false (sym (ap is_upgrade e) ∙ other));
-  settle = λ e. absurd (true≢false (sym (ap is_upgrade e) ∙ other));
-}
-
-pub swap_stopped : (map : SectorMap) (state : State) (old new : Chip) (told : Finding) → state.kind ≡ log.Swap
-    → IsToldAgain (view map new) state.mask state.floors told × IsSwapAloneFor map state.mask old new told
-    → IsStopped map state old new told
-swap_stopped map state old new told is stops = record {
-  swap = λ e. stops;
-  settle = λ e. absurd (swap_settle (sym is ∙ e));
-}
-
-pub settle_stopped : (map : SectorMap) (state : State) (old new : Chip) (told : Finding) → state.kind ≡ log.Settle
-    → IsToldAgain (view map new) state.mask state.floors told × IsKeptFor old new told
-    → IsStopped map state old new told
-settle_stopped map state old new told is stops = record {
-  swap = λ e. absurd (swap_settle (sym e ∙ is));
-  settle = λ e. stops;
-}
-
--- whether a record is none of a passage
-abbrev pub at_rest : Kind → Bool
-at_rest log.Steady = true
-at_rest log.Swap = false
-at_rest log.Settle = false
-at_rest log.Trial = false
-at_rest log.Back = false
-at_rest log.BackSettle = false
-
-pub not_at_rest : (kind : Kind) → at_rest kind ≡ false → kind ≡ log.Steady → ⊥
-not_at_rest kind other steady = true≢false (sym (ap at_rest steady) ∙ other)
-
--- whether a record is that of a trial
-abbrev pub on_trial : Kind → Bool
-on_trial log.Steady = false
-on_trial log.Swap = false
-on_trial log.Settle = false
-on_trial log.Trial = true
-on_trial log.Back = false
-on_trial log.BackSettle = false
-
-pub not_on_trial : (kind : Kind) → on_trial kind ≡ false → kind ≡ log.Trial → ⊥
-not_on_trial kind other trial = true≢false (sym (ap on_trial trial) ∙ other)
-
 some_same : (x y : State) → Some x ≡ Some y → x ≡ y
 some_same x y e = cc
 
@@ -156,36 +95,34 @@ pub stood_none : (map : SectorMap) (chip : Chip) (read : State) → state_of map
 stood_none map chip read stood none = none-some read (sym (sym stood ∙ none))
 
 -- from the record that was read
-pub read_stopped : (map : SectorMap) (old mid new : Chip) (read state : State) (told : Finding) → mid ≡ old
-    → state_of map old ≡ Some read → state_of map old ≡ Some state → IsStopped map read mid new told
+pub read_stopped : (map : SectorMap) (old new : Chip) (read state : State) (told : Finding)
+    → state_of map old ≡ Some read → state_of map old ≡ Some state → IsStopped map read old new told
     → IsStopped map state old new told
-read_stopped map old mid new read state told same is stood stops =
-    subst (λ s. IsStopped map s old new told) (some_same read state (sym is ∙ stood))
-    (subst (λ chip. IsStopped map read chip new told) same stops)
+read_stopped map old new read state told is stood stops =
+    subst (λ s. IsStopped map s old new told) (some_same read state (sym is ∙ stood)) stops
 
-pub read_idle : (map : SectorMap) (old mid new : Chip) (read : State) (result : Result Reply FlashError) → mid ≡ old
-    → state_of map old ≡ Some read → (read.kind ≡ log.Steady → IfOk result (λ reply. DoesNothing reply → new ≡ mid))
+pub read_idle : (map : SectorMap) (old new : Chip) (read : State) (result : Result Reply FlashError)
+    → state_of map old ≡ Some read → (read.kind ≡ log.Steady → IfOk result (λ reply. DoesNothing reply → new ≡ old))
     → IfOk result (λ reply. (state : State) → state_of map old ≡ Some state → state.kind ≡ log.Steady
     → DoesNothing reply → new ≡ old)
-read_idle map old mid new read (Ok reply) same is idle = λ state stood kind takes.
-    idle (ap (λ (s : State). s.kind) (some_same read state (sym is ∙ stood)) ∙ kind) takes ∙ same
-read_idle map old mid new read (Err error) same is idle = tt
+read_idle map old new read (Ok reply) is idle = λ state stood kind takes.
+    idle (ap (λ (s : State). s.kind) (some_same read state (sym is ∙ stood)) ∙ kind) takes
+read_idle map old new read (Err error) is idle = tt
 
 -- .. and answers nothing
 pub flash_unanswered : (error : FlashError) → is_answer (fault_reply (no.Flash error)) ≡ false
 flash_unanswered flash.Cut = refl
 flash_unanswered flash.Off = refl
 
-pub read_over : (map : SectorMap) (old mid new : Chip) (read : State) (result : Result Reply FlashError) → mid ≡ old
+pub read_over : (map : SectorMap) (old new : Chip) (read : State) (result : Result Reply FlashError)
     → state_of map old ≡ Some read
-    → (read.kind ≡ log.Trial → IfOk result (λ reply. DoesNothing reply → IsOverAlone map read mid new))
+    → (read.kind ≡ log.Trial → IfOk result (λ reply. DoesNothing reply → IsOverAlone map read old new))
     → IfOk result (λ reply. (state : State) → state_of map old ≡ Some state → state.kind ≡ log.Trial
     → DoesNothing reply → IsOverAlone map state old new)
-read_over map old mid new read (Ok reply) same is over = λ state stood kind nothing.
+read_over map old new read (Ok reply) is over = λ state stood kind nothing.
     let one : read ≡ state = some_same read state (sym is ∙ stood) in
-    subst (λ (s : State). IsOverAlone map s old new) one
-    (subst (λ chip. IsOverAlone map read chip new) same (over (ap (λ (s : State). s.kind) one ∙ kind) nothing))
-read_over map old mid new read (Err error) same is over = tt
+    subst (λ (s : State). IsOverAlone map s old new) one (over (ap (λ (s : State). s.kind) one ∙ kind) nothing)
+read_over map old new read (Err error) is over = tt
 
 -- .. and it tells so
 pub flash_stopped_it : (error : FlashError) → is_stopped (fault_reply (no.Flash error)) ≡ true

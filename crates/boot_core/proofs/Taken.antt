@@ -5,7 +5,6 @@ use Rattle.common.specs.declared.event.Event.TheVariants as event
 use Rattle.flash_model.proofs.Ending.{no_error}
 use Rattle.flash_model.specs.Chip.{Chip}
 use Rattle.flash_model.specs.declared.error.FlashError.TheVariants as flash
-use Rattle.manifest.specs.declared.identity.Identity.{Identity}
 use Rattle.sector_map.specs.declared.layout.SectorMap.{SectorMap}
 use Rattle.sector_map.specs.Map.{IsLaidOut, Keeps}
 use Rattle.sector_map.specs.Part.{Part}
@@ -29,11 +28,11 @@ use Rattle.machine.specs.declared.error.Fault.{Fault}
 use Rattle.machine.specs.declared.error.Fault.TheVariants as no
 use Rattle.machine.specs.declared.reply.Reply.{Reply}
 use Rattle.machine.specs.declared.reply.Reply.TheVariants.{Cut, Done, Refused}
-use Rattle.machine.proofs.Uploading.{TakesRow, steps_finish, steps_piece, steps_withdraw, upload_refused}
-use Rattle.boot_core.specs.Answers.{EndsCall, IsNotBooted, IsOff, is_stop, keeps_all, may_close, reply_of_result}
+use Rattle.machine.proofs.Uploading.{TakesRow, row_steps, upload_refused}
+use Rattle.boot_core.specs.Answers.{IsOff, is_stop, keeps_all, may_close}
 use Rattle.boot_core.specs.Device.{made, seen}
 use Rattle.boot_core.specs.Ready.{LogsNoTrial}
-use Rattle.boot_core.specs.Taking.{AsksReady, PassesOn, TakesHere}
+use Rattle.boot_core.specs.Taking.{AsksReady, PassesOn, TakesCall, TakesHere}
 use Rattle.boot_core.proofs.Keeping.{all_stays, keeps_unstopped, up_stays}
 use Rattle.boot_core.proofs.NotReady.{not_down, refused_after, stops}
 use Rattle.boot_core.proofs.Stopping.{done_ends, failed, failed_ends, finish_down, opens_stopped, piece_down, withdraw_down}
@@ -73,7 +72,8 @@ pub record IsUploadEvent (happened : DeviceEvent) (row : Machine → Row) : Type
 pub piece_event : (i : ℕ) (more : Bor (List ℕ)) → IsUploadEvent (event.Piece i more) (λ m. Pieces m i more.now)
 piece_event i more = record {
   own = λ setup old new told tnew up ready taken reply is none row.
-      steps_piece setup old told up ready.1.0 ready.0 ready.1.1 ready.1.2 new tnew i more taken reply is none row;
+      row_steps setup old told up ready.1.0 ready.0 ready.1.1 ready.1.2 new tnew (λ m. Pieces m i more.now) (event.Piece i more) taken reply
+      is none (λ m next done. done) row;
   cut = λ setup old new told tmid tnew up ready taken none cut row.
       piece_down setup old new told tnew up ready.0 none ready.1.0 tmid taken ready.1.1 ready.1.2 cut i more row;
 }
@@ -81,7 +81,8 @@ piece_event i more = record {
 pub finish_event : (i : ℕ) → IsUploadEvent (event.Finish i) (λ m. FinishRow m i)
 finish_event i = record {
   own = λ setup old new told tnew up ready taken reply is none row.
-      steps_finish setup old told up ready.1.0 ready.0 ready.1.1 ready.1.2 new tnew i taken reply is none row;
+      row_steps setup old told up ready.1.0 ready.0 ready.1.1 ready.1.2 new tnew (λ m. FinishRow m i) (event.Finish i) taken reply
+      is none (λ m next done. done) row;
   cut = λ setup old new told tmid tnew up ready taken none cut row.
       finish_down setup old new told tnew up ready.0 none ready.1.0 tmid taken ready.1.1 ready.1.2 cut i row;
 }
@@ -89,7 +90,8 @@ finish_event i = record {
 pub withdraw_event : (i : ℕ) → IsUploadEvent (event.Withdraw i) (λ m. Withdraws m i)
 withdraw_event i = record {
   own = λ setup old new told tnew up ready taken reply is none row.
-      steps_withdraw setup old told up ready.1.0 ready.0 ready.1.1 ready.1.2 new tnew i taken reply is none row;
+      row_steps setup old told up ready.1.0 ready.0 ready.1.1 ready.1.2 new tnew (λ m. Withdraws m i) (event.Withdraw i) taken reply
+      is none (λ m next done. done) row;
   cut = λ setup old new told tmid tnew up ready taken none cut row.
       withdraw_down setup old new told tnew up ready.0 none ready.1.0 tmid taken ready.1.1 ready.1.2 cut i row;
 }
@@ -103,20 +105,6 @@ pub record IsTaken (map : SectorMap) (happened : DeviceEvent) (touched : Part �
   pub kept : IfErr taken (λ error. keeps_all (may_close happened) (no.Upload error) ≡ true
       → (new ≡ old) × (tmid ≡ told))
   pub row : TakesRow map old new told tmid Takes taken
-
--- What the call of the device did, but for what its refusals leave of the flash.
-pub record TakesCall (map : SectorMap) (happened : DeviceEvent) (touched : Part → Bool) (old new : DeviceView)
-    (result : Result Unit Fault) : Type 0 where
-  pub laid : IsLaidOut map new.flash
-  pub opens : AllOpenAt (view map new.flash) new.sessions
-  pub steps : (identity : Identity) (boots : ℕ) → old.flash.is_on ≡ true
-      → StepsTo (made map identity boots) old new happened (reply_of_result result)
-  pub outside : Keeps map touched old.flash new.flash
-  pub down : old.up ≡ false → IsNotBooted result old new
-  pub up : IfErr result (λ fault. is_stop fault ≡ false → new.up ≡ old.up)
-  pub kept : IfErr result (λ fault. keeps_all (may_close happened) fault ≡ true → new ≡ old)
-  pub off : old.up ≡ true → old.flash.is_on ≡ false → IsOff result old.flash new.flash
-  pub ends : EndsCall (reply_of_result result) old new
 
 module _ (map : SectorMap) (happened : DeviceEvent) (touched : Part → Bool) (before : DeviceView) (old new : Chip)
     (told tmid tnew : List (Option Upload)) (up upn : Bool) (row : Machine → Row)
@@ -141,42 +129,46 @@ module _ (map : SectorMap) (happened : DeviceEvent) (touched : Part → Bool) (b
   by_result (Ok done) (Ok passed) call (same, awake) =
       let after : seen new tmid up ≡ seen new tnew upn = cc in
       subst (λ at. TakesCall map happened touched (seen old told up) at (Ok passed)) after (record {
-        laid = laid_new call.outside;
-        opens = call.opens open_now;
-        steps = λ identity boots on.
-            is.own (made map identity boots) old new told tmid up now (Ok tt) Done refl refl call.row;
-        outside = call.outside;
-        down = not_down (Ok passed) (seen old told up) (seen new tmid up) now.0;
+        here = record {
+          laid = laid_new call.outside;
+          opens = call.opens open_now;
+          steps = λ identity boots on.
+              is.own (made map identity boots) old new told tmid up now (Ok tt) Done refl refl call.row;
+          outside = call.outside;
+          down = not_down (Ok passed) (seen old told up) (seen new tmid up) now.0;
+          off = never_off (Ok passed);
+          ends = done_ends old old new told tmid up refl call.ends;
+        };
         up = tt;
         kept = tt;
-        off = never_off (Ok passed);
-        ends = done_ends old old new told tmid up refl call.ends;
       })
   by_result (Ok done) (Err fault) call passed = absurd passed
   by_result (Err error) (Ok done) call passed = absurd passed
   by_result (Err error) (Err fault) call passed =
       let stopped = stops (no.Upload error) fault tmid tnew up upn passed in
       record {
-        laid = laid_new call.outside;
-        opens = opens_stopped (view map new) (no.Upload error) tmid tnew up upn stopped
-            (call.opens open_now);
-        steps = λ identity boots on. failed (made map identity boots) old new told tmid tnew up upn happened error on
-            call.ends stopped
-            (λ none cut. is.cut (made map identity boots) old new told tmid tnew up now (Err error) none
-            (ap (λ e. Err e) cut) call.row)
-            (λ own. is.own (made map identity boots) old new told tmid up now (Err error) (Refused (no.Upload error))
-            (upload_refused error own) own call.row)
-            fault passed.is;
-        outside = call.outside;
-        down = not_down (Err fault) (seen old told up) (seen new tnew upn) now.0;
+        here = record {
+          laid = laid_new call.outside;
+          opens = opens_stopped (view map new) (no.Upload error) tmid tnew up upn stopped
+              (call.opens open_now);
+          steps = λ identity boots on. failed (made map identity boots) old new told tmid tnew up upn happened error on
+              call.ends stopped
+              (λ none cut. is.cut (made map identity boots) old new told tmid tnew up now (Err error) none
+              (ap (λ e. Err e) cut) call.row)
+              (λ own. is.own (made map identity boots) old new told tmid up now (Err error) (Refused (no.Upload error))
+              (upload_refused error own) own call.row)
+              fault passed.is;
+          outside = call.outside;
+          down = not_down (Err fault) (seen old told up) (seen new tnew upn) now.0;
+          off = never_off (Err fault);
+          ends = failed_ends old old new told tmid tnew up upn error refl call.ends stopped fault passed.is;
+        };
         up = up_stays old new new told tmid tnew up upn (no.Upload error) fault passed.is stopped;
         kept = λ keeps.
             let own = subst (λ f. keeps_all (may_close happened) f ≡ true) passed.is keeps in
             let (same, table) = call.kept own in
             all_stays old new new told tmid tnew up upn (no.Upload error) fault passed.is stopped same table
             (keeps_unstopped (may_close happened) fault keeps);
-        off = never_off (Err fault);
-        ends = failed_ends old old new told tmid tnew up upn error refl call.ends stopped fault passed.is;
       }
 
   pub takes_call : (taken : Result Unit UploadError) (result : Result Unit Fault)
@@ -200,17 +192,7 @@ module _ (map : SectorMap) (happened : DeviceEvent) (touched : Part → Bool) (b
       → IsTaken map happened touched old new told tmid row taken
       → IfErr taken (λ error. is_flash {T = Unit} (Err error) ≡ false → new ≡ old)
       → PassesOn taken tmid up tnew upn result → TakesHere map happened touched before (seen new tnew upn) result
-  takes_here taken result call nothing passed =
-      let all = takes_call taken result call passed in
-      record {
-        laid = all.laid;
-        opens = all.opens;
-        steps = all.steps;
-        outside = all.outside;
-        down = all.down;
-        refused = nothing_after taken result nothing passed;
-        up = all.up;
-        kept = all.kept;
-        off = all.off;
-        ends = all.ends;
-      }
+  takes_here taken result call nothing passed = record {
+    call = takes_call taken result call passed;
+    refused = nothing_after taken result nothing passed;
+  }

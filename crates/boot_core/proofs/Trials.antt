@@ -1,11 +1,25 @@
 -- Whether an image is on trial by the log, and what a confirmation answers then.
-use Rattle.std.proofs.Common.{◌≡◌, ℕ, Bool, true, false, Some, Result, Ok, Err, refl, sym, subst, ◌∙◌}
+use Rattle.std.proofs.Common.{◌≡◌, ℕ, Bool, true, false, List, Option, Some, Result, Ok, Err, refl, sym, subst, ◌∙◌}
 use Rattle.std.proofs.Common.{true≢false}
 use Rattle.flash_model.specs.Chip.{Chip, Ends}
 use Rattle.flash_model.specs.declared.error.FlashError.{FlashError}
 use Rattle.flash_model.specs.declared.error.FlashError.TheVariants as flash
 use Rattle.sector_map.specs.declared.layout.SectorMap.{SectorMap}
-use Rattle.sector_map.specs.Part.{is_member}
+use Rattle.sector_map.specs.declared.layout.Side.TheVariants.{Primary}
+use Rattle.sector_map.specs.Map.{IsLaidOut, Keeps}
+use Rattle.sector_map.specs.Part.{TrailerOf, is_member, only}
+use Rattle.sector_map.proofs.Parts.{laid_out_kept}
+use Rattle.manifest.specs.declared.identity.Identity.{Identity}
+use Rattle.common.specs.declared.event.Event.TheVariants as event
+use Rattle.upload.specs.Sessions.{AllOpenAt}
+use Rattle.upload.specs.View.{view}
+use Rattle.upload.specs.declared.sessions.Upload.{Upload}
+use Rattle.machine.specs.Passing.{StepsTo}
+use Rattle.machine.proofs.Uploading.{open_confirmed}
+use Rattle.boot_core.specs.Answers.{EndsCall, reply_of_result}
+use Rattle.boot_core.specs.Device.{made, seen}
+use Rattle.boot_core.specs.Taking.{StepsHere}
+use Rattle.boot_core.proofs.NotReady.{not_down}
 use Rattle.set_log.specs.Log.{state_of}
 use Rattle.set_log.specs.declared.state.State.{State}
 use Rattle.set_log.specs.declared.state.Kind.TheVariants as log
@@ -53,3 +67,22 @@ stops_tried OnTrial map image old new flash.Off off on never = true≢false (sym
 pub flash_not_tried : (error : FlashError) (given : Fault) (result : Result Unit Fault) → given ≡ no.Flash error
     → result ≡ Err given → result ≡ Err no.NotOnTrial → ⊥
 flash_not_tried error given result passed is told = cc
+
+-- a confirmation that the flash didn't stop
+pub confirm_ends : (map : SectorMap) (image : ℕ) (old new : Chip) (told : List (Option Upload)) (up : Bool)
+    (result : Result Unit Fault) → IsLaidOut map old → AllOpenAt (view map old) told
+    → Keeps map (only (TrailerOf image Primary)) old new → up ≡ true
+    → ((identity : Identity) (boots : ℕ) → old.is_on ≡ true
+    → StepsTo (made map identity boots) (seen old told up) (seen new told up) (event.Confirm image)
+    (reply_of_result result))
+    → (old.is_on ≡ false → ⊥) → EndsCall (reply_of_result result) (seen old told up) (seen new told up)
+    → StepsHere map (event.Confirm image) (only (TrailerOf image Primary)) (seen old told up) (seen new told up) result
+confirm_ends map image old new told up result laid opens outside booted steps never ends = record {
+  laid = laid_out_kept map (only (TrailerOf image Primary)) old new laid outside;
+  opens = open_confirmed map old new image told outside opens;
+  steps = steps;
+  outside = outside;
+  down = not_down result (seen old told up) (seen new told up) booted;
+  off = λ here off. absurd (never off);
+  ends = ends;
+}

@@ -7,24 +7,19 @@ use Rattle.sector_map.specs.Map.{Keeps}
 use Rattle.sector_map.specs.Part.{Log, only}
 use Rattle.set_log.specs.Log.{state_of}
 use Rattle.set_log.specs.declared.state.State.{State}
-use Rattle.set_log.specs.declared.state.Kind.{Kind}
-use Rattle.set_log.specs.declared.state.Kind.TheVariants as log
 use Rattle.upload.specs.Device.{DeviceState, Trial}
 use Rattle.upload.specs.View.{view}
 use Rattle.upload.specs.Steady.{IsSteadyAt}
-use Rattle.machine.specs.Holding.{IsTrialAt, IsTrialOpen, Stands}
+use Rattle.machine.specs.Holding.{IsTrialAt, Stands}
 use Rattle.machine.specs.Passing.{IsOpenOrAt}
-use Rattle.machine.specs.Reading.{IsPassage}
 use Rattle.machine.specs.States.{IsConfirmed, settled}
 use Rattle.machine.specs.Wear.{members, IsResumed}
-use Rattle.machine.specs.declared.finding.Passage.{Passage}
 use Rattle.machine.specs.declared.reply.Reply.{Reply}
-use Rattle.machine.proofs.Standing.{stands_trial}
-use Rattle.machine.proofs.Trying.{open_of, rest_over}
+use Rattle.machine.proofs.Trying.{rest_over}
 use Rattle.set_log.specs.States.{Appends}
 use Rattle.boot_core.specs.Over.{AreFloorsRaised, IsRecordedOver, record_over}
 use Rattle.boot_core.specs.Wear.{AreMeasured, IsAfresh, IsSetMoved, IsWorn}
-use Rattle.boot_core.proofs.Measured.{fresh_after, fresh_more, fresh_same, fresh_wear}
+use Rattle.boot_core.proofs.Measured.{fresh_after, fresh_more, fresh_wear}
 
 -- a set goes back: its trailers are prepared, going back is recorded, and the swap is carried out
 pub fresh_back : (map : SectorMap) (old mid new : Chip) (mask : ℕ) (reply : Reply)
@@ -58,36 +53,14 @@ over_alone map state old read mid new floors same stays raised appended = record
       (subst (λ chip. Appends map (record_over state floors) read chip {T = Unit} (Ok tt)) (sym stays) appended);
 }
 
--- a boot from a trial, by its passage
-pub trial_worn : (map : SectorMap) (old mid new : Chip) (state : State) (found passage : Passage) (reply : Reply)
-    → (view map old).log ≡ Some state → state.kind ≡ log.Trial → mid ≡ old
-    → ((s : DeviceState) (trial : Trial) → IsTrialOpen (view map old) s trial → IsPassage s trial found)
-    → found ≡ passage
-    → ((s : DeviceState) (trial : Trial) → IsPassage s trial passage → IsOpenOrAt (view map mid) s trial
-    → IsAfresh map mid new 4 reply)
-    → (s : DeviceState) → Stands map old s → IsAfresh map old new 4 reply
-trial_worn map old mid new state found passage reply read kind same decides is worn s stands =
-    let at = stands_trial map old s state read kind stands in
-    fresh_same map old mid new 4 reply same (worn s at.0
-    (subst (λ p. IsPassage s at.0 p) is (decides s at.0 (open_of map old s at.0 at.2)))
-    (subst (λ w. IsOpenOrAt (view map w) s at.0) (sym same) at.2))
-
 one_some : {X : Type 0} (x y : X) → Some x ≡ Some y → x ≡ y
 one_some x y same = cc
 
 -- the record that was read is the one that stands
-pub worn_read : (map : SectorMap) (old read new : Chip) (found state : State) (reply : Reply) → read ≡ old
+pub worn_read : (map : SectorMap) (old new : Chip) (found state : State) (reply : Reply)
     → state_of map old ≡ Some found → state_of map old ≡ Some state
-    → ((s : DeviceState) → Stands map read s → IsWorn map found.kind found.mask read new reply)
+    → ((s : DeviceState) → Stands map old s → IsWorn map found.kind found.mask old new reply)
     → (s : DeviceState) → Stands map old s → IsWorn map state.kind state.mask old new reply
-worn_read map old read new found state reply same is stood worn s stands =
-    let one : found ≡ state = one_some found state (sym is ∙ stood) in
-    subst (λ (given : State). IsWorn map given.kind given.mask old new reply) one
-    (subst (λ chip. IsWorn map found.kind found.mask chip new reply) same
-    (worn s (subst (λ chip. Stands map chip s) (sym same) stands)))
-
--- the wear by the record that stands
-pub worn_as : (map : SectorMap) (old new : Chip) (state : State) (kind : Kind) (reply : Reply)
-    → state.kind ≡ kind → IsWorn map kind state.mask old new reply
-    → IsWorn map state.kind state.mask old new reply
-worn_as map old new state kind reply is worn = subst (λ k. IsWorn map k state.mask old new reply) (sym is) worn
+worn_read map old new found state reply is stood worn s stands =
+    subst (λ (given : State). IsWorn map given.kind given.mask old new reply) (one_some found state (sym is ∙ stood))
+    (worn s stands)

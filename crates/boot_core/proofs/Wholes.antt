@@ -7,12 +7,35 @@ use Rattle.machine.specs.Holding.{DeviceView}
 use Rattle.machine.specs.Intake.{Setup}
 use Rattle.machine.specs.Steps.{DeviceEvent}
 use Rattle.machine.specs.declared.error.Fault.{Fault}
-use Rattle.boot_core.specs.Calls.{Takes}
+use Rattle.boot_core.specs.Calls.{StepsDevice, Takes, TakesEvent}
 use Rattle.boot_core.specs.Device.{Whole, made}
-use Rattle.boot_core.specs.Taking.{TakesHere}
+use Rattle.boot_core.specs.Taking.{StepsHere, TakesCall, TakesHere}
 
 abbrev pub whole_of : Setup → DeviceView → Whole
 whole_of setup here = record { setup = setup; here = here }
+
+-- .. whatever a refusal leaves
+pub device_steps : (event : DeviceEvent) (touched : Part → Bool) (map : SectorMap) (identity : Identity) (boots : ℕ)
+    (old new : DeviceView) (result : Result Unit Fault) → StepsHere map event touched old new result
+    → StepsDevice event touched (whole_of (made map identity boots) old) (whole_of (made map identity boots) new) result
+device_steps event touched map identity boots old new result took = record {
+  setup = refl;
+  steps = took.steps identity boots;
+  outside = took.outside;
+  down = took.down;
+  off = took.off;
+  ends = took.ends;
+}
+
+-- .. or whatever it leaves of the flash
+pub device_call : (event : DeviceEvent) (touched : Part → Bool) (map : SectorMap) (identity : Identity) (boots : ℕ)
+    (old new : DeviceView) (result : Result Unit Fault) → TakesCall map event touched old new result
+    → TakesEvent event touched (whole_of (made map identity boots) old) (whole_of (made map identity boots) new) result
+device_call event touched map identity boots old new result took = record {
+  stepped = device_steps event touched map identity boots old new result took.here;
+  up = took.up;
+  kept = took.kept;
+}
 
 pub device_takes : (event : DeviceEvent) (touched : Part → Bool) (map : SectorMap) (identity : Identity) (boots : ℕ)
     (old new : DeviceView) (whole : Whole) (result : Result Unit Fault)
@@ -20,13 +43,6 @@ pub device_takes : (event : DeviceEvent) (touched : Part → Bool) (map : Sector
     → Takes event touched whole (whole_of (made map identity boots) new) result
 device_takes event touched map identity boots old new whole result is took =
     subst (λ was. Takes event touched was (whole_of (made map identity boots) new) result) is (record {
-      setup = refl;
-      steps = took.steps identity boots;
-      outside = took.outside;
-      down = took.down;
+      call = device_call event touched map identity boots old new result took.call;
       refused = took.refused;
-      up = took.up;
-      kept = took.kept;
-      off = took.off;
-      ends = took.ends;
     })

@@ -6,8 +6,6 @@ use Rattle.common.specs.declared.event.Event.TheVariants as event
 use Rattle.flash_model.specs.Chip.{Chip, Ends}
 use Rattle.flash_model.specs.declared.error.FlashError.{FlashError}
 use Rattle.flash_model.specs.declared.error.FlashError.TheVariants.{Off}
-use Rattle.sector_map.specs.Map.{IsLaidOut, Keeps}
-use Rattle.sector_map.specs.Part.{any_part}
 use Rattle.sector_map.specs.declared.layout.SectorMap.{SectorMap}
 use Rattle.manifest.specs.declared.identity.Identity.{Identity}
 use Rattle.set_log.specs.Log.{state_of}
@@ -26,7 +24,7 @@ use Rattle.machine.specs.declared.finding.Finding.{Finding}
 use Rattle.machine.specs.declared.reply.Reply.{Reply}
 use Rattle.machine.specs.declared.reply.Reply.TheVariants.{Refused}
 use Rattle.boot_core.specs.Answers.{EndsCall, IsBootReply, IsOff, is_stopped, reply_of_boot}
-use Rattle.boot_core.specs.BootEnds.{BootEnds}
+use Rattle.boot_core.specs.BootEnds.{BootEnds, KeepsLayout}
 use Rattle.boot_core.specs.Device.{made}
 use Rattle.boot_core.specs.Found.{IsStopped}
 use Rattle.boot_core.specs.Over.{IsOverAlone}
@@ -48,9 +46,8 @@ pub record BootsFrom (map : SectorMap) (state : State) (left : ℕ) (old new : C
 -- A boot from whatever record stands, or from none.
 pub record BootsFromAny (map : SectorMap) (left : ℕ) (old new : Chip)
     (result : Result Reply FlashError) : Type 0 where
-  -- The map stays laid out on the flash, and what lies behind it is what it was before.
-  pub laid : IsLaidOut map new
-  pub on_map : (start : Chip) → Keeps map any_part start old → Keeps map any_part start new
+  pub layout : KeepsLayout map old new
+  pub open layout use *
   -- Whatever happened, a state stands that a cut boot comes to,
   pub stands : (s : DeviceState) → Stands map old s → CutsBoot map (left + 1) new s
   -- and where the call ends, one that a boot of its reply comes to.
@@ -87,10 +84,8 @@ pub record BootsFromAny (map : SectorMap) (left : ℕ) (old new : Chip)
 -- A device boots: its uploads end, and a trial that begins has so many boots after this one.
 pub record EndsUploadsAndBoots (map : SectorMap) (left : ℕ) (old new : DeviceView)
     (result : Result Reply Fault) : Type 0 where
-  -- The map stays laid out on the flash, and what lies behind it is what it was before.
-  pub laid : IsLaidOut map new.flash
-  pub on_map : (start : Chip) → Keeps map any_part start old.flash
-      → Keeps map any_part start new.flash
+  pub layout : KeepsLayout map old.flash new.flash
+  pub open layout use *
   -- The uploads are closed,
   pub opens : AllOpenAt (view map new.flash) new.sessions
   pub closed : AllClosed new.sessions

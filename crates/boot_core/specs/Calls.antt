@@ -111,31 +111,43 @@ pub record BootsDevice (old new : Whole) (result : Result Reply Fault) : Type 0 
   -- A cut is told where a write was cut and nowhere else, and that the flash is off where it was.
   pub ends : EndsCall (reply_of_boot result) old.here new.here
 
--- A device takes an event.
-pub record Takes (event : DeviceEvent) (touched : Part → Bool) (old new : Whole)
+-- A device takes an event: what holds of each, whatever a refusal leaves.
+pub record StepsDevice (event : DeviceEvent) (touched : Part → Bool) (old new : Whole)
     (result : Result Unit Fault) : Type 0 where
   -- What it was made with stays.
   pub setup : new.setup ≡ old.setup
   -- On a flash with power the call is a step of the machine, to a state that the device holds then.
   pub steps : old.here.flash.is_on ≡ true
       → StepsTo old.setup old.here new.here event (reply_of_result result)
-  -- On any flash only these parts are touched:
+  -- On any flash only these parts are touched,
   pub outside : Keeps old.setup.map touched old.here.flash new.here.flash
-  -- nothing where the device isn't up, which is the answer then,
+  -- and nothing where the device isn't up, which is the answer then.
   pub down : old.here.up ≡ false → IsNotBooted result old.here new.here
-  -- and nothing where a refusal is not of the flash.
-  pub refused : IfErr result (λ fault. is_stop fault ≡ false
-      → new.here.flash ≡ old.here.flash)
-  -- Such a refusal leaves whether the device is up,
-  pub up : IfErr result (λ fault. is_stop fault ≡ false → new.here.up ≡ old.here.up)
-  -- and the uploads, unless it closes the one of its image.
-  pub kept : IfErr result (λ fault. keeps_all (may_close event) fault ≡ true
-      → new.here ≡ old.here)
   -- Where the flash is off, that is the answer of a device that is up, and the flash is as it was.
   pub off : old.here.up ≡ true → old.here.flash.is_on ≡ false
       → IsOff result old.here.flash new.here.flash
   -- A cut is told where a write was cut and nowhere else, and that the flash is off where it was.
   pub ends : EndsCall (reply_of_result result) old.here new.here
+
+-- So does one of uploads, whatever a refusal leaves of the flash.
+pub record TakesEvent (event : DeviceEvent) (touched : Part → Bool) (old new : Whole)
+    (result : Result Unit Fault) : Type 0 where
+  pub stepped : StepsDevice event touched old new result
+  pub open stepped use *
+  -- A refusal that is not of the flash leaves whether the device is up,
+  pub up : IfErr result (λ fault. is_stop fault ≡ false → new.here.up ≡ old.here.up)
+  -- and the uploads, unless it closes the one of its image.
+  pub kept : IfErr result (λ fault. keeps_all (may_close event) fault ≡ true
+      → new.here ≡ old.here)
+
+-- A device takes an event.
+pub record Takes (event : DeviceEvent) (touched : Part → Bool) (old new : Whole)
+    (result : Result Unit Fault) : Type 0 where
+  pub call : TakesEvent event touched old new result
+  pub open call use *
+  -- A refusal that is not of the flash leaves the flash as it was.
+  pub refused : IfErr result (λ fault. is_stop fault ≡ false
+      → new.here.flash ≡ old.here.flash)
 
 -- A device takes a manifest that was read already.
 pub record TakesManifest (manifest : given.Manifest) (old new : Whole) (result : Result Unit Fault)
@@ -173,25 +185,15 @@ pub record TakesManifest (manifest : given.Manifest) (old new : Whole) (result :
   -- A cut is told where a write was cut and nowhere else, and that the flash is off where it was.
   pub ends : EndsCall (reply_of_result result) old.here new.here
 
--- A device finishes an upload.
+-- A device finishes an upload: only the secondary slot of the image and its trailer are touched.
 pub record FinishesUpload (image : ℕ) (old new : Whole) (result : Result Unit Fault)
     : Type 0 where
-  -- What it was made with stays.
-  pub setup : new.setup ≡ old.setup
-  -- On a flash with power the call is a step of the machine, to a state that the device holds then.
-  pub steps : old.here.flash.is_on ≡ true
-      → StepsTo old.setup old.here new.here (event.Finish image) (reply_of_result result)
-  -- On any flash only the secondary slot of the image and its trailer are touched,
-  pub outside : Keeps old.setup.map (incoming_of image) old.here.flash new.here.flash
-  -- and nothing where the device isn't up, which is the answer then.
-  pub down : old.here.up ≡ false → IsNotBooted result old.here new.here
-  -- A refusal that is not of the flash leaves whether the device is up,
-  pub up : IfErr result (λ fault. is_stop fault ≡ false → new.here.up ≡ old.here.up)
-  -- and all where it is not of the upload, or none is open.
-  pub kept : IfErr result (λ fault. keeps_all true fault ≡ true → new.here ≡ old.here)
+  pub call : TakesEvent (event.Finish image) (incoming_of image) old new result
+  pub open call use *
   -- Where too few bytes came the flash is as it was,
   pub size : result ≡ Err (no.Upload SizeWrong) → new.here.flash ≡ old.here.flash
-  -- and else such a refusal writes nothing but the image's secondary slot: not its trailer,
+  -- and else a refusal that is not of the flash writes nothing but the image's secondary slot: not
+  -- its trailer,
   pub slot : IfErr result (λ fault. is_stop fault ≡ false
       → Keeps old.setup.map (only (Slot image Secondary)) old.here.flash new.here.flash)
   -- of the slot no more than the last unit of the upload,
@@ -201,27 +203,15 @@ pub record FinishesUpload (image : ℕ) (old new : Whole) (result : Result Unit 
   -- and no sector is erased.
   pub erases : IfErr result (λ fault. is_stop fault ≡ false
       → new.here.flash.erases ≡ old.here.flash.erases)
-  -- Where the flash is off, that is the answer of a device that is up, and the flash is as it was.
-  pub off : old.here.up ≡ true → old.here.flash.is_on ≡ false
-      → IsOff result old.here.flash new.here.flash
-  -- A cut is told where a write was cut and nowhere else, and that the flash is off where it was.
-  pub ends : EndsCall (reply_of_result result) old.here new.here
 
--- A device confirms an image.
+-- A device confirms an image: only the trailer of what the image runs is touched.
 pub record ConfirmsTried (image : ℕ) (old new : Whole) (result : Result Unit Fault) : Type 0 where
-  -- What it was made with stays.
-  pub setup : new.setup ≡ old.setup
-  -- On a flash with power the call is a step of the machine, to a state that the device holds then.
-  pub steps : old.here.flash.is_on ≡ true
-      → StepsTo old.setup old.here new.here (event.Confirm image) (reply_of_result result)
-  -- On any flash only the trailer of what the image runs is touched:
-  pub outside : Keeps old.setup.map (only (TrailerOf image Primary)) old.here.flash new.here.flash
-  -- nothing where the device isn't up, which is the answer then,
-  pub down : old.here.up ≡ false → IsNotBooted result old.here new.here
-  -- and nothing where a refusal is not of the flash.
+  pub stepped : StepsDevice (event.Confirm image) (only (TrailerOf image Primary)) old new result
+  pub open stepped use *
+  -- A refusal that is not of the flash leaves the flash as it was,
   pub refused : IfErr result (λ fault. is_stop fault ≡ false
       → new.here.flash ≡ old.here.flash)
-  -- Such a refusal leaves the uploads too, and whether the device is up.
+  -- the uploads too, and whether the device is up.
   pub kept : IfErr result (λ fault. is_stop fault ≡ false → new.here ≡ old.here)
   -- On any flash a call that ends found the image on trial by the log, and image_ok of its primary
   -- trailer is set then.
@@ -235,11 +225,6 @@ pub record ConfirmsTried (image : ℕ) (old new : Whole) (result : Result Unit F
   -- and nowhere else.
   pub tried : LogsTrialOf old.setup.map.images image (state_of old.setup.map old.here.flash)
       → result ≡ Err no.NotOnTrial → ⊥
-  -- Where the flash is off, that is the answer of a device that is up, and the flash is as it was.
-  pub off : old.here.up ≡ true → old.here.flash.is_on ≡ false
-      → IsOff result old.here.flash new.here.flash
-  -- A cut is told where a write was cut and nowhere else, and that the flash is off where it was.
-  pub ends : EndsCall (reply_of_result result) old.here new.here
 
 -- A device is reset.
 pub record Resets (old new : Whole) : Type 0 where

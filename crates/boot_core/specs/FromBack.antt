@@ -1,9 +1,9 @@
 -- What a boot does from a record Back or BackSettle: each record is one call.
-use Rattle.std.specs.Prelude.{◌≡◌, ◌⊎◌, ◌+◌, ◌≤◌, ℕ, true, Some, Result, IfOk, OnOk}
+use Rattle.std.specs.Prelude.{◌≡◌, ◌⊎◌, ◌+◌, ◌≤◌, true, Some, Result, OnOk}
 use Rattle.flash_model.specs.Chip.{Chip, Ends}
 use Rattle.flash_model.specs.declared.error.FlashError.{FlashError}
-use Rattle.sector_map.specs.Map.{IsLaidOut, Keeps}
-use Rattle.sector_map.specs.Part.{Log, any_part, only, swap_of}
+use Rattle.sector_map.specs.Map.{Keeps}
+use Rattle.sector_map.specs.Part.{Log, only}
 use Rattle.sector_map.specs.declared.layout.SectorMap.{SectorMap}
 use Rattle.sector_map.specs.declared.layout.Side.TheVariants.{Secondary}
 use Rattle.set_log.specs.Log.{state_of}
@@ -18,69 +18,30 @@ use Rattle.machine.specs.Passing.{IsGoingBack, IsSwappingBackSome}
 use Rattle.machine.specs.States.{reverted}
 use Rattle.machine.specs.Wear.{IsSettling, IsResumed}
 use Rattle.machine.specs.declared.reply.Reply.{Reply}
-use Rattle.boot_core.specs.BootEnds.{BootEndsForAny}
+use Rattle.boot_core.specs.BootEnds.{BootEndsForAny, Passes}
 use Rattle.boot_core.specs.Wear.{IsSetMoved}
 
--- In Back: a call swaps the set back, from wherever the swap stands.
-pub record CarriesBack (map : SectorMap) (mask : ℕ) (old new : Chip)
-    (result : Result Unit FlashError) : Type 0 where
-  -- Nothing is written but the slots of the set, its secondary trailers and scratch: the log says
-  -- what it said.
-  pub outside : Keeps map (swap_of mask Secondary) old new
-  pub recorded : state_of map new ≡ state_of map old
-  -- Whatever happened, the device stands in the same swap back,
-  pub stands : (s : DeviceState) (trial : Trial) → mask ≡ trial.set
-      → IsSwappingBackSome map old s trial → IsSwappingBackSome map new s trial
-  -- and it is done where the call ends.
-  pub ok : OnOk result ((s : DeviceState) (trial : Trial) → mask ≡ trial.set
-      → IsSwappingBackSome map old s trial → IsSwappedBack (view map new) s trial log.Back)
-  -- A sector is erased for each step that was left.
-  pub erases : OnOk result ((s : DeviceState) (trial : Trial) → mask ≡ trial.set
+-- The swap back of the set of a record is recorded as done, in this record.
+pub record IsSwapBackDone (map : SectorMap) (state : State) (old new : Chip) (now : State)
+    : Type 0 where
+  pub ok : (s : DeviceState) (trial : Trial) → state.mask ≡ trial.set
       → IsSwappingBackSome map old s trial
-      → new.erases + steps_done map old Secondary mask
-      ≡ old.erases + steps_in_all map old Secondary mask)
-  pub ends : Ends result old new
-
--- At the end of the swap back: a call records that the set is swapped back.
-pub record RecordsBackSettle (map : SectorMap) (state : State) (old new : Chip)
-    (result : Result State FlashError) : Type 0 where
-  -- Nothing is written but the log.
-  pub outside : Keeps map (only Log) old new
-  -- Whatever happened, the device is on its way back,
-  pub stands : (s : DeviceState) (trial : Trial) → IsSwappingBackSome map old s trial
-      → IsSwappedBack (view map old) s trial log.Back → IsGoingBack map new s trial
-  -- and the swap back is recorded as done where the call ends.
-  pub ok : OnOk result ((s : DeviceState) (trial : Trial)
-      → IsSwappedBack (view map old) s trial log.Back
-      → IsSwappedBack (view map new) s trial log.BackSettle)
-  -- The log says so then, in the record that is returned.
-  pub recorded : IfOk result (λ now. state_of map new ≡ Some now)
-  pub is : IfOk result (λ now. now ≡ record state { kind = log.BackSettle })
-  pub erases : OnOk result (new.erases ≤ old.erases + 1)
-  pub ends : Ends result old new
-
--- From Back to BackSettle: a call swaps the set of a record back, and records it.
-pub record SwapsBack (map : SectorMap) (state : State) (old new : Chip)
-    (result : Result State FlashError) : Type 0 where
-  -- The map stays laid out on the flash, and what lies behind it is what it was before.
-  pub laid : IsLaidOut map new
-  pub on_map : (start : Chip) → Keeps map any_part start old → Keeps map any_part start new
-  -- Whatever happened, the device is on its way back,
-  pub stands : (s : DeviceState) (trial : Trial) → state.mask ≡ trial.set
-      → IsSwappingBackSome map old s trial → IsGoingBack map new s trial
-  -- and the swap back is recorded as done where the call ends.
-  pub ok : OnOk result ((s : DeviceState) (trial : Trial) → state.mask ≡ trial.set
-      → IsSwappingBackSome map old s trial
-      → IsSwappedBack (view map new) s trial log.BackSettle)
-  -- The log says so then, in the record that is returned.
-  pub recorded : IfOk result (λ now. state_of map new ≡ Some now)
-  pub is : IfOk result (λ now. now ≡ record state { kind = log.BackSettle })
+      → IsSwappedBack (view map new) s trial log.BackSettle
+  pub recorded : state_of map new ≡ Some now
+  pub is : now ≡ record state { kind = log.BackSettle }
   -- A sector is erased for each step that was left, and one more at most.
-  pub erases : OnOk result ((s : DeviceState) (trial : Trial) → state.mask ≡ trial.set
+  pub erases : (s : DeviceState) (trial : Trial) → state.mask ≡ trial.set
       → IsSwappingBackSome map old s trial
       → new.erases + steps_done map old Secondary state.mask
-      ≤ old.erases + steps_in_all map old Secondary state.mask + 1)
-  pub ends : Ends result old new
+      ≤ old.erases + steps_in_all map old Secondary state.mask + 1
+
+-- From Back to BackSettle: a call swaps the set of a record back, and records it. Whatever
+-- happened, the device is on its way back.
+abbrev pub SwapsBack : SectorMap → State → Chip → Chip → Result State FlashError → Type 0
+SwapsBack map state old new result = Passes map old new
+    ((s : DeviceState) (trial : Trial) → state.mask ≡ trial.set
+    → IsSwappingBackSome map old s trial → IsGoingBack map new s trial)
+    (IsSwapBackDone map state old new) result
 
 -- At the end of settling: a call records that the old images run.
 pub record RecordsReturned (map : SectorMap) (old new : Chip) (result : Result Unit FlashError)
@@ -101,40 +62,37 @@ pub record RecordsReturned (map : SectorMap) (old new : Chip) (result : Result U
   pub erases : OnOk result (new.erases ≤ old.erases + 1)
   pub ends : Ends result old new
 
--- From BackSettle to Steady: a call settles the set of a record, and the old images run.
-pub record SettlesAndReturns (map : SectorMap) (state : State) (old new : Chip)
-    (result : Result Unit FlashError) : Type 0 where
-  -- The map stays laid out on the flash, and what lies behind it is what it was before.
-  pub laid : IsLaidOut map new
-  pub on_map : (start : Chip) → Keeps map any_part start old → Keeps map any_part start new
-  -- Whatever happened, the set that was swapped back is so, or the device is at rest,
-  pub stands : (s : DeviceState) (trial : Trial) → state.mask ≡ trial.set
+-- The set of a record that was swapped back is settled, and the device is at rest.
+pub record IsReturned (map : SectorMap) (state : State) (old new : Chip) : Type 0 where
+  pub ok : (s : DeviceState) (trial : Trial) → state.mask ≡ trial.set
       → IsSwappedBack (view map old) s trial log.BackSettle
-      → IsSwappedBack (view map new) s trial log.BackSettle
-      ⊎ IsSteadyAt (view map new) (reverted s trial)
-  -- and at rest where the call ends.
-  pub ok : OnOk result ((s : DeviceState) (trial : Trial) → state.mask ≡ trial.set
-      → IsSwappedBack (view map old) s trial log.BackSettle
-      → IsSteadyAt (view map new) (reverted s trial))
-  pub erases : OnOk result (IsSettling map old new state.mask)
-  pub ends : Ends result old new
+      → IsSteadyAt (view map new) (reverted s trial)
+  pub erases : IsSettling map old new state.mask
 
--- From Back on: a call ends the swap back of the set of a record, and the old images run.
-pub record FinishesBack (map : SectorMap) (state : State) (old new : Chip)
-    (result : Result Unit FlashError) : Type 0 where
-  -- The map stays laid out on the flash, and what lies behind it is what it was before.
-  pub laid : IsLaidOut map new
-  pub on_map : (start : Chip) → Keeps map any_part start old → Keeps map any_part start new
-  -- Whatever happened, the device is on its way back, or at rest,
-  pub stands : (s : DeviceState) (trial : Trial) → state.mask ≡ trial.set
-      → IsSwappingBackSome map old s trial
-      → IsGoingBack map new s trial ⊎ IsSteadyAt (view map new) (reverted s trial)
-  -- and at rest where the call ends.
-  pub ok : OnOk result ((s : DeviceState) (trial : Trial) → state.mask ≡ trial.set
-      → IsSwappingBackSome map old s trial → IsSteadyAt (view map new) (reverted s trial))
-  pub erases : OnOk result ((s : DeviceState) (trial : Trial) → state.mask ≡ trial.set
-      → IsSwappingBackSome map old s trial → IsResumed map old new Secondary state.mask)
-  pub ends : Ends result old new
+-- From BackSettle to Steady: a call settles the set of a record, and the old images run. Whatever
+-- happened, the set that was swapped back is so, or the device is at rest.
+abbrev pub SettlesAndReturns : SectorMap → State → Chip → Chip → Result Unit FlashError → Type 0
+SettlesAndReturns map state old new result = Passes map old new
+    ((s : DeviceState) (trial : Trial) → state.mask ≡ trial.set
+    → IsSwappedBack (view map old) s trial log.BackSettle
+    → IsSwappedBack (view map new) s trial log.BackSettle
+    ⊎ IsSteadyAt (view map new) (reverted s trial))
+    (λ done. IsReturned map state old new) result
+
+-- The set of a record is swapped back, and the device is at rest.
+pub record IsBackFinished (map : SectorMap) (state : State) (old new : Chip) : Type 0 where
+  pub ok : (s : DeviceState) (trial : Trial) → state.mask ≡ trial.set
+      → IsSwappingBackSome map old s trial → IsSteadyAt (view map new) (reverted s trial)
+  pub erases : (s : DeviceState) (trial : Trial) → state.mask ≡ trial.set
+      → IsSwappingBackSome map old s trial → IsResumed map old new Secondary state.mask
+
+-- From Back on: a call ends the swap back of the set of a record, and the old images run. Whatever
+-- happened, the device is on its way back, or at rest.
+abbrev pub FinishesBack : SectorMap → State → Chip → Chip → Result Unit FlashError → Type 0
+FinishesBack map state old new result = Passes map old new
+    ((s : DeviceState) (trial : Trial) → state.mask ≡ trial.set → IsSwappingBackSome map old s trial
+    → IsGoingBack map new s trial ⊎ IsSteadyAt (view map new) (reverted s trial))
+    (λ done. IsBackFinished map state old new) result
 
 -- The set of a record Back is swapped back ..
 abbrev pub BootsFromBack : SectorMap → State → Chip → Chip → Result Reply FlashError → Type 0

@@ -5,7 +5,7 @@ use Rattle.common.specs.Limits.{MOST_BOOTS_LEFT}
 use Rattle.flash_model.specs.Chip.{Chip, Ends}
 use Rattle.flash_model.specs.declared.error.FlashError.{FlashError}
 use Rattle.sector_map.specs.Map.{IsLaidOut, Keeps}
-use Rattle.sector_map.specs.Part.{Log, any_part, is_member, only, trailers_in}
+use Rattle.sector_map.specs.Part.{Log, is_member, only, trailers_in}
 use Rattle.sector_map.specs.declared.layout.SectorMap.{SectorMap}
 use Rattle.certificate.specs.declared.table.Table.{Table}
 use Rattle.trailer.specs.Settled.{is_confirmed}
@@ -25,7 +25,7 @@ use Rattle.machine.specs.States.{new_trial, taken_for_good, taken_on_trial}
 use Rattle.machine.specs.Wear.{IsSettling, members, IsSetFound, IsSetOf}
 use Rattle.machine.specs.declared.finding.Finding.{Finding}
 use Rattle.machine.specs.declared.reply.Reply.{Reply}
-use Rattle.boot_core.specs.BootEnds.{BootEnds}
+use Rattle.boot_core.specs.BootEnds.{BootEnds, Passes}
 use Rattle.decision.specs.Found.{HasTable}
 use Rattle.boot_core.specs.Found.{IsKeptFor, IsToldAgain}
 
@@ -55,63 +55,44 @@ pub record SettlesSet (map : SectorMap) (mask : ℕ) (settling : Settling) (old 
   pub erases : OnOk result (new.erases ≤ old.erases + 2 * members map mask)
   pub ends : Ends result old new
 
--- From Settle to Trial: a call records that a set is on trial, of so many boots more.
-pub record RecordsTrial (map : SectorMap) (left : ℕ) (old new : Chip)
-    (result : Result Unit FlashError) : Type 0 where
-  -- Nothing is written but the log.
-  pub outside : Keeps map (only Log) old new
-  -- Whatever happened, a set that was swapped and settled to be tried is so, or on trial,
-  pub stands : (s : DeviceState) (table : Table) (mask : ℕ)
-      → IsSwapped (view map old) s table log.Settle mask false
-      → AreSettled (view map old) mask false
-      → IsSwapped (view map new) s table log.Settle mask false
-      ⊎ IsTrialAt (view map new)
-      (taken_on_trial s mask (new_trial s mask left)) (new_trial s mask left)
-  -- and on trial where the call ends.
-  pub ok : OnOk result ((s : DeviceState) (table : Table) (mask : ℕ)
-      → IsSwapped (view map old) s table log.Settle mask false
-      → AreSettled (view map old) mask false
-      → IsTrialAt (view map new)
-      (taken_on_trial s mask (new_trial s mask left)) (new_trial s mask left))
-  pub erases : OnOk result (new.erases ≤ old.erases + 1)
-  pub ends : Ends result old new
-
--- From Settle to Steady: a call records that a set is taken for good, with these floors.
-pub record RecordsTaken (map : SectorMap) (floors : List ℕ) (old new : Chip)
-    (result : Result Unit FlashError) : Type 0 where
-  -- Nothing is written but the log.
-  pub outside : Keeps map (only Log) old new
-  -- Whatever happened, a set that was swapped and settled to stay is so, or taken,
-  pub stands : (s : DeviceState) (table : Table) (mask : ℕ)
-      → IsSwapped (view map old) s table log.Settle mask true
-      → AreSettled (view map old) mask true
-      → IsSwapped (view map new) s table log.Settle mask true
-      ⊎ IsSteadyAt (view map new) (taken_for_good s mask floors)
-  -- and taken where the call ends.
-  pub ok : OnOk result ((s : DeviceState) (table : Table) (mask : ℕ)
-      → IsSwapped (view map old) s table log.Settle mask true
-      → AreSettled (view map old) mask true
-      → IsSteadyAt (view map new) (taken_for_good s mask floors))
-  pub erases : OnOk result (new.erases ≤ old.erases + 1)
-  pub ends : Ends result old new
-
--- From Settle on: a call settles the set of a record, and takes it, on trial or for good.
-pub record SettlesAndRecords (map : SectorMap) (state : State) (left : ℕ) (floors : List ℕ)
+-- From Settle to Trial or to Steady: a call records that a set is on trial, of so many boots more, or
+-- taken for good, with these floors.
+pub record RecordsTaken (map : SectorMap) (permanent : Bool) (left : ℕ) (floors : List ℕ)
     (old new : Chip) (result : Result Unit FlashError) : Type 0 where
-  -- The map stays laid out on the flash, and what lies behind it is what it was before.
-  pub laid : IsLaidOut map new
-  pub on_map : (start : Chip) → Keeps map any_part start old → Keeps map any_part start new
-  -- Whatever happened, the set that was swapped is so, or taken,
-  pub stands : (s : DeviceState) (table : Table)
-      → IsSwapped (view map old) s table log.Settle state.mask state.permanent
-      → IsSwapped (view map new) s table log.Settle state.mask state.permanent
-      ⊎ IsTakenAt (view map new) s state.mask state.permanent left floors
+  -- Nothing is written but the log.
+  pub outside : Keeps map (only Log) old new
+  -- Whatever happened, a set that was swapped and settled for this is so, or taken,
+  pub stands : (s : DeviceState) (table : Table) (mask : ℕ)
+      → IsSwapped (view map old) s table log.Settle mask permanent
+      → AreSettled (view map old) mask permanent
+      → IsSwapped (view map new) s table log.Settle mask permanent
+      ⊎ IsTakenAt (view map new) s mask permanent left floors
   -- and taken where the call ends.
-  pub ok : OnOk result ((s : DeviceState) (table : Table)
-      → IsSwapped (view map old) s table log.Settle state.mask state.permanent
-      → IsTakenAt (view map new) s state.mask state.permanent left floors)
-  pub erases : OnOk result (IsSettling map old new state.mask)
+  pub ok : OnOk result ((s : DeviceState) (table : Table) (mask : ℕ)
+      → IsSwapped (view map old) s table log.Settle mask permanent
+      → AreSettled (view map old) mask permanent
+      → IsTakenAt (view map new) s mask permanent left floors)
+  pub erases : OnOk result (new.erases ≤ old.erases + 1)
   pub ends : Ends result old new
+
+-- The set of a record that was swapped is settled, and taken, on trial or for good.
+pub record IsSetTaken (map : SectorMap) (state : State) (left : ℕ) (floors : List ℕ)
+    (old new : Chip) : Type 0 where
+  pub ok : (s : DeviceState) (table : Table)
+      → IsSwapped (view map old) s table log.Settle state.mask state.permanent
+      → IsTakenAt (view map new) s state.mask state.permanent left floors
+  pub erases : IsSettling map old new state.mask
+
+-- From Settle on: a call settles the set of a record, and takes it, on trial or for good. Whatever
+-- happened, the set that was swapped is so, or taken.
+abbrev pub SettlesAndRecords : SectorMap → State → ℕ → List ℕ → Chip → Chip
+    → Result Unit FlashError → Type 0
+SettlesAndRecords map state left floors old new result = Passes map old new
+    ((s : DeviceState) (table : Table)
+    → IsSwapped (view map old) s table log.Settle state.mask state.permanent
+    → IsSwapped (view map new) s table log.Settle state.mask state.permanent
+    ⊎ IsTakenAt (view map new) s state.mask state.permanent left floors)
+    (λ done. IsSetTaken map state left floors old new) result
 
 -- A set that was swapped can be settled by this finding, of so many boots more where it is tried.
 pub record CanSettle (map : SectorMap) (state : State) (left : ℕ) (finding : Finding) (chip : Chip)
@@ -127,51 +108,41 @@ pub record CanSettle (map : SectorMap) (state : State) (left : ℕ) (finding : F
       → IsFoundAgain s state.mask finding
   pub rows : HasTable map.images finding
 
--- From Settle on: a call takes the set, on trial or for good, where this was found of the decision.
-pub record SettlesFound (map : SectorMap) (state : State) (left : ℕ) (finding : Finding)
-    (old new : Chip) (result : Result Finding FlashError) : Type 0 where
-  -- The map stays laid out on the flash, and what lies behind it is what it was before.
-  pub laid : IsLaidOut map new
-  pub on_map : (start : Chip) → Keeps map any_part start old → Keeps map any_part start new
-  -- Whatever happened, the set that was swapped is so, or the upgrade is done,
-  pub stands : (s : DeviceState) (table : Table)
-      → IsSwapped (view map old) s table log.Settle state.mask state.permanent
-      → IsSwapped (view map new) s table log.Settle state.mask state.permanent
-      ⊎ IsUpgraded left (view map new) s state.mask state.permanent
-  -- and done, by what is found, where the call ends.
-  pub ok : IfOk result (λ answer. (s : DeviceState) (table : Table)
-      → IsSwapped (view map old) s table log.Settle state.mask state.permanent
-      → IsFoundAgain s state.mask answer
-      × IsUpgraded left (view map new) s state.mask state.permanent)
-  pub erases : OnOk result (IsSettling map old new state.mask)
-  -- What was found is answered, and where it was no decision nothing is written.
-  pub same : IfOk result (λ answer. answer ≡ finding)
-  pub kept : IfOk result (IsKeptFor old new)
-  pub ends : Ends result old new
-
--- From Settle on: a call finds the decision again, and takes its set, on trial or for good.
-pub record FinishesSettle (map : SectorMap) (state : State) (left : ℕ) (old new : Chip)
-    (result : Result Finding FlashError) : Type 0 where
-  -- The map stays laid out on the flash, and what lies behind it is what it was before.
-  pub laid : IsLaidOut map new
-  pub on_map : (start : Chip) → Keeps map any_part start old → Keeps map any_part start new
-  -- Whatever happened, the set that was swapped is so, or the upgrade is done,
-  pub stands : (s : DeviceState) (table : Table)
-      → IsSwapped (view map old) s table log.Settle state.mask state.permanent
-      → IsSwapped (view map new) s table log.Settle state.mask state.permanent
-      ⊎ IsUpgraded left (view map new) s state.mask state.permanent
-  -- and done, by what is found, where the call ends.
-  pub ok : IfOk result (λ finding. (s : DeviceState) (table : Table)
+-- The upgrade of a record whose set was swapped is done, by what is found. Where this is no
+-- decision nothing is written.
+pub record IsUpgradeSettled (map : SectorMap) (state : State) (left : ℕ) (old new : Chip)
+    (finding : Finding) : Type 0 where
+  pub ok : (s : DeviceState) (table : Table)
       → IsSwapped (view map old) s table log.Settle state.mask state.permanent
       → IsFoundAgain s state.mask finding
-      × IsUpgraded left (view map new) s state.mask state.permanent)
-  pub erases : OnOk result (IsSettling map old new state.mask)
-  -- What is found is of the set of the record, or tells why no decision is found. Then nothing is
-  -- written.
-  pub set : IfOk result (IsSetFound state.mask)
-  pub told : IfOk result (IsToldAgain (view map old) state.mask state.floors)
-  pub kept : IfOk result (IsKeptFor old new)
-  pub ends : Ends result old new
+      × IsUpgraded left (view map new) s state.mask state.permanent
+  pub erases : IsSettling map old new state.mask
+  pub kept : IsKeptFor old new finding
+
+-- A call does so. Whatever happened, the set that was swapped is so, or the upgrade is done.
+abbrev pub SettlesUpgrade : SectorMap → State → ℕ → (Finding → Type 0) → Chip → Chip
+    → Result Finding FlashError → Type 0
+SettlesUpgrade map state left tells old new result = Passes map old new
+    ((s : DeviceState) (table : Table)
+    → IsSwapped (view map old) s table log.Settle state.mask state.permanent
+    → IsSwapped (view map new) s table log.Settle state.mask state.permanent
+    ⊎ IsUpgraded left (view map new) s state.mask state.permanent)
+    (λ finding. IsUpgradeSettled map state left old new finding × tells finding) result
+
+-- From Settle on: a call takes the set, on trial or for good, where this was found of the decision,
+-- which is answered.
+abbrev pub SettlesFound : SectorMap → State → ℕ → Finding → Chip → Chip
+    → Result Finding FlashError → Type 0
+SettlesFound map state left finding old new result =
+    SettlesUpgrade map state left (λ answer. answer ≡ finding) old new result
+
+-- From Settle on: a call finds the decision again, and takes its set, on trial or for good. What is
+-- found is of the set of the record, or tells why no decision is found.
+abbrev pub FinishesSettle : SectorMap → State → ℕ → Chip → Chip → Result Finding FlashError
+    → Type 0
+FinishesSettle map state left old new result = SettlesUpgrade map state left
+    (λ finding. IsSetFound state.mask finding
+    × IsToldAgain (view map old) state.mask state.floors finding) old new result
 
 -- The upgrade of a record Settle is finished. Where its decision isn't found again, the reply tells
 -- why, and nothing is written.

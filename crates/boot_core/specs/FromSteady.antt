@@ -1,9 +1,7 @@
 -- What a boot does from a record Steady: each record is one call.
-use Rattle.std.specs.Prelude.{◌≡◌, ◌⊎◌, ◌+◌, ◌≤◌, ℕ, Bool, Some, Result, OnOk, IfOk}
-use Rattle.flash_model.specs.Chip.{Chip, Ends}
+use Rattle.std.specs.Prelude.{◌≡◌, ◌⊎◌, ◌+◌, ◌≤◌, ℕ, Bool, Some, Result, IfOk}
+use Rattle.flash_model.specs.Chip.{Chip}
 use Rattle.flash_model.specs.declared.error.FlashError.{FlashError}
-use Rattle.sector_map.specs.Map.{IsLaidOut, Keeps}
-use Rattle.sector_map.specs.Part.{any_part}
 use Rattle.sector_map.specs.declared.layout.SectorMap.{SectorMap}
 use Rattle.sector_map.specs.declared.layout.Side.TheVariants.{Primary}
 use Rattle.certificate.specs.declared.table.Table.{Table}
@@ -17,36 +15,37 @@ use Rattle.machine.specs.Boots.{IsDecision, IsChosen}
 use Rattle.machine.specs.Passing.{IsSwappingSome}
 use Rattle.machine.specs.Wear.{members}
 use Rattle.machine.specs.declared.reply.Reply.{Reply}
-use Rattle.boot_core.specs.BootEnds.{BootEnds}
+use Rattle.boot_core.specs.BootEnds.{BootEnds, Passes}
 use Rattle.boot_core.specs.Wear.{AreMeasured, DoesNothing, IsAfresh}
 
--- From Steady to Swap: a call begins the swap of a set.
-pub record BeginsSwap (map : SectorMap) (state : State) (mask : ℕ) (permanent : Bool)
-    (old new : Chip) (result : Result State FlashError) : Type 0 where
-  -- The map stays laid out on the flash, and what lies behind it is what it was before.
-  pub laid : IsLaidOut map new
-  pub on_map : (start : Chip) → Keeps map any_part start old → Keeps map any_part start new
-  -- Whatever happened, the device rests or stands in the swap that was decided,
-  pub stands : (s : DeviceState) (table : Table)
+-- The device stands in the swap that was decided.
+pub record IsSwapBegun (map : SectorMap) (state : State) (mask : ℕ) (permanent : Bool)
+    (old new : Chip) (now : State) : Type 0 where
+  pub ok : (s : DeviceState) (table : Table)
       → IsSteadyAt (view map old) s → IsDecision s table mask permanent
-      → IsSteadyAt (view map new) s ⊎ IsSwappingSome map new s table mask permanent
-  -- and in that where the call ends.
-  pub ok : OnOk result ((s : DeviceState) (table : Table)
-      → IsSteadyAt (view map old) s → IsDecision s table mask permanent
-      → IsSwappingSome map new s table mask permanent)
-  -- The log says so then, in the record that is returned,
-  pub recorded : IfOk result (λ now. state_of map new ≡ Some now)
-  pub is : IfOk result (λ now. now ≡ record state {
+      → IsSwappingSome map new s table mask permanent
+  -- The log says so, in this record,
+  pub recorded : state_of map new ≡ Some now
+  pub is : now ≡ record state {
     kind = log.Swap;
     mask = mask;
     permanent = permanent;
     left = 0;
-  })
+  }
   -- and the primary trailers of the set how many bytes the swap moves.
-  pub moves : OnOk result (AreMeasured (view map old) (view map new) Primary mask)
+  pub moves : AreMeasured (view map old) (view map new) Primary mask
   -- A sector is erased for each image of the set at most, and one for the record.
-  pub erases : OnOk result (new.erases ≤ old.erases + members map mask + 1)
-  pub ends : Ends result old new
+  pub erases : new.erases ≤ old.erases + members map mask + 1
+
+-- From Steady to Swap: a call begins the swap of a set. Whatever happened, the device rests or
+-- stands in the swap that was decided.
+abbrev pub BeginsSwap : SectorMap → State → ℕ → Bool → Chip → Chip → Result State FlashError
+    → Type 0
+BeginsSwap map state mask permanent old new result = Passes map old new
+    ((s : DeviceState) (table : Table)
+    → IsSteadyAt (view map old) s → IsDecision s table mask permanent
+    → IsSteadyAt (view map new) s ⊎ IsSwappingSome map new s table mask permanent)
+    (IsSwapBegun map state mask permanent old new) result
 
 -- The device rests, and the set is the one that is taken.
 abbrev pub HasChosen : SectorMap → ℕ → Chip → DeviceState → Type 0

@@ -1,17 +1,16 @@
 -- What a boot does from a record Trial: each record is one call.
-use Rattle.std.specs.Prelude.{◌≡◌, ◌⊎◌, ◌+◌, ◌≤◌, ℕ, Bool, true, List, Some, Result, OnOk, IfOk}
-use Rattle.std.specs.Prelude.{Ok, Option, slice_index}
+use Rattle.std.specs.Prelude.{◌≡◌, ◌⊎◌, ◌+◌, ◌≤◌, ℕ, Bool, true, List, Some, Result, IfOk}
+use Rattle.std.specs.Prelude.{Option, slice_index}
 use Rattle.flash_model.specs.Chip.{Chip, Ends}
 use Rattle.flash_model.specs.declared.error.FlashError.{FlashError}
-use Rattle.sector_map.specs.Map.{IsLaidOut, Keeps}
-use Rattle.sector_map.specs.Part.{Log, any_part, only}
+use Rattle.sector_map.specs.Map.{Keeps}
+use Rattle.sector_map.specs.Part.{Log, only}
 use Rattle.sector_map.specs.declared.layout.SectorMap.{SectorMap}
 use Rattle.sector_map.specs.declared.layout.Side.TheVariants.{Primary, Secondary}
 use Rattle.trailer.specs.Fields.{fields_at}
 use Rattle.set_log.specs.Log.{state_of}
 use Rattle.set_log.specs.declared.state.Kind.TheVariants as log
 use Rattle.set_log.specs.declared.state.State.{State}
-use Rattle.set_log.specs.States.{Appends}
 use Rattle.upload.specs.Device.{DeviceState, Trial}
 use Rattle.upload.specs.Steady.{IsSteadyAt, IsFront}
 use Rattle.upload.specs.View.{view}
@@ -25,8 +24,9 @@ use Rattle.machine.specs.Wear.{members}
 use Rattle.machine.specs.declared.finding.Passage.{Passage}
 use Rattle.machine.specs.declared.finding.Passage.TheVariants.{Over}
 use Rattle.machine.specs.declared.reply.Reply.{Reply}
-use Rattle.boot_core.specs.BootEnds.{BootEnds, BootEndsForAny}
+use Rattle.boot_core.specs.BootEnds.{BootEnds, BootEndsForAny, Passes}
 use Rattle.boot_core.specs.Over.{IsOverAlone, IsRecordedOver, record_over}
+use Rattle.boot_core.specs.Recorded.{IsStateRecorded}
 use Rattle.boot_core.specs.Wear.{AreMeasured, DoesNothing, IsAfresh}
 
 -- Whether an image is confirmed,
@@ -80,6 +80,13 @@ pub record DecidesTrial (map : SectorMap) (state : State) (old new : Chip)
       → IsTrialOpen (view map old) s trial → IsPassage s trial passage)
   pub ends : Ends result old new
 
+-- A trial is over, with these floors: the log says a device at rest.
+pub record IsTrialOver (map : SectorMap) (state : State) (floors : List ℕ) (old new : Chip)
+    (now : State) : Type 0 where
+  pub recorded : IsStateRecorded map (record_over state floors) old new now
+  pub rests : (s : DeviceState) (trial : Trial) → IsTrialAt (view map old) s trial
+      → IsSteadyAt (view map new) (settled s floors)
+
 -- A call records that a trial is over, with these floors.
 pub record RecordsOver (map : SectorMap) (state : State) (floors : List ℕ) (old new : Chip)
     (result : Result State FlashError) : Type 0 where
@@ -89,39 +96,29 @@ pub record RecordsOver (map : SectorMap) (state : State) (floors : List ℕ) (ol
   pub stands : (s : DeviceState) (trial : Trial) → IsTrialAt (view map old) s trial
       → IsTrialAt (view map new) s trial ⊎ IsSteadyAt (view map new) (settled s floors)
   -- and it is over where the call ends.
-  pub ok : OnOk result ((s : DeviceState) (trial : Trial) → IsTrialAt (view map old) s trial
-      → IsSteadyAt (view map new) (settled s floors))
-  -- The log says so then, in the record that is returned: that of a device at rest.
-  pub recorded : IfOk result (λ now. state_of map new ≡ Some now)
-  pub is : IfOk result (λ now. now ≡ record_over state floors)
-  -- Nothing was done then but an append of it.
-  pub appended : OnOk result (Appends map (record_over state floors) old new {T = Unit}
-      (Ok tt))
-  -- One sector is erased at most.
-  pub erases : OnOk result (new.erases ≤ old.erases + 1)
+  pub done : IfOk result (IsTrialOver map state floors old new)
   pub ends : Ends result old new
 
--- From Trial to Back: a call begins the swap back of a set that is on trial.
-pub record BeginsBack (map : SectorMap) (state : State) (old new : Chip)
-    (result : Result State FlashError) : Type 0 where
-  -- The map stays laid out on the flash, and what lies behind it is what it was before.
-  pub laid : IsLaidOut map new
-  pub on_map : (start : Chip) → Keeps map any_part start old → Keeps map any_part start new
-  -- Whatever happened, the trial goes on, or the way back is begun,
-  pub stands : (s : DeviceState) (trial : Trial) → GoesBack s trial
-      → IsTrialOpen (view map old) s trial
-      → IsTrialOpen (view map new) s trial ⊎ IsSwappingBackSome map new s trial
-  -- and it is begun where the call ends.
-  pub ok : OnOk result ((s : DeviceState) (trial : Trial) → GoesBack s trial
-      → IsTrialOpen (view map old) s trial → IsSwappingBackSome map new s trial)
-  -- The log says so then, in the record that is returned,
-  pub recorded : IfOk result (λ now. state_of map new ≡ Some now)
-  pub is : IfOk result (λ now. now ≡ record state { kind = log.Back; left = 0 })
+-- The way back of the set of a record is begun.
+pub record IsBackBegun (map : SectorMap) (state : State) (old new : Chip) (now : State)
+    : Type 0 where
+  pub ok : (s : DeviceState) (trial : Trial) → GoesBack s trial
+      → IsTrialOpen (view map old) s trial → IsSwappingBackSome map new s trial
+  -- The log says so, in this record,
+  pub recorded : state_of map new ≡ Some now
+  pub is : now ≡ record state { kind = log.Back; left = 0 }
   -- and the secondary trailers of the set how many bytes the swap back moves.
-  pub moves : OnOk result (AreMeasured (view map old) (view map new) Secondary state.mask)
+  pub moves : AreMeasured (view map old) (view map new) Secondary state.mask
   -- A sector is erased for each image of the set at most, and one for the record.
-  pub erases : OnOk result (new.erases ≤ old.erases + members map state.mask + 1)
-  pub ends : Ends result old new
+  pub erases : new.erases ≤ old.erases + members map state.mask + 1
+
+-- From Trial to Back: a call begins the swap back of a set that is on trial. Whatever happened, the
+-- trial goes on, or the way back is begun.
+abbrev pub BeginsBack : SectorMap → State → Chip → Chip → Result State FlashError → Type 0
+BeginsBack map state old new result = Passes map old new
+    ((s : DeviceState) (trial : Trial) → GoesBack s trial → IsTrialOpen (view map old) s trial
+    → IsTrialOpen (view map new) s trial ⊎ IsSwappingBackSome map new s trial)
+    (IsBackBegun map state old new) result
 
 -- A set is on trial, at rest or with its way back begun, and the trial is such.
 abbrev pub HasTrial : (DeviceState → Trial → Type 0) → SectorMap → Chip → DeviceState → Type 0

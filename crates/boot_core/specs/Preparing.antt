@@ -1,5 +1,5 @@
 -- What a call does that makes trailers ready to keep the progress of a swap.
-use Rattle.std.specs.Prelude.{◌≡◌, ◌≢◌, ℕ, ◌+◌, ◌*◌, ◌<◌, ◌≤◌, true, Result, IfOk, OnOk}
+use Rattle.std.specs.Prelude.{◌≡◌, ◌≢◌, ℕ, ◌+◌, ◌*◌, ◌<◌, ◌≤◌, true, Result, OnOk}
 use Rattle.flash_model.specs.declared.error.FlashError.{FlashError}
 use Rattle.flash_model.specs.Chip.{Chip, Ends}
 use Rattle.sector_map.specs.declared.layout.SectorMap.{SectorMap}
@@ -21,18 +21,15 @@ IsUsedIn map image side chip size = IsUsed (slot_bytes map chip image side) size
 abbrev pub IsSwapSizeIn : SectorMap → ℕ → Chip → ℕ → Type 0
 IsSwapSizeIn map image chip size = IsSwapSize (view map chip) image size
 
--- A call tells such a number of bytes of an image.
-pub record TellsSize (map : SectorMap) (image : ℕ) (says : Chip → ℕ → Type 0) (old new : Chip)
-    (result : Result ℕ FlashError) : Type 0 where
-  -- The flash is as it was,
-  pub same : new ≡ old
-  -- the number is exact,
-  pub ok : IfOk result (says old)
+-- Such a number of bytes of an image.
+pub record IsSizeIn (map : SectorMap) (image : ℕ) (says : Chip → ℕ → Type 0) (chip : Chip)
+    (size : ℕ) : Type 0 where
+  -- The number is exact,
+  pub exact : says chip size
   -- not 0,
-  pub some : IfOk result (λ size. 0 < size)
+  pub some : 0 < size
   -- and no more than the slot has.
-  pub most : IfOk result (λ size. size ≤ slot_sectors map image * map.sector_size)
-  pub ends : Ends result old new
+  pub most : size ≤ slot_sectors map image * map.sector_size
 
 -- A call makes a trailer of an image ready.
 pub record PreparesImage (map : SectorMap) (image : ℕ) (side : Side) (old new : Chip)

@@ -1,5 +1,5 @@
 -- What a passage of a boot goes on from: the record of the log that stands.
-use Rattle.std.specs.Prelude.{◌≡◌, ◌≢◌, ◌⊎◌, ℕ, ◌+◌, ◌≤◌, Some, Result, Ok, OnOk, IfOk}
+use Rattle.std.specs.Prelude.{◌≡◌, ◌≢◌, ◌⊎◌, ℕ, ◌+◌, ◌≤◌, Some, Result, Ok, IfOk}
 use Rattle.flash_model.specs.Chip.{Chip, Ends}
 use Rattle.flash_model.specs.declared.error.FlashError.{FlashError}
 use Rattle.sector_map.specs.declared.layout.SectorMap.{SectorMap}
@@ -28,6 +28,17 @@ pub record CanTake (map : SectorMap) (state : State) (mask : ℕ) (chip : Chip) 
   pub some : mask ≢ 0
   pub within : IsWithin map mask
 
+-- The log says a state, which this is.
+pub record IsStateRecorded (map : SectorMap) (state : State) (old new : Chip) (now : State)
+    : Type 0 where
+  pub says : state_of map new ≡ Some state
+  pub recorded : state_of map new ≡ Some now
+  pub is : now ≡ state
+  -- Nothing was done but an append of it.
+  pub appended : Appends map state old new {T = Unit} (Ok tt)
+  -- One sector is erased at most.
+  pub erases : new.erases ≤ old.erases + 1
+
 -- A call appends a state to the log, and returns it.
 pub record RecordsState (map : SectorMap) (state : State) (old new : Chip)
     (result : Result State FlashError) : Type 0 where
@@ -35,13 +46,6 @@ pub record RecordsState (map : SectorMap) (state : State) (old new : Chip)
   pub outside : Keeps map (only Log) old new
   -- which says what it said or, whatever happened, the state.
   pub either : (state_of map new ≡ state_of map old) ⊎ (state_of map new ≡ Some state)
-  -- It says the state where the call ends,
-  pub ok : OnOk result (state_of map new ≡ Some state)
-  -- which is the one that is returned.
-  pub recorded : IfOk result (λ now. state_of map new ≡ Some now)
-  pub is : IfOk result (λ now. now ≡ state)
-  -- Nothing was done then but an append of it.
-  pub appended : OnOk result (Appends map state old new {T = Unit} (Ok tt))
-  -- One sector is erased at most.
-  pub erases : OnOk result (new.erases ≤ old.erases + 1)
+  -- It says the state where the call ends.
+  pub done : IfOk result (IsStateRecorded map state old new)
   pub ends : Ends result old new

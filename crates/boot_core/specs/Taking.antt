@@ -73,8 +73,9 @@ PassesOn (Err error) old was_up new is_booted (Err fault) =
     Stops (no.Upload error) old was_up new is_booted fault
 PassesOn taken old was_up new is_booted result = ⊥
 
--- A call takes an event of a device that has this map.
-pub record TakesHere (map : SectorMap) (event : DeviceEvent) (touched : Part → Bool)
+-- A call takes an event of a device that has this map: what holds of each, whatever a refusal
+-- leaves.
+pub record StepsHere (map : SectorMap) (event : DeviceEvent) (touched : Part → Bool)
     (old new : DeviceView) (result : Result Unit Fault) : Type 0 where
   -- The map is still laid out on the flash,
   pub laid : IsLaidOut map new.flash
@@ -83,19 +84,31 @@ pub record TakesHere (map : SectorMap) (event : DeviceEvent) (touched : Part →
   -- On a flash with power it is a step of the machine, whatever else the device was made with.
   pub steps : (identity : Identity) (boots : ℕ) → old.flash.is_on ≡ true
       → StepsTo (made map identity boots) old new event (reply_of_result result)
-  -- Only these parts are touched:
+  -- Only these parts are touched,
   pub outside : Keeps map touched old.flash new.flash
-  -- nothing where the device isn't up,
+  -- and nothing where the device isn't up.
   pub down : old.up ≡ false → IsNotBooted result old new
-  -- and nothing of the flash where a refusal is not of the flash.
-  pub refused : IfErr result (λ fault. is_stop fault ≡ false → new.flash ≡ old.flash)
-  -- Such a refusal leaves whether the device is up,
-  pub up : IfErr result (λ fault. is_stop fault ≡ false → new.up ≡ old.up)
-  -- and the uploads, unless it closes the one of its image.
-  pub kept : IfErr result (λ fault. keeps_all (may_close event) fault ≡ true → new ≡ old)
   -- Where the flash is off that is the answer of a device that is up, and nothing is written.
   pub off : old.up ≡ true → old.flash.is_on ≡ false → IsOff result old.flash new.flash
   pub ends : EndsCall (reply_of_result result) old new
+
+-- So does one of uploads, whatever a refusal leaves of the flash.
+pub record TakesCall (map : SectorMap) (event : DeviceEvent) (touched : Part → Bool)
+    (old new : DeviceView) (result : Result Unit Fault) : Type 0 where
+  pub here : StepsHere map event touched old new result
+  pub open here use *
+  -- A refusal that is not of the flash leaves whether the device is up,
+  pub up : IfErr result (λ fault. is_stop fault ≡ false → new.up ≡ old.up)
+  -- and the uploads, unless it closes the one of its image.
+  pub kept : IfErr result (λ fault. keeps_all (may_close event) fault ≡ true → new ≡ old)
+
+-- A call takes an event of a device that has this map.
+pub record TakesHere (map : SectorMap) (event : DeviceEvent) (touched : Part → Bool)
+    (old new : DeviceView) (result : Result Unit Fault) : Type 0 where
+  pub call : TakesCall map event touched old new result
+  pub open call use *
+  -- A refusal that is not of the flash leaves the flash as it was.
+  pub refused : IfErr result (λ fault. is_stop fault ≡ false → new.flash ≡ old.flash)
 
 -- Taking a text touches only what comes in for the images of the manifest that it means to this
 -- identity, and the log. A text that means none touches nothing.
@@ -130,7 +143,17 @@ pub record AcceptsHere (map : SectorMap) (identity : Identity) (text : Bor (List
   pub off : old.up ≡ true → old.flash.is_on ≡ false → IsOff result old.flash new.flash
   pub ends : EndsCall (reply_of_result result) old new
 
--- A call opens the uploads of a manifest, on a device that takes uploads.
+-- A device that takes uploads can open those of a manifest.
+pub record CanOpen (map : SectorMap) (identity : Identity) (manifest : given.Manifest)
+    (at : DeviceView) : Type 0 where
+  pub laid_out : IsLaidOut map at.flash
+  pub images : identity.images ≡ map.images
+  pub opens : AllOpenAt (view map at.flash) at.sessions
+  pub up : at.up ≡ true
+  pub rests : LogsNoTrial (state_of map at.flash)
+  pub names : NamesImages identity manifest
+
+-- A call opens the uploads of a manifest.
 pub record OpensUploads (map : SectorMap) (identity : Identity) (manifest : given.Manifest)
     (old new : DeviceView) (result : Result Unit Fault) : Type 0 where
   -- The map is still laid out on the flash,
@@ -157,57 +180,29 @@ pub record OpensUploads (map : SectorMap) (identity : Identity) (manifest : give
 -- A call takes a manifest that was read already, of a device that has this map and this identity.
 pub record TakesManifestHere (map : SectorMap) (identity : Identity) (manifest : given.Manifest)
     (old new : DeviceView) (result : Result Unit Fault) : Type 0 where
-  -- The map is still laid out on the flash,
-  pub laid : IsLaidOut map new.flash
-  -- and the open uploads stand on it.
-  pub opens : AllOpenAt (view map new.flash) new.sessions
-  -- On a flash with power it is the step of the machine that takes any text which means the
-  -- manifest, however many boots its trials have.
-  pub steps : (boots : ℕ) (text : Bor (List ℕ)) → old.flash.is_on ≡ true
-      → IsManifest identity text.now manifest
-      → StepsTo (made map identity boots) old new (event.Accept text) (reply_of_result result)
-  -- Whatever the manifest asks for, a state is held then if one was.
-  pub holds : old.flash.is_on ≡ true → StaysHeld map old new
-  -- Only what comes in for its images is touched, and the log:
-  pub outside : Keeps map (accepted_parts manifest.components.items) old.flash new.flash
-  -- nothing where the device isn't up,
+  -- It opens the uploads of the manifest,
+  pub taken : OpensUploads map identity manifest old new result
+  pub open taken use *
+  -- or touches nothing where the device isn't up,
   pub down : old.up ≡ false → IsNotBooted result old new
-  -- nothing where uploads are taken and the manifest names an image that the device lacks, which
-  -- is the answer then,
+  -- or where uploads are taken and the manifest names an image that the device lacks, which is the
+  -- answer then.
   pub lacks : old.flash.is_on ≡ true → old.up ≡ true → LogsNoTrial (state_of map old.flash)
       → (NamesImages identity manifest → ⊥)
       → (result ≡ Err (no.Manifest NoComponent)) × (new ≡ old)
-  -- and nothing of the flash where a refusal is not of the flash.
-  pub refused : IfErr result (λ fault. is_stop fault ≡ false → new.flash ≡ old.flash)
-  -- Such a refusal leaves the uploads too, and whether the device is up.
-  pub kept : IfErr result (λ fault. is_stop fault ≡ false → new ≡ old)
-  -- No other refusal is of the manifest as such.
-  pub told : IfErr result (RefusesManifest identity manifest)
   -- Where the flash is off that is the answer of a device that is up, and nothing is written.
   pub off : old.up ≡ true → old.flash.is_on ≡ false → IsOff result old.flash new.flash
-  pub ends : EndsCall (reply_of_result result) old new
 
--- A call finishes an upload of a device that has this map.
+-- A call finishes an upload of a device that has this map: only the secondary slot of the image and
+-- its trailer are touched.
 pub record FinishesHere (map : SectorMap) (image : ℕ) (old new : DeviceView)
     (result : Result Unit Fault) : Type 0 where
-  -- The map is still laid out on the flash,
-  pub laid : IsLaidOut map new.flash
-  -- and the open uploads stand on it.
-  pub opens : AllOpenAt (view map new.flash) new.sessions
-  -- On a flash with power it is a step of the machine, whatever else the device was made with.
-  pub steps : (identity : Identity) (boots : ℕ) → old.flash.is_on ≡ true
-      → StepsTo (made map identity boots) old new (event.Finish image) (reply_of_result result)
-  -- Only the secondary slot of the image and its trailer are touched,
-  pub outside : Keeps map (incoming_of image) old.flash new.flash
-  -- and nothing where the device isn't up.
-  pub down : old.up ≡ false → IsNotBooted result old new
-  -- A refusal that is not of the flash leaves whether the device is up,
-  pub up : IfErr result (λ fault. is_stop fault ≡ false → new.up ≡ old.up)
-  -- and all where it is not of the upload, or none is open.
-  pub kept : IfErr result (λ fault. keeps_all true fault ≡ true → new ≡ old)
+  pub call : TakesCall map (event.Finish image) (incoming_of image) old new result
+  pub open call use *
   -- Where too few bytes came the flash is as it was,
   pub size : result ≡ Err (no.Upload SizeWrong) → new.flash ≡ old.flash
-  -- and else such a refusal writes nothing but the image's secondary slot: not its trailer,
+  -- and else a refusal that is not of the flash writes nothing but the image's secondary slot: not
+  -- its trailer,
   pub slot : IfErr result (λ fault. is_stop fault ≡ false
       → Keeps map (only (Slot image Secondary)) old.flash new.flash)
   -- of the slot no more than the last unit of the upload,
@@ -216,27 +211,16 @@ pub record FinishesHere (map : SectorMap) (image : ℕ) (old new : DeviceView)
   -- and no sector is erased.
   pub erases : IfErr result (λ fault. is_stop fault ≡ false
       → new.flash.erases ≡ old.flash.erases)
-  -- Where the flash is off that is the answer of a device that is up, and nothing is written.
-  pub off : old.up ≡ true → old.flash.is_on ≡ false → IsOff result old.flash new.flash
-  pub ends : EndsCall (reply_of_result result) old new
 
--- A call confirms an image of a device that has this map.
+-- A call confirms an image of a device that has this map: only the trailer of what the image runs is
+-- touched.
 pub record ConfirmsHere (map : SectorMap) (image : ℕ) (old new : DeviceView)
     (result : Result Unit Fault) : Type 0 where
-  -- The map is still laid out on the flash,
-  pub laid : IsLaidOut map new.flash
-  -- and the open uploads stand on it.
-  pub opens : AllOpenAt (view map new.flash) new.sessions
-  -- On a flash with power it is a step of the machine, whatever else the device was made with.
-  pub steps : (identity : Identity) (boots : ℕ) → old.flash.is_on ≡ true
-      → StepsTo (made map identity boots) old new (event.Confirm image) (reply_of_result result)
-  -- Only the trailer of what the image runs is touched:
-  pub outside : Keeps map (only (TrailerOf image Primary)) old.flash new.flash
-  -- nothing where the device isn't up,
-  pub down : old.up ≡ false → IsNotBooted result old new
-  -- and nothing of the flash where a refusal is not of the flash.
+  pub here : StepsHere map (event.Confirm image) (only (TrailerOf image Primary)) old new result
+  pub open here use *
+  -- A refusal that is not of the flash leaves the flash as it was,
   pub refused : IfErr result (λ fault. is_stop fault ≡ false → new.flash ≡ old.flash)
-  -- Such a refusal leaves the uploads too, and whether the device is up.
+  -- the uploads too, and whether the device is up.
   pub kept : IfErr result (λ fault. is_stop fault ≡ false → new ≡ old)
   -- Where the call ends the log says that the image is on trial, and it is confirmed then.
   pub ok : OnOk result (LogsTrialOf map.images image (state_of map old.flash)
@@ -248,6 +232,3 @@ pub record ConfirmsHere (map : SectorMap) (image : ℕ) (old new : DeviceView)
   -- and nowhere else.
   pub tried : LogsTrialOf map.images image (state_of map old.flash)
       → result ≡ Err no.NotOnTrial → ⊥
-  -- Where the flash is off that is the answer of a device that is up, and nothing is written.
-  pub off : old.up ≡ true → old.flash.is_on ≡ false → IsOff result old.flash new.flash
-  pub ends : EndsCall (reply_of_result result) old new

@@ -2,9 +2,8 @@
 //!
 //! It comes from `trial` or from a cut.
 
-ghost use Rattle.boot_core.specs.FromBack.{BootsFromBack, BootsFromBackSettle, CarriesBack, FinishesBack, RecordsBackSettle, RecordsReturned, SettlesAndReturns, SwapsBack};
+ghost use Rattle.boot_core.specs.FromBack.{BootsFromBack, BootsFromBackSettle, FinishesBack, RecordsReturned, SettlesAndReturns, SwapsBack};
 ghost use Rattle.boot_core.specs.Recorded.{HasRecord, HasRecordOf};
-ghost use Rattle.sector_map.specs.Map.{HasImages};
 ghost use Rattle.set_log.specs.declared.state.Kind.{Kind};
 
 use crate::recording::append_state;
@@ -16,37 +15,19 @@ use set_log::{Kind, State, append};
 use swap_scratch::swap_set;
 use trailer::Settling;
 
-/// In Back: the set is swapped back, from wherever the swap stands.
-fn carry_back<F: Flash>(flash: &mut F, map: &SectorMap, mask: u8) -> Result<(), FlashError>
-    requires { HasImages map.now mask (F.chip flash.old) }
-    ensures { CarriesBack map.now mask (F.chip flash.old) (F.chip flash.new) result }
-{
-    swap_set(flash, map, mask, Side::Secondary)
-}
-
-/// At the end of the swap back: it is recorded as done.
-fn record_back_settle<F: Flash>(
-    flash: &mut F,
-    map: &SectorMap,
-    state: &State,
-) -> Result<State, FlashError>
+/// From Back to BackSettle: the set is swapped back, from wherever the swap stands, and this is
+/// recorded.
+fn swap_back<F: Flash>(flash: &mut F, map: &SectorMap, state: &State) -> Result<State, FlashError>
     requires { HasRecordOf map.now Kind.Back state.now (F.chip flash.old) }
-    ensures { RecordsBackSettle map.now state.now (F.chip flash.old) (F.chip flash.new) result }
+    ensures { SwapsBack map.now state.now (F.chip flash.old) (F.chip flash.new) result }
 {
+    let mask = state.mask;
+    swap_set(flash, map, mask, Side::Secondary)?;
     let settle = State {
         kind: Kind::BackSettle,
         ..*state
     };
     append_state(flash, map, settle)
-}
-
-/// From Back to BackSettle: the set is swapped back, and this is recorded.
-fn swap_back<F: Flash>(flash: &mut F, map: &SectorMap, state: &State) -> Result<State, FlashError>
-    requires { HasRecordOf map.now Kind.Back state.now (F.chip flash.old) }
-    ensures { SwapsBack map.now state.now (F.chip flash.old) (F.chip flash.new) result }
-{
-    carry_back(flash, map, state.mask)?;
-    record_back_settle(flash, map, state)
 }
 
 /// At the end of settling: the old images run.

@@ -57,8 +57,7 @@ pub(crate) fn find_again<F: Flash>(
             }
             Ok(Finding::Decided { table, report })
         }
-        Finding::Damaged(image) => Ok(Finding::Damaged(image)),
-        Finding::Invalid => Ok(Finding::Invalid),
+        finding => Ok(finding),
     }
 }
 

@@ -63,14 +63,7 @@ impl<F: Flash> Device<F> {
         requires images { identity.images ≡ map.images }
         ensures { IsNew map identity 1 (F.chip flash) result }
     {
-        Device {
-            flash,
-            map,
-            identity,
-            uploads: Uploads::new(),
-            left: 0,
-            is_booted: false,
-        }
+        Device::with_trial(flash, map, identity, 1)
     }
 
     /// A device whose trials have so many boots, 1 to 7: a set on trial that isn't confirmed goes

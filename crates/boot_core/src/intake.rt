@@ -1,20 +1,19 @@
 //! Uploads: what the device asks before it passes a call on, and what it does where the flash stops
 //! one.
 
-ghost use Rattle.std.specs.Prelude.{◌≡◌, ◌↔◌, IfErr, IfOk, IsTrue, true};
+ghost use Rattle.std.specs.Prelude.{◌≡◌, ◌↔◌, IfErr, IfOk, IsTrue};
 ghost use Rattle.common.specs.declared.event.Event.TheVariants as event;
 ghost use Rattle.manifest.specs.Fault.{IsManifest};
 ghost use Rattle.manifest.specs.Manifest.{NamesImages};
 ghost use Rattle.sector_map.specs.Map.{IsLaidOut};
 ghost use Rattle.sector_map.specs.Part.{Slot, incoming_of, only};
 ghost use Rattle.sector_map.specs.declared.layout.Side.TheVariants.{Secondary};
-ghost use Rattle.set_log.specs.Log.{state_of};
 ghost use Rattle.upload.specs.Sessions.{AllOpenAt};
 ghost use Rattle.upload.specs.View.{view};
 ghost use Rattle.boot_core.specs.Answers.{is_stop};
 ghost use Rattle.boot_core.specs.Device.{seen};
-ghost use Rattle.boot_core.specs.Ready.{LogsNoTrial, RefusesText, text_fault};
-ghost use Rattle.boot_core.specs.Taking.{AcceptsHere, AsksReady, ChecksReady, FinishesHere};
+ghost use Rattle.boot_core.specs.Ready.{RefusesText, text_fault};
+ghost use Rattle.boot_core.specs.Taking.{AcceptsHere, AsksReady, CanOpen, ChecksReady, FinishesHere};
 ghost use Rattle.boot_core.specs.Taking.{OpensUploads, PassesOn, Stops, TakesHere};
 ghost use Rattle.boot_core.specs.Taking.{TakesManifestHere};
 
@@ -150,12 +149,8 @@ fn open_uploads<F: Flash>(
     is_booted: &mut bool,
     manifest: &Manifest,
 ) -> Result<(), Fault>
-    requires laid_out { IsLaidOut map.now (F.chip flash.old) }
-    requires images { identity.now.images ≡ map.now.images }
-    requires opens { AllOpenAt (view map.now (F.chip flash.old)) uploads.old.sessions }
-    requires up { is_booted.old ≡ true }
-    requires rests { LogsNoTrial (state_of map.now (F.chip flash.old)) }
-    requires names { NamesImages identity.now manifest.now }
+    requires { CanOpen map.now identity.now manifest.now
+        (seen (F.chip flash.old) uploads.old.sessions is_booted.old) }
     ensures { OpensUploads map.now identity.now manifest.now
         (seen (F.chip flash.old) uploads.old.sessions is_booted.old)
         (seen (F.chip flash.new) uploads.new.sessions is_booted.new) result }

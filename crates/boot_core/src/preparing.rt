@@ -1,11 +1,12 @@
 //! Making the trailers of a set ready to keep the progress of a swap.
 
+ghost use Rattle.decision.specs.Telling.{Tells};
 ghost use Rattle.sector_map.specs.Map.{HasImage, IsLaidOut};
-ghost use Rattle.boot_core.specs.Preparing.{IsSwapSizeIn, IsUsedIn, TellsSize};
+ghost use Rattle.boot_core.specs.Preparing.{IsSizeIn, IsSwapSizeIn, IsUsedIn};
 ghost use Rattle.boot_core.specs.Preparing.{Prepares, PreparesImage, PreparesMember};
 
 use flash_model::{Flash, FlashError};
-use image_reading::{SlotError, describe_slot};
+use image_reading::intact_image;
 use sector_map::{SectorMap, Side, is_member};
 use trailer::{clear, write_size};
 
@@ -18,21 +19,19 @@ fn used_length<F: Flash>(
     side: Side,
 ) -> Result<u32, FlashError>
     requires { HasImage map.now image (F.chip flash.old) }
-    ensures { TellsSize map.now image (IsUsedIn map.now image side)
+    ensures { Tells (IsSizeIn map.now image (IsUsedIn map.now image side))
         (F.chip flash.old) (F.chip flash.new) result }
 {
-    match describe_slot(flash, map, image, side) {
-        Ok(description) => Ok(description.length as u32),
-        Err(SlotError::Image(_)) => Ok(map.slot_length(image)),
-        Err(SlotError::Flash(error)) => Err(error),
-        Err(SlotError::NoMemory) => unreachable!(),
+    match intact_image(flash, map, image, side)? {
+        Some(description) => Ok(description.length as u32),
+        None => Ok(map.slot_length(image)),
     }
 }
 
 /// How many bytes of each slot of an image a swap has to move.
 fn swap_length<F: Flash>(flash: &mut F, map: &SectorMap, image: u8) -> Result<u32, FlashError>
     requires { HasImage map.now image (F.chip flash.old) }
-    ensures { TellsSize map.now image (IsSwapSizeIn map.now image)
+    ensures { Tells (IsSizeIn map.now image (IsSwapSizeIn map.now image))
         (F.chip flash.old) (F.chip flash.new) result }
 {
     let running = used_length(flash, map, image, Side::Primary)?;

@@ -16,7 +16,7 @@ use certificate::{Image, Request, Table, is_valid};
 use common::limits::MOST_IMAGES;
 use decision::entry_of;
 use flash_model::{Flash, FlashError};
-use image_reading::{Desc, SlotError, describe_slot};
+use image_reading::{Desc, intact_image};
 use machine::{Fault, Reading};
 use sector_map::{SectorMap, Side};
 use set_log::{Kind, State, start};
@@ -44,11 +44,9 @@ fn read_row<F: Flash>(
     requires { HasImage map.now image (F.chip flash.old) }
     ensures { TellsUnlessOff (IsRowIn map.now image) (F.chip flash.old) (F.chip flash.new) result }
 {
-    match describe_slot(flash, map, image, Side::Primary) {
-        Ok(description) => Ok(Some(running_image(description))),
-        Err(SlotError::Image(_)) => Ok(None),
-        Err(SlotError::Flash(error)) => Err(error),
-        Err(SlotError::NoMemory) => unreachable!(),
+    match intact_image(flash, map, image, Side::Primary)? {
+        Some(description) => Ok(Some(running_image(description))),
+        None => Ok(None),
     }
 }
 

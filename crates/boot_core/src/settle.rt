@@ -3,9 +3,9 @@
 //!
 //! It comes from `swap` or from a cut.
 
-ghost use Rattle.std.specs.Prelude.{◌≤◌, ◌≡◌, ℕ, slice_index};
+ghost use Rattle.std.specs.Prelude.{◌≤◌, ◌≡◌, ℕ, List, true, false, slice_index};
 ghost use Rattle.common.specs.Limits.{MOST_BOOTS_LEFT};
-ghost use Rattle.boot_core.specs.FromSettle.{BootsFromSettle, CanSettle, FinishesSettle, RecordsTaken, RecordsTrial, SettlesAndRecords, SettlesFound, SettlesMember, SettlesSet};
+ghost use Rattle.boot_core.specs.FromSettle.{BootsFromSettle, CanSettle, FinishesSettle, RecordsTaken, SettlesAndRecords, SettlesFound, SettlesMember, SettlesSet};
 ghost use Rattle.boot_core.specs.Recorded.{HasRecord, HasRecordOf};
 ghost use Rattle.sector_map.specs.Map.{HasImage, IsLaidOut};
 ghost use Rattle.set_log.specs.declared.state.Kind.{Kind};
@@ -73,7 +73,8 @@ fn record_trial<F: Flash>(
 ) -> Result<(), FlashError>
     requires recorded { HasRecordOf map.now Kind.Settle state.now (F.chip flash.old) }
     requires few { left ≤ MOST_BOOTS_LEFT }
-    ensures { RecordsTrial map.now left (F.chip flash.old) (F.chip flash.new) result }
+    ensures { (floors : List ℕ)
+        → RecordsTaken map.now false left floors (F.chip flash.old) (F.chip flash.new) result }
 {
     let trial = State {
         kind: Kind::Trial,
@@ -94,7 +95,8 @@ fn record_taken<F: Flash>(
     requires recorded { HasRecord map.now state.now (F.chip flash.old) }
     requires rest { (i : ℕ) → map.now.images ≤ i
         → slice_index floors i ≡ slice_index state.now.floors i }
-    ensures { RecordsTaken map.now floors (F.chip flash.old) (F.chip flash.new) result }
+    ensures { (left : ℕ)
+        → RecordsTaken map.now true left floors (F.chip flash.old) (F.chip flash.new) result }
 {
     let steady = State {
         kind: Kind::Steady,
@@ -149,8 +151,7 @@ pub(crate) fn settle_found<F: Flash>(
             settle_and_record(flash, map, state, left, floors)?;
             Ok(Finding::Decided { table, report })
         }
-        Finding::Damaged(image) => Ok(Finding::Damaged(image)),
-        Finding::Invalid => Ok(Finding::Invalid),
+        undecided => Ok(undecided),
     }
 }
 

@@ -4,9 +4,8 @@
 
 ghost use Rattle.std.specs.Prelude.{◌≤◌};
 ghost use Rattle.common.specs.Limits.{MOST_BOOTS_LEFT};
-ghost use Rattle.boot_core.specs.FromSwap.{BootsFromSwap, CarriesSwap, FinishesSwap, RecordsSettle, SwapsForth};
+ghost use Rattle.boot_core.specs.FromSwap.{BootsFromSwap, FinishesSwap, SwapsForth};
 ghost use Rattle.boot_core.specs.Recorded.{HasRecordOf};
-ghost use Rattle.sector_map.specs.Map.{HasImages};
 ghost use Rattle.set_log.specs.declared.state.Kind.{Kind};
 
 use crate::deciding::{find_again, reply_to};
@@ -17,30 +16,6 @@ use machine::{Finding, Reply};
 use sector_map::{SectorMap, Side};
 use set_log::{Kind, State};
 use swap_scratch::swap_set;
-
-/// In Swap: the set is swapped, from wherever the swap stands.
-fn carry_swap<F: Flash>(flash: &mut F, map: &SectorMap, mask: u8) -> Result<(), FlashError>
-    requires { HasImages map.now mask (F.chip flash.old) }
-    ensures { CarriesSwap map.now mask (F.chip flash.old) (F.chip flash.new) result }
-{
-    swap_set(flash, map, mask, Side::Primary)
-}
-
-/// At the end of the swap: it is recorded as done.
-fn record_settle<F: Flash>(
-    flash: &mut F,
-    map: &SectorMap,
-    state: &State,
-) -> Result<State, FlashError>
-    requires { HasRecordOf map.now Kind.Swap state.now (F.chip flash.old) }
-    ensures { RecordsSettle map.now state.now (F.chip flash.old) (F.chip flash.new) result }
-{
-    let settle = State {
-        kind: Kind::Settle,
-        ..*state
-    };
-    append_state(flash, map, settle)
-}
 
 /// From Swap to Settle: the swap is done, from wherever it stands, the decision is found again, and
 /// this is recorded. Where it isn't found nothing but the swap is written.
@@ -53,14 +28,17 @@ fn swap_forth<F: Flash>(
     ensures { SwapsForth map.now state.now (F.chip flash.old) (F.chip flash.new) result }
 {
     let mask = state.mask;
-    carry_swap(flash, map, mask)?;
+    swap_set(flash, map, mask, Side::Primary)?;
     match find_again(flash, map, mask, &state.floors)? {
         Finding::Decided { table, report } => {
-            record_settle(flash, map, state)?;
+            let settle = State {
+                kind: Kind::Settle,
+                ..*state
+            };
+            append_state(flash, map, settle)?;
             Ok(Finding::Decided { table, report })
         }
-        Finding::Damaged(image) => Ok(Finding::Damaged(image)),
-        Finding::Invalid => Ok(Finding::Invalid),
+        finding => Ok(finding),
     }
 }
 
@@ -91,8 +69,7 @@ pub(crate) fn finish_swap<F: Flash>(
                 Finding::Decided { table, report },
             )
         }
-        Finding::Damaged(image) => Ok(Finding::Damaged(image)),
-        Finding::Invalid => Ok(Finding::Invalid),
+        finding => Ok(finding),
     }
 }
 

@@ -17,8 +17,7 @@ use Rattle.boot_core.proofs.boots.boot_device.Goals as goal
 
 pub returns : goal.returns
 returns g c = record {
-  laid = c.boot.ensures.laid;
-  on_map = c.boot.ensures.on_map;
+  layout = c.boot.ensures.layout;
   opens = open_none (view c.args.map.now (g.F.Flash.chip c.boot.new.flash)) c.new.result.sessions c.new.ensures;
   closed = c.new.ensures;
   steps = λ identity on. subst
@@ -60,8 +59,7 @@ returns-in_err-reply g c =
     let ends = c.in_err-reply.ensures.ends in
     let passed : c.from_residual.result ≡ Err (no.Flash error) = err_passed _ _ c.from_residual.ensures.1 in
     rw passed (record {
-      laid = c.boot.ensures.laid;
-      on_map = c.boot.ensures.on_map;
+      layout = c.boot.ensures.layout;
       opens = open_none (view c.args.map.now new) c.new.result.sessions c.new.ensures;
       closed = c.new.ensures;
       steps = λ identity on.

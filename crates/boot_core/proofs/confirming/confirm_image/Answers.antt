@@ -9,41 +9,34 @@ use Rattle.boot_core.proofs.confirming.confirm_image.Goals as goal
 
 pub returns-in_err-set_ok : goal.returns-in_err-set_ok
 returns-in_err-set_ok g c =
+    let lt : c.args.image < c.args.map.now.images = omega arith in
+    let member : is_member c.args.state.now.mask c.args.image ≡ true = search rules in
     rw (err_passed c.from_residual.result c.in_err-set_ok.field-0.0 c.from_residual.ensures.1) (record {
       outside = c.set_ok.ensures.outside;
-      stands =
-          let lt : c.args.image < c.args.map.now.images = omega arith in
-          let member : is_member c.args.state.now.mask c.args.image ≡ true = search rules in
-          confirm_either c.args.map.now _ _ c.args.state.now c.args.image c.requires.read lt member
+      stands = confirm_either c.args.map.now _ _ c.args.state.now c.args.image c.requires.read lt member
           c.set_ok.ensures.outside c.set_ok.ensures.either;
       done = tt;
       none = tt;
       answers = set_answers _ c.args.map.now _ _ c.args.image c.in_err-set_ok.field-0.0 c.in_err-set_ok.ensures.ends
-          (omega arith, search rules);
+          (lt, member);
       tried = search rules;
       same = tt;
       ends = err_ends c.in_err-set_ok.ensures.ends;
     })
 
 pub returns : goal.returns
-returns g c = record {
-  outside = c.set_ok.ensures.outside;
-  stands =
-      let lt : c.args.image < c.args.map.now.images = omega arith in
-      let member : is_member c.args.state.now.mask c.args.image ≡ true = search rules in
-      confirm_either c.args.map.now _ _ c.args.state.now c.args.image c.requires.read lt member
-      c.set_ok.ensures.outside c.set_ok.ensures.either;
-  done = λ done.
-      let lt : c.args.image < c.args.map.now.images = omega arith in
-      let member : is_member c.args.state.now.mask c.args.image ≡ true = search rules in
-      confirm_yes c.args.map.now _ _ c.args.state.now c.args.image c.requires.read lt member
-      c.set_ok.ensures.outside c.in_ok-set_ok.ensures.ok;
-  none = search rules;
-  answers = (
-    (omega arith, search rules),
-    ap (λ (t : Fields). t.image_ok) c.in_ok-set_ok.ensures.ok,
-  );
-  tried = search rules;
-  same = search rules;
-  ends = ok_ends c.in_ok-set_ok.ensures.ends;
-}
+returns g c =
+    let lt : c.args.image < c.args.map.now.images = omega arith in
+    let member : is_member c.args.state.now.mask c.args.image ≡ true = search rules in
+    record {
+      outside = c.set_ok.ensures.outside;
+      stands = confirm_either c.args.map.now _ _ c.args.state.now c.args.image c.requires.read lt member
+          c.set_ok.ensures.outside c.set_ok.ensures.either;
+      done = λ done. confirm_yes c.args.map.now _ _ c.args.state.now c.args.image c.requires.read lt member
+          c.set_ok.ensures.outside c.in_ok-set_ok.ensures.ok;
+      none = search rules;
+      answers = ((lt, member), ap (λ (t : Fields). t.image_ok) c.in_ok-set_ok.ensures.ok);
+      tried = search rules;
+      same = search rules;
+      ends = ok_ends c.in_ok-set_ok.ensures.ends;
+    }

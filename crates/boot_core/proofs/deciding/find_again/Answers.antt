@@ -3,18 +3,18 @@ use Rattle.upload.specs.View.{view}
 use Rattle.machine.specs.Boots.{IsReported}
 use Rattle.machine.specs.Reading.{HasImages, IsFinding}
 use Rattle.machine.proofs.Unique.{one_greatest, one_table}
-use Rattle.machine.proofs.FoundAgain.{chosen_again, found_again, none_damaged, valid_again}
+use Rattle.machine.proofs.FoundAgain.{chosen_again, found_again}
 use Rattle.decision.specs.Found.{HasTable, IsFindingAt}
 use Rattle.boot_core.proofs.Masks.{set_found}
 use Rattle.boot_core.proofs.Passed.{ok_ends}
+use Rattle.boot_core.proofs.Undecided.{none_decided, reported, set_for, told_undecided}
 use Rattle.boot_core.proofs.deciding.find_again.Goals as goal
 
 pub returns-then-taken_mask-mask : goal.returns-then-taken_mask-mask
 returns-then-taken_mask-mask g c = record {
   same = c.find.ensures.same;
   ok = λ s table permanent can decision.
-      let found : IsReported s c.in-Decided.table c.in-Decided.report =
-      subst (λ f. IsFinding s f) c.in-Decided.is (c.in_ok-table.ensures.ok s can) in
+      let found = reported s _ _ _ c.in-Decided.is (c.in_ok-finding.ensures.ok s can) in
       let same : c.args.mask ≡ c.taken_mask.result = c.taken_mask.ensures.only c.args.mask (omega arith)
       (chosen_again _ table s c.args.mask permanent c.in-Decided.report
       (one_table s c.in-Decided.table table found.rows decision.chosen.rows) decision found.greatest) in
@@ -24,10 +24,9 @@ returns-then-taken_mask-mask g c = record {
   rows = tt;
   told = (
     subst (λ f. IsFindingAt (view c.args.map.now (g.F.Flash.chip c.args.flash.now)) c.args.mask f)
-        c.in-Decided.is c.in_ok-table.ensures.front,
+        c.in-Decided.is c.in_ok-finding.ensures.front,
     λ s can.
-        let found : IsReported s c.in-Decided.table c.in-Decided.report =
-        subst (λ f. IsFinding s f) c.in-Decided.is (c.in_ok-table.ensures.ok s can) in (
+        let found = reported s _ _ _ c.in-Decided.is (c.in_ok-finding.ensures.ok s can) in (
           c.in-Decided.table,
           found.rows,
           λ valid greatest.
@@ -36,55 +35,35 @@ returns-then-taken_mask-mask g c = record {
               c.if-taken_mask-mask.true (sym same),
         ),
   );
-  ends = ok_ends c.in_ok-table.ensures.ends;
+  ends = ok_ends c.in_ok-finding.ensures.ends;
 }
 
-pub returns-in-Damaged : goal.returns-in-Damaged
-returns-in-Damaged g c = record {
-  same = c.find.ensures.same;
-  ok = λ s table permanent can decision. none_damaged s table c.args.mask permanent c.in-Damaged.image decision
-      (subst (λ f. IsFinding s f) c.in-Damaged.is (c.in_ok-table.ensures.ok s can));
-  set = tt;
-  whole = tt;
-  rows = tt;
-  told = subst (λ f. IsFindingAt (view c.args.map.now (g.F.Flash.chip c.args.flash.now)) c.args.mask f)
-      c.in-Damaged.is c.in_ok-table.ensures.front;
-  ends = ok_ends c.in_ok-table.ensures.ends;
-}
-
-pub returns-in-Invalid : goal.returns-in-Invalid
-returns-in-Invalid g c = record {
-  same = c.find.ensures.same;
-  ok = λ s table permanent can decision.
-      let found = subst (λ f. IsFinding s f) c.in-Invalid.is (c.in_ok-table.ensures.ok s can) in
-      found.2 (valid_again found.0 table s c.args.mask permanent
-      (one_table s found.0 table found.1 decision.chosen.rows) decision);
-  set = tt;
-  whole = tt;
-  rows = tt;
-  told = (
-    subst (λ f. IsFindingAt (view c.args.map.now (g.F.Flash.chip c.args.flash.now)) c.args.mask f)
-        c.in-Invalid.is c.in_ok-table.ensures.front,
-    λ s can.
-        let found = subst (λ f. IsFinding s f) c.in-Invalid.is (c.in_ok-table.ensures.ok s can) in
-        (found.0, found.1, λ valid greatest. found.2 valid),
-  );
-  ends = ok_ends c.in_ok-table.ensures.ends;
-}
+pub returns-in_default : goal.returns-in_default
+returns-in_default g c =
+    let finds = c.in_ok-finding.ensures in
+    record {
+      same = c.find.ensures.same;
+      ok = λ s table permanent can decision. none_decided s table c.args.mask permanent _ c.in_default.not-Decided decision
+          (finds.ok s can);
+      set = set_for c.args.mask _ c.in_default.not-Decided;
+      whole = finds.whole;
+      rows = finds.rows;
+      told = told_undecided _ c.args.mask _ _ finds.front finds.ok;
+      ends = finds.ends;
+    }
 
 pub returns-else-taken_mask-mask : goal.returns-else-taken_mask-mask
 returns-else-taken_mask-mask g c = record {
   same = c.find.ensures.same;
   ok = λ s table permanent can decision.
-      let found : IsReported s c.in-Decided.table c.in-Decided.report =
-      subst (λ f. IsFinding s f) c.in-Decided.is (c.in_ok-table.ensures.ok s can) in
+      let found = reported s _ _ _ c.in-Decided.is (c.in_ok-finding.ensures.ok s can) in
       found_again _ table s c.args.mask permanent _ found.rows
       (one_table s c.in-Decided.table table found.rows decision.chosen.rows) decision found.right
       found.greatest found.standard;
   set = set_found c.args.mask c.taken_mask.result _
       c.if-taken_mask-mask.false c.taken_mask.ensures.each;
-  whole = subst (λ f. HasImages c.args.map.now.images f) c.in-Decided.is c.in_ok-table.ensures.whole;
-  rows = subst (λ f. HasTable c.args.map.now.images f) c.in-Decided.is c.in_ok-table.ensures.rows;
+  whole = subst (λ f. HasImages c.args.map.now.images f) c.in-Decided.is c.in_ok-finding.ensures.whole;
+  rows = subst (λ f. HasTable c.args.map.now.images f) c.in-Decided.is c.in_ok-finding.ensures.rows;
   told = tt;
-  ends = ok_ends c.in_ok-table.ensures.ends;
+  ends = ok_ends c.in_ok-finding.ensures.ends;
 }

@@ -13,21 +13,3 @@ returns-in-Decided c = record {
       some (no_members mask (λ i. set.each i ∙ none i));
   told = search rules;
 }
-
-pub returns-in-Damaged : goal.returns-in-Damaged
-returns-in-Damaged c = record {
-  is = search rules;
-  set = search rules;
-  moved = search rules;
-  some = λ s mask found is some none. rw c.in-Damaged.is at found;
-  told = search rules;
-}
-
-pub returns-in-Invalid : goal.returns-in-Invalid
-returns-in-Invalid c = record {
-  is = search rules;
-  set = search rules;
-  moved = search rules;
-  some = λ s mask found is some none. rw c.in-Invalid.is at found;
-  told = search rules;
-}

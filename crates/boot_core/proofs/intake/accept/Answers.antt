@@ -1,5 +1,4 @@
-use Rattle.boot_core.proofs.Opening.{text_declined, text_opened, text_refused_here}
-use Rattle.boot_core.proofs.Taken.{laid_now, opens_now, ready_now}
+use Rattle.boot_core.proofs.Opening.{can_open, text_declined, text_opened, text_refused_here}
 use Rattle.boot_core.proofs.intake.accept.Goals as goal
 
 pub returns-in_err-ready : goal.returns-in_err-ready
@@ -14,14 +13,6 @@ pub returns : goal.returns
 returns g c = text_opened _ _ _ _ c.in_ok-ready.ensures c.args.text _ _ _ c.in_ok-manifest.ensures.means
     c.open_uploads.ensures
 
-pub open_uploads-requires-clause-laid_out : goal.open_uploads-requires-clause-laid_out
-open_uploads-requires-clause-laid_out g c = laid_now _ _ _ c.in_ok-ready.ensures c.requires.laid_out
-
-pub open_uploads-requires-clause-opens : goal.open_uploads-requires-clause-opens
-open_uploads-requires-clause-opens g c = opens_now _ _ _ c.in_ok-ready.ensures c.requires.opens
-
-pub open_uploads-requires-clause-up : goal.open_uploads-requires-clause-up
-open_uploads-requires-clause-up g c = (ready_now _ _ _ c.in_ok-ready.ensures).0
-
-pub open_uploads-requires-clause-rests : goal.open_uploads-requires-clause-rests
-open_uploads-requires-clause-rests g c = (ready_now _ _ _ c.in_ok-ready.ensures).1
+pub open_uploads-requires : goal.open_uploads-requires
+open_uploads-requires g c = can_open _ _ _ _ c.in_ok-ready.ensures _ c.requires.laid_out c.requires.images
+    c.requires.opens c.in_ok-manifest.ensures.means.meaning.images

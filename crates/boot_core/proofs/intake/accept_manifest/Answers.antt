@@ -1,7 +1,6 @@
 use Rattle.std.proofs.Common.{refl}
 use Rattle.std.proofs.lemmas.Bool.{false≢true}
-use Rattle.boot_core.proofs.Opening.{manifest_declined, manifest_lacks, manifest_opened}
-use Rattle.boot_core.proofs.Taken.{laid_now, opens_now, ready_now}
+use Rattle.boot_core.proofs.Opening.{can_open, manifest_declined, manifest_lacks, manifest_opened}
 use Rattle.boot_core.proofs.intake.accept_manifest.Goals as goal
 
 pub returns-in_err-ready : goal.returns-in_err-ready
@@ -16,14 +15,6 @@ pub returns : goal.returns
 returns g c = manifest_opened _ _ _ _ c.in_ok-ready.ensures _ _ _ (c.if-not-names_images.ensures.0 refl)
     c.open_uploads.ensures
 
-pub open_uploads-requires-clause-laid_out : goal.open_uploads-requires-clause-laid_out
-open_uploads-requires-clause-laid_out g c = laid_now _ _ _ c.in_ok-ready.ensures c.requires.laid_out
-
-pub open_uploads-requires-clause-opens : goal.open_uploads-requires-clause-opens
-open_uploads-requires-clause-opens g c = opens_now _ _ _ c.in_ok-ready.ensures c.requires.opens
-
-pub open_uploads-requires-clause-up : goal.open_uploads-requires-clause-up
-open_uploads-requires-clause-up g c = (ready_now _ _ _ c.in_ok-ready.ensures).0
-
-pub open_uploads-requires-clause-rests : goal.open_uploads-requires-clause-rests
-open_uploads-requires-clause-rests g c = (ready_now _ _ _ c.in_ok-ready.ensures).1
+pub open_uploads-requires : goal.open_uploads-requires
+open_uploads-requires g c = can_open _ _ _ _ c.in_ok-ready.ensures _ c.requires.laid_out c.requires.images
+    c.requires.opens (c.if-not-names_images.ensures.0 refl)

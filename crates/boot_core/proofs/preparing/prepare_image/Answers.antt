@@ -44,10 +44,10 @@ returns g c = record {
       let new = g.F.Flash.chip c.write_size.new.flash in
       on_ok_weaker c.write_size.result
       (λ written. made_ready map c.args.image c.in_ok-size.size c.args.side _ mid new c.in_ok-clear.ensures.ok
-      c.in_ok-size.ensures.ok c.swap_length.ensures.same
+      c.in_ok-size.ensures.ok.exact c.swap_length.ensures.same
       (sized (fields_at map mid c.args.image c.args.side) (fields_at map new c.args.image c.args.side)
       c.in_ok-size.size c.write_size.ensures.own
-      (written c.in_ok-size.ensures.some c.in_ok-size.ensures.most))
+      (written c.in_ok-size.ensures.ok.some c.in_ok-size.ensures.ok.most))
       c.write_size.ensures.outside)
       c.write_size.ensures.ok;
   erases = on_ok_weaker c.write_size.result

@@ -10,15 +10,17 @@ pub returns : goal.returns
 returns g c = record {
   same = c.used_length-2.ensures.same ∙ c.used_length.ensures.same;
   ok = record {
-    primary = c.in_ok-running.running;
-    secondary = c.in_ok-asked.asked;
-    of_primary = c.in_ok-running.ensures.ok;
-    of_secondary = subst (λ chip. IsUsed (slot_bytes c.args.map.now chip c.args.image Secondary) c.in_ok-asked.asked)
-        c.used_length.ensures.same c.in_ok-asked.ensures.ok;
-    larger = c.max.ensures;
+    exact = record {
+      primary = c.in_ok-running.running;
+      secondary = c.in_ok-asked.asked;
+      of_primary = c.in_ok-running.ensures.ok.exact;
+      of_secondary = subst (λ chip. IsUsed (slot_bytes c.args.map.now chip c.args.image Secondary) c.in_ok-asked.asked)
+          c.used_length.ensures.same c.in_ok-asked.ensures.ok.exact;
+      larger = c.max.ensures;
+    };
+    some = omega (arith, c.max.ensures, c.in_ok-running.ensures.ok.some);
+    most = omega (arith, c.max.ensures, c.in_ok-running.ensures.ok.most, c.in_ok-asked.ensures.ok.most);
   };
-  some = omega (arith, c.max.ensures, c.in_ok-running.ensures.some);
-  most = omega (arith, c.max.ensures, c.in_ok-running.ensures.most, c.in_ok-asked.ensures.most);
   ends = then_ok c.in_ok-running.ensures.ends c.in_ok-asked.ensures.ends;
 }
 
@@ -27,8 +29,6 @@ returns-in_err-running g c =
     rw (err_passed c.from_residual.result c.in_err-running.field-0.0 c.from_residual.ensures.1) (record {
       same = c.used_length.ensures.same;
       ok = tt;
-      some = tt;
-      most = tt;
       ends = err_ends c.in_err-running.ensures.ends;
     })
 
@@ -37,7 +37,5 @@ returns-in_err-asked g c =
     rw (err_passed c.from_residual-in_err-asked.result c.in_err-asked.field-0.0 c.from_residual-in_err-asked.ensures.1) (record {
       same = c.used_length-2.ensures.same ∙ c.used_length.ensures.same;
       ok = tt;
-      some = tt;
-      most = tt;
       ends = then_err c.in_ok-running.ensures.ends c.in_err-asked.ensures.ends;
     })

@@ -9,11 +9,7 @@ returns-in_err-append g c =
     rw (err_passed c.from_residual.result c.in_err-append.field-0.0 c.from_residual.ensures.1) (record {
       outside = c.append.ensures.outside;
       either = c.append.ensures.either;
-      ok = tt;
-      recorded = tt;
-      is = tt;
-      appended = tt;
-      erases = tt;
+      done = tt;
       ends = err_ends c.in_err-append.ensures.ends;
     })
 
@@ -21,10 +17,12 @@ pub returns : goal.returns
 returns g c = record {
   outside = c.append.ensures.outside;
   either = c.append.ensures.either;
-  ok = c.in_ok-append.ensures.ok;
-  recorded = c.in_ok-append.ensures.ok;
-  is = refl;
-  appended = c.in_ok-append.ensures;
-  erases = one_erase _ _ _ c.in_ok-append.ensures.erases;
+  done = record {
+    says = c.in_ok-append.ensures.ok;
+    recorded = c.in_ok-append.ensures.ok;
+    is = refl;
+    appended = c.in_ok-append.ensures;
+    erases = one_erase _ _ _ c.in_ok-append.ensures.erases;
+  };
   ends = ok_ends c.in_ok-append.ensures.ends;
 }

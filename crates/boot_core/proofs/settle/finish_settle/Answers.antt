@@ -1,13 +1,13 @@
-use Rattle.std.proofs.Common.{◌∙◌, ap, subst, sym}
+use Rattle.std.proofs.Common.{◌∙◌, ap, inl, refl, subst, sym}
 use Rattle.std.proofs.lemmas.Result.{IfOk-weaker}
 use Rattle.set_log.specs.Log.{state_of}
-use Rattle.set_log.specs.declared.state.Kind.TheVariants as log
+use Rattle.upload.proofs.Ends.{err_passed}
 use Rattle.upload.specs.View.{view}
-use Rattle.machine.specs.Holding.{IsSwapped}
 use Rattle.machine.specs.Reading.{CanRead}
 use Rattle.machine.specs.Wear.{IsSetFound}
-use Rattle.boot_core.specs.Found.{IsKeptFor, IsToldAgain}
-use Rattle.boot_core.proofs.Passed.{then_ends}
+use Rattle.boot_core.specs.Found.{IsToldAgain}
+use Rattle.boot_core.proofs.OnMap.{layout_same}
+use Rattle.boot_core.proofs.Passed.{passes_err}
 use Rattle.boot_core.proofs.settle.finish_settle.Goals as goal
 
 pub settle_found-requires : goal.settle_found-requires
@@ -23,28 +23,27 @@ settle_found-requires g c = record {
   rows = c.in_ok-finding.ensures.rows;
 }
 
+pub returns-in_err-finding : goal.returns-in_err-finding
+returns-in_err-finding g c =
+    rw (err_passed c.from_residual.result c.in_err-finding.field-0.0 c.from_residual.ensures.1)
+    (rw c.find_again.ensures.same (passes_err (layout_same c.requires.recorded.laid_out refl)
+    (λ s table was. inl was) (rw c.find_again.ensures.same at c.in_err-finding.ensures.ends)))
+
 pub returns : goal.returns
-returns g c = record {
-  laid = c.settle_found.ensures.laid;
-  on_map = λ start was. c.settle_found.ensures.on_map start (rw c.find_again.ensures.same was);
-  stands = λ s table was. c.settle_found.ensures.stands s table
-      (subst (λ chip. IsSwapped (view c.args.map.now chip) s table log.Settle c.args.state.now.mask
-      c.args.state.now.permanent) (sym c.find_again.ensures.same) was);
-  ok = IfOk-weaker c.settle_found.result _ _
-      (λ finding holds. λ s table was. holds s table
-      (subst (λ chip. IsSwapped (view c.args.map.now chip) s table log.Settle c.args.state.now.mask
-      c.args.state.now.permanent) (sym c.find_again.ensures.same) was)) c.settle_found.ensures.ok;
-  erases = rw c.find_again.ensures.same at c.settle_found.ensures.erases;
-  set = IfOk-weaker c.settle_found.result _ _
-      (λ answer is. subst (λ found. IsSetFound c.args.state.now.mask found) (sym is) c.in_ok-finding.ensures.set)
-      c.settle_found.ensures.same;
-  told = IfOk-weaker c.settle_found.result _ _
-      (λ answer is. subst (λ found. IsToldAgain (view c.args.map.now (g.F.Flash.chip c.args.flash.now))
-      c.args.state.now.mask c.args.state.now.floors found) (sym is) c.in_ok-finding.ensures.told)
-      c.settle_found.ensures.same;
-  kept = IfOk-weaker c.settle_found.result _ _
-      (λ answer kept. subst (λ chip. IsKeptFor chip (g.F.Flash.chip c.settle_found.new.flash) answer)
-      c.find_again.ensures.same kept)
-      c.settle_found.ensures.kept;
-  ends = then_ends c.in_ok-finding.ensures.ends c.settle_found.ensures.ends;
-}
+returns g c =
+    let mask = c.args.state.now.mask in
+    let finds = c.in_ok-finding.ensures in
+    let settles = rw c.find_again.ensures.same at c.settle_found.ensures in
+    record {
+      layout = settles.layout;
+      stands = settles.stands;
+      done = IfOk-weaker c.settle_found.result _ _ (λ answer done. (
+        done.0,
+        (
+          subst (λ found. IsSetFound mask found) (sym done.1) finds.set,
+          subst (λ found. IsToldAgain (view c.args.map.now (g.F.Flash.chip c.args.flash.now)) mask
+              c.args.state.now.floors found) (sym done.1) finds.told,
+        ),
+      )) settles.done;
+      ends = settles.ends;
+    }

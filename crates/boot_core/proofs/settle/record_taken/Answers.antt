@@ -9,7 +9,7 @@ append-requires-clause-fits g c =
     fits_steady c.args.map.now _ c.args.state.now c.args.floors c.requires.recorded.read c.requires.rest
 
 pub returns : goal.returns
-returns g c = record {
+returns g c = λ left. record {
   outside = search rules;
   stands = good_either c.args.map.now _ _ _ _ c.requires.recorded.read
       c.append.ensures.outside c.append.ensures.either;

@@ -9,7 +9,7 @@ append-requires-clause-fits g c =
     fits_trial c.args.map.now _ c.args.state.now c.args.left c.requires.recorded.read c.requires.recorded.kind c.requires.few
 
 pub returns : goal.returns
-returns g c = record {
+returns g c = λ floors. record {
   outside = search rules;
   stands = trial_either c.args.map.now _ _ _ c.args.left c.requires.recorded.read
       c.append.ensures.outside c.append.ensures.either;

@@ -1,12 +1,13 @@
-use Rattle.std.proofs.Common.{rules, ◌≡◌, Err, inl, refl}
-use Rattle.std.proofs.lemmas.Result.{on_ok_weaker}
+use Rattle.std.proofs.Common.{inl, refl, sym, subst}
+use Rattle.std.proofs.lemmas.Result.{IfOk-weaker}
+use Rattle.upload.proofs.Ends.{err_passed}
 use Rattle.sector_map.proofs.Parts.{laid_out_kept}
 use Rattle.machine.proofs.Swapping.{settling_kept}
-use Rattle.machine.proofs.Ending.{conclude_good, conclude_trial}
+use Rattle.boot_core.specs.FromSettle.{RecordsTaken}
 use Rattle.boot_core.proofs.Records.{read_kept}
-use Rattle.boot_core.proofs.Concluding.{good_ends, settled_as, trial_ends}
-use Rattle.boot_core.proofs.OnMap.{on_more}
-use Rattle.boot_core.proofs.Passed.{err_ends, then_ends}
+use Rattle.boot_core.proofs.Concluding.{settled_as, settles_taken}
+use Rattle.boot_core.proofs.OnMap.{layout_kept, layout_more}
+use Rattle.boot_core.proofs.Passed.{ok_both, passes_err, then_ends}
 use Rattle.boot_core.proofs.settle.settle_and_record.Goals as goal
 
 pub record_taken-requires-clause-recorded : goal.record_taken-requires-clause-recorded
@@ -24,54 +25,28 @@ record_trial-requires-clause-recorded g c = record {
 
 pub returns-in_err-settle_set : goal.returns-in_err-settle_set
 returns-in_err-settle_set g c =
-    let passed : c.from_residual.result ≡ Err c.in_err-settle_set.field-0.0 = search rules in
-    rw passed (record {
-      laid = laid_out_kept c.args.map.now _ _ _ c.requires.recorded.laid_out c.settle_set.ensures.outside;
-      on_map = λ start was.
-          on_more _ _ start _ _ c.settle_set.ensures.outside was;
-      stands = λ s table was. inl
-          (settling_kept c.args.map.now _ _ _ c.settle_set.ensures.outside s table _ _ was);
-      ok = tt;
-      erases = tt;
-      ends = err_ends c.in_err-settle_set.ensures.ends;
-    })
+    rw (err_passed c.from_residual.result c.in_err-settle_set.field-0.0 c.from_residual.ensures.1)
+    (passes_err (layout_kept c.requires.recorded.laid_out c.settle_set.ensures.outside)
+    (λ s table was. inl (settling_kept c.args.map.now _ _ _ c.settle_set.ensures.outside s table _ _ was))
+    c.in_err-settle_set.ensures.ends)
 
 pub returns-then-state : goal.returns-then-state
-returns-then-state g c = record {
-  laid = laid_out_kept c.args.map.now _ _ _
-      (laid_out_kept c.args.map.now _ _ _ c.requires.recorded.laid_out c.settle_set.ensures.outside)
-      c.record_taken.ensures.outside;
-  on_map = λ start was.
-      on_more _ _ start _ _ c.record_taken.ensures.outside (on_more _ _ start _ _ c.settle_set.ensures.outside was);
-  stands = conclude_good c.args.map.now _ _ _ _ _ c.args.left c.args.floors
-      c.if-state.true c.settle_set.ensures.outside
-      (settled_as c.args.map.now _ _ _ _ c.settling_for.ensures c.in_ok-settle_set.ensures.ok)
-      c.record_taken.ensures.stands;
-  ok = on_ok_weaker c.record_taken.result
-      (λ ends. good_ends c.args.map.now _ _ _ _ _ c.args.left c.args.floors c.if-state.true
-      c.settle_set.ensures.outside
-      (settled_as c.args.map.now _ _ _ _ c.settling_for.ensures c.in_ok-settle_set.ensures.ok) ends)
-      c.record_taken.ensures.ok;
-  erases = search rules;
-  ends = then_ends c.in_ok-settle_set.ensures.ends c.record_taken.ensures.ends;
-}
+returns-then-state g c =
+    let settles = c.in_ok-settle_set.ensures in
+    settles_taken c.args.map.now _ _ _ c.args.state.now c.args.left c.args.floors c.record_taken.result
+    c.requires.recorded.laid_out settles.outside (settled_as c.args.map.now _ _ _ _ c.settling_for.ensures settles.ok)
+    settles.erases settles.ends (subst
+    (λ permanent. RecordsTaken c.args.map.now permanent c.args.left c.args.floors
+    (g.F.Flash.chip c.settle_set.new.flash) (g.F.Flash.chip c.record_taken.new.flash) c.record_taken.result)
+    (sym c.if-state.true) (c.record_taken.ensures c.args.left))
 
 pub returns-else-state : goal.returns-else-state
-returns-else-state g c = record {
-  laid = laid_out_kept c.args.map.now _ _ _
-      (laid_out_kept c.args.map.now _ _ _ c.requires.recorded.laid_out c.settle_set.ensures.outside)
-      c.record_trial.ensures.outside;
-  on_map = λ start was.
-      on_more _ _ start _ _ c.record_trial.ensures.outside (on_more _ _ start _ _ c.settle_set.ensures.outside was);
-  stands = conclude_trial c.args.map.now _ _ _ _ _ c.args.left c.args.floors
-      c.if-state.false c.settle_set.ensures.outside
-      (settled_as c.args.map.now _ _ _ _ c.settling_for.ensures c.in_ok-settle_set.ensures.ok)
-      c.record_trial.ensures.stands;
-  ok = on_ok_weaker c.record_trial.result
-      (λ ends. trial_ends c.args.map.now _ _ _ _ _ c.args.left c.args.floors c.if-state.false
-      c.settle_set.ensures.outside
-      (settled_as c.args.map.now _ _ _ _ c.settling_for.ensures c.in_ok-settle_set.ensures.ok) ends)
-      c.record_trial.ensures.ok;
-  erases = search rules;
-  ends = then_ends c.in_ok-settle_set.ensures.ends c.record_trial.ensures.ends;
-}
+returns-else-state g c =
+    let settles = c.in_ok-settle_set.ensures in
+    let settled = settled_as c.args.map.now _ _ _ _ c.settling_for.ensures settles.ok in
+    settles_taken c.args.map.now _ _ _ c.args.state.now c.args.left c.args.floors c.record_trial.result
+    c.requires.recorded.laid_out settles.outside settled settles.erases settles.ends
+    (subst
+    (λ permanent. RecordsTaken c.args.map.now permanent c.args.left c.args.floors
+    (g.F.Flash.chip c.settle_set.new.flash) (g.F.Flash.chip c.record_trial.new.flash) c.record_trial.result)
+    (sym c.if-state.false) (c.record_trial.ensures c.args.floors))

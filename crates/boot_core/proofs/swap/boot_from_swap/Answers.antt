@@ -1,51 +1,32 @@
-use Rattle.std.proofs.Common.{rules, ◌≡◌, ◌+◌, ◌∙◌, Err, subst, sym}
-use Rattle.machine.specs.Holding.{Stands}
-use Rattle.machine.specs.Passing.{EndsBoot}
+use Rattle.std.proofs.Common.{◌∙◌, sym}
 use Rattle.machine.proofs.Standing.{stands_swap, swap_cut, swap_ends}
-use Rattle.upload.specs.Device.{DeviceState}
-use Rattle.boot_core.proofs.Passed.{err_ends, ok_ends}
+use Rattle.upload.proofs.Ends.{err_passed}
+use Rattle.boot_core.proofs.Booted.{boot_fails, boot_replies}
 use Rattle.boot_core.proofs.Stops.{swap_stops}
 use Rattle.boot_core.proofs.swap.boot_from_swap.Goals as goal
 
 pub returns-in_err-finding : goal.returns-in_err-finding
 returns-in_err-finding g c =
-    let passed : c.from_residual.result ≡ Err c.in_err-finding.field-0.0 = search rules in
-    rw passed (record {
-      boot = record {
-        laid = c.finish_swap.ensures.laid;
-        on_map = c.finish_swap.ensures.on_map;
-        stands = swap_cut c.args.map.now _ _ _ c.args.left c.requires.recorded.read
-            c.requires.recorded.kind c.finish_swap.ensures.stands;
-        ok = tt;
-        erases = tt;
-        told = tt;
-        ends = err_ends c.in_err-finding.ensures.ends;
-      };
+    rw (err_passed c.from_residual.result c.in_err-finding.field-0.0 c.from_residual.ensures.1) (record {
+      boot = boot_fails c.finish_swap.ensures.layout
+          (swap_cut c.args.map.now _ _ _ c.args.left c.requires.recorded.read c.requires.recorded.kind
+          c.finish_swap.ensures.stands)
+          c.in_err-finding.ensures.ends;
       stops = tt;
     })
 
 pub returns : goal.returns
 returns g c = record {
-  boot = record {
-    laid = c.finish_swap.ensures.laid;
-    on_map = c.finish_swap.ensures.on_map;
-    stands = swap_cut c.args.map.now _ _ _ c.args.left c.requires.recorded.read c.requires.recorded.kind
-        c.finish_swap.ensures.stands;
-    ok = subst
-        (λ reply. (s : DeviceState) → Stands c.args.map.now (g.F.Flash.chip c.args.flash.now) s
-        → EndsBoot c.args.map.now (c.args.left + 1) (g.F.Flash.chip c.finish_swap.new.flash) s reply)
-        (sym c.reply_to.ensures.is)
-        (swap_ends c.args.map.now _ _ _ c.args.left c.requires.recorded.read c.requires.recorded.kind _
-        c.in_ok-finding.ensures.ok);
-    erases = λ s stands.
-        let swapping = stands_swap c.args.map.now _ s _ c.requires.recorded.read c.requires.recorded.kind stands in (
-          c.in_ok-finding.ensures.erases s swapping.0 _ swapping.1,
-          c.reply_to.ensures.set _ c.in_ok-finding.ensures.set,
-        );
-    told = c.reply_to.ensures.told;
-    ends = ok_ends c.in_ok-finding.ensures.ends;
-  };
+  boot = boot_replies c.reply_to.ensures c.finish_swap.ensures.layout
+      (swap_cut c.args.map.now _ _ _ c.args.left c.requires.recorded.read c.requires.recorded.kind
+      c.finish_swap.ensures.stands)
+      (swap_ends c.args.map.now _ _ _ c.args.left c.requires.recorded.read c.requires.recorded.kind _
+      c.in_ok-finding.ensures.done.ok)
+      (λ s stands.
+      let swapping = stands_swap c.args.map.now _ s _ c.requires.recorded.read c.requires.recorded.kind stands in
+      (c.in_ok-finding.ensures.done.erases s swapping.0 _ swapping.1, c.reply_to.ensures.set _ c.in_ok-finding.ensures.done.tells.set))
+      c.in_ok-finding.ensures.ends;
   stops = λ finding permanent is. swap_stops c.args.map.now _ _ c.args.state.now.mask
       c.args.state.now.floors _ finding c.args.state.now.permanent permanent (sym c.reply_to.ensures.is ∙ is)
-      c.in_ok-finding.ensures.told c.in_ok-finding.ensures.alone;
+      c.in_ok-finding.ensures.done.tells.told c.in_ok-finding.ensures.done.tells.alone;
 }

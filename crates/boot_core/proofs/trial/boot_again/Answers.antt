@@ -1,10 +1,10 @@
-use Rattle.std.proofs.Common.{rules, arith, ◌≡◌, ◌<◌, Err, refl}
-use Rattle.sector_map.proofs.Parts.{laid_out_kept}
+use Rattle.std.proofs.Common.{arith, ◌<◌, refl}
+use Rattle.upload.proofs.Ends.{err_passed}
 use Rattle.machine.proofs.Trying.{again_cut, again_ends}
 use Rattle.boot_core.proofs.Again.{fits_again}
 use Rattle.boot_core.proofs.Records.{has_state, one_erase}
-use Rattle.boot_core.proofs.OnMap.{on_more}
-use Rattle.boot_core.proofs.Passed.{err_ends, ok_ends}
+use Rattle.boot_core.proofs.Booted.{boot_fails, boot_gives}
+use Rattle.boot_core.proofs.OnMap.{layout_kept}
 use Rattle.boot_core.proofs.trial.boot_again.Goals as goal
 
 pub append-requires-clause-has_state : goal.append-requires-clause-has_state
@@ -16,37 +16,25 @@ append-requires-clause-fits g c = fits_again c.args.map.now _ c.args.state.now _
 
 pub returns-in_err-append : goal.returns-in_err-append
 returns-in_err-append g c =
-    let passed : c.from_residual.result ≡ Err c.in_err-append.field-0.0 = search rules in
-    rw passed (record {
-      laid = laid_out_kept c.args.map.now _ _ _ c.requires.recorded.laid_out c.append.ensures.outside;
-      on_map = λ start was.
-          on_more _ _ start _ _ c.append.ensures.outside was;
-      stands = λ boots s was.
-          let more : 0 < c.args.state.now.left = c.requires.more in
-          again_cut c.args.map.now _ _ c.args.state.now _ c.requires.recorded.read c.append.ensures.outside (omega arith)
-          c.append.ensures.either boots s was.0 was.1 was.2;
-      ok = tt;
-      erases = tt;
-      told = tt;
+    let more : 0 < c.args.state.now.left = c.requires.more in
+    rw (err_passed c.from_residual.result c.in_err-append.field-0.0 c.from_residual.ensures.1) (record {
+      boot = λ boots. boot_fails (layout_kept c.requires.recorded.laid_out c.append.ensures.outside)
+          (λ s was. again_cut c.args.map.now _ _ c.args.state.now _ c.requires.recorded.read c.append.ensures.outside
+          (omega arith) c.append.ensures.either boots s was.0 was.1 was.2)
+          c.in_err-append.ensures.ends;
       acts = tt;
-      ends = err_ends c.in_err-append.ensures.ends;
     })
 
 pub returns : goal.returns
-returns g c = record {
-  laid = laid_out_kept c.args.map.now _ _ _ c.requires.recorded.laid_out c.append.ensures.outside;
-  on_map = λ start was.
-      on_more _ _ start _ _ c.append.ensures.outside was;
-  stands = λ boots s was.
-      let more : 0 < c.args.state.now.left = c.requires.more in
-      again_cut c.args.map.now _ _ c.args.state.now _ c.requires.recorded.read c.append.ensures.outside (omega arith)
-      c.append.ensures.either boots s was.0 was.1 was.2;
-  ok = λ boots s was.
-      let more : 0 < c.args.state.now.left = c.requires.more in
-      again_ends c.args.map.now _ _ c.args.state.now _ c.requires.recorded.read c.append.ensures.outside (omega arith)
-      c.in_ok-append.ensures.ok boots s was.0 was.1 was.2;
-  erases = (0, refl, λ sizes each. omega (arith, one_erase _ _ _ c.in_ok-append.ensures.erases));
-  told = tt;
-  acts = λ nothing. nothing;
-  ends = ok_ends c.in_ok-append.ensures.ends;
-}
+returns g c =
+    let more : 0 < c.args.state.now.left = c.requires.more in
+    record {
+      boot = λ boots. boot_gives (layout_kept c.requires.recorded.laid_out c.append.ensures.outside)
+          (λ s was. again_cut c.args.map.now _ _ c.args.state.now _ c.requires.recorded.read c.append.ensures.outside
+          (omega arith) c.append.ensures.either boots s was.0 was.1 was.2)
+          (λ s was. again_ends c.args.map.now _ _ c.args.state.now _ c.requires.recorded.read c.append.ensures.outside
+          (omega arith) c.in_ok-append.ensures.ok boots s was.0 was.1 was.2)
+          (0, refl, λ sizes each. omega (arith, one_erase _ _ _ c.in_ok-append.ensures.erases))
+          tt c.in_ok-append.ensures.ends;
+      acts = λ nothing. nothing;
+    }

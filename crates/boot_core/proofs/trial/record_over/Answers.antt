@@ -1,4 +1,4 @@
-use Rattle.std.proofs.lemmas.Result.{on_ok_weaker}
+use Rattle.std.proofs.lemmas.Result.{IfOk-weaker}
 use Rattle.machine.proofs.Trying.{over_either, over_ok}
 use Rattle.boot_core.proofs.Records.{fits_steady}
 use Rattle.boot_core.proofs.trial.record_over.Goals as goal
@@ -13,11 +13,9 @@ returns g c =
     record {
       outside = records.outside;
       stands = over_either c.args.map.now _ _ _ c.args.floors c.requires.read records.outside records.either;
-      ok = on_ok_weaker c.append_state.result
-          (over_ok c.args.map.now _ _ _ c.args.floors c.requires.read records.outside) records.ok;
-      recorded = records.recorded;
-      is = records.is;
-      appended = records.appended;
-      erases = records.erases;
+      done = IfOk-weaker c.append_state.result _ _ (λ now recorded. record {
+        recorded = recorded;
+        rests = over_ok c.args.map.now _ _ _ c.args.floors c.requires.read records.outside recorded.says;
+      }) records.done;
       ends = records.ends;
     }

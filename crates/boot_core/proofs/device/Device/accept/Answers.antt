@@ -24,13 +24,18 @@ returns-clause-taken g c =
     (seen (g.F.Flash.chip c.accept.new.flash) c.accept.new.uploads.sessions c.accept.new.is_booted) in
     subst (λ (whole : Whole). Takes (event.Accept c.args.text) any_part whole new c.accept.result) c.self.view_is
     (record {
-      setup = refl;
-      steps = c.accept.ensures.steps boots;
-      outside = c.accept.ensures.outside;
-      down = c.accept.ensures.down;
+      call = record {
+        stepped = record {
+          setup = refl;
+          steps = c.accept.ensures.steps boots;
+          outside = c.accept.ensures.outside;
+          down = c.accept.ensures.down;
+          off = c.accept.ensures.off;
+          ends = c.accept.ensures.ends;
+        };
+        up = if_err_as c.accept.result (λ fault kept own. ap (λ (d : DeviceView). d.up) (kept own)) c.accept.ensures.kept;
+        kept = if_err_as c.accept.result (λ fault kept keeps. kept (keeps_unstopped false fault keeps))
+            c.accept.ensures.kept;
+      };
       refused = c.accept.ensures.refused;
-      up = if_err_as c.accept.result (λ fault kept own. ap (λ (d : DeviceView). d.up) (kept own)) c.accept.ensures.kept;
-      kept = if_err_as c.accept.result (λ fault kept keeps. kept (keeps_unstopped false fault keeps)) c.accept.ensures.kept;
-      off = c.accept.ensures.off;
-      ends = c.accept.ensures.ends;
     })
