@@ -8,7 +8,7 @@
 #![tactic(auto)]
 
 use boot_cli::{cli, note_reading};
-use command_line::{refuse_words, words_of};
+use device_commands::{refuse_words, words_of};
 use host::{Output, STANDARD_ERROR, STANDARD_OUTPUT, SystemHost, reserve_stack};
 use std::io;
 use std::io::{ErrorKind, IsTerminal, Write};

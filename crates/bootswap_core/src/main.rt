@@ -5,8 +5,7 @@
 //! A device on a file, that boots, takes uploads and survives power cuts.
 #![tactic(auto)]
 
-use command_line::{refuse_words, words_of};
-use device_commands::core_cli;
+use device_commands::{core_cli, refuse_words, words_of};
 use host::{Output, STANDARD_ERROR, STANDARD_OUTPUT, SystemHost, reserve_stack};
 use std::io;
 use std::io::{ErrorKind, IsTerminal};

@@ -1,5 +1,5 @@
 -- A word is the one that is looked for, or another.
-use Rattle.std.proofs.Common.{◌≡◌, Bool, true, false, List, ℕ, inl, inr, subst, sym}
+use Rattle.std.proofs.Common.{◌≡◌, true, false, List, ℕ, inl, inr, subst, sym}
 use Rattle.std.specs.Str.{bytes_eq}
 use Rattle.std.proofs.lemmas.Bool.{cases_Bool}
 use Rattle.std.proofs.lemmas.Slice.Eq.{bytes_eq-Decides}

@@ -12,3 +12,4 @@ pub mod ascii;
 pub mod event;
 pub mod limits;
 pub mod lines;
+pub mod texts;

@@ -1,11 +1,11 @@
-//! What a command has outside of it: its files, standard input and outputs, and its exit status.
+//! The files, standard input, outputs and exit status of a command.
 //!
 //! - Promises: A source that is read whole is what the host has by its name. Status 0 comes only
 //!   after the answer that it is done, and was flushed. A new file of the system takes its name
 //!   only after a sync, and an output passes on exactly what it is given.
 //! - Main calls: `Source::read`, `Source::read_start`, `Source::is_file`, `finish`, `SystemHost` as
 //!   a `Host`, `Output` as a `Write`
-//! - Allocates: the input, a name for a new file, and for a moment as much as the stack may take.
+//! - Allocates: the input, the name of a new file, and briefly as much as the stack may take.
 //! - Callers: any command; `system` is for programs alone.
 //!
 //! `Host` is the trait by which a command reads and writes files, `SystemHost` in `system` the one
@@ -16,7 +16,6 @@
 
 mod answer;
 mod error;
-mod escaped;
 mod host;
 mod limits;
 mod source;
@@ -24,8 +23,7 @@ mod system;
 
 pub use answer::{Answer, finish, refuse, status_after};
 pub use error::{Refusal, SourceFault, SourceRefusal};
-pub use escaped::Escaped;
 pub use host::{Access, FlashFault, Host, Replaced};
 pub use limits::{MOST_FILE, MOST_JSON, MOST_SCRIPT, MOST_TABLE};
-pub use source::{STANDARD_INPUT, Source};
+pub use source::Source;
 pub use system::{Output, STANDARD_ERROR, STANDARD_OUTPUT, SystemHost, reserve_stack};

@@ -5,15 +5,12 @@ ghost use Rattle.host.specs.Input.{Gives, IsNamed, KeepsFiles, KeepsOthers};
 ghost use Rattle.host.specs.Status.{status_of_refusal};
 
 use crate::error::{Refusal, SourceFault, SourceRefusal};
-use crate::escaped::Escaped;
 use crate::host::Host;
 use crate::limits::MOST_FILE;
+use common::texts::{Escaped, STANDARD_INPUT};
 use std::alloc::Global;
 use std::io::ErrorKind;
 use std::{fmt, io};
-
-/// The word that names standard input.
-pub const STANDARD_INPUT: &str = "-";
 
 /// What a command reads.
 #[derive(Clone, Copy)]

@@ -192,27 +192,45 @@ fn is_swapped_to<R: Files<File = File>>(
 /// Whether device mapper or the like holds the device, its disk or a part of it.
 fn is_held<R: Files>(runtime: &R, alloc: Global, device: Device) -> io::Result<bool> {
     let own = path_of(alloc, device.number, "")?;
-    if has_holders(runtime, alloc, own.as_str(), "")? {
-        return Ok(true);
-    }
-    if let Some(disk) = device.disk {
-        let disk = path_of(alloc, disk, "")?;
-        if has_holders(runtime, alloc, disk.as_str(), "")? {
-            return Ok(true);
-        }
-    }
-    for name in names_in(runtime, alloc, own.as_str())?.split(|byte| *byte == 0) {
-        let Ok(name) = str::from_utf8(name) else {
-            continue;
-        };
-        let part = format!(in alloc; "{own}{name}/partition")?;
-        if fs::metadata(runtime, part.as_str()).is_ok()
-            && has_holders(runtime, alloc, own.as_str(), name)?
-        {
+    Ok(
+        has_holders(runtime, alloc, own.as_str(), "")?
+            || is_disk_held(runtime, alloc, device.disk)?
+            || is_part_held(runtime, alloc, own.as_str())?,
+    )
+}
+
+/// Whether something holds this disk.
+fn is_disk_held<R: Files>(runtime: &R, alloc: Global, disk: Option<Number>) -> io::Result<bool> {
+    let Some(disk) = disk else {
+        return Ok(false);
+    };
+    let folder = path_of(alloc, disk, "")?;
+    has_holders(runtime, alloc, folder.as_str(), "")
+}
+
+/// Whether something holds a part of the device that has this folder.
+fn is_part_held<R: Files>(runtime: &R, alloc: Global, folder: &str) -> io::Result<bool> {
+    let names = names_in(runtime, alloc, folder)?;
+    for name in names.split(|byte| *byte == 0) {
+        if is_held_part(runtime, alloc, folder, name)? {
             return Ok(true);
         }
     }
     Ok(false)
+}
+
+/// Whether this name in the folder of a device is a part of it that something holds.
+fn is_held_part<R: Files>(
+    runtime: &R,
+    alloc: Global,
+    folder: &str,
+    name: &[u8],
+) -> io::Result<bool> {
+    let Ok(name) = str::from_utf8(name) else {
+        return Ok(false);
+    };
+    let number = format!(in alloc; "{folder}{name}/partition")?;
+    Ok(fs::metadata(runtime, number.as_str()).is_ok() && has_holders(runtime, alloc, folder, name)?)
 }
 
 /// Whether something holds what has this folder, or the part of it that has this name.

@@ -1,6 +1,9 @@
-//! Texts from outside, safe to print in one line.
+//! Texts from outside: the name of standard input, and a text that is safe to print in one line.
 
 use std::fmt;
+
+/// The argument that names standard input.
+pub const STANDARD_INPUT: &str = "-";
 
 /// The most bytes that are printed of a text. No name of a file has more.
 const MOST_PRINTED: usize = 1 << 12;
