@@ -24,7 +24,7 @@ use Rattle.inputs.specs.DeviceInput.{GivesDevice}
 use Rattle.host.specs.Input.{FileBytes, Gives, KeepsFiles, KeepsOthers}
 use Rattle.host.specs.Doings.{IsApartFrom, KeepsApart, KeepsSource}
 use Rattle.host.proofs.InputLaws.{GiveBoth-read, KeepsSource-apart, KeepsSource-kept}
-use Rattle.creating.specs.CopyEnd.{AnswersCopied, AnswersCopy, EndsCopy, IsImageOf}
+use Rattle.creating.specs.CopyEnd.{AnswersCopied, AnswersCopy, CopiesImage, EndsCopy, IsImageOf}
 use Rattle.command_line.specs.declared.orders.NewFile.{NewFile}
 use Rattle.creating.specs.NewFileEnd.{MayReplace, Replaces}
 use Rattle.creating.specs.NewImageEnd.{EndsUnmade}
@@ -116,6 +116,20 @@ copied_replaces Done (copied.Refused fault) file old mid old_out new_out kept ma
 copied_replaces Refused outcome file old mid old_out new_out kept may told = tt
 copied_replaces Cut outcome file old mid old_out new_out kept may told = tt
 
+-- No answer is `Cut` ..
+never_cut : (outcome : Copied) (old new : Option (List ℕ)) → AnswersCopied Cut outcome old new → ⊥
+never_cut copied.Done old new told = cc told.0
+never_cut (copied.Refused fault) old new told = cc told.0
+
+-- .. so what was copied is an answer of `extract`.
+AnswersCopy-of : (answer : Answer) (device flash : Source) (image : ℕ) (side : Side) (input : Option (List ℕ))
+    (files : FileBytes) (held old new : Option (List ℕ)) → CopiesImage answer device flash image side input files held old new
+    → AnswersCopy answer device flash image side input files held old new
+AnswersCopy-of Done device flash image side input files held old new copies = copies
+AnswersCopy-of Refused device flash image side input files held old new copies = inl copies
+AnswersCopy-of Cut device flash image side input files held old new copies =
+    absurd (never_cut copies.outcome old new copies.answered)
+
 -- What was copied, and answered, of a device file and a flash that were read.
 pub copied_image : (answer : Answer) (device flash : Source) (image : ℕ) (side : Side) (input mid_input : Option (List ℕ))
     (files mid_files : FileBytes) (held old mid new : Option (List ℕ)) (of_device : DeviceFile) (bytes : List ℕ)
@@ -124,8 +138,9 @@ pub copied_image : (answer : Answer) (device flash : Source) (image : ℕ) (side
     → IsFlashOf of_device.map bytes → image < of_device.map.images
     → EndsCopy outcome of_device.map (flash_of of_device.map bytes) image side held
     → AnswersCopied answer outcome mid new → AnswersCopy answer device flash image side input files held old new
-copied_image Done device flash image side input mid_input files mid_files held old mid new of_device bytes outcome
-    read same kept gives whole there ends told = record {
+copied_image answer device flash image side input mid_input files mid_files held old mid new of_device bytes outcome
+    read same kept gives whole there ends told =
+    AnswersCopy-of answer device flash image side input files held old new (record {
       device_bytes = read.0;
       of_device = of_device;
       bytes = bytes;
@@ -135,25 +150,8 @@ copied_image Done device flash image side input mid_input files mid_files held o
       is_flash = whole;
       there = there;
       copied = ends;
-      answered = subst (λ before. AnswersCopied Done outcome before new) same told;
-    }
-copied_image Refused device flash image side input mid_input files mid_files held old mid new of_device bytes outcome
-    read same kept gives whole there ends told = inl (record {
-      device_bytes = read.0;
-      of_device = of_device;
-      bytes = bytes;
-      outcome = outcome;
-      given = GiveBoth-read device flash input mid_input files mid_files read.0 bytes read.1 kept gives;
-      is_device = read.2;
-      is_flash = whole;
-      there = there;
-      copied = ends;
-      answered = subst (λ before. AnswersCopied Refused outcome before new) same told;
+      answered = subst (λ before. AnswersCopied answer outcome before new) same told;
     })
-copied_image Cut device flash image side input mid_input files mid_files held old mid new of_device bytes copied.Done
-    read same kept gives whole there ends told = absurd (cc told.0)
-copied_image Cut device flash image side input mid_input files mid_files held old mid new of_device bytes (copied.Refused fault)
-    read same kept gives whole there ends told = absurd (cc told.0)
 
 -- a flush after the answer changes nothing
 copied_kept : (outcome : Copied) (old mid new : Option (List ℕ)) → AnswersCopied Done outcome old mid → Keeps mid new

@@ -20,7 +20,12 @@ use Rattle.inputs.specs.DeviceInput.{RefusesMap}
 use Rattle.host.specs.Input.{FileBytes, GiveBoth, IsKnownAs}
 use Rattle.creating.specs.NewImageEnd.{done_text}
 use Rattle.creating.specs.declared.extract.Copied.{Copied}
+use Rattle.creating.specs.declared.extract.Copying.{Copying}
 use Rattle.creating.specs.declared.extract.Copied.TheVariants as copied
+
+-- The bytes of the slot that is copied.
+abbrev pub slot_to_copy : Copying → SectorMap → Chip → List ℕ
+slot_to_copy copying map chip = slot_bytes map chip copying.image copying.side
 
 -- A slot begins with these bytes, which are an intact image.
 pub record IsImageOf (slot content : List ℕ) : Type 0 where

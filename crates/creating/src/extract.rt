@@ -5,13 +5,12 @@ ghost use Rattle.sector_map.specs.Map.{IsLaidOut};
 ghost use Rattle.device_texts.specs.AnswerText.{refused_text};
 ghost use Rattle.device_texts.specs.FlashOf.{IsFlashOf, flash_of};
 ghost use Rattle.host.specs.Input.{KeepsFiles};
-ghost use Rattle.creating.specs.CopyEnd.{AnswersCopied, AnswersCopy, EndsCopy, IsImageOf};
+ghost use Rattle.creating.specs.CopyEnd.{AnswersCopied, AnswersCopy, EndsCopy, IsImageOf, slot_to_copy};
 ghost use Rattle.host.specs.Doings.{KeepsApart, KeepsSource};
 ghost use Rattle.creating.specs.NewFileEnd.{MayReplace, Replaces};
 ghost use Rattle.creating.specs.NewImageEnd.{EndsUnmade};
 ghost use Rattle.image_reading.specs.Codes.{code_of, name_of};
 ghost use Rattle.image_reading.specs.Fault.{IsFrontFault};
-ghost use Rattle.image_reading.specs.Slot.{slot_bytes};
 
 use crate::image_file::{refuse_input, replace};
 use crate::telling::tell;
@@ -114,7 +113,7 @@ fn copy<L: Ledger, H: Host>(
     ensures opened { H.opened host.new ≡ H.opened host.old }
 {
     let mut flash = flash_of::<L>(alloc, blank, map, bytes);
-    let length = match image_length(&mut flash, map, copying.image, copying.side) {
+    let length = match image_length(&mut flash, map, copying) {
         Ok(length) => length,
         Err(fault) => return Ok(Copied::Refused(fault)),
     };
@@ -123,26 +122,26 @@ fn copy<L: Ledger, H: Host>(
     Ok(Copied::Done)
 }
 
-/// The length of the image that a slot begins with, or the first check that fails. The flash has
-/// power.
+/// The length of the image that the slot to copy begins with, or the first check that fails. The
+/// flash has power.
 fn image_length<F: Flash>(
     flash: &mut F,
     map: &SectorMap,
-    image: u8,
-    side: Side,
+    copying: Copying<'_>,
 ) -> Result<usize, ImageError>
     requires laid_out { IsLaidOut map.now (F.chip flash.old) }
-    requires there { image < map.now.images }
+    requires there { copying.image < map.now.images }
     requires on { (F.chip flash.old).is_on ≡ true }
     ensures same { F.chip flash.new ≡ F.chip flash.old }
-    ensures image { IfOk result (λ long. IsImageOf (slot_bytes map.now (F.chip flash.old) image side)
-        (slice_range (slot_bytes map.now (F.chip flash.old) image side) 0 long)) }
+    ensures image { IfOk result (λ long. IsImageOf
+        (slot_to_copy copying.entry map.now (F.chip flash.old))
+        (slice_range (slot_to_copy copying.entry map.now (F.chip flash.old)) 0 long)) }
     ensures fits { IfOk result (λ long.
-        long ≤ length (slot_bytes map.now (F.chip flash.old) image side)) }
+        long ≤ length (slot_to_copy copying.entry map.now (F.chip flash.old))) }
     ensures fault { IfErr result
-        (IsFrontFault (slot_bytes map.now (F.chip flash.old) image side)) }
+        (IsFrontFault (slot_to_copy copying.entry map.now (F.chip flash.old))) }
 {
-    match describe_slot(flash, map, image, side) {
+    match describe_slot(flash, map, copying.image, copying.side) {
         Ok(description) => Ok(description.length as usize),
         Err(SlotError::Image(fault)) => Err(fault),
         Err(SlotError::Flash(_) | SlotError::NoMemory) => unreachable!(),

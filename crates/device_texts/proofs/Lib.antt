@@ -1,3 +1,4 @@
+pub mod ArmedLaws
 pub mod DeviceLaws
 pub mod ReplyLaws
 pub mod TextLaws

@@ -1,9 +1,11 @@
--- The flash of a device that has given bytes.
-use Rattle.std.specs.Prelude.{◌≡◌, ℕ, ◌*◌, List, length}
+-- The flash of a device that has given bytes, and the writes of it that are to be cut.
+use Rattle.std.specs.Prelude.{◌≡◌, ℕ, ◌*◌, List, length, map}
+use Rattle.flash_model.specs.declared.torn.Armed.{Armed}
 use Rattle.flash_model.specs.Chip.{Chip}
-use Rattle.flash_model.specs.Memory.{new_chip}
+use Rattle.flash_model.specs.Memory.{new_chip, with_armed}
 use Rattle.sector_map.specs.declared.layout.SectorMap.{SectorMap}
 use Rattle.sector_map.specs.Map.{sectors_of}
+use Rattle.device_texts.specs.declared.flash.CutWrite.{CutWrite}
 
 -- The number of bytes is that of the flash of a device.
 abbrev pub IsFlashOf : SectorMap → List ℕ → Type 0
@@ -13,3 +15,15 @@ IsFlashOf map bytes = length bytes ≡ sectors_of map * map.sector_size
 -- no write is to be cut.
 abbrev pub flash_of : SectorMap → List ℕ → Chip
 flash_of map bytes = new_chip map.sector_size (sectors_of map) bytes
+
+-- A write that is to be cut, as a flash in memory is armed with it.
+abbrev pub armed_of : CutWrite → Armed
+armed_of cut = record { at = cut.write; torn = cut.torn }
+
+-- The writes that are to be cut, in order.
+abbrev pub armed_in : List CutWrite → List Armed
+armed_in cuts = map armed_of cuts
+
+-- The flash that has these bytes and is armed with these cuts, counted from its making.
+abbrev pub armed_chip : SectorMap → List ℕ → List Armed → Chip
+armed_chip map bytes cuts = with_armed (flash_of map bytes) cuts

@@ -1,12 +1,12 @@
-//! The flash of a device, in memory.
-ghost use Rattle.std.specs.Prelude.{◌≡◌, ◌≤◌};
-ghost use Rattle.flash_model.specs.Memory.{chip_of};
+//! The flash of a device, in memory, and the writes of it that are cut.
+ghost use Rattle.std.specs.Prelude.{◌≡◌, ◌≤◌, ◌++◌, OnOk};
+ghost use Rattle.flash_model.specs.Memory.{chip_of, with_armed};
 ghost use Rattle.sector_map.specs.Map.{IsLaidOut};
-ghost use Rattle.device_texts.specs.FlashOf.{IsFlashOf, flash_of};
+ghost use Rattle.device_texts.specs.FlashOf.{IsFlashOf, armed_in, flash_of};
 
-use flash_model::MemFlash;
+use flash_model::{MemFlash, Torn};
 use sector_map::SectorMap;
-use std::alloc::Global;
+use std::alloc::{AllocError, Global};
 use std::sync::ledger::{Blank, Ledger};
 
 /// The flash of a device that has these bytes, in memory. It has power, and nothing is armed.
@@ -27,4 +27,31 @@ pub fn flash_of<L: Ledger>(
     ensures laid_out { IsLaidOut map.now (chip_of result) }
 {
     MemFlash::from_bytes(alloc, blank, map.sector_size, bytes)
+}
+
+/// A write of a flash in which power fails.
+#[derive(Drop)]
+pub struct CutWrite {
+    /// The number of the write, from 1.
+    pub write: u32,
+    /// What the write leaves.
+    pub torn: Torn,
+}
+
+/// Arms a flash with these cuts, after those that it is armed with already. The flash took no write
+/// yet.
+///
+/// # Errors
+/// `AllocError` if memory is refused.
+pub fn arm_all<L: Ledger>(flash: &mut MemFlash<L>, cuts: Vec<CutWrite>) -> Result<(), AllocError>
+    requires { (chip_of flash.old).writes ≡ 0 }
+    ensures chip { chip_of flash.new
+        ≡ with_armed (chip_of flash.old) (chip_of flash.new).fixed.armed }
+    ensures armed { OnOk result ((chip_of flash.new).fixed.armed
+        ≡ (chip_of flash.old).fixed.armed ++ armed_in cuts.items) }
+{
+    for cut in cuts {
+        flash.arm(u64::from(cut.write), cut.torn)?;
+    }
+    Ok(())
 }

@@ -14,7 +14,7 @@ mod replies;
 mod writing;
 
 pub use device::{DeviceFault, DeviceFile};
-pub use flash::flash_of;
+pub use flash::{CutWrite, arm_all, flash_of};
 pub use refusals::{map_refusal_text, refused_text};
 pub use replies::{Members, refused_fault_text, reply_text};
 pub use writing::write_all;

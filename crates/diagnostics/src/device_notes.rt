@@ -1,6 +1,6 @@
 //! What is wrong with a device file.
 
-use crate::json_notes::{Key, Wanted, add_value, explain_keys, explain_text};
+use crate::json_notes::{Key, Object, Wanted, add_value, explain_count, explain_text};
 use common::limits::{MOST_IMAGES, MOST_TRIAL_BOOTS};
 use manifest::json::{array, json_of, number, number_of};
 use sector_map::MapError;
@@ -28,7 +28,12 @@ pub fn explain_device(notes: &mut String, alloc: Global, bytes: &[u8]) -> Result
 
 /// Adds why a JSON value is no device file.
 fn explain_value(notes: &mut String, alloc: Global, value: &Value) -> Result<(), AllocError> {
-    explain_keys(notes, alloc, "the device file", value, KEYS.as_slice())?;
+    let file = Object {
+        name: "the device file",
+        value,
+        keys: KEYS.as_slice(),
+    };
+    file.explain(notes, alloc)?;
     explain_sectors(notes, alloc, value)?;
     explain_trial_boots(notes, value)
 }
@@ -130,7 +135,7 @@ fn explain_sizes(
                 "note: `{name}` is {sector}, and a sector has 512 to 131072 bytes, a multiple of 64"
             )
         }
-        MapError::BadCount => explain_count(notes, names.sectors, sectors),
+        MapError::BadCount => explain_images(notes, names.sectors, sectors),
         MapError::TrailerFull => explain_trailers(notes, sector, sectors),
         MapError::TooLarge => notes.push_str(
             "note: all slots, the scratch and the log together have 4294967295 bytes at most\n",
@@ -139,14 +144,8 @@ fn explain_sizes(
 }
 
 /// Adds that there are too few or too many images, or which image has no sectors.
-fn explain_count(notes: &mut String, name: &str, sectors: &[u32]) -> Result<(), AllocError> {
-    let count = sectors.len();
-    if count == 0 || count > MOST_IMAGES {
-        writeln!(
-            notes,
-            "note: `{name}` has {count} entries, one an image, and there are 1 to {MOST_IMAGES}"
-        )?;
-    }
+fn explain_images(notes: &mut String, name: &str, sectors: &[u32]) -> Result<(), AllocError> {
+    explain_count(notes, name, sectors.len(), ", one an image", MOST_IMAGES)?;
     for (image, sectors) in sectors.iter().enumerate() {
         if *sectors == 0 {
             writeln!(

@@ -82,42 +82,62 @@ pub fn explain_text(notes: &mut String, alloc: Global, bytes: &[u8]) -> Result<(
     }
 }
 
-/// Adds the keys that are missing in an object, the keys that aren't known, and the keys with a
-/// wrong value. `owner` is the name of the object in the notes.
-pub fn explain_keys(
-    notes: &mut String,
-    alloc: Global,
-    owner: &str,
-    value: &Value,
-    keys: &[Key],
-) -> Result<(), AllocError> {
-    let Some(members) = value.as_object() else {
-        return writeln!(notes, "note: {owner} is no object in braces");
-    };
-    explain_missing(notes, owner, value, keys)?;
-    for name in members.keys() {
-        if !is_known(name, keys) {
-            let shown = Shown(name.as_bytes());
-            writeln!(notes, "note: {owner} has `{shown}`, which isn't known")?;
-        }
-    }
-    explain_values(notes, alloc, owner, value, keys)
+/// An object to check.
+#[derive(Clone, Copy)]
+pub struct Object<'a> {
+    /// Its name in the notes.
+    pub name: &'a str,
+    /// The object, if the value is one.
+    pub value: &'a Value,
+    /// The keys that it may have.
+    pub keys: &'a [Key],
 }
 
-/// Adds the keys that are missing in an object.
-fn explain_missing(
-    notes: &mut String,
-    owner: &str,
-    value: &Value,
-    keys: &[Key],
-) -> Result<(), AllocError> {
-    for key in keys {
-        if key.is_missing(value) {
-            let name = key.name();
-            writeln!(notes, "note: {owner} has no `{name}`")?;
+impl Object<'_> {
+    /// Adds the keys that are missing, the keys that aren't known, and the keys with a wrong value.
+    pub fn explain(self, notes: &mut String, alloc: Global) -> Result<(), AllocError> {
+        let owner = self.name;
+        let Some(members) = self.value.as_object() else {
+            return writeln!(notes, "note: {owner} is no object in braces");
+        };
+        self.explain_missing(notes)?;
+        for name in members.keys() {
+            if !is_known(name, self.keys) {
+                let shown = Shown(name.as_bytes());
+                writeln!(notes, "note: {owner} has `{shown}`, which isn't known")?;
+            }
         }
+        self.explain_values(notes, alloc)
     }
-    Ok(())
+
+    /// Adds the keys that are missing.
+    fn explain_missing(self, notes: &mut String) -> Result<(), AllocError> {
+        let owner = self.name;
+        for key in self.keys {
+            if key.is_missing(self.value) {
+                let name = key.name();
+                writeln!(notes, "note: {owner} has no `{name}`")?;
+            }
+        }
+        Ok(())
+    }
+
+    /// Adds the keys that have a wrong value.
+    fn explain_values(self, notes: &mut String, alloc: Global) -> Result<(), AllocError> {
+        let owner = self.name;
+        for key in self.keys {
+            let name = key.name();
+            if let Some(found) = self.value.get(name)
+                && !key.wanted().is_met(self.value, name)
+            {
+                let wanted = key.wanted().name();
+                write!(notes, "note: `{name}` of {owner} is ")?;
+                add_value(notes, alloc, found)?;
+                writeln!(notes, ", and has to be {wanted}")?;
+            }
+        }
+        Ok(())
+    }
 }
 
 /// Whether a key is one of these.
@@ -130,26 +150,22 @@ fn is_known(name: &str, keys: &[Key]) -> bool {
     false
 }
 
-/// Adds the keys of an object that have a wrong value.
-fn explain_values(
+/// Adds that a list has too few or too many entries, if so. `name` is its name, and `each` what an
+/// entry is for, if that is said.
+pub fn explain_count(
     notes: &mut String,
-    alloc: Global,
-    owner: &str,
-    value: &Value,
-    keys: &[Key],
+    name: &str,
+    count: usize,
+    each: &str,
+    most: usize,
 ) -> Result<(), AllocError> {
-    for key in keys {
-        let name = key.name();
-        if let Some(found) = value.get(name)
-            && !key.wanted().is_met(value, name)
-        {
-            let wanted = key.wanted().name();
-            write!(notes, "note: `{name}` of {owner} is ")?;
-            add_value(notes, alloc, found)?;
-            writeln!(notes, ", and has to be {wanted}")?;
-        }
+    if (1..=most).contains(&count) {
+        return Ok(());
     }
-    Ok(())
+    writeln!(
+        notes,
+        "note: `{name}` has {count} entries{each}, and there are 1 to {most}"
+    )
 }
 
 /// Adds a value as JSON.

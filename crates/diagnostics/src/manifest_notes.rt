@@ -1,6 +1,6 @@
 //! What is wrong with a manifest.
 
-use crate::json_notes::{Key, Wanted, explain_keys, explain_text};
+use crate::json_notes::{Key, Object, Wanted, explain_count, explain_text};
 use manifest::json::{array, json_of, number, uuid};
 use manifest::{Identity, MOST_COMPONENTS};
 use serde_json::Value;
@@ -47,7 +47,12 @@ fn explain_value(
     value: &Value,
     identity: &Identity,
 ) -> Result<(), AllocError> {
-    explain_keys(notes, alloc, "the manifest", value, KEYS.as_slice())?;
+    let manifest = Object {
+        name: "the manifest",
+        value,
+        keys: KEYS.as_slice(),
+    };
+    manifest.explain(notes, alloc)?;
     explain_version(notes, value)?;
     explain_identifier(notes, value, "vendor-id", identity.vendor)?;
     explain_identifier(notes, value, "class-id", identity.class)?;
@@ -92,13 +97,7 @@ fn explain_components(
     components: &[Value],
     images: u8,
 ) -> Result<(), AllocError> {
-    let count = components.len();
-    if count == 0 || count > MOST_COMPONENTS {
-        writeln!(
-            notes,
-            "note: `components` has {count} entries, and there are 1 to {MOST_COMPONENTS}"
-        )?;
-    }
+    explain_count(notes, "components", components.len(), "", MOST_COMPONENTS)?;
     for (place, component) in components.iter().enumerate() {
         let before = components.get(..place).unwrap_or_default();
         explain_component(notes, alloc, before, component, images)?;
@@ -116,7 +115,12 @@ fn explain_component(
 ) -> Result<(), AllocError> {
     let place = before.len();
     let owner = format!(in alloc; "entry {place} of `components`")?;
-    explain_keys(notes, alloc, &owner, component, COMPONENT_KEYS.as_slice())?;
+    let object = Object {
+        name: &owner,
+        value: component,
+        keys: COMPONENT_KEYS.as_slice(),
+    };
+    object.explain(notes, alloc)?;
     explain_image_of(notes, &owner, before, component, images)
 }
 

@@ -1,6 +1,6 @@
 //! Dependencies that a set of images doesn't meet.
 
-use crate::versions::{Versions, is_taken};
+use crate::versions::{NEEDS, NEEDS_ONE, Versions, is_taken};
 use certificate::{Entry, Request, Table};
 use std::alloc::AllocError;
 use version_order::Version;
@@ -20,14 +20,13 @@ pub fn explain_set(notes: &mut String, table: &Table, taken: u8) -> Result<(), A
             Request::Entry(entry) if is_taken(taken, number) => entry,
             _ => &image.running,
         };
-        explain_dependencies(notes, &versions, number, entry)?;
-        explain_groups(notes, &versions, number, entry)?;
+        explain_entry(notes, &versions, number, entry)?;
     }
     Ok(())
 }
 
-/// Adds the dependencies of an image that versions don't meet.
-fn explain_dependencies(
+/// Adds the dependencies and the groups of an image that versions don't meet.
+fn explain_entry(
     notes: &mut String,
     versions: &Versions,
     number: usize,
@@ -36,23 +35,13 @@ fn explain_dependencies(
     for need in entry.dependencies.iter() {
         if !versions.meet(need) {
             add_owner(notes, number, entry.version)?;
-            versions.explain_need(notes, need, false)?;
+            versions.explain_needs(notes, NEEDS, [*need].as_slice(), false)?;
         }
     }
-    Ok(())
-}
-
-/// Adds the groups of an image that versions don't meet.
-fn explain_groups(
-    notes: &mut String,
-    versions: &Versions,
-    number: usize,
-    entry: &Entry,
-) -> Result<(), AllocError> {
     for group in entry.groups.iter() {
         if !versions.meet_one(group) {
             add_owner(notes, number, entry.version)?;
-            versions.explain_group(notes, group, false)?;
+            versions.explain_needs(notes, NEEDS_ONE, group.alternatives.as_slice(), false)?;
         }
     }
     Ok(())

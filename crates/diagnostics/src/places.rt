@@ -30,6 +30,25 @@ pub fn line_at(text: &[u8], number: usize) -> Option<Place<'_>> {
     None
 }
 
+/// Adds the contents of the first wrong line of a text of this kind, which has this number, counted
+/// from 1, and begins the list of what is allowed there. Returns the lines before it. If the text
+/// has no such line, adds `empty`.
+pub fn add_wrong_line<'t>(
+    notes: &mut String,
+    kind: &str,
+    text: &'t [u8],
+    number: usize,
+    empty: &str,
+) -> Result<Option<&'t [u8]>, AllocError> {
+    let Some(place) = line_at(text, number) else {
+        notes.push_str(empty)?;
+        return Ok(None);
+    };
+    add_line(notes, kind, number, place.line)?;
+    notes.push_str("note: here may stand")?;
+    Ok(Some(place.before))
+}
+
 /// Adds the contents of a line, of a text of this kind.
 pub fn add_line(
     notes: &mut String,

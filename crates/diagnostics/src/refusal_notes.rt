@@ -1,7 +1,7 @@
 //! Why requests are refused.
 
 use crate::needs_notes::add_owner;
-use crate::versions::Versions;
+use crate::versions::{NEEDS, NEEDS_ONE, Versions};
 use certificate::{Entry, Image, Reason, Refusal, Report, Request, Table};
 use std::alloc::AllocError;
 use version_order::Dependency;
@@ -79,8 +79,13 @@ fn add_reason(
                 image: *number,
                 minimum: *minimum,
             };
-            best.explain_need(notes, &need, true)
+            best.explain_needs(notes, NEEDS, [need].as_slice(), true)
         }
-        Reason::NeedsOne(group) => best.explain_group(notes, group, true),
+        Reason::NeedsOne(group) => best.explain_needs(
+            notes,
+            NEEDS_ONE,
+            group.alternatives.as_slice(),
+            true,
+        ),
     }
 }

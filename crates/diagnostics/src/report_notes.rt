@@ -1,10 +1,14 @@
 //! The first wrong line of a report.
 
-use crate::places::{add_line, line_at};
+use crate::places::add_wrong_line;
 use crate::table_notes::WORDS;
 use certificate::{MOST_REFUSALS, Report};
 use common::limits::MOST_IMAGES;
 use std::alloc::AllocError;
+
+/// What is said of a report without lines.
+const EMPTY: &str =
+    "note: the report is empty; it begins with `run 0 VERSION` or `take 0 VERSION`\n";
 
 /// What may follow `refuse I`.
 const REASONS: &str =
@@ -19,14 +23,10 @@ pub fn explain_report_line(
     text: &[u8],
     number: usize,
 ) -> Result<(), AllocError> {
-    let Some(place) = line_at(text, number) else {
-        return notes.push_str(
-            "note: the report is empty; it begins with `run 0 VERSION` or `take 0 VERSION`\n",
-        );
+    let Some(before) = add_wrong_line(notes, "report", text, number, EMPTY)? else {
+        return Ok(());
     };
-    add_line(notes, "report", number, place.line)?;
-    let before = Report::parse(place.before).unwrap_or_default();
-    notes.push_str("note: here may stand")?;
+    let before = Report::parse(before).unwrap_or_default();
     add_choices(notes, &before)?;
     if !before.images.is_empty() {
         notes.push_str(REASONS)?;

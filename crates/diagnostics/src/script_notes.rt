@@ -4,11 +4,9 @@ use crate::places::{add_line, line_at};
 use crate::shown::Shown;
 use common::ascii::{cut, number, number_u8};
 use common::lines::first_line;
+use common::texts::STANDARD_INPUT;
 use script::{Event, FileText, Line, PartText, line_of};
 use std::alloc::AllocError;
-
-/// The name of standard input.
-const STANDARD_INPUT: &str = "-";
 
 /// What follows the first word of a line.
 #[derive(Clone, Copy)]

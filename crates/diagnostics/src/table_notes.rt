@@ -1,6 +1,6 @@
 //! The first wrong line of a table.
 
-use crate::places::{add_line, line_at};
+use crate::places::add_wrong_line;
 use certificate::{Entry, Request, Table};
 use common::limits::{MOST_DEPENDENCIES, MOST_GROUPS, MOST_IMAGES};
 use std::alloc::AllocError;
@@ -11,6 +11,9 @@ pub const WORDS: &str =
 note: decimal, without leading zeros; one space parts two words
 ";
 
+/// What is said of a table without lines.
+const EMPTY: &str = "note: the table is empty; it begins with `image 0 VERSION COUNTER FLOOR`\n";
+
 /// Adds the contents of the line of this number, counted from 1, which is the first wrong one, and
 /// what is allowed there.
 pub fn explain_table_line(
@@ -18,14 +21,10 @@ pub fn explain_table_line(
     text: &[u8],
     number: usize,
 ) -> Result<(), AllocError> {
-    let Some(place) = line_at(text, number) else {
-        return notes.push_str(
-            "note: the table is empty; it begins with `image 0 VERSION COUNTER FLOOR`\n",
-        );
+    let Some(before) = add_wrong_line(notes, "table", text, number, EMPTY)? else {
+        return Ok(());
     };
-    add_line(notes, "table", number, place.line)?;
-    let before = Table::parse(place.before).unwrap_or_default();
-    notes.push_str("note: here may stand")?;
+    let before = Table::parse(before).unwrap_or_default();
     add_choices(notes, &before)?;
     notes.push_str(WORDS)
 }

@@ -5,6 +5,12 @@ use common::limits::MOST_IMAGES;
 use std::alloc::AllocError;
 use version_order::{Dependency, Group, Version};
 
+/// The words for a dependency.
+pub const NEEDS: &str = "needs";
+
+/// The words for a group.
+pub const NEEDS_ONE: &str = "needs one of these:";
+
 /// A version for each image of a device. There is none if the device has no such image.
 #[derive(Clone, Copy, Default)]
 pub struct Versions([Option<Version>; MOST_IMAGES]);
@@ -69,27 +75,17 @@ impl Versions {
         false
     }
 
-    /// Ends a sentence on the version of an image by a dependency of it, and the version there.
-    pub fn explain_need(
+    /// Ends a sentence on the version of an image by what it needs of these dependencies, in the
+    /// words of `needs`, and the versions there.
+    pub fn explain_needs(
         &self,
         notes: &mut String,
-        need: &Dependency,
+        needs: &str,
+        dependencies: &[Dependency],
         is_hope: bool,
     ) -> Result<(), AllocError> {
-        notes.push_str("needs")?;
-        self.add_need(notes, need, is_hope)?;
-        notes.push_str("\n")
-    }
-
-    /// Ends a sentence on the version of an image by a group of it, and the versions there.
-    pub fn explain_group(
-        &self,
-        notes: &mut String,
-        group: &Group,
-        is_hope: bool,
-    ) -> Result<(), AllocError> {
-        notes.push_str("needs one of these:")?;
-        for (place, need) in group.alternatives.iter().enumerate() {
+        notes.push_str(needs)?;
+        for (place, need) in dependencies.iter().enumerate() {
             if place > 0 {
                 notes.push_str(";")?;
             }

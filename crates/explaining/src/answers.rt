@@ -8,7 +8,7 @@ use crate::new_files::{explain_new_device, explain_new_image, explain_new_manife
 use crate::order_sources::OrderSources;
 use crate::remembering::Remembering;
 use crate::slots::explain_slot;
-use command_line::Order;
+use command_line::{DeviceOrder, Order, ReadOrder};
 use device_texts::{DeviceFault, DeviceFile};
 use diagnostics::{explain_manifest, explain_map, explain_running};
 use host::Host;
@@ -29,11 +29,13 @@ pub fn explain_answer<H: Host>(
         return explain_map(notes, alloc, device, fault);
     }
     match order {
-        Order::Check { .. } => explain_verdict(notes, sources, host),
-        Order::Image { .. } => explain_bytes(notes, host.bytes_of(sources.described)),
+        Order::Read(ReadOrder::Check { .. }) => explain_verdict(notes, sources, host),
+        Order::Read(ReadOrder::Image { .. }) => {
+            explain_bytes(notes, host.bytes_of(sources.described))
+        }
         Order::MakeDevice { device } => explain_new_device(notes, device),
         Order::MakeImage { values, .. } => explain_new_image(notes, values),
-        Order::Provision { images, .. } | Order::Sweep { images, .. } => {
+        Order::Device(DeviceOrder::Provision { images, .. }) | Order::Sweep { images, .. } => {
             explain_files(notes, images.as_slice(), host)
         }
         _ => match DeviceFile::read(alloc, device) {
@@ -54,7 +56,7 @@ fn explain_device_answer<H: Host>(
     let sources = OrderSources::of(order);
     let (map, flash) = (&device.map, host.bytes_of(sources.flash));
     match order {
-        Order::Manifest { .. } => {
+        Order::Read(ReadOrder::Manifest { .. }) => {
             let manifest = host.bytes_of(sources.described);
             explain_manifest(notes, alloc, manifest, &device.identity)
         }
@@ -62,13 +64,13 @@ fn explain_device_answer<H: Host>(
             explain_new_manifest(notes, device, manifest, flash)
         }
         Order::Extract { image, side, .. } => explain_slot(notes, map, flash, *image, *side),
-        Order::Show { .. } => explain_no_state(notes),
-        Order::Slots { .. } => match flash_state(alloc, map, flash)? {
+        Order::Read(ReadOrder::Show { .. }) => explain_no_state(notes),
+        Order::Read(ReadOrder::Slots { .. }) => match flash_state(alloc, map, flash)? {
             FlashState::NoState => explain_no_state(notes),
             FlashState::AtRest(table) => explain_running(notes, &table),
             FlashState::NoTable => explain_damaged(notes, map, flash),
         },
-        Order::Run { .. } => match flash_state(alloc, map, flash)? {
+        Order::Device(DeviceOrder::Run { .. }) => match flash_state(alloc, map, flash)? {
             FlashState::AtRest(table) => explain_running(notes, &table),
             _ => Ok(()),
         },

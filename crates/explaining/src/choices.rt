@@ -5,7 +5,7 @@ use crate::order_sources::OrderSources;
 use crate::remembering::Remembering;
 use certificate::{Report, Table, is_valid};
 use chooser::choose;
-use command_line::Order;
+use command_line::{Order, ReadOrder};
 use device_texts::DeviceFile;
 use diagnostics::{explain_no, explain_refusals};
 use host::Host;
@@ -21,8 +21,8 @@ pub fn explain_choice<H: Host>(
 ) -> Result<(), AllocError> {
     let sources = OrderSources::of(order);
     let table = match order {
-        Order::Choose { .. } => Table::parse(host.bytes_of(sources.table)).ok(),
-        Order::Slots { .. } => table_of_flash(alloc, sources, host)?,
+        Order::Read(ReadOrder::Choose { .. }) => Table::parse(host.bytes_of(sources.table)).ok(),
+        Order::Read(ReadOrder::Slots { .. }) => table_of_flash(alloc, sources, host)?,
         _ => None,
     };
     match table {

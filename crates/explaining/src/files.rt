@@ -3,7 +3,7 @@
 use crate::order_sources::OrderSources;
 use crate::remembering::Remembering;
 use crate::scripts::explain_place;
-use command_line::Order;
+use command_line::{DeviceOrder, Order};
 use host::{Host, Source, SourceFault, SourceRefusal};
 use std::alloc::AllocError;
 
@@ -83,7 +83,7 @@ pub fn explain_flash<H: Host>(
     host: &Remembering<H>,
 ) -> Result<(), AllocError> {
     match order {
-        Order::Run { flash, .. } if is_read_only(host) => {
+        Order::Device(DeviceOrder::Run { flash, .. }) if is_read_only(host) => {
             let file = Source::File(flash);
             writeln!(
                 notes,
@@ -91,7 +91,7 @@ pub fn explain_flash<H: Host>(
                  system, allow only reading"
             )
         }
-        Order::Run { flash, .. } | Order::Provision { flash, .. } => {
+        Order::Device(DeviceOrder::Run { flash, .. } | DeviceOrder::Provision { flash, .. }) => {
             explain_error(notes, Source::named(flash), host)
         }
         _ => Ok(()),

@@ -1,9 +1,8 @@
-//! What `--explain` adds to a command: why its answer is as it is, in lines `note: ..` on standard
-//! error.
+//! The notes of `--explain`, which say on standard error why a command answers so.
 //!
 //! - Promises: A host that remembers what is read gives what the host below it gives.
 //! - Main calls: `Remembering` as a `Host`
-//! - Allocates: what was read, once more, and the text.
+//! - Allocates: a copy of what was read, and the text.
 //! - Callers: `boot_cli`
 //!
 //! A command is run over a host that remembers what was read ([`Remembering`]), and once it has

@@ -1,6 +1,6 @@
 //! The files that an order names, by what they are to the command.
 
-use command_line::Order;
+use command_line::{DeviceOrder, Order, ReadOrder};
 use host::Source;
 
 /// The sources that an order reads, as far as notes are about them.
@@ -25,40 +25,39 @@ impl<'a> OrderSources<'a> {
     pub fn of(order: &Order<'a>) -> Self {
         let mut sources = OrderSources::default();
         match order {
-            Order::Choose { table } => sources.table = named(table),
-            Order::Check { table, report } => {
-                sources.table = named(table);
-                sources.report = named(report);
-            }
-            Order::Image { file } => sources.described = named(file),
+            Order::Read(order) => sources.add_read(order),
+            Order::Device(order) => sources.add_run(order),
             _ => sources.add_device(order),
         }
         sources
     }
 
-    /// Adds the sources of an order that names a device file.
-    fn add_device(&mut self, order: &Order<'a>) {
+    /// Adds the sources of an order to read.
+    fn add_read(&mut self, order: &ReadOrder<'a>) {
         match order {
-            Order::Provision { device, .. } => self.device = named(device),
-            Order::Manifest { device, file } => {
+            ReadOrder::Choose { table } => self.table = named(table),
+            ReadOrder::Check { table, report } => {
+                self.table = named(table);
+                self.report = named(report);
+            }
+            ReadOrder::Image { file } => self.described = named(file),
+            ReadOrder::Manifest { device, file } => {
                 self.device = named(device);
                 self.described = named(file);
             }
-            Order::MakeManifest { device, manifest } => {
-                self.device = named(device);
-                self.flash = manifest.precursor.map(Source::named);
-            }
-            Order::Show { device, flash }
-            | Order::Slots { device, flash }
-            | Order::Extract { device, flash, .. } => {
+            ReadOrder::Show { device, flash } | ReadOrder::Slots { device, flash } => {
                 self.device = named(device);
                 self.flash = named(flash);
             }
-            Order::Sweep { device, script, .. } => {
-                self.device = named(device);
-                self.script = named(script);
-            }
-            Order::Run {
+            _ => {}
+        }
+    }
+
+    /// Adds the sources of an order to make a flash, or to run a device on one.
+    fn add_run(&mut self, order: &DeviceOrder<'a>) {
+        match order {
+            DeviceOrder::Provision { device, .. } => self.device = named(device),
+            DeviceOrder::Run {
                 device,
                 flash,
                 script,
@@ -66,6 +65,24 @@ impl<'a> OrderSources<'a> {
             } => {
                 self.device = named(device);
                 self.flash = named(flash);
+                self.script = named(script);
+            }
+        }
+    }
+
+    /// Adds the sources of another order that names a device file.
+    fn add_device(&mut self, order: &Order<'a>) {
+        match order {
+            Order::MakeManifest { device, manifest } => {
+                self.device = named(device);
+                self.flash = manifest.precursor.map(Source::named);
+            }
+            Order::Extract { device, flash, .. } => {
+                self.device = named(device);
+                self.flash = named(flash);
+            }
+            Order::Sweep { device, script, .. } => {
+                self.device = named(device);
                 self.script = named(script);
             }
             _ => {}
@@ -80,11 +97,9 @@ fn named(word: &str) -> Option<Source<'_>> {
 /// The name of the flash of an order.
 pub fn flash_name<'a>(order: &Order<'a>) -> Option<&'a str> {
     match order {
-        Order::Provision { flash, .. }
-        | Order::Extract { flash, .. }
-        | Order::Show { flash, .. }
-        | Order::Slots { flash, .. }
-        | Order::Run { flash, .. } => Some(*flash),
+        Order::Device(DeviceOrder::Provision { flash, .. } | DeviceOrder::Run { flash, .. })
+        | Order::Read(ReadOrder::Show { flash, .. } | ReadOrder::Slots { flash, .. })
+        | Order::Extract { flash, .. } => Some(*flash),
         Order::MakeManifest { manifest, .. } => manifest.precursor,
         _ => None,
     }

@@ -28,10 +28,11 @@ use Rattle.host.specs.declared.source.Source.{Source}
 use Rattle.host.specs.declared.source.Source.TheVariants.{StandardInput, File}
 use Rattle.host.specs.Input.{FileBytes, Gives, IsKnownAs, IsKnownPart, IsNamed, KeepsFiles, KeepsOthers}
 use Rattle.script.proofs.LineLaws.{one_line}
-use Rattle.inputs.specs.declared.checking.CutWrite.{CutWrite}
+use Rattle.device_texts.specs.FlashOf.{armed_in, armed_of}
+use Rattle.device_texts.specs.declared.flash.CutWrite.{CutWrite}
 use Rattle.inputs.specs.declared.checking.BufferedInput.{BufferedInput}
 use Rattle.inputs.specs.declared.lines.Lines.{Lines}
-use Rattle.inputs.specs.Loading.{AddsCut, AreCutsOf, AreBuffered, Loads, LoadsAll, LoadsFirst, FirstCome, IsInputPiece, IsBuffered, IsNextLine, KeepsBuffered, Passes, ReadsNow, armed_in, armed_of, came_in, came_of}
+use Rattle.inputs.specs.Loading.{AddsCut, AreCutsOf, AreBuffered, Loads, LoadsAll, LoadsFirst, FirstCome, IsInputPiece, IsBuffered, IsNextLine, KeepsBuffered, Passes, ReadsNow, came_in, came_of}
 use Rattle.inputs.specs.Script.{AllCome, AllCut, Comes, IsCutBy, IsRead, IsScript, Known, ReadsFile, StaysKnown, known_after}
 use Rattle.host.proofs.InputLaws.{Gives-kept}
 use Rattle.host.proofs.InputLaws.{kept_itself, kept_twice}

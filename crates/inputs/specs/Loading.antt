@@ -14,7 +14,6 @@ use Rattle.script.specs.InOrder.{AreInOrder, CanFollow}
 use Rattle.script.specs.LineText.{IsLineText}
 use Rattle.script.specs.Said.{PartWords, Said, SaidEvent, SaidFile, said, said_file}
 use Rattle.script.specs.Said as say
-use Rattle.inputs.specs.declared.checking.CutWrite.{CutWrite}
 use Rattle.inputs.specs.declared.checking.BufferedInput.{BufferedInput}
 use Rattle.inputs.specs.declared.lines.Lines.{Lines}
 use Rattle.host.specs.Doings.{AreApart}
@@ -28,14 +27,6 @@ came_of read = event_map (λ bytes. bytes.items) read
 -- The events that come, in order.
 abbrev pub came_in : {A : Type 0} → List (Event (Vec ℕ A)) → List (Event (List ℕ))
 came_in events = map came_of events
-
--- A write that a script cuts, as a flash in memory is armed with it.
-abbrev pub armed_of : CutWrite → Armed
-armed_of cut = record { at = cut.write; torn = cut.torn }
-
--- The writes that a script cuts, in order.
-abbrev pub armed_in : List CutWrite → List Armed
-armed_in cuts = map armed_of cuts
 
 -- What is known of a host passes from one state of it to another, and this is said of it.
 abbrev pub Passes : (Known → Known → Type 0) → Option (List ℕ) → FileBytes

@@ -3,26 +3,18 @@ ghost use Rattle.std.specs.Prelude.{◌≡◌, ◌++◌, ◌∷◌, [], IfOk, On
 ghost use Rattle.std.specs.Option.{option_map};
 ghost use Rattle.common.specs.Event.{event_map};
 ghost use Rattle.script.specs.Said.{part_words, said, said_file, said_torn};
+ghost use Rattle.device_texts.specs.FlashOf.{armed_in, armed_of};
 ghost use Rattle.host.specs.Input.{KeepsFiles};
-ghost use Rattle.inputs.specs.Loading.{AddsCut, AreBuffered, AreCutsOf, BuffersIfNeeded, CanBeReadAgain, IsInputPiece, KeepsBuffered, armed_in, armed_of, file_in};
+ghost use Rattle.inputs.specs.Loading.{AddsCut, AreBuffered, AreCutsOf, BuffersIfNeeded, CanBeReadAgain, IsInputPiece, KeepsBuffered, file_in};
 ghost use Rattle.inputs.specs.Script.{IsCutBy};
 
 use crate::lines::Lines;
 use crate::sources::{part_of, piece_of};
 use common::event::Event;
-use flash_model::Torn;
+use device_texts::CutWrite;
 use host::{Host, MOST_FILE, Refusal, Source};
 use script::{FileText, Line, TornText};
 use std::alloc::Global;
-
-/// A write of the flash in which a script has power fail.
-#[derive(Drop)]
-pub struct CutWrite {
-    /// The number of the write, from 1.
-    pub write: u32,
-    /// What the write leaves.
-    pub torn: Torn,
-}
 
 /// The bytes that a line names of an input that can't be read twice: standard input, a file that
 /// isn't a plain one, or the file of the flash, which changes.

@@ -1,5 +1,5 @@
 //! Reads a device file, and the bytes of a device's flash.
-ghost use Rattle.std.specs.Prelude.{◌≡◌, IfErr, IfOk, OnOk};
+ghost use Rattle.std.specs.Prelude.{◌≡◌, IfErr, IfOk, IsTrue, OnOk};
 ghost use Rattle.std.specs.Io.KnownBytes.{Appends, Keeps};
 ghost use Rattle.device_texts.specs.AnswerText.{map_refusal_text};
 ghost use Rattle.device_texts.specs.FlashOf.{IsFlashOf};
@@ -61,7 +61,7 @@ fn tell_map<O: Write>(alloc: Global, fault: MapError, out: &mut O) -> Result<(),
 
 /// Reads the bytes of a device's flash from `host` into memory of `alloc`: exactly the number that
 /// the map says. If the flash is a file, it is opened for `access` and locked until the program
-/// ends.
+/// ends. For [`Access::WriteDurably`] the file and its name are on the medium before this returns.
 pub fn read_flash<H: Host>(
     alloc: Global,
     flash: Source<'_>,
@@ -79,6 +79,7 @@ pub fn read_flash<H: Host>(
         OpensFlash access flash.entry (H.opened host.old) (H.opened host.new)) }
     ensures to_read { access ≡ Access.Read
         → (H.opened host.new).to_write ≡ (H.opened host.old).to_write }
+    ensures sure { access ≡ Access.WriteDurably → OnOk result (IsTrue (H.synced host.new)) }
 {
     let bytes = match flash {
         Source::StandardInput => flash.read_start(alloc, host, map.bytes_in_all())?,
@@ -86,6 +87,9 @@ pub fn read_flash<H: Host>(
     };
     if bytes.len() != map.bytes_in_all() as usize {
         return Err(Refusal::FlashSize);
+    }
+    if access == Access::WriteDurably && host.sync_flash().is_err() {
+        return Err(Refusal::FlashFile);
     }
     Ok(bytes)
 }

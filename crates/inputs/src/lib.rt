@@ -1,5 +1,5 @@
-//! What a command on a device reads: the device file, the flash, and the script with the files that
-//! its lines name.
+//! Reads the inputs of commands on a device: device file, flash, script, and the files that its
+//! lines name.
 //!
 //! - Promises: The device is that of the bytes of its file, and its flash has the size that the
 //!   file says. A script that passes its check has exactly the cuts and the events that its lines
@@ -24,7 +24,7 @@ mod resting_table;
 mod run_notes;
 mod sources;
 
-pub use checking::{BufferedInput, CheckedScript, CutWrite, check_script};
+pub use checking::{BufferedInput, CheckedScript, check_script};
 pub use device_input::{read_device, read_flash};
 pub use file_flash::FileFlash;
 pub use flash_file::FlashFile;

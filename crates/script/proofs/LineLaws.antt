@@ -105,21 +105,21 @@ said_of-piece : (fields : List ℕ)
 unfolding said_of event_at cut
 said_of-piece fields = refl
 
-said_of-finish : (fields : List ℕ)
-    → said_of (codes "finish" ␣ fields)
-    ≡ option_map (λ happened. Event happened) (option_and_then (λ i. Some (event.Finish i)) (number_below (2 ^ 8) fields))
+-- A line that begins with this word is an event of the image that its fields name.
+abbrev ReadsImage : List ℕ → Type 0
+ReadsImage word = (fields : List ℕ)
+    → said_of (word ␣ fields)
+    ≡ option_map (λ happened. Event happened) (option_and_then (image_event word) (number_below (2 ^ 8) fields))
+
+said_of-finish : ReadsImage (codes "finish")
 unfolding said_of event_at cut
 said_of-finish fields = refl
 
-said_of-withdraw : (fields : List ℕ)
-    → said_of (codes "withdraw" ␣ fields)
-    ≡ option_map (λ happened. Event happened) (option_and_then (λ i. Some (event.Withdraw i)) (number_below (2 ^ 8) fields))
+said_of-withdraw : ReadsImage (codes "withdraw")
 unfolding said_of event_at cut
 said_of-withdraw fields = refl
 
-said_of-confirm : (fields : List ℕ)
-    → said_of (codes "confirm" ␣ fields)
-    ≡ option_map (λ happened. Event happened) (option_and_then (λ i. Some (event.Confirm i)) (number_below (2 ^ 8) fields))
+said_of-confirm : ReadsImage (codes "confirm")
 unfolding said_of event_at cut
 said_of-confirm fields = refl
 

@@ -7,19 +7,17 @@ use Rattle.common.proofs.Mapped.{AllZip-push}
 use Rattle.common.specs.declared.event.Event.{Event}
 use Rattle.common.specs.declared.event.Event.TheVariants as event
 use Rattle.common.specs.Event.{event_map}
-use Rattle.flash_model.specs.declared.torn.Armed.{Armed}
-use Rattle.flash_model.specs.declared.torn.Torn.{Torn}
-use Rattle.flash_model.specs.Chip.{Chip, Fixed}
-use Rattle.flash_model.specs.Memory.{armed_with, with_armed}
+use Rattle.flash_model.specs.Chip.{Chip}
 use Rattle.sector_map.specs.declared.layout.SectorMap.{SectorMap}
 use Rattle.version_order.specs.declared.version.Version.{Version}
 use Rattle.machine.specs.Holding.{DeviceView}
 use Rattle.machine.specs.Intake.{Setup}
 use Rattle.machine.specs.Steps.{DeviceEvent}
 use Rattle.machine.specs.declared.reply.Reply.{Reply}
-use Rattle.device_texts.specs.FlashOf.{flash_of}
+use Rattle.device_texts.specs.FlashOf.{armed_in, armed_of}
+use Rattle.device_texts.specs.declared.flash.CutWrite.{CutWrite}
 use Rattle.device_texts.proofs.TextLaws.{range-more}
-use Rattle.sweep.specs.Cuts.{AreArmedFor, ArmsAll, IsArmedFor, IsTorn}
+use Rattle.sweep.specs.Cuts.{AreArmedFor, IsArmedFor, IsTorn}
 use Rattle.sweep.specs.declared.cuts.Cut.{Cut}
 use Rattle.sweep.proofs.CutRuns.{runs_join, runs_more, runs_none, runs_one}
 use Rattle.sweep.specs.Scenario.{HasVersion, RunsEvents, RunsEvent, Reboots, RunsCut, StepsCut, held_in, borrowed_in, with_boots}
@@ -141,34 +139,16 @@ events_more setup same old mid new all i read happened before below is lent stay
 
 -- ---- cuts
 
-abbrev with_fixed : Chip → Fixed → Chip
-with_fixed chip fixed = record chip { fixed = fixed }
-
-pub arms_none : (chip : Chip) → chip.fixed ≡ armed_with chip.fixed.armed chip.fixed → ArmsAll [] chip chip
-arms_none chip known = record {
-  armed = [];
-  are_armed = tt;
-  chip = ap (λ fixed. with_fixed chip fixed) known ∙ ap (λ all. with_armed chip all) (sym (append-nil chip.fixed.armed));
-}
-
-pub arms_more : (all : List Cut) (i : ℕ) (cut : Cut) (at : ℕ) (torn : Torn) (old mid new : Chip) → i < length all
-    → cut ≡ get_or all i cut → ArmsAll (take i all) old mid → at ≡ cut.write → IsTorn cut.tear torn
-    → new ≡ with_armed mid new.fixed.armed
-    → new.fixed.armed ≡ mid.fixed.armed ++ record { at = at; torn = torn } ∷ []
-    → ArmsAll (take (i + 1) all) old new
-arms_more all i cut at torn old mid new below is before number leaves same armed =
-    let one : Armed = record { at = at; torn = torn } in
-    record {
-      armed = before.armed ++ one ∷ [];
-      are_armed = subst (λ cuts. AreArmedFor cuts (before.armed ++ one ∷ []))
-          (sym (take_more all i cut below ∙ ap (λ c. take i all ++ c ∷ []) (sym is)))
-          (AllZip-push IsArmedFor (take i all) before.armed cut one before.are_armed
-          (record { number = number; leaves = leaves }));
-      chip = same ∙ ap (λ all. with_armed mid all)
-          (armed ∙ ap (λ chip. chip.fixed.armed ++ one ∷ []) before.chip
-          ∙ append_assoc old.fixed.armed before.armed (one ∷ []))
-          ∙ ap (λ chip. with_armed chip (old.fixed.armed ++ (before.armed ++ one ∷ []))) before.chip;
-    }
+-- a write more is armed for a cut
+pub armed_for-more : (all : List Cut) (i : ℕ) (cut : Cut) (writes : List CutWrite) (one : CutWrite) → i < length all
+    → cut ≡ get_or all i cut → AreArmedFor (take i all) (armed_in writes) → one.write ≡ cut.write
+    → IsTorn cut.tear one.torn → AreArmedFor (take (i + 1) all) (armed_in (writes ++ one ∷ []))
+armed_for-more all i cut writes one below is before number leaves =
+    let armed : IsArmedFor cut (armed_of one) = record { number = number; leaves = leaves } in
+    subst (λ cuts. AreArmedFor cuts (armed_in (writes ++ one ∷ [])))
+    (sym (take_more all i cut below ∙ ap (λ c. take i all ++ c ∷ []) (sym is)))
+    (subst (AreArmedFor (take i all ++ cut ∷ [])) (sym (map-append armed_of writes (one ∷ [])))
+    (AllZip-push IsArmedFor (take i all) (armed_in writes) cut (armed_of one) before armed))
 
 -- ---- what runs
 
@@ -178,11 +158,3 @@ pub versions_more : (map : SectorMap) (chip : Chip) (image : ℕ) (versions : Li
 versions_more map chip image versions version before has =
     subst (λ images. AllZip (HasVersion map chip) images (versions ++ version ∷ [])) (sym (range-more image))
     (AllZip-push (HasVersion map chip) (range_with_len 0 image) versions image version before has)
-
--- ---- a whole run
-
--- the flash that is made, once its cuts are armed
-pub armed_flash : (old new : Chip) (map : SectorMap) (bytes : List ℕ) (cuts : List Cut) → old ≡ flash_of map bytes
-    → (arms : ArmsAll cuts old new) → new ≡ with_armed (flash_of map bytes) arms.armed
-armed_flash old new map bytes cuts made arms =
-    arms.chip ∙ ap (λ chip. with_armed chip (chip.fixed.armed ++ arms.armed)) made

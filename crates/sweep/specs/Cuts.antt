@@ -1,11 +1,9 @@
--- What the cuts of a sweep leave, and the flash that is armed with them.
-use Rattle.std.specs.Prelude.{◌≡◌, ℕ, List, [], ◌∷◌, ◌++◌}
+-- What the cuts of a sweep leave, and the writes that are armed for them.
+use Rattle.std.specs.Prelude.{◌≡◌, ℕ, List, [], ◌∷◌}
 use Rattle.std.specs.List.{AllZip}
 use Rattle.flash_model.specs.declared.torn.Armed.{Armed}
 use Rattle.flash_model.specs.declared.torn.Torn.{Torn}
 use Rattle.flash_model.specs.declared.torn.Torn.TheVariants as torn
-use Rattle.flash_model.specs.Chip.{Chip}
-use Rattle.flash_model.specs.Memory.{with_armed}
 use Rattle.trailer.specs.Fields.{good_magic}
 use Rattle.sweep.specs.declared.cuts.Cut.{Cut}
 use Rattle.sweep.specs.declared.cuts.Tear.{Tear}
@@ -35,9 +33,3 @@ pub record IsArmedFor (cut : Cut) (armed : Armed) : Type 0 where
 -- Writes are armed for cuts, each for one.
 abbrev pub AreArmedFor : List Cut → List Armed → Type 0
 AreArmedFor cuts armed = AllZip IsArmedFor cuts armed
-
--- A call arms these writes of a flash, after those that were armed before.
-pub record ArmsAll (cuts : List Cut) (old new : Chip) : Type 0 where
-  pub armed : List Armed
-  pub are_armed : AreArmedFor cuts armed
-  pub chip : new ≡ with_armed old (old.fixed.armed ++ armed)

@@ -1,8 +1,10 @@
 //! The writes that are cut in a run, and the bytes that the cuts leave.
 
 ghost use Rattle.std.specs.Prelude.{IfOk};
-ghost use Rattle.sweep.specs.Cuts.{IsCopies, IsTorn};
+ghost use Rattle.device_texts.specs.FlashOf.{armed_in};
+ghost use Rattle.sweep.specs.Cuts.{AreArmedFor, IsCopies, IsTorn};
 
+use device_texts::CutWrite;
 use flash_model::Torn;
 use std::alloc::{AllocError, Global};
 use std::fmt;
@@ -81,6 +83,23 @@ pub struct Cut {
     pub write: u32,
     /// What the cut leaves.
     pub tear: Tear,
+}
+
+/// The same writes, in the form in which a flash in memory is armed with them. What they leave is in
+/// memory of `alloc`.
+///
+/// # Errors
+/// `AllocError` if that memory is refused.
+pub fn cut_writes(alloc: Global, cuts: &[Cut]) -> Result<Vec<CutWrite>, AllocError>
+    ensures { IfOk result (λ writes. AreArmedFor cuts.now (armed_in writes.items)) }
+{
+    let mut writes = Vec::new(alloc);
+    for cut in cuts {
+        let write = cut.write;
+        let torn = cut.tear.torn(alloc)?;
+        writes.push(CutWrite { write, torn })?;
+    }
+    Ok(writes)
 }
 
 /// The writes that are cut in a run.

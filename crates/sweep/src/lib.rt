@@ -1,5 +1,4 @@
-//! A script, run once for each write of the flash and each way to tear that write, and what becomes
-//! of it.
+//! Runs a script once for each write of the flash and each way to tear it, and counts the results.
 //!
 //! - Promises: Each run of a sweep is a run of the machine over whole images, with exactly the
 //!   writes cut that are asked for. The versions that are reported to run at its end are those in

@@ -1,18 +1,16 @@
 //! One run of a scenario, with some writes of the flash cut.
 
 ghost use Rattle.std.specs.Prelude.{◌≡◌, IfOk, true};
-ghost use Rattle.flash_model.specs.Memory.{chip_of};
-ghost use Rattle.sweep.specs.Cuts.{ArmsAll};
 ghost use Rattle.sweep.specs.Scenario.{IsScenarioRun, Reboots, RunsEvent, RunsEvents, StepsCut, all_of, held_in};
 
-use crate::cuts::Cut;
+use crate::cuts::{Cut, cut_writes};
 use crate::device::device_over;
 use crate::notes::{Notes, ScenarioEnd};
 use crate::running::running_versions;
 use crate::scenario::Scenario;
 use boot_core::{Device, step};
 use common::event::Event;
-use device_texts::flash_of;
+use device_texts::{arm_all, flash_of};
 use flash_model::MemFlash;
 use machine::Reply;
 use std::alloc::{AllocError, Global};
@@ -48,7 +46,7 @@ fn run_on_flash<L: Ledger>(
 {
     let bytes = Vec::from_slice(alloc, scenario.bytes)?;
     let mut flash = flash_of::<L>(alloc, blank, &scenario.device.map, bytes);
-    arm_all(alloc, &mut flash, cuts)?;
+    arm_all(&mut flash, cut_writes(alloc, cuts)?)?;
     let mut device = device_over(flash, scenario.device);
     let notes = run_all_events(alloc, &mut device, scenario, cuts.len())?;
     let mut flash = device.into_flash();
@@ -58,22 +56,6 @@ fn run_on_flash<L: Ledger>(
         cut: notes.cut,
         is_refused: notes.is_refused,
     })
-}
-
-/// Arms cuts for these writes of a flash, which has taken no write yet.
-fn arm_all<L: Ledger>(
-    alloc: Global,
-    flash: &mut MemFlash<L>,
-    cuts: &[Cut],
-) -> Result<(), AllocError>
-    requires { (chip_of flash.old).writes ≡ 0 }
-    ensures { IfOk result (λ _. ArmsAll cuts.now (chip_of flash.old) (chip_of flash.new)) }
-{
-    for cut in cuts {
-        let torn = cut.tear.torn(alloc)?;
-        flash.arm(u64::from(cut.write), torn)?;
-    }
-    Ok(())
 }
 
 /// Passes all events of a scenario to a device whose flash has power, in order. After each event in

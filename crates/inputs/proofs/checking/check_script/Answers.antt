@@ -1,6 +1,7 @@
 use Rattle.std.proofs.Common.{◌∙◌, eqb-true, refl, subst, sym}
 use Rattle.host.proofs.InputLaws.{KeepsFiles-itself, KeepsFiles-twice, kept_itself}
-use Rattle.inputs.specs.Loading.{AreBuffered, armed_in}
+use Rattle.device_texts.specs.FlashOf.{armed_in}
+use Rattle.inputs.specs.Loading.{AreBuffered}
 use Rattle.inputs.proofs.ScriptLaws.{AreCutsOf-all, CutSoFar, CutSoFar-more, CutSoFar-none}
 use Rattle.inputs.proofs.checking.check_script.Goals as goal
 

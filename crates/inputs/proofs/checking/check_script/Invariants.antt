@@ -1,7 +1,8 @@
 use Rattle.std.proofs.Common.{◌≡◌, false, length}
 use Rattle.std.specs.Io.KnownBytes.{Keeps}
 use Rattle.host.specs.Input.{KeepsFiles}
-use Rattle.inputs.specs.Loading.{AreBuffered, armed_in}
+use Rattle.device_texts.specs.FlashOf.{armed_in}
+use Rattle.inputs.specs.Loading.{AreBuffered}
 use Rattle.inputs.proofs.ScriptLaws.{CutSoFar}
 use Rattle.inputs.proofs.checking.check_script.Given as goal
 

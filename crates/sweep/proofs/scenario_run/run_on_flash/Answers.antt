@@ -1,6 +1,7 @@
 use Rattle.std.proofs.Common.{◌∙◌, ap}
 use Rattle.flash_model.specs.Chip.{Chip}
-use Rattle.sweep.proofs.ScenarioLaws.{armed_flash}
+use Rattle.device_texts.specs.FlashOf.{armed_in}
+use Rattle.device_texts.proofs.ArmedLaws.{armed-chip}
 use Rattle.sweep.proofs.scenario_run.run_on_flash.Goals as goal
 
 -- The flash took no write yet.
@@ -10,16 +11,17 @@ arm_all-requires g c = ap (λ (chip : Chip). chip.writes) c.flash_of-flash.ensur
 -- The device was made over the armed flash, and took all events.
 pub returns : goal.returns
 returns g c =
-    let arms = c.in_ok-arm_all.ensures in
+    let armed = armed_in c.in_ok-cut_writes.field-0.items in
     let made = c.device_over-device.ensures in
-    let over = made.flash ∙ armed_flash _ _ c.args.scenario.now.device.now.map c.args.scenario.now.bytes.now c.args.cuts.now
-    (rw c.in_ok-bytes.ensures.items at c.flash_of-flash.ensures.chip) arms in
+    let over = made.flash ∙ armed-chip _ _ c.args.scenario.now.device.now.map c.args.scenario.now.bytes.now armed
+    (rw c.in_ok-bytes.ensures.items at c.flash_of-flash.ensures.chip) c.arm_all.ensures.chip
+    c.in_ok-arm_all.ensures.armed in
     let runs = rw made.setup at c.in_ok-notes.ensures.runs in
     record {
-      armed = arms.armed;
+      armed = armed;
       old = c.device_over-device.result.here;
       new = c.run_all_events.new.device.here;
-      are_armed = arms.are_armed;
+      are_armed = c.in_ok-cut_writes.ensures;
       flash = over;
       down = made.down;
       closed = made.closed;
