@@ -4,13 +4,11 @@ use Rattle.std.specs.Prelude.{IfOk}
 use Rattle.std.specs.Io.KnownBytes.{Keeps}
 use Rattle.command_line.specs.declared.orders.Order.{Order}
 use Rattle.command_line.specs.declared.orders.Order.TheVariants as order
-use Rattle.command_line.specs.declared.device_orders.DeviceOrder.TheVariants as device_order
 use Rattle.host.specs.declared.answer.Answer.{Answer}
 use Rattle.host.specs.declared.answer.Answer.TheVariants.{Done}
 use Rattle.host.specs.declared.error.Refusal.{Refusal}
 use Rattle.host.specs.Status.{Ends}
 use Rattle.host.specs.Input.{FileBytes}
-use Rattle.inspecting.specs.ReadingEnd.{AnswersReading}
 use Rattle.inspecting.proofs.ReadingLaws.{AnswersReading-kept}
 use Rattle.device_commands.proofs.KeptLaws.{AnswersCore-kept}
 use Rattle.device_commands.proofs.WordsLaws.{only_cut}
@@ -20,25 +18,6 @@ use Rattle.creating.proofs.CopyLaws.{AnswersCopy-kept}
 use Rattle.creating.proofs.NewDeviceLaws.{AnswersNewDevice-kept}
 use Rattle.creating.proofs.NewImageLaws.{AnswersNewImage-kept}
 use Rattle.creating.proofs.NewManifestEnds.{AnswersNewManifest-kept}
-
--- an answer to an order to read is the answer to the order
-pub AnswersOrder-reading : (answer : Answer) (asked : Order) (input : Option (List ℕ)) (file then : FileBytes)
-    (old new : Option (List ℕ)) → AnswersReading answer asked input file old new
-    → AnswersOrder answer asked input file then old new
-AnswersOrder-reading answer (order.Choose table) input file then old new answered = answered
-AnswersOrder-reading answer (order.Check table report) input file then old new answered = answered
-AnswersOrder-reading answer (order.Image image) input file then old new answered = answered
-AnswersOrder-reading answer (order.Manifest device named) input file then old new answered = answered
-AnswersOrder-reading answer (order.Show device flash) input file then old new answered = answered
-AnswersOrder-reading answer (order.Slots device flash) input file then old new answered = answered
-AnswersOrder-reading answer order.Codes input file then old new answered = answered
-AnswersOrder-reading answer (order.Provision device flash images) input file then old new answered = absurd answered
-AnswersOrder-reading answer (order.Run device flash script durable) input file then old new answered = absurd answered
-AnswersOrder-reading answer (order.MakeDevice device) input file then old new answered = absurd answered
-AnswersOrder-reading answer (order.MakeImage image body values) input file then old new answered = absurd answered
-AnswersOrder-reading answer (order.MakeManifest device manifest) input file then old new answered = absurd answered
-AnswersOrder-reading answer (order.Extract device flash image side out) input file then old new answered = absurd answered
-AnswersOrder-reading answer (order.Sweep device script images choices) input file then old new answered = absurd answered
 
 pub AnswersOrder-kept : (asked : Order) (input : Option (List ℕ)) (file then : FileBytes)
     (old mid new : Option (List ℕ))
@@ -63,24 +42,10 @@ AnswersOrder-kept (order.Extract device flash image side out) input file then ol
 )
 AnswersOrder-kept (order.Sweep device script images choices) input file then old mid new answered kept =
     (answered.0, answered.1, answered.2, answered.3, answered.4)
-AnswersOrder-kept (order.Choose table) input file then old mid new answered kept =
-    AnswersReading-kept (order.Choose table) input file old mid new answered kept
-AnswersOrder-kept (order.Check table report) input file then old mid new answered kept =
-    AnswersReading-kept (order.Check table report) input file old mid new answered kept
-AnswersOrder-kept (order.Image image) input file then old mid new answered kept =
-    AnswersReading-kept (order.Image image) input file old mid new answered kept
-AnswersOrder-kept (order.Manifest device named) input file then old mid new answered kept =
-    AnswersReading-kept (order.Manifest device named) input file old mid new answered kept
-AnswersOrder-kept (order.Provision device flash images) input file then old mid new answered kept =
-    AnswersCore-kept (device_order.Provision device flash images) input file then old mid new answered kept
-AnswersOrder-kept (order.Run device flash script durable) input file then old mid new answered kept =
-    AnswersCore-kept (device_order.Run device flash script durable) input file then old mid new answered kept
-AnswersOrder-kept (order.Show device flash) input file then old mid new answered kept =
-    AnswersReading-kept (order.Show device flash) input file old mid new answered kept
-AnswersOrder-kept (order.Slots device flash) input file then old mid new answered kept =
-    AnswersReading-kept (order.Slots device flash) input file old mid new answered kept
-AnswersOrder-kept order.Codes input file then old mid new answered kept =
-    AnswersReading-kept order.Codes input file old mid new answered kept
+AnswersOrder-kept (order.Device asked) input file then old mid new answered kept =
+    AnswersCore-kept asked input file then old mid new answered kept
+AnswersOrder-kept (order.Read asked) input file then old mid new answered kept =
+    AnswersReading-kept asked input file old mid new answered kept
 
 -- A command that answered ends with status 0 only after `Done`, with the output that was written
 -- before the flush ..

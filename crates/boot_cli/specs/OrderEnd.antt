@@ -2,7 +2,6 @@
 use Rattle.std.specs.Prelude.{ℕ, List, Option}
 use Rattle.command_line.specs.declared.orders.Order.{Order}
 use Rattle.command_line.specs.declared.orders.Order.TheVariants as order
-use Rattle.command_line.specs.declared.device_orders.DeviceOrder.TheVariants as device_order
 use Rattle.host.specs.declared.answer.Answer.{Answer}
 use Rattle.host.specs.declared.source.Source.{Source}
 use Rattle.host.specs.Input.{AreNamed, FileBytes, IsNamed}
@@ -36,11 +35,10 @@ AnswersOrder answer (order.Sweep device script images choices) input file then o
     (one other : Source) × AreNamed device.now script.now one other
     × AnswersSweep answer one other input file old new
     × KeepsInputs one other images.items choices.picture file then
-AnswersOrder answer (order.Provision device flash images) input file then old new =
-    AnswersCore answer (device_order.Provision device flash images) input file then old new
-AnswersOrder answer (order.Run device flash script durable) input file then old new =
-    AnswersCore answer (device_order.Run device flash script durable) input file then old new
-AnswersOrder answer asked input file then old new = AnswersReading answer asked input file old new
+AnswersOrder answer (order.Device asked) input file then old new =
+    AnswersCore answer asked input file then old new
+AnswersOrder answer (order.Read asked) input file then old new =
+    AnswersReading answer asked input file old new
 
 -- `sweep` keeps what it reads, whatever its answer. This says nothing of other orders.
 abbrev pub KeepsSwept : Order → FileBytes → FileBytes → Type 0

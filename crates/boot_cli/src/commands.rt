@@ -3,12 +3,11 @@ ghost use Rattle.std.specs.Prelude.{IfOk};
 ghost use Rattle.boot_cli.specs.OrderEnd.{AnswersOrder, KeepsSwept};
 
 use crate::sweeping::{Named, run_sweep};
-use command_line::{DeviceOrder, Order};
+use command_line::Order;
 use creating::extract::{Copying, run_extract};
 use creating::make_device::run_make_device;
 use creating::make_image::run_make_image;
 use creating::make_manifest::run_make_manifest;
-use device_commands::provision::run_provision;
 use device_commands::run_device_order;
 use host::{Answer, Host, Refusal, Source};
 use inputs::NoNotes;
@@ -34,6 +33,7 @@ pub fn run_command<H: Host, O: Write, E: Write>(
     ensures swept { KeepsSwept order.now (H.file host.old) (H.file host.new) }
 {
     match *order {
+        Order::Read(order) => run_inspection(alloc, order, host, out),
         Order::MakeDevice { ref device } => run_make_device(alloc, device, out, err),
         Order::MakeImage {
             image,
@@ -44,6 +44,7 @@ pub fn run_command<H: Host, O: Write, E: Write>(
             device,
             ref manifest,
         } => run_make_manifest(alloc, Source::named(device), manifest, host, out, err),
+        Order::Device(ref order) => run_device_order(alloc, order, host, out, &mut NoNotes),
         Order::Extract {
             device,
             flash,
@@ -59,57 +60,14 @@ pub fn run_command<H: Host, O: Write, E: Write>(
             let (device, flash) = (Source::named(device), Source::named(flash));
             run_extract(alloc, device, flash, copying, host, out)
         }
-        _ => run_other_command(alloc, order, host, out, err),
-    }
-}
-
-/// Runs the command of an order that makes no device file, image or manifest.
-fn run_other_command<H: Host, O: Write, E: Write>(
-    alloc: Global,
-    order: &Order<'_>,
-    host: &mut H,
-    out: &mut O,
-    err: &mut E,
-) -> Result<Answer, Refusal>
-    ensures answers { IfOk result (λ answer. AnswersOrder answer order.now
-        (H.input host.old) (H.file host.old) (H.file host.new)
-        (O.contents out.old) (O.contents out.new)) }
-    ensures swept { KeepsSwept order.now (H.file host.old) (H.file host.new) }
-{
-    match *order {
         Order::Sweep {
             device,
             script,
             ref images,
             choices,
         } => {
-            let named = Named {
-                device: Source::named(device),
-                script: Source::named(script),
-                images,
-                choices,
-            };
+            let named = Named::of(device, script, images, choices);
             run_sweep(alloc, named, host, out, err)
         }
-        Order::Provision {
-            device,
-            flash,
-            ref images,
-        } => run_provision(alloc, Source::named(device), flash, images, host, out),
-        Order::Run {
-            device,
-            flash,
-            script,
-            durable,
-        } => {
-            let asked = DeviceOrder::Run {
-                device,
-                flash,
-                script,
-                durable,
-            };
-            run_device_order(alloc, &asked, host, out, &mut NoNotes)
-        }
-        _ => run_inspection(alloc, order, host, out),
     }
 }

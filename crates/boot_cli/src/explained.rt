@@ -5,7 +5,7 @@ ghost use Rattle.boot_cli.specs.WordsEnd.{EndsByCut};
 
 use crate::commands::run_command;
 use crate::until_failed::UntilFailed;
-use command_line::{DeviceOrder, Order};
+use command_line::Order;
 use core::mem::replace_with;
 use device_commands::run_device_order;
 use explaining::{Remembering, ReplyNotes, explain_end};
@@ -90,7 +90,7 @@ fn run_remembering<'o, H: Host, O: Write, E: Write>(
     (host.host, Explained { out, status })
 }
 
-/// Runs the command of an order. If it is `run`, notes on its replies go to `err`.
+/// Runs the command of an order. Notes on the replies of `run` go to `err`.
 fn run_noted<H: Host, O: Write, E: Write>(
     alloc: Global,
     order: &Order<'_>,
@@ -103,19 +103,8 @@ fn run_noted<H: Host, O: Write, E: Write>(
         (O.contents out.old) (O.contents out.new)) }
 {
     match *order {
-        Order::Run {
-            device,
-            flash,
-            script,
-            durable,
-        } => {
-            let asked = DeviceOrder::Run {
-                device,
-                flash,
-                script,
-                durable,
-            };
-            run_device_order(alloc, &asked, host, out, &mut ReplyNotes::new(alloc, err))
+        Order::Device(ref order) => {
+            run_device_order(alloc, order, host, out, &mut ReplyNotes::new(alloc, err))
         }
         _ => run_command(alloc, order, host, out, err),
     }

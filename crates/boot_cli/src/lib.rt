@@ -22,8 +22,10 @@ mod sweeping;
 mod until_failed;
 mod words;
 
-pub use command_line::{Order, OrderError, Request, order, request};
+pub use command_line::{Order, OrderError, ReadOrder, Request, order, request};
 pub use host::{Access, Answer, FlashFault, Host, Refusal, Replaced};
-pub use inspecting::{ChooseEnd, check_over, choose_over, describe_over, show_over, tell_over};
+pub use inspecting::{
+    ChooseEnd, FlashText, check_over, choose_over, describe_over, flash_text_over, tell_over,
+};
 pub use program::{cli, run_order};
 pub use words::note_reading;

@@ -3,7 +3,7 @@ ghost use Rattle.std.specs.Prelude.{◌≡◌, ◌≤◌, IfErr, IfOk, IfSome, L
 ghost use Rattle.device_texts.specs.DeviceFile.{IsOfFile};
 ghost use Rattle.device_texts.specs.FlashOf.{IsFlashOf};
 ghost use Rattle.host.specs.Doings.{IsApartFrom, KeepsApart};
-ghost use Rattle.host.specs.Input.{IsKnownAs, KeepsFiles};
+ghost use Rattle.host.specs.Input.{IsKnownAs, IsNamed, KeepsFiles};
 ghost use Rattle.host.specs.Status.{status_of_answer};
 ghost use Rattle.script.specs.Said.{said};
 ghost use Rattle.boot_cli.specs.SweepEnd.{AnswersSweep, IsNamedBy, IsNoInput, IsOther, KeepsBesides, KeepsInputs, KeepsRead, SaysFile};
@@ -35,6 +35,27 @@ pub struct Named<'a, 'w> {
     pub images: &'w [&'a str],
     /// What is tried and made.
     pub choices: SweepChoices<'a>,
+}
+
+impl<'a, 'w> Named<'a, 'w> {
+    /// What these arguments name.
+    pub fn of(
+        device: &'a str,
+        script: &'a str,
+        images: &'w [&'a str],
+        choices: SweepChoices<'a>,
+    ) -> Self
+        ensures device { IsNamed device.entry.now result.device }
+        ensures script { IsNamed script.entry.now result.script }
+        ensures rest { (result.images ≡ images.entry) × (result.choices ≡ choices.entry) }
+    {
+        Named {
+            device: Source::named(device),
+            script: Source::named(script),
+            images,
+            choices,
+        }
+    }
 }
 
 /// A script that was read.

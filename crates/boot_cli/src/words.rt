@@ -3,8 +3,8 @@ ghost use Rattle.std.specs.Prelude.{IfErr, IfOk, map};
 ghost use Rattle.command_line.specs.OrderFaults.{IsRefusal};
 ghost use Rattle.boot_cli.specs.WordsEnd.{AskFor};
 
-use command_line::{Order, OrderError, Request, request};
-use host::STANDARD_INPUT;
+use command_line::{Order, OrderError, ReadOrder, Request, request};
+use common::texts::STANDARD_INPUT;
 use std::alloc::Global;
 use std::convert::AsStr;
 use std::io::Write;
@@ -23,9 +23,9 @@ pub fn request_in<'a, S: AsStr>(alloc: Global, words: &'a [S]) -> Result<Request
 {
     if words.len() <= 1 {
         return Ok(Request {
-            order: Order::Choose {
+            order: Order::Read(ReadOrder::Choose {
                 table: STANDARD_INPUT,
-            },
+            }),
             is_explained: false,
         });
     }

@@ -1,10 +1,8 @@
 pub mod Aliases
 pub mod ComponentLaws
-pub mod DeviceLaws
 pub mod Folds
+pub mod Found
 pub mod Names
 pub mod NeedLaws
-pub mod OrderNames
-pub mod OrderRefusals
+pub mod OrderLaws
 pub mod Program
-pub mod Refusals

@@ -3,34 +3,22 @@ use Rattle.std.proofs.Common.{◌≡◌, ◌&&◌, Bool, ap, false, not, refl, t
 use Rattle.std.specs.Prelude.{fold}
 use Rattle.std.specs.Str.{bytes_eq}
 use Rattle.clap.specs.Words.{Text}
-use Rattle.command_line.specs.Commands.{shape_for}
+use Rattle.command_line.specs.Commands.{name_for}
 use Rattle.command_line.specs.declared.commands.TheConstants.{SUBCOMMANDS}
 use Rattle.command_line.specs.declared.commands.Subcommand.{Subcommand}
 use Rattle.command_line.specs.declared.commands.Subcommand.TheVariants as sub
 
 -- the subcommands before had other names, and so has this one
 abbrev pub is_other : Text → Bool → Subcommand → Bool
-is_other name before one = before && not (bytes_eq (shape_for one).name name)
+is_other name before one = before && not (bytes_eq (name_for one) name)
 
--- the name of a subcommand is no other
-has_no_other : (one : Subcommand) → fold (is_other (shape_for one).name) true SUBCOMMANDS ≡ false
-has_no_other sub.Choose = refl
-has_no_other sub.Check = refl
-has_no_other sub.Image = refl
-has_no_other sub.Manifest = refl
-has_no_other sub.MakeDevice = refl
-has_no_other sub.MakeImage = refl
-has_no_other sub.MakeManifest = refl
-has_no_other sub.Provision = refl
-has_no_other sub.Extract = refl
-has_no_other sub.Show = refl
-has_no_other sub.Slots = refl
-has_no_other sub.Run = refl
-has_no_other sub.Sweep = refl
+-- the name of a subcommand is no other: each case computes
+has_no_other : (one : Subcommand) → fold (is_other (name_for one)) true SUBCOMMANDS ≡ false
 has_no_other sub.Codes = refl
+has_no_other _ = refl
 
 -- A name that no subcommand in the list has is that of none.
 pub none_named : (name : Text) (one : Subcommand) → true ≡ fold (is_other name) true SUBCOMMANDS
-    → name ≡ (shape_for one).name → ⊥
+    → name ≡ name_for one → ⊥
 none_named name one others same =
     absurd (cc (others, ap (λ (n : Text). fold (is_other n) true SUBCOMMANDS) same, has_no_other one))

@@ -1,5 +1,5 @@
 -- The program's subcommands, and the names that each of them asks for, in the words of `clap`.
-use Rattle.std.specs.Prelude.{◌++◌, Bool, List, [], ◌∷◌, Some, codes, fold, true, false}
+use Rattle.std.specs.Prelude.{◌++◌, Bool, List, [], ◌∷◌, Some, codes, fold, map, true, false}
 use Rattle.clap.specs.Lexer.{usize_max}
 use Rattle.clap.specs.Simple.{new_shape}
 use Rattle.clap.specs.Words.{App, Rule, Shape, Text, new_rule, with_rule, with_subcommand}
@@ -66,73 +66,69 @@ with_argument command argument = with_rule command (rule_for argument)
 abbrev pub with_arguments : App → List Argument → App
 with_arguments command arguments = fold with_argument command arguments
 
--- A subcommand that asks for these names, in this order, and has the option that each has.
-abbrev pub asking : Text → List Rule → Shape
-asking command rules =
-    record (new_shape command) { rules = rules ++ one_flag (codes "explain") ∷ [] }
+-- The name of a subcommand.
+abbrev pub name_for : Subcommand → Text
+name_for sub.Choose = codes "choose"
+name_for sub.Check = codes "check"
+name_for sub.Image = codes "image"
+name_for sub.Manifest = codes "manifest"
+name_for sub.MakeDevice = codes "make-device"
+name_for sub.MakeImage = codes "make-image"
+name_for sub.MakeManifest = codes "make-manifest"
+name_for sub.Provision = codes "provision"
+name_for sub.Extract = codes "extract"
+name_for sub.Show = codes "show"
+name_for sub.Slots = codes "slots"
+name_for sub.Run = codes "run"
+name_for sub.Sweep = codes "sweep"
+name_for sub.Codes = codes "codes"
 
-abbrev pub choose_shape : Shape
-choose_shape = asking (codes "choose") (one_name (codes "TABLE") ∷ [])
-
-abbrev pub check_shape : Shape
-check_shape =
-    asking (codes "check") (one_name (codes "TABLE") ∷ one_name (codes "REPORT") ∷ [])
-
-abbrev pub image_shape : Shape
-image_shape = asking (codes "image") (one_name (codes "FILE") ∷ [])
-
-abbrev pub manifest_shape : Shape
-manifest_shape =
-    asking (codes "manifest") (one_name (codes "DEVICE") ∷ one_name (codes "FILE") ∷ [])
-
-abbrev pub make_device_shape : Shape
-make_device_shape = asking (codes "make-device")
-    (one_option (codes "sector") true ∷ one_option (codes "slots") true
+-- The names and options that it asks for, in this order.
+abbrev pub rules_of : Subcommand → List Rule
+rules_of sub.Choose = one_name (codes "TABLE") ∷ []
+rules_of sub.Check = one_name (codes "TABLE") ∷ one_name (codes "REPORT") ∷ []
+rules_of sub.Image = one_name (codes "FILE") ∷ []
+rules_of sub.Manifest = one_name (codes "DEVICE") ∷ one_name (codes "FILE") ∷ []
+rules_of sub.MakeDevice =
+    one_option (codes "sector") true ∷ one_option (codes "slots") true
     ∷ one_option (codes "vendor") true ∷ one_option (codes "class") true
-    ∷ one_option (codes "trial-boots") false ∷ [])
-
-abbrev pub make_image_shape : Shape
-make_image_shape = asking (codes "make-image")
-    (one_name (codes "OUT") ∷ one_name (codes "BODY") ∷ one_option (codes "version") true
+    ∷ one_option (codes "trial-boots") false ∷ []
+rules_of sub.MakeImage =
+    one_name (codes "OUT") ∷ one_name (codes "BODY") ∷ one_option (codes "version") true
     ∷ counter_option ∷ options (codes "needs") ∷ options (codes "dependencies")
     ∷ options (codes "needs-one")
     ∷ one_option (codes "header-size") false ∷ one_option (codes "load-address") false
-    ∷ one_option (codes "flags") false ∷ one_flag (codes "force") ∷ [])
-
-abbrev pub make_manifest_shape : Shape
-make_manifest_shape = asking (codes "make-manifest")
-    (one_name (codes "DEVICE") ∷ one_option (codes "sequence") true
+    ∷ one_option (codes "flags") false ∷ one_flag (codes "force") ∷ []
+rules_of sub.MakeManifest =
+    one_name (codes "DEVICE") ∷ one_option (codes "sequence") true
     ∷ one_option (codes "precursor") false ∷ options (codes "test")
-    ∷ options (codes "permanent") ∷ one_flag (codes "strict") ∷ [])
-
-abbrev pub provision_shape : Shape
-provision_shape = asking (codes "provision")
-    (one_name (codes "DEVICE") ∷ one_name (codes "FLASH") ∷ all_names (codes "IMAGE") ∷ [])
-
-abbrev pub extract_shape : Shape
-extract_shape = asking (codes "extract")
-    (one_name (codes "DEVICE") ∷ one_name (codes "FLASH") ∷ one_name (codes "IMAGE")
-    ∷ one_name (codes "SIDE") ∷ one_name (codes "OUT") ∷ one_flag (codes "force") ∷ [])
-
-abbrev pub show_shape : Shape
-show_shape = asking (codes "show") (one_name (codes "DEVICE") ∷ one_name (codes "FLASH") ∷ [])
-
-abbrev pub slots_shape : Shape
-slots_shape = asking (codes "slots") (one_name (codes "DEVICE") ∷ one_name (codes "FLASH") ∷ [])
-
-abbrev pub run_shape : Shape
-run_shape = asking (codes "run")
-    (one_name (codes "DEVICE") ∷ one_name (codes "FLASH") ∷ one_name (codes "SCRIPT")
-    ∷ one_flag (codes "durable") ∷ [])
-
-abbrev pub sweep_shape : Shape
-sweep_shape = asking (codes "sweep")
-    (one_name (codes "DEVICE") ∷ one_name (codes "SCRIPT") ∷ all_names (codes "IMAGE")
+    ∷ options (codes "permanent") ∷ one_flag (codes "strict") ∷ []
+rules_of sub.Provision =
+    one_name (codes "DEVICE") ∷ one_name (codes "FLASH") ∷ all_names (codes "IMAGE") ∷ []
+rules_of sub.Extract =
+    one_name (codes "DEVICE") ∷ one_name (codes "FLASH") ∷ one_name (codes "IMAGE")
+    ∷ one_name (codes "SIDE") ∷ one_name (codes "OUT") ∷ one_flag (codes "force") ∷ []
+rules_of sub.Show = one_name (codes "DEVICE") ∷ one_name (codes "FLASH") ∷ []
+rules_of sub.Slots = one_name (codes "DEVICE") ∷ one_name (codes "FLASH") ∷ []
+rules_of sub.Run =
+    one_name (codes "DEVICE") ∷ one_name (codes "FLASH") ∷ one_name (codes "SCRIPT")
+    ∷ one_flag (codes "durable") ∷ []
+rules_of sub.Sweep =
+    one_name (codes "DEVICE") ∷ one_name (codes "SCRIPT") ∷ all_names (codes "IMAGE")
     ∷ one_flag (codes "twice") ∷ one_option (codes "sample") false
-    ∷ one_option (codes "seed") false ∷ one_option (codes "svg") false ∷ [])
+    ∷ one_option (codes "seed") false ∷ one_option (codes "svg") false ∷ []
+rules_of sub.Codes = []
 
-abbrev pub codes_shape : Shape
-codes_shape = asking (codes "codes") []
+-- The shape of a subcommand: its name, what it asks for, and the option that each has.
+abbrev pub shape_for : Subcommand → Shape
+shape_for one =
+    record (new_shape (name_for one)) { rules = rules_of one ++ one_flag (codes "explain") ∷ [] }
+
+-- The subcommands, in the order of the help.
+abbrev pub subcommands : List Subcommand
+subcommands = sub.Choose ∷ sub.Check ∷ sub.Image ∷ sub.Manifest ∷ sub.MakeDevice ∷ sub.MakeImage
+    ∷ sub.MakeManifest ∷ sub.Provision ∷ sub.Extract ∷ sub.Show ∷ sub.Slots ∷ sub.Run
+    ∷ sub.Sweep ∷ sub.Codes ∷ []
 
 -- The program without its subcommands: it has a version, and asks for a subcommand.
 abbrev pub program : App
@@ -140,23 +136,6 @@ program = record {
   top = record (new_shape (codes "bootswap")) { has_version = true; subcommand_required = true };
   subs = [];
 }
-
--- The shape of each subcommand.
-abbrev pub shape_for : Subcommand → Shape
-shape_for sub.Choose = choose_shape
-shape_for sub.Check = check_shape
-shape_for sub.Image = image_shape
-shape_for sub.Manifest = manifest_shape
-shape_for sub.MakeDevice = make_device_shape
-shape_for sub.MakeImage = make_image_shape
-shape_for sub.MakeManifest = make_manifest_shape
-shape_for sub.Provision = provision_shape
-shape_for sub.Extract = extract_shape
-shape_for sub.Show = show_shape
-shape_for sub.Slots = slots_shape
-shape_for sub.Run = run_shape
-shape_for sub.Sweep = sweep_shape
-shape_for sub.Codes = codes_shape
 
 -- Adds a subcommand to the program.
 abbrev pub with_command : App → Subcommand → App
@@ -166,7 +145,5 @@ with_command app subcommand = with_subcommand app (shape_for subcommand)
 abbrev pub bootswap : App
 bootswap = record {
   top = record program.top { is_leaf = false };
-  subs = choose_shape ∷ check_shape ∷ image_shape ∷ manifest_shape ∷ make_device_shape
-      ∷ make_image_shape ∷ make_manifest_shape ∷ provision_shape ∷ extract_shape ∷ show_shape
-      ∷ slots_shape ∷ run_shape ∷ sweep_shape ∷ codes_shape ∷ [];
+  subs = map shape_for subcommands;
 }

@@ -5,24 +5,28 @@ use Rattle.clap.specs.declared.error.Error.{Error}
 use Rattle.clap.specs.declared.error.kind.ErrorKind.{ErrorKind}
 use Rattle.clap.specs.declared.error.kind.ErrorKind.TheVariants.{OutOfMemory}
 use Rattle.command_line.specs.Commands.{bootswap}
-use Rattle.command_line.specs.DeviceOrders.{IsOrder, misuse_of}
+use Rattle.command_line.specs.Orders.{IsOrder, misuse_of}
 use Rattle.command_line.specs.declared.error.OrderError.{OrderError}
 use Rattle.command_line.specs.declared.error.OrderError.TheVariants.{Usage, NoMemory}
 use Rattle.command_line.specs.declared.device_orders.DeviceOrder.{DeviceOrder}
+use Rattle.command_line.specs.declared.orders.Order.TheVariants.{Device}
 
 -- Why arguments that may ask for an order to a device are answered by an error of this kind: `clap`
 -- has a fault with them, or they ask for help or the version; or it takes them, and their order
 -- misuses standard input.
 pub data IsDeviceFault (words : List Text) (kind : ErrorKind) : Type 0 where
   of_clap : IsAmong kind (fault_of bootswap words) → IsDeviceFault words kind
-  misuse : (order : DeviceOrder) → fault_of bootswap words ≡ [] → IsOrder words order
-      → misuse_of order ≡ Some kind → IsDeviceFault words kind
+  misuse : (order : DeviceOrder) → fault_of bootswap words ≡ [] → IsOrder words (Device order)
+      → misuse_of (Device order) ≡ Some kind → IsDeviceFault words kind
 
--- The answer to arguments that give no order. An answer of `clap` is never lack of memory.
+-- The answer to arguments that give no order, for a fault of a kind. An answer of `clap` is never
+-- lack of memory.
+abbrev pub IsAnswered : (ErrorKind → Type 0) → OrderError → Type 0
+IsAnswered IsFault (Usage answer) = (kind_of answer ≢ OutOfMemory) × IsFault (kind_of answer)
+IsAnswered IsFault NoMemory = ⊤
+
 abbrev pub IsDeviceRefusal : List Text → OrderError → Type 0
-IsDeviceRefusal words (Usage answer) =
-    (kind_of answer ≢ OutOfMemory) × IsDeviceFault words (kind_of answer)
-IsDeviceRefusal words NoMemory = ⊤
+IsDeviceRefusal words error = IsAnswered (IsDeviceFault words) error
 
 -- An answer of `clap` of this kind, or lack of memory.
 abbrev pub IsUsage : ErrorKind → OrderError → Type 0

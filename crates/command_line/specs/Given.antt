@@ -1,9 +1,11 @@
 -- What arguments give, by the matches that `clap` gives for them.
-use Rattle.std.specs.Prelude.{◌≡◌, ℕ, Bool, false, List, Option, Some, None, codes, count_by}
+use Rattle.std.specs.Prelude.{◌≡◌, ℕ, Bool, false, List, Option, Some, None, codes, count_by, if◌then◌else◌}
 use Rattle.std.specs.Borrow.{Bor}
 use Rattle.std.specs.Option.{option_map_or}
 use Rattle.std.specs.Str.{bytes_eq}
 use Rattle.clap.specs.Words.{Row, Text, first_of, subcommand_of}
+use Rattle.clap.specs.declared.error.kind.ErrorKind.{ErrorKind}
+use Rattle.clap.specs.declared.error.kind.ErrorKind.TheVariants.{ArgumentConflict, InvalidValue}
 use Rattle.command_line.specs.Commands.{bootswap}
 
 -- The matches of a subcommand have this name for an argument.
@@ -35,3 +37,8 @@ is_standard_input name = bytes_eq name.now (codes "-")
 -- The number of names that are standard input.
 abbrev pub standard_inputs : List (Bor Text) → ℕ
 standard_inputs names = count_by is_standard_input names
+
+-- The fault of an order in its use of standard input: it writes it, or reads it twice.
+abbrev pub misuse_kind : Bool → Bool → Option ErrorKind
+misuse_kind is_written is_twice =
+    if is_written then Some InvalidValue else (if is_twice then Some ArgumentConflict else None)

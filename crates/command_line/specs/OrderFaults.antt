@@ -1,12 +1,12 @@
 -- The answers to arguments that give no order.
-use Rattle.std.specs.Prelude.{◌≡◌, ◌≢◌, ◌⊎◌, List, [], Some, ⊤}
-use Rattle.clap.specs.Words.{IsAmong, Text, fault_of, kind_of}
+use Rattle.std.specs.Prelude.{◌≡◌, ◌⊎◌, List, [], Some}
+use Rattle.clap.specs.Words.{IsAmong, Text, fault_of}
 use Rattle.clap.specs.declared.error.kind.ErrorKind.{ErrorKind}
-use Rattle.clap.specs.declared.error.kind.ErrorKind.TheVariants.{InvalidValue, MissingSubcommand, OutOfMemory}
+use Rattle.clap.specs.declared.error.kind.ErrorKind.TheVariants.{InvalidValue, MissingSubcommand}
 use Rattle.command_line.specs.Commands.{bootswap}
+use Rattle.command_line.specs.Faults.{IsAnswered}
 use Rattle.command_line.specs.Orders.{IsOrder, misuse_of}
 use Rattle.command_line.specs.declared.error.OrderError.{OrderError}
-use Rattle.command_line.specs.declared.error.OrderError.TheVariants.{Usage, NoMemory}
 use Rattle.command_line.specs.declared.orders.Order.{Order}
 
 -- Why arguments are answered by an error of this kind: `clap` has a fault with them, or they ask
@@ -19,7 +19,6 @@ pub data IsFault (words : List Text) (kind : ErrorKind) : Type 0 where
   misuse : (order : Order) → fault_of bootswap words ≡ [] → IsOrder words order
       → misuse_of order ≡ Some kind → IsFault words kind
 
--- The answer to arguments that give no order. An answer of `clap` is never lack of memory.
+-- The answer to arguments that give no order.
 abbrev pub IsRefusal : List Text → OrderError → Type 0
-IsRefusal words (Usage answer) = (kind_of answer ≢ OutOfMemory) × IsFault words (kind_of answer)
-IsRefusal words NoMemory = ⊤
+IsRefusal words error = IsAnswered (IsFault words) error

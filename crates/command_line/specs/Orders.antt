@@ -6,7 +6,6 @@ use Rattle.std.specs.Option.{option_map_or}
 use Rattle.std.specs.Str.{bytes_eq}
 use Rattle.clap.specs.Words.{Row, Text, all_of, fault_of, first_of, subcommand_of}
 use Rattle.clap.specs.declared.error.kind.ErrorKind.{ErrorKind}
-use Rattle.clap.specs.declared.error.kind.ErrorKind.TheVariants.{ArgumentConflict, InvalidValue}
 use Rattle.common.specs.Ascii.{number_below, number_of}
 use Rattle.common.specs.Limits.{MOST_IMAGES, MOST_TRIAL_BOOTS}
 use Rattle.sector_map.specs.declared.layout.Side.{Side}
@@ -14,11 +13,12 @@ use Rattle.sector_map.specs.declared.layout.Side.TheVariants.{Primary, Secondary
 use Rattle.version_order.specs.declared.dependency.Dependency.{Dependency}
 use Rattle.version_order.specs.declared.version.Version.{Version}
 use Rattle.version_order.specs.VersionText.{version_of}
-use Rattle.command_line.specs.Commands.{bootswap}
+use Rattle.command_line.specs.Commands.{bootswap, name_for}
 use Rattle.command_line.specs.DeviceOrders as of_device
 use Rattle.command_line.specs.declared.device_orders.DeviceOrder.{DeviceOrder}
-use Rattle.command_line.specs.declared.device_orders.DeviceOrder.TheVariants as device_order
-use Rattle.command_line.specs.Given.{IsNamed, is_given, is_standard_input, standard_inputs}
+use Rattle.command_line.specs.declared.commands.Subcommand.{Subcommand}
+use Rattle.command_line.specs.declared.commands.Subcommand.TheVariants as sub
+use Rattle.command_line.specs.Given.{IsNamed, is_given, is_standard_input, misuse_kind, standard_inputs}
 use Rattle.command_line.specs.Needs.{AreNeeds, IsBracketed, IsNeed}
 use Rattle.command_line.specs.declared.orders.NewDevice.{NewDevice}
 use Rattle.command_line.specs.declared.orders.NewComponent.{NewComponent}
@@ -27,29 +27,29 @@ use Rattle.command_line.specs.declared.orders.NewImage.{NewImage}
 use Rattle.command_line.specs.declared.orders.NewManifest.{NewManifest}
 use Rattle.command_line.specs.declared.orders.Order.{Order}
 use Rattle.command_line.specs.declared.orders.SweepChoices.{SweepChoices}
-use Rattle.command_line.specs.declared.orders.Order.TheVariants.{Choose, Check, Image, Manifest, MakeDevice, MakeImage, MakeManifest, Provision, Extract, Show, Slots, Run, Sweep, Codes}
+use Rattle.command_line.specs.declared.orders.Order.TheVariants.{Read, MakeDevice, MakeImage, MakeManifest, Device, Extract, Sweep}
+use Rattle.command_line.specs.declared.orders.ReadOrder.{ReadOrder}
+use Rattle.command_line.specs.declared.orders.ReadOrder.TheVariants.{Choose, Check, Image, Manifest, Show, Slots, Codes}
 
--- An order to a device, among all the others.
-abbrev pub order_to_device : DeviceOrder → Order
-order_to_device (device_order.Provision device flash images) = Provision device flash images
-order_to_device (device_order.Run device flash script durable) = Run device flash script durable
+-- The subcommand of an order to read ..
+abbrev pub subcommand_to_read : ReadOrder → Subcommand
+subcommand_to_read (Choose table) = sub.Choose
+subcommand_to_read (Check table report) = sub.Check
+subcommand_to_read (Image file) = sub.Image
+subcommand_to_read (Manifest device file) = sub.Manifest
+subcommand_to_read (Show device flash) = sub.Show
+subcommand_to_read (Slots device flash) = sub.Slots
+subcommand_to_read Codes = sub.Codes
 
--- The subcommand of an order.
-abbrev pub command_of : Order → Text
-command_of (Choose table) = codes "choose"
-command_of (Check table report) = codes "check"
-command_of (Image file) = codes "image"
-command_of (Manifest device file) = codes "manifest"
-command_of (MakeDevice device) = codes "make-device"
-command_of (MakeImage image body values) = codes "make-image"
-command_of (MakeManifest device manifest) = codes "make-manifest"
-command_of (Provision device flash images) = codes "provision"
-command_of (Extract device flash image side out) = codes "extract"
-command_of (Show device flash) = codes "show"
-command_of (Slots device flash) = codes "slots"
-command_of (Run device flash script durable) = codes "run"
-command_of (Sweep device script images choices) = codes "sweep"
-command_of Codes = codes "codes"
+-- .. and of any order.
+abbrev pub subcommand_for : Order → Subcommand
+subcommand_for (Read order) = subcommand_to_read order
+subcommand_for (MakeDevice device) = sub.MakeDevice
+subcommand_for (MakeImage image body values) = sub.MakeImage
+subcommand_for (MakeManifest device manifest) = sub.MakeManifest
+subcommand_for (Device order) = of_device.subcommand_for order
+subcommand_for (Extract device flash image side out) = sub.Extract
+subcommand_for (Sweep device script images choices) = sub.Sweep
 
 -- A word spells this number: in digits alone, below 2 ^ 32.
 abbrev pub IsNumber : Text → ℕ → Type 0
@@ -106,8 +106,8 @@ pub record SaysImage (rows : List Row) (image : NewImage) : Type 0 where
   pub version : version_at rows ≡ Some image.version
   pub counter : HasNumber (codes "counter") (2 ^ 32) rows image.counter
   pub dependencies : SaysDependencies rows image.dependencies.items
-  pub groups : AllZip AreNeeds (texts_at (codes "needs-one") rows)
-      (map (λ group. group.items) image.groups.items)
+  pub groups : AllZip (λ text group. AreNeeds text group.items)
+      (texts_at (codes "needs-one") rows) image.groups.items
   pub header_size : HasNumber (codes "header-size") (2 ^ 16) rows image.header_size
   pub load_address : HasNumber (codes "load-address") (2 ^ 32) rows image.load_address
   pub flags : HasNumber (codes "flags") (2 ^ 32) rows image.flags
@@ -173,41 +173,46 @@ side_of word =
 abbrev pub side_at : List Row → Option Side
 side_at rows = option_and_then side_of (first_of (codes "SIDE") rows)
 
--- The names of an order are those that the matches of its subcommand have, and so are its options.
-abbrev pub HasNames : List Row → Order → Type 0
-HasNames rows (Choose table) = IsNamed rows (codes "TABLE") table.now
-HasNames rows (Check table report) =
+-- The names of an order to read are those that the matches of its subcommand have ..
+abbrev pub HasNamesToRead : List Row → ReadOrder → Type 0
+HasNamesToRead rows (Choose table) = IsNamed rows (codes "TABLE") table.now
+HasNamesToRead rows (Check table report) =
     IsNamed rows (codes "TABLE") table.now × IsNamed rows (codes "REPORT") report.now
-HasNames rows (Image file) = IsNamed rows (codes "FILE") file.now
-HasNames rows (Manifest device file) =
+HasNamesToRead rows (Image file) = IsNamed rows (codes "FILE") file.now
+HasNamesToRead rows (Manifest device file) =
     IsNamed rows (codes "DEVICE") device.now × IsNamed rows (codes "FILE") file.now
+HasNamesToRead rows (Show device flash) =
+    IsNamed rows (codes "DEVICE") device.now × IsNamed rows (codes "FLASH") flash.now
+HasNamesToRead rows (Slots device flash) =
+    IsNamed rows (codes "DEVICE") device.now × IsNamed rows (codes "FLASH") flash.now
+HasNamesToRead rows Codes = ⊤
+
+-- .. and so are the names and options of any order.
+abbrev pub HasNames : List Row → Order → Type 0
+HasNames rows (Read order) = HasNamesToRead rows order
 HasNames rows (MakeDevice device) = SaysDevice rows device
 HasNames rows (MakeImage image body values) =
     IsNewFile rows image × IsNamed rows (codes "BODY") body.now
     × SaysImage rows values
 HasNames rows (MakeManifest device manifest) =
     IsNamed rows (codes "DEVICE") device.now × SaysManifest rows manifest
-HasNames rows (Provision device flash images) =
-    of_device.HasNames rows (device_order.Provision device flash images)
+HasNames rows (Device order) = of_device.HasNames rows order
 HasNames rows (Extract device flash image side out) =
     IsNamed rows (codes "DEVICE") device.now × IsNamed rows (codes "FLASH") flash.now
     × (image_at rows ≡ Some image) × (side_at rows ≡ Some side)
     × IsNewFile rows out
-HasNames rows (Show device flash) =
-    IsNamed rows (codes "DEVICE") device.now × IsNamed rows (codes "FLASH") flash.now
-HasNames rows (Slots device flash) =
-    IsNamed rows (codes "DEVICE") device.now × IsNamed rows (codes "FLASH") flash.now
-HasNames rows (Run device flash script durable) =
-    of_device.HasNames rows (device_order.Run device flash script durable)
 HasNames rows (Sweep device script images choices) =
     IsNamed rows (codes "DEVICE") device.now × IsNamed rows (codes "SCRIPT") script.now
     × (all_of (codes "IMAGE") rows ≡ Some (map (λ image. image.now) images.items))
     × SaysSweep rows choices
-HasNames rows Codes = ⊤
 
 -- A subcommand with these matches asks for this order.
 abbrev pub Asks : Text → List Row → Order → Type 0
-Asks command rows order = (command ≡ command_of order) × HasNames rows order
+Asks command rows order = (command ≡ name_for (subcommand_for order)) × HasNames rows order
+
+-- A subcommand with these matches asks for this order to a device.
+abbrev pub AsksDevice : Text → List Row → DeviceOrder → Type 0
+AsksDevice command rows order = Asks command rows (Device order)
 
 -- The order that is asked for by the subcommand that was named, with its matches.
 abbrev pub IsOrderOf : Option (Text × List Row) → Order → Type 0
@@ -224,46 +229,39 @@ abbrev pub files_of : NewManifest → List (Bor Text)
 files_of manifest =
     option_to_list manifest.precursor ++ map (λ component. component.file) manifest.components.items
 
--- All the names of an order.
+-- All the names of an order to read ..
+abbrev pub names_to_read : ReadOrder → List (Bor Text)
+names_to_read (Choose table) = table ∷ []
+names_to_read (Check table report) = table ∷ report ∷ []
+names_to_read (Image file) = file ∷ []
+names_to_read (Manifest device file) = device ∷ file ∷ []
+names_to_read (Show device flash) = device ∷ flash ∷ []
+names_to_read (Slots device flash) = device ∷ flash ∷ []
+names_to_read Codes = []
+
+-- .. and of any order.
 abbrev pub names_of : Order → List (Bor Text)
-names_of (Choose table) = table ∷ []
-names_of (Check table report) = table ∷ report ∷ []
-names_of (Image file) = file ∷ []
-names_of (Manifest device file) = device ∷ file ∷ []
+names_of (Read order) = names_to_read order
 names_of (MakeDevice device) = []
 names_of (MakeImage image body values) = image.name ∷ body ∷ []
 names_of (MakeManifest device manifest) = device ∷ files_of manifest
-names_of (Provision device flash images) = device ∷ flash ∷ images.items
+names_of (Device order) = of_device.names_of order
 names_of (Extract device flash image side out) = device ∷ flash ∷ out.name ∷ []
-names_of (Show device flash) = device ∷ flash ∷ []
-names_of (Slots device flash) = device ∷ flash ∷ []
-names_of (Run device flash script durable) = device ∷ flash ∷ script ∷ []
 names_of (Sweep device script images choices) = device ∷ script ∷ images.items
-names_of Codes = []
-
--- The order has a device made, read or run, and names more files than two.
-abbrev pub IsOnDevice : Order → Type 0
-IsOnDevice (Provision device flash images) = ⊤
-IsOnDevice (Extract device flash image side out) = ⊤
-IsOnDevice (Run device flash script durable) = ⊤
-IsOnDevice (Sweep device script images choices) = ⊤
-IsOnDevice _ = ⊥
 
 -- The file to write is standard input.
 abbrev pub writes_to_standard_input : Order → Bool
 writes_to_standard_input (MakeImage image body values) = is_standard_input image.name
-writes_to_standard_input (Provision device flash images) = is_standard_input flash
-writes_to_standard_input (Run device flash script durable) = is_standard_input flash
+writes_to_standard_input (Device order) = of_device.writes_to_standard_input order
 writes_to_standard_input (Extract device flash image side out) = is_standard_input out.name
 writes_to_standard_input (Sweep device script images choices) =
     option_map_or is_standard_input choices.picture false
 writes_to_standard_input _ = false
 
--- The fault of an order in its use of standard input: it writes it, or reads it twice.
+-- The fault of an order in its use of standard input.
 abbrev pub misuse_of : Order → Option ErrorKind
 misuse_of order =
-    if writes_to_standard_input order then Some InvalidValue
-    else (if nat_lt 1 (standard_inputs (names_of order)) then Some ArgumentConflict else None)
+    misuse_kind (writes_to_standard_input order) (nat_lt 1 (standard_inputs (names_of order)))
 
 -- The arguments give this order: `clap` takes them, they ask for it, and it doesn't misuse standard
 -- input.

@@ -1,76 +1,76 @@
-//! What help says of the arguments and the options of commands. No line is longer than 80 columns.
+//! The help texts of arguments and options. No line is longer than 80 columns.
 
-/// What help says of an option.
+/// The help text of an option.
 #[derive(Clone, Copy)]
 pub struct OptionHelp {
-    /// What its value is called.
+    /// The name of its value.
     pub value: &'static str,
-    /// What it says.
+    /// What it means.
     pub text: &'static str,
 }
 
-pub const TABLE_FILE: &str = "The file that the table is read from; `-` is standard input";
+pub const TABLE_FILE: &str = "The file of the table; `-` is standard input";
 
-pub const REPORT_FILE: &str = "The file that the report is read from; `-` is standard input";
+pub const REPORT_FILE: &str = "The file of the report; `-` is standard input";
 
-pub const IMAGE_FILE: &str = "The file that the image is read from; `-` is standard input";
+pub const IMAGE_FILE: &str = "The file of the image; `-` is standard input";
 
 pub const DEVICE_FILE: &str = "The device file; `-` is standard input";
 
-pub const MANIFEST_FILE: &str = "The file that the manifest is read from; `-` is standard input";
+pub const MANIFEST_FILE: &str = "The file of the manifest; `-` is standard input";
 
-pub const NEW_FLASH_FILE: &str = "The flash file that is made";
+pub const NEW_FLASH_FILE: &str = "The flash file to make";
 
 pub const IMAGE_FILES: &str = "The files of the images, in order; `-` is standard input";
 
-pub const IMAGE_NUMBER: &str = "The number of the image, from 0";
+pub const IMAGE_NUMBER: &str = "The number of the image, 0 to 7";
 
-pub const SLOT_SIDE: &str = "Which of its slots: `primary` or `secondary`";
+pub const SLOT_SIDE: &str = "Its slot: `primary` or `secondary`";
 
 pub const SHOWN_FLASH_FILE: &str = "The flash file; `-` is standard input";
 
-pub const FLASH_FILE: &str = "The flash file, which is written to";
+pub const FLASH_FILE: &str = "The flash file, which the device writes";
 
-pub const SCRIPT_FILE: &str = "The file that the script is read from; `-` is standard input";
+pub const SCRIPT_FILE: &str = "The file of the script; `-` is standard input";
 
-pub const DURABLE: &str = "Sync each write of a plain file to the disk before the next";
+pub const DURABLE: &str = "Sync each write of a plain file before the next one";
 
-pub const EXPLAIN: &str = "Say why on standard error";
+pub const EXPLAIN: &str = "Print the reasons on standard error";
 
 pub const SECTOR: OptionHelp = OptionHelp {
     value: "BYTES",
-    text: "The bytes of a sector",
+    text: "Bytes of a sector, 512 to 131072",
 };
 
 pub const SLOTS: OptionHelp = OptionHelp {
     value: "N,N,..",
-    text: "The sectors of each image's slots, image after image",
+    text: "Sectors of each image's slots, image by image",
 };
 
 pub const VENDOR: OptionHelp = OptionHelp {
     value: "DOMAIN",
-    text: "The domain name of who makes the device",
+    text: "Domain name of the maker",
 };
 
 pub const CLASS: OptionHelp = OptionHelp {
     value: "NAME",
-    text: "The name of its class of devices",
+    text: "Name of the class of devices",
 };
 
 pub const TRIAL_BOOTS: OptionHelp = OptionHelp {
     value: "N",
-    text: "The boots of a trial, 1 to 7; without it there is one",
+    text: "Boots of a trial, 1 to 7 [default: 1]",
 };
 
-pub const NEW_IMAGE_FILE: &str = "The image file that is made";
+pub const NEW_IMAGE_FILE: &str = "The image file to make";
 
 pub const FORCE: &str = "Replace OUT even if it is no image";
 
-pub const BODY_FILE: &str = "The file that the body is read from; `-` is standard input";
+pub const BODY_FILE: &str = "The file of the body; `-` is standard input";
 
 pub const VERSION: OptionHelp = OptionHelp {
     value: "VERSION",
-    text: "The version of the image, such as 1.4.2+7",
+    text: "Version of the image, such as 1.4.2+7",
 };
 
 pub const COUNTER: OptionHelp = OptionHelp {
@@ -80,69 +80,69 @@ pub const COUNTER: OptionHelp = OptionHelp {
 
 pub const NEEDS: OptionHelp = OptionHelp {
     value: "J VERSION",
-    text: "It needs image J, with at least that version",
+    text: "It needs image J, in at least this version",
 };
 
 pub const DEPENDENCIES: OptionHelp = OptionHelp {
     value: "(J, V)",
-    text: "The same in brackets, as imgtool has it",
+    text: "The same, as imgtool spells it",
 };
 
 pub const NEEDS_ONE: OptionHelp = OptionHelp {
     value: "J VERSION ..",
-    text: "It needs one of these, each with a version",
+    text: "It needs one of these 1 to 4 images",
 };
 
 pub const HEADER_SIZE: OptionHelp = OptionHelp {
     value: "BYTES",
-    text: "The bytes of the header; without it 32",
+    text: "Bytes of the header, 32 to 65535 [default: 32]",
 };
 
 pub const LOAD_ADDRESS: OptionHelp = OptionHelp {
     value: "N",
-    text: "Where it is to be loaded; without it 0",
+    text: "Load address, 0 to 4294967295 [default: 0]",
 };
 
 pub const FLAGS: OptionHelp = OptionHelp {
     value: "N",
-    text: "The flags of the header; without it 0",
+    text: "Sum of the flags 1, 16 and 256 [default: 0]",
 };
 
 pub const SEQUENCE: OptionHelp = OptionHelp {
     value: "N",
-    text: "The sequence number of the manifest",
+    text: "Sequence number, 0 to 4294967295",
 };
 
 pub const PRECURSOR: OptionHelp = OptionHelp {
     value: "FLASH",
-    text: "The files follow the images that run on this flash",
+    text: "Require the images that run on this flash",
 };
 
 pub const TEST: OptionHelp = OptionHelp {
     value: "I=FILE",
-    text: "FILE may come for image I, for a test",
+    text: "Request FILE as image I for a test",
 };
 
 pub const PERMANENT: OptionHelp = OptionHelp {
     value: "I=FILE",
-    text: "The same, to stay; beside --test it may revert too",
+    text: "Request it permanently; beside --test it may revert",
 };
 
 pub const STRICT: &str = "End with status 1 if the device will not take a file";
 
-pub const TWICE: &str = "Behind each cut, cut each write of the next boot too";
+pub const TWICE: &str = "Also cut each write of the boot after a cut";
 
 pub const SAMPLE: OptionHelp = OptionHelp {
     value: "N",
-    text: "Draw N cuts at random, and try no others",
+    text: "Try N random cuts, 0 to 4294967295, instead of all",
 };
 
 pub const SEED: OptionHelp = OptionHelp {
     value: "N",
-    text: "What the draws begin with; without it 1",
+    text: "Seed of the random cuts, 0 to 4294967295 [default: 1]",
 };
 
 pub const SVG: OptionHelp = OptionHelp {
     value: "FILE",
-    text: "The picture that is made",
+    text: "The picture to make",
 };

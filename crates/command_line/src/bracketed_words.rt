@@ -7,7 +7,8 @@ ghost use Rattle.command_line.specs.Given.{Finds};
 ghost use Rattle.command_line.specs.Needs.{IsBracketed, bracketed_need, need_between};
 ghost use Rattle.command_line.specs.Orders.{texts_at};
 
-use crate::{named, names_in};
+use crate::named;
+use crate::word_values::{WordReader, values_in};
 use clap::ArgMatches;
 use common::ascii::{cut, number_u8};
 use std::alloc::{AllocError, Global};
@@ -23,25 +24,19 @@ pub fn bracketed_in(
         (texts_at (codes "dependencies") (rows_of (found_of names.now))))
         (option_map (λ dependencies. dependencies.items) found)) }
 {
-    match names_in(names, named::DEPENDENCIES) {
-        Some(words) => bracketed_of(alloc, words),
-        None => Ok(Some(Vec::new(alloc))),
-    }
+    values_in(alloc, names, named::DEPENDENCIES, &BracketReader)
 }
 
-/// The dependencies that these values say, one each.
-fn bracketed_of(alloc: Global, words: &[&str]) -> Result<Option<Vec<Dependency>>, AllocError>
-    ensures { IfOk result (λ found. Finds (AllZip IsBracketed (map (λ word. word.now) words.now))
-        (option_map (λ dependencies. dependencies.items) found)) }
-{
-    let mut dependencies = Vec::new(alloc);
-    for word in words {
-        let Some(dependency) = bracketed_need(word) else {
-            return Ok(None);
-        };
-        dependencies.push(dependency)?;
+/// Reads a dependency in brackets from a value.
+#[derive(Clone, Copy)]
+struct BracketReader;
+
+impl WordReader<'_, Dependency> for BracketReader {
+    ghost says = { λ _ word need. IsBracketed word need };
+
+    fn read(&self, _alloc: Global, word: &str) -> Result<Option<Dependency>, AllocError> {
+        Ok(bracketed_need(word))
     }
-    Ok(Some(dependencies))
 }
 
 /// The dependency that a value says: the number of an image and a version in brackets, separated by

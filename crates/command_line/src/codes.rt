@@ -1,10 +1,10 @@
-//! The meaning of the codes and names of refusals, as `bootswap codes` and its help print it. No line
-//! is longer than 80 columns.
+//! The meaning of each code and name of a refusal, as `bootswap codes` and its help print it. No
+//! line is longer than 80 columns.
 
 /// A line for each code and its name, or several if the meaning is longer.
-pub const REFUSALS: &str = "A refusal is told by a code and a name. What they say:
+pub const REFUSALS: &str = "A refusal has a code and a name. Their meaning:
 
-An image, also behind `NotAnImage`:
+An image, also after `NotAnImage`:
    1 Short                there are fewer than 32 bytes
    2 BadMagic             the header's magic number is another
    3 BadHeaderSize        the header's length is below 32
@@ -44,14 +44,13 @@ The sizes of a device, `refused map`:
    4 TooLarge             there are more than 4294967295 bytes in all
 
 A device, `refused boot`:
-   1 NotBooted            the device isn't up
+   1 NotBooted            the device isn't booted
    2 OnTrial              an upload or a withdrawal while a set is on trial
    3 NotOnTrial           a confirmation of an image that isn't in a set on
                           trial
    4 NotProvisioned       the log has no state
-   5 RunningDamaged       the running bytes of an image are no intact image, or,
-                          in the midst of an upgrade, those of an image of its
-                          set; of several the lowest is told
+   5 RunningDamaged       a running image isn't intact, or, during an upgrade,
+                          an image of its set; reports the lowest such image
    6 InvalidSet           a dependency of a running image isn't met, or the set
                           of an upgrade isn't the one that would be chosen
    7 Flash                the flash stopped the call
@@ -65,7 +64,7 @@ A manifest, `refused manifest`, and of the command `manifest`:
    2 BadKey               the value isn't an object with exactly the keys of a
                           manifest; or `components` is a list, and an object in
                           it lacks a needed key or has one that isn't known
-   3 BadValue             what stands at a key isn't what the tables say
+   3 BadValue             the value of a key isn't what the tables say
    4 WrongVendor          `vendor-id` isn't the device's
    5 WrongClass           `class-id` isn't the device's
    6 NoComponent          a `component-id` isn't below the number of the
@@ -86,8 +85,8 @@ An upload, `refused upload`:
                           check that fails follows
    8 WrongPrecursor       the image that runs isn't the one that the manifest
                           asks for
-   9 NothingRequested     no request stands for the image, or there is no such
-                          image
+   9 NothingRequested     no request is pending for the image, or there is no
+                          such image
   10 Flash                the flash stopped the call
   11 NoMemory             no call answers it: none allocates
 

@@ -2,7 +2,8 @@
 
 ghost use Rattle.std.specs.Prelude.{◌≡◌, IfOk, map};
 ghost use Rattle.clap.specs.Words.{app_of, new_app, shape_of};
-ghost use Rattle.command_line.specs.Commands.{bootswap, program, rule_for, shape_for, with_command};
+ghost use Rattle.command_line.specs.Commands.{bootswap, name_for, program, rule_for};
+ghost use Rattle.command_line.specs.Commands.{shape_for, with_command};
 ghost use Rattle.command_line.specs.Given.{Finds};
 
 use crate::arguments::{Argument, with_arguments};
@@ -92,117 +93,197 @@ const EXPLAIN: Argument = Argument::Flag(named::EXPLAIN, argument_help::EXPLAIN)
 /// The option of each subcommand that makes an image file.
 const FORCE: Argument = Argument::Flag(named::FORCE, argument_help::FORCE);
 
-// The arguments of each subcommand, in the order of its help.
+/// How a subcommand is defined.
+struct Definition {
+    /// Its name.
+    name: &'static str,
+    /// Its name, in its usage.
+    usage_name: &'static str,
+    /// Its help.
+    help: &'static Help,
+    /// Its arguments, in the order of its help.
+    arguments: &'static [Argument],
+}
 
-const CHOOSE_ARGUMENTS: &[Argument] = &[
-    Argument::File(named::TABLE, argument_help::TABLE_FILE),
-    EXPLAIN,
-];
+const CHOOSE: &Definition = &Definition {
+    name: "choose",
+    usage_name: "bootswap choose",
+    help: help::CHOOSE,
+    arguments: &[
+        Argument::File(named::TABLE, argument_help::TABLE_FILE),
+        EXPLAIN,
+    ],
+};
 
-const CHECK_ARGUMENTS: &[Argument] = &[
-    Argument::File(named::TABLE, argument_help::TABLE_FILE),
-    Argument::File(named::REPORT, argument_help::REPORT_FILE),
-    EXPLAIN,
-];
+const CHECK: &Definition = &Definition {
+    name: "check",
+    usage_name: "bootswap check",
+    help: help::CHECK,
+    arguments: &[
+        Argument::File(named::TABLE, argument_help::TABLE_FILE),
+        Argument::File(named::REPORT, argument_help::REPORT_FILE),
+        EXPLAIN,
+    ],
+};
 
-const IMAGE_ARGUMENTS: &[Argument] = &[
-    Argument::File(named::FILE, argument_help::IMAGE_FILE),
-    EXPLAIN,
-];
+const IMAGE: &Definition = &Definition {
+    name: "image",
+    usage_name: "bootswap image",
+    help: help::IMAGE,
+    arguments: &[
+        Argument::File(named::FILE, argument_help::IMAGE_FILE),
+        EXPLAIN,
+    ],
+};
 
-const MANIFEST_ARGUMENTS: &[Argument] = &[
-    Argument::File(named::DEVICE, argument_help::DEVICE_FILE),
-    Argument::File(named::FILE, argument_help::MANIFEST_FILE),
-    EXPLAIN,
-];
+const MANIFEST: &Definition = &Definition {
+    name: "manifest",
+    usage_name: "bootswap manifest",
+    help: help::MANIFEST,
+    arguments: &[
+        Argument::File(named::DEVICE, argument_help::DEVICE_FILE),
+        Argument::File(named::FILE, argument_help::MANIFEST_FILE),
+        EXPLAIN,
+    ],
+};
 
-const MAKE_DEVICE_ARGUMENTS: &[Argument] = &[
-    Argument::Required(named::SECTOR, argument_help::SECTOR),
-    Argument::Required(named::SLOTS, argument_help::SLOTS),
-    Argument::Required(named::VENDOR, argument_help::VENDOR),
-    Argument::Required(named::CLASS, argument_help::CLASS),
-    Argument::Optional(named::TRIAL_BOOTS, argument_help::TRIAL_BOOTS),
-    EXPLAIN,
-];
+const MAKE_DEVICE: &Definition = &Definition {
+    name: "make-device",
+    usage_name: "bootswap make-device",
+    help: help::MAKE_DEVICE,
+    arguments: &[
+        Argument::Required(named::SECTOR, argument_help::SECTOR),
+        Argument::Required(named::SLOTS, argument_help::SLOTS),
+        Argument::Required(named::VENDOR, argument_help::VENDOR),
+        Argument::Required(named::CLASS, argument_help::CLASS),
+        Argument::Optional(named::TRIAL_BOOTS, argument_help::TRIAL_BOOTS),
+        EXPLAIN,
+    ],
+};
 
-const MAKE_IMAGE_ARGUMENTS: &[Argument] = &[
-    Argument::File(named::OUT, argument_help::NEW_IMAGE_FILE),
-    Argument::File(named::BODY, argument_help::BODY_FILE),
-    Argument::Required(named::VERSION, argument_help::VERSION),
-    Argument::Aliased(
-        named::COUNTER,
-        named::SECURITY_COUNTER,
-        argument_help::COUNTER,
-    ),
-    Argument::Repeated(named::NEEDS, argument_help::NEEDS),
-    Argument::Repeated(named::DEPENDENCIES, argument_help::DEPENDENCIES),
-    Argument::Repeated(named::NEEDS_ONE, argument_help::NEEDS_ONE),
-    Argument::Optional(named::HEADER_SIZE, argument_help::HEADER_SIZE),
-    Argument::Optional(named::LOAD_ADDRESS, argument_help::LOAD_ADDRESS),
-    Argument::Optional(named::FLAGS, argument_help::FLAGS),
-    FORCE,
-    EXPLAIN,
-];
+const MAKE_IMAGE: &Definition = &Definition {
+    name: "make-image",
+    usage_name: "bootswap make-image",
+    help: help::MAKE_IMAGE,
+    arguments: &[
+        Argument::File(named::OUT, argument_help::NEW_IMAGE_FILE),
+        Argument::File(named::BODY, argument_help::BODY_FILE),
+        Argument::Required(named::VERSION, argument_help::VERSION),
+        Argument::Aliased(
+            named::COUNTER,
+            named::SECURITY_COUNTER,
+            argument_help::COUNTER,
+        ),
+        Argument::Repeated(named::NEEDS, argument_help::NEEDS),
+        Argument::Repeated(named::DEPENDENCIES, argument_help::DEPENDENCIES),
+        Argument::Repeated(named::NEEDS_ONE, argument_help::NEEDS_ONE),
+        Argument::Optional(named::HEADER_SIZE, argument_help::HEADER_SIZE),
+        Argument::Optional(named::LOAD_ADDRESS, argument_help::LOAD_ADDRESS),
+        Argument::Optional(named::FLAGS, argument_help::FLAGS),
+        FORCE,
+        EXPLAIN,
+    ],
+};
 
-const MAKE_MANIFEST_ARGUMENTS: &[Argument] = &[
-    Argument::File(named::DEVICE, argument_help::DEVICE_FILE),
-    Argument::Required(named::SEQUENCE, argument_help::SEQUENCE),
-    Argument::Optional(named::PRECURSOR, argument_help::PRECURSOR),
-    Argument::Repeated(named::TEST, argument_help::TEST),
-    Argument::Repeated(named::PERMANENT, argument_help::PERMANENT),
-    Argument::Flag(named::STRICT, argument_help::STRICT),
-    EXPLAIN,
-];
+const MAKE_MANIFEST: &Definition = &Definition {
+    name: "make-manifest",
+    usage_name: "bootswap make-manifest",
+    help: help::MAKE_MANIFEST,
+    arguments: &[
+        Argument::File(named::DEVICE, argument_help::DEVICE_FILE),
+        Argument::Required(named::SEQUENCE, argument_help::SEQUENCE),
+        Argument::Optional(named::PRECURSOR, argument_help::PRECURSOR),
+        Argument::Repeated(named::TEST, argument_help::TEST),
+        Argument::Repeated(named::PERMANENT, argument_help::PERMANENT),
+        Argument::Flag(named::STRICT, argument_help::STRICT),
+        EXPLAIN,
+    ],
+};
 
-const PROVISION_ARGUMENTS: &[Argument] = &[
-    Argument::File(named::DEVICE, argument_help::DEVICE_FILE),
-    Argument::File(named::FLASH, argument_help::NEW_FLASH_FILE),
-    Argument::Files(named::IMAGE, argument_help::IMAGE_FILES),
-    EXPLAIN,
-];
+const PROVISION: &Definition = &Definition {
+    name: "provision",
+    usage_name: "bootswap provision",
+    help: help::PROVISION,
+    arguments: &[
+        Argument::File(named::DEVICE, argument_help::DEVICE_FILE),
+        Argument::File(named::FLASH, argument_help::NEW_FLASH_FILE),
+        Argument::Files(named::IMAGE, argument_help::IMAGE_FILES),
+        EXPLAIN,
+    ],
+};
 
-const EXTRACT_ARGUMENTS: &[Argument] = &[
-    Argument::File(named::DEVICE, argument_help::DEVICE_FILE),
-    Argument::File(named::FLASH, argument_help::SHOWN_FLASH_FILE),
-    Argument::File(named::IMAGE, argument_help::IMAGE_NUMBER),
-    Argument::File(named::SIDE, argument_help::SLOT_SIDE),
-    Argument::File(named::OUT, argument_help::NEW_IMAGE_FILE),
-    FORCE,
-    EXPLAIN,
-];
+const EXTRACT: &Definition = &Definition {
+    name: "extract",
+    usage_name: "bootswap extract",
+    help: help::EXTRACT,
+    arguments: &[
+        Argument::File(named::DEVICE, argument_help::DEVICE_FILE),
+        Argument::File(named::FLASH, argument_help::SHOWN_FLASH_FILE),
+        Argument::File(named::IMAGE, argument_help::IMAGE_NUMBER),
+        Argument::File(named::SIDE, argument_help::SLOT_SIDE),
+        Argument::File(named::OUT, argument_help::NEW_IMAGE_FILE),
+        FORCE,
+        EXPLAIN,
+    ],
+};
 
-const SHOW_ARGUMENTS: &[Argument] = &[
-    Argument::File(named::DEVICE, argument_help::DEVICE_FILE),
-    Argument::File(named::FLASH, argument_help::SHOWN_FLASH_FILE),
-    EXPLAIN,
-];
+const SHOW: &Definition = &Definition {
+    name: "show",
+    usage_name: "bootswap show",
+    help: help::SHOW,
+    arguments: &[
+        Argument::File(named::DEVICE, argument_help::DEVICE_FILE),
+        Argument::File(named::FLASH, argument_help::SHOWN_FLASH_FILE),
+        EXPLAIN,
+    ],
+};
 
-const SLOTS_ARGUMENTS: &[Argument] = &[
-    Argument::File(named::DEVICE, argument_help::DEVICE_FILE),
-    Argument::File(named::FLASH, argument_help::SHOWN_FLASH_FILE),
-    EXPLAIN,
-];
+const SLOTS: &Definition = &Definition {
+    name: "slots",
+    usage_name: "bootswap slots",
+    help: help::SLOTS,
+    arguments: &[
+        Argument::File(named::DEVICE, argument_help::DEVICE_FILE),
+        Argument::File(named::FLASH, argument_help::SHOWN_FLASH_FILE),
+        EXPLAIN,
+    ],
+};
 
-const RUN_ARGUMENTS: &[Argument] = &[
-    Argument::File(named::DEVICE, argument_help::DEVICE_FILE),
-    Argument::File(named::FLASH, argument_help::FLASH_FILE),
-    Argument::File(named::SCRIPT, argument_help::SCRIPT_FILE),
-    Argument::Flag(named::DURABLE, argument_help::DURABLE),
-    EXPLAIN,
-];
+const RUN: &Definition = &Definition {
+    name: "run",
+    usage_name: "bootswap run",
+    help: help::RUN,
+    arguments: &[
+        Argument::File(named::DEVICE, argument_help::DEVICE_FILE),
+        Argument::File(named::FLASH, argument_help::FLASH_FILE),
+        Argument::File(named::SCRIPT, argument_help::SCRIPT_FILE),
+        Argument::Flag(named::DURABLE, argument_help::DURABLE),
+        EXPLAIN,
+    ],
+};
 
-const SWEEP_ARGUMENTS: &[Argument] = &[
-    Argument::File(named::DEVICE, argument_help::DEVICE_FILE),
-    Argument::File(named::SCRIPT, argument_help::SCRIPT_FILE),
-    Argument::Files(named::IMAGE, argument_help::IMAGE_FILES),
-    Argument::Flag(named::TWICE, argument_help::TWICE),
-    Argument::Optional(named::SAMPLE, argument_help::SAMPLE),
-    Argument::Optional(named::SEED, argument_help::SEED),
-    Argument::Optional(named::SVG, argument_help::SVG),
-    EXPLAIN,
-];
+const SWEEP: &Definition = &Definition {
+    name: "sweep",
+    usage_name: "bootswap sweep",
+    help: help::SWEEP,
+    arguments: &[
+        Argument::File(named::DEVICE, argument_help::DEVICE_FILE),
+        Argument::File(named::SCRIPT, argument_help::SCRIPT_FILE),
+        Argument::Files(named::IMAGE, argument_help::IMAGE_FILES),
+        Argument::Flag(named::TWICE, argument_help::TWICE),
+        Argument::Optional(named::SAMPLE, argument_help::SAMPLE),
+        Argument::Optional(named::SEED, argument_help::SEED),
+        Argument::Optional(named::SVG, argument_help::SVG),
+        EXPLAIN,
+    ],
+};
 
-const CODES_ARGUMENTS: &[Argument] = &[EXPLAIN];
+const CODES: &Definition = &Definition {
+    name: "codes",
+    usage_name: "bootswap codes",
+    help: help::CODES,
+    arguments: &[EXPLAIN],
+};
 
 /// A subcommand of the program.
 #[derive(Clone, Copy)]
@@ -276,7 +357,7 @@ fn with_command<'a>(
 impl Subcommand {
     /// The subcommand of this name.
     pub fn of_name(name: &str) -> Option<Subcommand>
-        ensures { Finds (λ one. name.now ≡ (shape_for one).name) result }
+        ensures { Finds (λ one. name.now ≡ name_for one) result }
     {
         for subcommand in &SUBCOMMANDS {
             if subcommand.name() == name {
@@ -290,93 +371,45 @@ impl Subcommand {
     pub(crate) fn command<'a>(self, alloc: Global) -> Result<Command<'a>, AllocError>
         ensures { IfOk result (λ command. shape_of command ≡ shape_for self) }
     {
-        let name: &'a str = self.name();
-        let command = new_command(alloc, name, self.help());
-        with_arguments(alloc, command, self.arguments())
+        let definition = self.definition();
+        let name: &'a str = definition.name;
+        let command = new_command(alloc, name, definition.help);
+        with_arguments(alloc, command, definition.arguments)
+    }
+
+    /// Its definition.
+    fn definition(self) -> &'static Definition
+        ensures name { result.now.name.now ≡ name_for self }
+        ensures arguments { map rule_for result.now.arguments.now ≡ (shape_for self).rules }
+    {
+        match self {
+            Subcommand::Choose => CHOOSE,
+            Subcommand::Check => CHECK,
+            Subcommand::Image => IMAGE,
+            Subcommand::Manifest => MANIFEST,
+            Subcommand::MakeDevice => MAKE_DEVICE,
+            Subcommand::MakeImage => MAKE_IMAGE,
+            Subcommand::MakeManifest => MAKE_MANIFEST,
+            Subcommand::Provision => PROVISION,
+            Subcommand::Extract => EXTRACT,
+            Subcommand::Show => SHOW,
+            Subcommand::Slots => SLOTS,
+            Subcommand::Run => RUN,
+            Subcommand::Sweep => SWEEP,
+            Subcommand::Codes => CODES,
+        }
     }
 
     /// Its name.
     fn name(self) -> &'static str
-        ensures { result.now ≡ (shape_for self).name }
+        ensures { result.now ≡ name_for self }
     {
-        match self {
-            Subcommand::Choose => "choose",
-            Subcommand::Check => "check",
-            Subcommand::Image => "image",
-            Subcommand::Manifest => "manifest",
-            Subcommand::MakeDevice => "make-device",
-            Subcommand::MakeImage => "make-image",
-            Subcommand::MakeManifest => "make-manifest",
-            Subcommand::Provision => "provision",
-            Subcommand::Extract => "extract",
-            Subcommand::Show => "show",
-            Subcommand::Slots => "slots",
-            Subcommand::Run => "run",
-            Subcommand::Sweep => "sweep",
-            Subcommand::Codes => "codes",
-        }
-    }
-
-    /// Its help.
-    fn help(self) -> &'static Help {
-        match self {
-            Subcommand::Choose => help::CHOOSE,
-            Subcommand::Check => help::CHECK,
-            Subcommand::Image => help::IMAGE,
-            Subcommand::Manifest => help::MANIFEST,
-            Subcommand::MakeDevice => help::MAKE_DEVICE,
-            Subcommand::MakeImage => help::MAKE_IMAGE,
-            Subcommand::MakeManifest => help::MAKE_MANIFEST,
-            Subcommand::Provision => help::PROVISION,
-            Subcommand::Extract => help::EXTRACT,
-            Subcommand::Show => help::SHOW,
-            Subcommand::Slots => help::SLOTS,
-            Subcommand::Run => help::RUN,
-            Subcommand::Sweep => help::SWEEP,
-            Subcommand::Codes => help::CODES,
-        }
-    }
-
-    /// Its arguments.
-    fn arguments(self) -> &'static [Argument]
-        ensures { map rule_for result.now ≡ (shape_for self).rules }
-    {
-        match self {
-            Subcommand::Choose => CHOOSE_ARGUMENTS,
-            Subcommand::Check => CHECK_ARGUMENTS,
-            Subcommand::Image => IMAGE_ARGUMENTS,
-            Subcommand::Manifest => MANIFEST_ARGUMENTS,
-            Subcommand::MakeDevice => MAKE_DEVICE_ARGUMENTS,
-            Subcommand::MakeImage => MAKE_IMAGE_ARGUMENTS,
-            Subcommand::MakeManifest => MAKE_MANIFEST_ARGUMENTS,
-            Subcommand::Provision => PROVISION_ARGUMENTS,
-            Subcommand::Extract => EXTRACT_ARGUMENTS,
-            Subcommand::Show => SHOW_ARGUMENTS,
-            Subcommand::Slots => SLOTS_ARGUMENTS,
-            Subcommand::Run => RUN_ARGUMENTS,
-            Subcommand::Sweep => SWEEP_ARGUMENTS,
-            Subcommand::Codes => CODES_ARGUMENTS,
-        }
+        self.definition().name
     }
 
     /// Its name, in its usage.
     pub fn usage_name(self) -> &'static str {
-        match self {
-            Subcommand::Choose => "bootswap choose",
-            Subcommand::Check => "bootswap check",
-            Subcommand::Image => "bootswap image",
-            Subcommand::Manifest => "bootswap manifest",
-            Subcommand::MakeDevice => "bootswap make-device",
-            Subcommand::MakeImage => "bootswap make-image",
-            Subcommand::MakeManifest => "bootswap make-manifest",
-            Subcommand::Provision => "bootswap provision",
-            Subcommand::Extract => "bootswap extract",
-            Subcommand::Show => "bootswap show",
-            Subcommand::Slots => "bootswap slots",
-            Subcommand::Run => "bootswap run",
-            Subcommand::Sweep => "bootswap sweep",
-            Subcommand::Codes => "bootswap codes",
-        }
+        self.definition().usage_name
     }
 }
 

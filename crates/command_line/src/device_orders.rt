@@ -1,11 +1,25 @@
-//! The orders to a device: `provision` and `run`.
+//! The orders to a device, `provision` and `run`, and how arguments give them.
 
-ghost use Rattle.std.specs.Prelude.{◌≡◌, ◌∷◌, nat_lt};
-ghost use Rattle.command_line.specs.DeviceOrders.{names_of, writes_to_standard_input};
-ghost use Rattle.command_line.specs.Given.{standard_inputs};
+ghost use Rattle.std.specs.Prelude.{◌≡◌, ◌∷◌, IfErr, IfOk, IfSome, IsSomeAnd, None, [], codes, map};
+ghost use Rattle.std.specs.Prelude.{nat_lt, option_map};
+ghost use Rattle.clap.specs.Words.{fault_of, found_of, kind_of, rows_of, subcommand_rows_of};
+ghost use Rattle.command_line.specs.Commands.{bootswap};
+ghost use Rattle.command_line.specs.DeviceOrders.{names_of, subcommand_for};
+ghost use Rattle.command_line.specs.DeviceOrders.{writes_to_standard_input};
+ghost use Rattle.command_line.specs.Faults.{IsDeviceRefusal};
+ghost use Rattle.command_line.specs.Given.{Finds, is_explained, standard_inputs};
+ghost use Rattle.command_line.specs.Orders.{AsksDevice, IsOrder, IsOrderOf, misuse_of};
+ghost use Rattle.command_line.specs.declared.orders.Order.TheVariants.{Device};
 
-use crate::commands::Subcommand;
+use crate::commands::{Subcommand, named};
+use crate::error::OrderError;
+use crate::fault_texts;
+use crate::faults::misuse_error;
+use crate::matching::{images_in, is_explained, is_given, matches_of, name_in, named_in};
 use crate::standard_input::{inputs_with, is_standard_input, standard_inputs};
+use clap::{ArgMatches, Error};
+use std::alloc::{AllocError, Global};
+use std::convert::AsStr;
 
 /// What the arguments ask for: to provision a flash, or to run a device on one.
 #[derive(Drop)]
@@ -43,7 +57,9 @@ pub struct DeviceRequest<'a> {
 
 impl DeviceOrder<'_> {
     /// Its subcommand.
-    pub fn subcommand(&self) -> Subcommand {
+    pub fn subcommand(&self) -> Subcommand
+        ensures { result ≡ subcommand_for self.now }
+    {
         match self {
             DeviceOrder::Provision { .. } => Subcommand::Provision,
             DeviceOrder::Run { .. } => Subcommand::Run,
@@ -78,4 +94,127 @@ impl DeviceOrder<'_> {
             } => standard_inputs(&[*device, *flash, *script]) > 1,
         }
     }
+}
+
+/// The order to a device that `words` ask for, `None` if they ask for another command. The first of
+/// `words` is the program's own name. The order is in memory of `alloc`.
+///
+/// # Errors
+/// `Usage` if they ask for help or the version, if `clap` refuses them, or if the order names
+/// standard input for two files or for the flash, which is written. `NoMemory` if memory ran out.
+pub fn device_request<'a, S: AsStr>(
+    alloc: Global,
+    words: &'a [S],
+) -> Result<Option<DeviceRequest<'a>>, OrderError>
+    ensures taken { IfOk result (λ _. fault_of bootswap (map S.text words.entry.now) ≡ []) }
+    ensures order { IfOk result (λ found. Finds
+        (λ order. IsOrder (map S.text words.entry.now) (Device order))
+        (option_map (λ request. request.order) found)) }
+    ensures explained { IfOk result (λ found. IfSome found (λ request.
+        request.is_explained ≡ is_explained (map S.text words.entry.now))) }
+    ensures sound { IfOk result (λ found.
+        IfSome found (λ request. misuse_of (Device request.order) ≡ None)) }
+    ensures refused { IfErr result (IsDeviceRefusal (map S.text words.entry.now)) }
+{
+    let matches = matches_of(alloc, words)?;
+    match order_in(alloc, &matches)? {
+        Some(order) => request_of(alloc, order, is_explained(&matches)),
+        None => Ok(None),
+    }
+}
+
+/// The request of an order. Refuses an order that misuses standard input.
+fn request_of<'a>(
+    alloc: Global,
+    order: DeviceOrder<'a>,
+    is_explained: bool,
+) -> Result<Option<DeviceRequest<'a>>, OrderError>
+    ensures given { IfOk result (λ found. IsSomeAnd found (λ request.
+        (request.order ≡ order.entry) × (request.is_explained ≡ is_explained))) }
+    ensures sound { IfOk result (λ found.
+        IfSome found (λ request. misuse_of (Device request.order) ≡ None)) }
+    ensures refused { (words : _) → fault_of bootswap words ≡ [] → IsOrder words (Device order.entry)
+        → IfErr result (IsDeviceRefusal words) }
+{
+    match misuse(alloc, &order)? {
+        Some(fault) => Err(OrderError::from(fault)),
+        None => Ok(Some(DeviceRequest {
+            order,
+            is_explained,
+        })),
+    }
+}
+
+/// The order to a device of these matches. All its names are there, since `clap` requires them.
+fn order_in<'a>(
+    alloc: Global,
+    matches: &ArgMatches<'a>,
+) -> Result<Option<DeviceOrder<'a>>, AllocError>
+    ensures { IfOk result (Finds
+        (λ order. IsOrderOf (subcommand_rows_of matches.now) (Device order))) }
+{
+    let Some((name, names)) = named_in(matches) else {
+        return Ok(None);
+    };
+    if name == "provision" {
+        return provision_in(alloc, names);
+    }
+    if name == "run" {
+        return Ok(run_in(names));
+    }
+    Ok(None)
+}
+
+/// The order that the arguments of `provision` give. `None` if a name is missing.
+pub fn provision_in<'a>(
+    alloc: Global,
+    names: &ArgMatches<'a>,
+) -> Result<Option<DeviceOrder<'a>>, AllocError>
+    ensures { IfOk result (Finds (AsksDevice (codes "provision") (rows_of (found_of names.now)))) }
+{
+    let Some(device) = name_in(names, named::DEVICE) else {
+        return Ok(None);
+    };
+    let Some(flash) = name_in(names, named::FLASH) else {
+        return Ok(None);
+    };
+    let Some(images) = images_in(alloc, names)? else {
+        return Ok(None);
+    };
+    Ok(Some(DeviceOrder::Provision {
+        device,
+        flash,
+        images,
+    }))
+}
+
+/// The order that the arguments of `run` give. `None` if a name is missing.
+pub fn run_in<'a>(names: &ArgMatches<'a>) -> Option<DeviceOrder<'a>>
+    ensures { Finds (AsksDevice (codes "run") (rows_of (found_of names.now))) result }
+{
+    let device = name_in(names, named::DEVICE)?;
+    let flash = name_in(names, named::FLASH)?;
+    let script = name_in(names, named::SCRIPT)?;
+    let durable = is_given(names, named::DURABLE);
+    Some(DeviceOrder::Run {
+        device,
+        flash,
+        script,
+        durable,
+    })
+}
+
+/// The fault of an order that writes standard input, or reads it twice.
+fn misuse(alloc: Global, order: &DeviceOrder<'_>) -> Result<Option<Error>, AllocError>
+    ensures { IfOk result (λ found. option_map kind_of found ≡ misuse_of (Device order.now)) }
+{
+    let is_written = order.writes_to_standard_input();
+    let is_twice = order.reads_standard_input_twice();
+    misuse_error(
+        alloc,
+        order.subcommand(),
+        is_written,
+        fault_texts::WRITTEN,
+        is_twice,
+    )
 }

@@ -8,7 +8,8 @@ ghost use Rattle.command_line.specs.Orders.{HasTrialBoots, IsNumber, SaysDevice}
 ghost use Rattle.command_line.specs.Orders.{number_at, words_of};
 
 use crate::orders::NewDevice;
-use crate::{name_in, named};
+use crate::word_values::{WordReader, values_of};
+use crate::{name_in, named, order_fault_texts};
 use clap::ArgMatches;
 use common::ascii::number;
 use common::limits::MOST_TRIAL_BOOTS;
@@ -48,6 +49,17 @@ pub fn device_in<'a>(
     }))
 }
 
+/// The text of the fault of arguments that describe no device: the first that isn't valid.
+pub fn invalid_device(names: &ArgMatches<'_>) -> &'static str {
+    if number_in(names, named::SECTOR).is_none() {
+        order_fault_texts::NO_SECTOR
+    } else if trial_boots_in(names).is_none() {
+        order_fault_texts::NO_TRIAL_BOOTS
+    } else {
+        order_fault_texts::NO_SLOTS
+    }
+}
+
 /// The number that is given for this argument.
 pub fn number_in(names: &ArgMatches<'_>, argument: &str) -> Option<u32>
     ensures { result ≡ number_at argument.now (rows_of (found_of names.now)) }
@@ -77,7 +89,7 @@ fn numbers_in(alloc: Global, text: &str) -> Result<Option<Vec<u32>>, AllocError>
         AllZip IsNumber (words_of text.now) numbers.items)) }
 {
     let words = words_in(alloc, text)?;
-    numbers_of(alloc, &words)
+    values_of(alloc, &NumberReader, &words)
 }
 
 /// The words of a text, separated by commas.
@@ -87,17 +99,14 @@ fn words_in<'a>(alloc: Global, text: &'a str) -> Result<Vec<&'a str>, AllocError
     text.split(',').collect(alloc)
 }
 
-/// The numbers that these words spell, one each.
-fn numbers_of(alloc: Global, words: &[&str]) -> Result<Option<Vec<u32>>, AllocError>
-    ensures { IfOk result (Finds (λ numbers.
-        AllZip IsNumber (map (λ word. word.now) words.now) numbers.items)) }
-{
-    let mut numbers = Vec::new(alloc);
-    for word in words {
-        let Some(number) = number(word.as_bytes()) else {
-            return Ok(None);
-        };
-        numbers.push(number)?;
+/// Reads a number from a word.
+#[derive(Clone, Copy)]
+struct NumberReader;
+
+impl WordReader<'_, u32> for NumberReader {
+    ghost says = { λ _ word value. IsNumber word value };
+
+    fn read(&self, _alloc: Global, word: &str) -> Result<Option<u32>, AllocError> {
+        Ok(number(word.as_bytes()))
     }
-    Ok(Some(numbers))
 }

@@ -1,9 +1,10 @@
 //! Faults in arguments, as `clap` prints its own.
 
-ghost use Rattle.std.specs.Prelude.{◌≡◌, IfOk};
+ghost use Rattle.std.specs.Prelude.{◌≡◌, IfOk, option_map};
 ghost use Rattle.clap.specs.Words.{kind_of};
 ghost use Rattle.clap.specs.declared.error.kind.ErrorKind.TheVariants.{InvalidValue};
 ghost use Rattle.command_line.specs.Faults.{IsTold, IsUsage};
+ghost use Rattle.command_line.specs.Given.{misuse_kind};
 
 use crate::commands::Subcommand;
 use crate::error::OrderError;
@@ -11,7 +12,7 @@ use crate::matching::matches_of;
 use crate::{commands, fault_texts};
 use clap::Error;
 use clap::error::ErrorKind;
-use host::Escaped;
+use common::texts::Escaped;
 use std::alloc::{AllocError, Global};
 use std::convert::AsStr;
 
@@ -59,6 +60,26 @@ pub fn subcommand_error(
         .command(alloc)?
         .bin_name(subcommand.usage_name())?;
     command.error(kind, text)
+}
+
+/// The fault of an order that writes standard input, with its text, or that reads it twice.
+pub fn misuse_error(
+    alloc: Global,
+    subcommand: Subcommand,
+    is_written: bool,
+    written_text: &str,
+    is_twice: bool,
+) -> Result<Option<Error>, AllocError>
+    ensures { IfOk result (λ found. option_map kind_of found ≡ misuse_kind is_written is_twice) }
+{
+    let (kind, text) = if is_written {
+        (ErrorKind::InvalidValue, written_text)
+    } else if is_twice {
+        (ErrorKind::ArgumentConflict, fault_texts::TWICE)
+    } else {
+        return Ok(None);
+    };
+    Ok(Some(subcommand_error(alloc, subcommand, kind, text)?))
 }
 
 fn escaped_words<S: AsStr>(alloc: Global, words: &[S]) -> Result<Vec<String>, AllocError> {

@@ -11,7 +11,8 @@ ghost use Rattle.command_line.specs.Orders.{texts_at, version_at};
 use crate::bracketed_words::bracketed_in;
 use crate::device_words::number_in;
 use crate::orders::NewImage;
-use crate::{name_in, named, names_in};
+use crate::word_values::{WordReader, values_in};
+use crate::{name_in, named, order_fault_texts};
 use clap::ArgMatches;
 use common::ascii::number_u8;
 use std::alloc::{AllocError, Global};
@@ -56,8 +57,34 @@ pub fn image_values_in(
     }))
 }
 
+/// The text of the fault of arguments that describe no image: the first that isn't valid.
+pub fn invalid_image(alloc: Global, names: &ArgMatches<'_>) -> Result<&'static str, AllocError> {
+    if version_in(names).is_none() {
+        return Ok(order_fault_texts::NO_VERSION);
+    }
+    if number_said(names, named::COUNTER).is_none() {
+        return Ok(order_fault_texts::NO_COUNTER);
+    }
+    if header_size_in(names).is_none() {
+        return Ok(order_fault_texts::NO_HEADER_SIZE);
+    }
+    if number_said(names, named::LOAD_ADDRESS).is_none() {
+        return Ok(order_fault_texts::NO_LOAD_ADDRESS);
+    }
+    if number_said(names, named::FLAGS).is_none() {
+        return Ok(order_fault_texts::NO_FLAGS);
+    }
+    if needs_in_words(alloc, names)?.is_none() {
+        return Ok(order_fault_texts::NO_NEEDS);
+    }
+    match bracketed_in(alloc, names)? {
+        None => Ok(order_fault_texts::NO_DEPENDENCIES),
+        Some(_) => Ok(order_fault_texts::NO_NEEDS_ONE),
+    }
+}
+
 /// The version that is given.
-pub fn version_in(names: &ArgMatches<'_>) -> Option<Version>
+fn version_in(names: &ArgMatches<'_>) -> Option<Version>
     ensures { result ≡ version_at (rows_of (found_of names.now)) }
 {
     Version::parse(name_in(names, named::VERSION)?).ok()
@@ -74,7 +101,7 @@ pub fn number_said(names: &ArgMatches<'_>, argument: &str) -> Option<Option<u32>
 }
 
 /// The size of the header, if it is given. `None` if it isn't a number below 65536.
-pub fn header_size_in(names: &ArgMatches<'_>) -> Option<Option<u16>>
+fn header_size_in(names: &ArgMatches<'_>) -> Option<Option<u16>>
     ensures { Finds (HasNumber (codes "header-size") (2 ^ 16) (rows_of (found_of names.now)))
         result }
 {
@@ -105,7 +132,7 @@ fn dependencies_in(
 }
 
 /// The dependencies of all `--needs`. `None` if one of the values isn't a dependency.
-pub fn needs_in_words(
+fn needs_in_words(
     alloc: Global,
     names: &ArgMatches<'_>,
 ) -> Result<Option<Vec<Dependency>>, AllocError>
@@ -113,10 +140,7 @@ pub fn needs_in_words(
         Finds (AllZip IsNeed (texts_at (codes "needs") (rows_of (found_of names.now))))
         (option_map (λ dependencies. dependencies.items) found)) }
 {
-    match names_in(names, named::NEEDS) {
-        Some(words) => dependencies_of(alloc, words),
-        None => Ok(Some(Vec::new(alloc))),
-    }
+    values_in(alloc, names, named::NEEDS, &NeedReader)
 }
 
 /// The groups that are given. `None` if one of the values isn't a group.
@@ -124,45 +148,34 @@ fn groups_in(
     alloc: Global,
     names: &ArgMatches<'_>,
 ) -> Result<Option<Vec<Vec<Dependency>>>, AllocError>
-    ensures { IfOk result (Finds (λ groups. AllZip AreNeeds
-        (texts_at (codes "needs-one") (rows_of (found_of names.now)))
-        (map (λ group. group.items) groups.items))) }
+    ensures { IfOk result (Finds (λ groups. AllZip (λ word group. AreNeeds word group.items)
+        (texts_at (codes "needs-one") (rows_of (found_of names.now))) groups.items)) }
 {
-    match names_in(names, named::NEEDS_ONE) {
-        Some(words) => groups_of(alloc, words),
-        None => Ok(Some(Vec::new(alloc))),
+    values_in(alloc, names, named::NEEDS_ONE, &GroupReader)
+}
+
+/// Reads a single dependency from a value of `--needs`.
+#[derive(Clone, Copy)]
+struct NeedReader;
+
+impl WordReader<'_, Dependency> for NeedReader {
+    ghost says = { λ _ word need. IsNeed word need };
+
+    fn read(&self, alloc: Global, word: &str) -> Result<Option<Dependency>, AllocError> {
+        dependency_of(alloc, word)
     }
 }
 
-/// The dependencies that these values say, one each.
-fn dependencies_of(alloc: Global, words: &[&str]) -> Result<Option<Vec<Dependency>>, AllocError>
-    ensures { IfOk result (λ found. Finds (AllZip IsNeed (map (λ word. word.now) words.now))
-        (option_map (λ dependencies. dependencies.items) found)) }
-{
-    let mut dependencies = Vec::new(alloc);
-    for word in words {
-        let Some(dependency) = dependency_of(alloc, word)? else {
-            return Ok(None);
-        };
-        dependencies.push(dependency)?;
-    }
-    Ok(Some(dependencies))
-}
+/// Reads a group from a value of `--needs-one`.
+#[derive(Clone, Copy)]
+struct GroupReader;
 
-/// The groups that these values say, one each.
-fn groups_of(alloc: Global, words: &[&str]) -> Result<Option<Vec<Vec<Dependency>>>, AllocError>
-    ensures { IfOk result (Finds (λ groups.
-        AllZip AreNeeds (map (λ word. word.now) words.now)
-        (map (λ group. group.items) groups.items))) }
-{
-    let mut groups = Vec::new(alloc);
-    for word in words {
-        let Some(group) = needs_in(alloc, word)? else {
-            return Ok(None);
-        };
-        groups.push(group)?;
+impl WordReader<'_, Vec<Dependency>> for GroupReader {
+    ghost says = { λ _ word group. AreNeeds word group.items };
+
+    fn read(&self, alloc: Global, word: &str) -> Result<Option<Vec<Dependency>>, AllocError> {
+        needs_in(alloc, word)
     }
-    Ok(Some(groups))
 }
 
 /// The single dependency that a value says.

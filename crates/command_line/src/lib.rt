@@ -1,26 +1,22 @@
-//! The command line: commands and options as `clap` defines them, their help, and the order that
-//! the arguments give.
+//! The definitions of commands for `clap`, their help, and the parsing of arguments into an order.
 //!
 //! - Promises: The arguments give an order exactly as `clap` defines it, or another answer with its
 //!   reason: a fault in them, which ends with 2, help or the version, or lack of memory. An order
 //!   names standard input once at most.
-//! - Main calls: `device_request`, `request`, `matches_of`, `answer_words`
+//! - Main calls: `device_request`, `request`, `matches_of`
 //! - Allocates: to read the arguments and to make texts.
 //! - Callers: commands and programs.
 //!
 //! `device_request` reads the orders to a device alone, `provision` and `run`, and `request` those
-//! of all commands. `answer_words` answers arguments that give no order. Files are named here and
-//! not opened.
+//! of all commands. Files are named here and not opened.
 #![tactic(auto)]
 
-mod answering;
 mod argument_help;
 mod arguments;
 mod bracketed_words;
 mod codes;
 mod commands;
 mod device_orders;
-mod device_reading;
 mod device_words;
 mod error;
 pub mod fault_texts;
@@ -30,22 +26,21 @@ mod image_words;
 mod manifest_words;
 mod matching;
 mod order_fault_texts;
-mod order_faults;
-mod order_reading;
 mod orders;
+mod requests;
 mod standard_input;
 mod sweep_words;
+mod word_values;
 
-pub use answering::{answer_words, refuse_words, words_of};
 pub use codes::REFUSALS;
 pub use commands::{Subcommand, named};
-pub use device_orders::{DeviceOrder, DeviceRequest};
-pub use device_reading::{device_request, provision_in, run_in};
+pub use device_orders::{DeviceOrder, DeviceRequest, device_request, provision_in, run_in};
 pub use error::OrderError;
 pub use faults::{fault_of, no_text, program_error, subcommand_error};
 pub use matching::{images_in, is_explained, is_given, matches_of, name_in, named_in, names_in};
-pub use order_reading::{order, request};
 pub use orders::{
-    NewComponent, NewDevice, NewFile, NewImage, NewManifest, Order, Request, SweepChoices,
+    NewComponent, NewDevice, NewFile, NewImage, NewManifest, Order, ReadOrder, Request,
+    SweepChoices,
 };
+pub use requests::{order, request};
 pub use standard_input::{inputs_with, is_standard_input, standard_inputs};

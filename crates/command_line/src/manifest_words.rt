@@ -8,7 +8,8 @@ ghost use Rattle.command_line.specs.Orders.{SaysManifest, texts_at};
 
 use crate::device_words::number_in;
 use crate::orders::{NewComponent, NewManifest};
-use crate::{is_given, name_in, named, names_in};
+use crate::word_values::{WordReader, values_in};
+use crate::{is_given, name_in, named, order_fault_texts};
 use clap::ArgMatches;
 use common::ascii::number_u8;
 use common::limits::MOST_IMAGES;
@@ -34,6 +35,21 @@ pub fn manifest_values_in<'a>(
         components,
         is_strict: is_given(names, named::STRICT),
     }))
+}
+
+/// The text of the fault of arguments that describe no manifest: the first that isn't valid, or that
+/// they name no file or too many.
+pub fn invalid_manifest(alloc: Global, names: &ArgMatches<'_>) -> Result<&'static str, AllocError> {
+    if number_in(names, named::SEQUENCE).is_none() {
+        return Ok(order_fault_texts::NO_SEQUENCE);
+    }
+    if components_in(alloc, names, named::TEST, false)?.is_none() {
+        return Ok(order_fault_texts::NO_TEST);
+    }
+    match components_in(alloc, names, named::PERMANENT, true)? {
+        None => Ok(order_fault_texts::NO_PERMANENT),
+        Some(_) => Ok(order_fault_texts::NO_COMPONENTS),
+    }
 }
 
 /// The files that are given, those for a test before those that are to stay. `None` if one of the
@@ -63,7 +79,7 @@ fn all_components_in<'a>(
 }
 
 /// The files that are given for this option. `None` if one of the values isn't an image and a file.
-pub fn components_in<'a>(
+fn components_in<'a>(
     alloc: Global,
     names: &ArgMatches<'a>,
     option: &str,
@@ -73,30 +89,22 @@ pub fn components_in<'a>(
         Finds (AreComponents permanent (texts_at option.now (rows_of (found_of names.now))))
         (option_map (λ components. components.items) found)) }
 {
-    match names_in(names, option) {
-        Some(words) => components_of(alloc, words, permanent),
-        None => Ok(Some(Vec::new(alloc))),
-    }
+    values_in(alloc, names, option, &ComponentReader { permanent })
 }
 
-/// The files that these values say, one each.
-fn components_of<'a>(
-    alloc: Global,
-    words: &[&'a str],
+/// Reads a file and its image from a value.
+#[derive(Clone, Copy)]
+struct ComponentReader {
+    /// Whether the file is requested permanently.
     permanent: bool,
-) -> Result<Option<Vec<NewComponent<'a>>>, AllocError>
-    ensures { IfOk result (λ found.
-        Finds (AreComponents permanent (map (λ word. word.now) words.now))
-        (option_map (λ components. components.items) found)) }
-{
-    let mut components = Vec::new(alloc);
-    for word in words {
-        let Some(component) = component_of(word, permanent) else {
-            return Ok(None);
-        };
-        components.push(component)?;
+}
+
+impl<'a> WordReader<'a, NewComponent<'a>> for ComponentReader {
+    ghost says = { λ reader word component. IsComponent reader.permanent word component };
+
+    fn read(&self, _alloc: Global, word: &'a str) -> Result<Option<NewComponent<'a>>, AllocError> {
+        Ok(component_of(word, self.permanent))
     }
-    Ok(Some(components))
 }
 
 /// The file that a value says, and the image that it is for: `1=b.img`.

@@ -4,7 +4,7 @@ ghost use Rattle.std.specs.Prelude.{◌≡◌, ◌∷◌, codes};
 ghost use Rattle.std.specs.Str.{bytes_eq};
 ghost use Rattle.command_line.specs.Given.{standard_inputs};
 
-use host::STANDARD_INPUT;
+use common::texts::STANDARD_INPUT;
 
 /// The number of files among two files and images that are standard input.
 pub fn inputs_with(one: &str, other: &str, images: &[&str]) -> usize

@@ -6,7 +6,7 @@ ghost use Rattle.command_line.specs.Orders.{SaysSweep};
 
 use crate::image_words::number_said;
 use crate::orders::SweepChoices;
-use crate::{is_given, name_in, named};
+use crate::{is_given, name_in, named, order_fault_texts};
 use clap::ArgMatches;
 
 /// What the arguments say that a sweep tries and makes. `None` if one of the numbers isn't valid.
@@ -21,4 +21,13 @@ pub fn sweep_choices_in<'a>(names: &ArgMatches<'a>) -> Option<SweepChoices<'a>>
         seed,
         picture: name_in(names, named::SVG),
     })
+}
+
+/// The text of the fault of arguments of which one isn't a number: the first.
+pub fn invalid_choices(names: &ArgMatches<'_>) -> &'static str {
+    if number_said(names, named::SAMPLE).is_none() {
+        order_fault_texts::NO_SAMPLE
+    } else {
+        order_fault_texts::NO_SEED
+    }
 }

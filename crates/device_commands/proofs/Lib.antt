@@ -1,5 +1,4 @@
 mod EndLaws
-mod FileLaws
 mod ImageLaws
 pub mod KeptLaws
 mod OtherFiles

@@ -11,11 +11,11 @@ use Rattle.flash_model.specs.declared.torn.Armed.{Armed}
 use Rattle.script.specs.declared.line_order.LineOrder.{LineOrder}
 use Rattle.machine.specs.Holding.{DeviceView}
 use Rattle.machine.specs.Intake.{Setup}
-use Rattle.machine.specs.Passing.{RunsTo, StepsTo}
+use Rattle.machine.specs.Passing.{StepsTo}
 use Rattle.machine.specs.Steps.{DeviceEvent}
 use Rattle.machine.specs.declared.reply.Reply.{Reply}
 use Rattle.machine.proofs.Runs.{runs_more, runs_none}
-use Rattle.boot_core.specs.CutEvents.{DueEach, IsCutAsDue, IsCutByWrite}
+use Rattle.boot_core.specs.CutEvents.{IsCutAsDue, IsCutByWrite}
 use Rattle.boot_core.specs.Device.{seen}
 use Rattle.boot_core.proofs.CutEvents.{cut_by_due, steps_more}
 use Rattle.host.specs.declared.answer.Answer.{Answer}
@@ -24,14 +24,15 @@ use Rattle.host.specs.declared.error.Refusal.{Refusal}
 use Rattle.host.specs.declared.error.Refusal.TheVariants.{FlashFile, NoMemory}
 use Rattle.host.specs.Status.{status_of_refusal}
 use Rattle.device_texts.specs.declared.device.DeviceFile.{DeviceFile}
+use Rattle.device_texts.specs.FlashOf.{armed_chip}
 use Rattle.device_texts.specs.ReplyText.{replies_text, reply_text}
 use Rattle.device_texts.proofs.ReplyLaws.{replies_text-push}
 use Rattle.common.specs.Lines.{lines_of}
 use Rattle.host.specs.Input.{FileBytes}
 use Rattle.inputs.specs.declared.checking.BufferedInput.{BufferedInput}
-use Rattle.device_commands.specs.RunEnd.{IsMadeOf, answer_after, answer_of, armed_chip, came_by}
+use Rattle.device_commands.specs.RunEnd.{IsMadeOf, answer_after, answer_of, came_by}
 use Rattle.device_texts.specs.DeviceFile.{setup_of}
-use Rattle.device_commands.specs.Telling.{BreaksEvent, BreaksText, PlaysText, TellsAll, TellsEvent, TellsFirst, TellsSome, TellsText}
+use Rattle.device_commands.specs.Telling.{BreaksEvent, BreaksText, PlaysRun, PlaysText, RepliesTo, RepliesToAll, TellsAll, TellsEvent, TellsFirst, TellsSome, TellsText}
 use Rattle.inputs.specs.Loading.{LoadsAll}
 use Rattle.inputs.proofs.ScriptLaws.{AreTaken, LoadsFirst-none, LoadsFirst-taken}
 
@@ -49,16 +50,29 @@ replied : (events : List DeviceEvent) (replies : List Reply) (came : List (Event
     → map came_by events ≡ came → length replies ≡ length events → length replies ≡ length came
 replied events replies came come each = each ∙ sym (length-map events came_by) ∙ ap length come
 
+-- an event more
+RepliesToAll-more : (setup here : Setup) (old mid new : DeviceView) (came : List (Event (List ℕ)))
+    (one : Event (List ℕ)) (replies : List Reply) → RepliesToAll setup old mid came replies → here ≡ setup
+    → (step : RepliesTo here mid new one)
+    → RepliesToAll setup old new (came ++ one ∷ []) (replies ++ step.reply ∷ [])
+RepliesToAll-more setup here old mid new came one replies so_far same step =
+    let steps = subst (λ s. StepsTo s mid new step.event step.reply) same step.steps in
+    record {
+      events = so_far.events ++ step.event ∷ [];
+      come = map-append came_by so_far.events (step.event ∷ [])
+          ∙ ap (λ l. l ++ came_by step.event ∷ []) so_far.come ∙ ap (λ c. came ++ c ∷ []) step.comes;
+      runs = runs_more setup old mid new so_far.events replies step.event step.reply so_far.runs steps;
+      each = length-append replies (step.reply ∷ []) ∙ ap (λ k. k + 1) so_far.each
+          ∙ sym (length-append so_far.events (step.event ∷ []));
+      due = steps_more IsCutAsDue setup old mid new so_far.events replies step.event step.reply so_far.due steps step.due;
+    }
+
 -- before the first event
 pub TellsAll-none : (setup : Setup) (here : DeviceView) (written : Option (List ℕ))
     → here.flash.faults ≡ 0 → TellsAll Done false setup here here [] written written
 TellsAll-none setup here written sound = record {
-  events = [];
   replies = [];
-  come = refl;
-  runs = runs_none setup here;
-  each = refl;
-  due = refl;
+  run = record { events = []; come = refl; runs = runs_none setup here; each = refl; due = refl };
   sound = λ none. (sound, refl);
   answered = refl;
   written = Appends-nil written;
@@ -72,33 +86,28 @@ pub TellsAll-more : (setup here : Setup) (old mid new : DeviceView) (came : List
     → TellsEvent next number here mid new one between after
     → (fails ≡ false → (failed ≡ false) × (new.flash.faults ≡ 0))
     → TellsAll next fails setup old new (came ++ one ∷ []) before after
-TellsAll-more setup here old mid new came one number answer next failed fails before between after before_it counted same
+unfolding RepliesToAll-more
+TellsAll-more setup here old mid new came one number answer next failed fails before between after so_far counted same
     told sound =
-    let count = replied before_it.events before_it.replies came before_it.come before_it.each in
-    let place : number ≡ 1 + length before_it.replies = omega (arith, count, counted) in
+    let run = so_far.run in
+    let step = told.step in
+    let count = replied run.events so_far.replies came run.come run.each in
+    let place : number ≡ 1 + length so_far.replies = omega (arith, count, counted) in
     record {
-      events = before_it.events ++ told.event ∷ [];
-      replies = before_it.replies ++ told.reply ∷ [];
-      come = map-append came_by before_it.events (told.event ∷ [])
-          ∙ ap (λ l. l ++ came_by told.event ∷ []) before_it.come ∙ ap (λ c. came ++ c ∷ []) told.comes;
-      runs = runs_more setup old mid new before_it.events before_it.replies told.event told.reply before_it.runs
-          (subst (λ s. StepsTo s mid new told.event told.reply) same told.steps);
-      each = length-append before_it.replies (told.reply ∷ []) ∙ ap (λ k. k + 1) before_it.each
-          ∙ sym (length-append before_it.events (told.event ∷ []));
-      due = steps_more IsCutAsDue setup old mid new before_it.events before_it.replies told.event told.reply before_it.due
-          (subst (λ s. StepsTo s mid new told.event told.reply) same told.steps) told.due;
+      replies = so_far.replies ++ step.reply ∷ [];
+      run = RepliesToAll-more setup here old mid new came one so_far.replies run same step;
       sound = λ none.
           let now = sound none in
-          let so_far = before_it.sound now.0 in (
+          let before_it = so_far.sound now.0 in (
             now.1,
-            steps_more IsCutByWrite setup old mid new before_it.events before_it.replies told.event told.reply so_far.1
-                (subst (λ s. StepsTo s mid new told.event told.reply) same told.steps)
-                (cut_by_due mid.flash new.flash told.reply so_far.0 now.1 told.due),
+            steps_more IsCutByWrite setup old mid new run.events so_far.replies step.event step.reply before_it.1
+                (subst (λ s. StepsTo s mid new step.event step.reply) same step.steps)
+                (cut_by_due mid.flash new.flash step.reply before_it.0 now.1 step.due),
           );
-      answered = told.answered ∙ sym (answer_of-push before_it.replies told.reply);
-      written = subst (Appends before after) (sym (replies_text-push 1 before_it.replies told.reply))
-          (Appends-trans before between after _ _ before_it.written
-          (subst (λ k. Appends between after (reply_text k told.reply)) place told.written));
+      answered = told.answered ∙ sym (answer_of-push so_far.replies step.reply);
+      written = subst (Appends before after) (sym (replies_text-push 1 so_far.replies step.reply))
+          (Appends-trans before between after _ _ so_far.written
+          (subst (λ k. Appends between after (reply_text k step.reply)) place told.written));
     }
 
 -- an event more, whose reply was not told
@@ -108,28 +117,21 @@ pub TellsSome-more : (refusal : Refusal) (setup here : Setup) (old mid new : Dev
     → TellsAll answer failed setup old mid came before between → number ≡ length came + 1 → here ≡ setup
     → BreaksEvent refusal number here mid new one between after
     → TellsSome refusal setup old new (came ++ one ∷ []) before after
-TellsSome-more refusal setup here old mid new came one number answer failed before between after before_it counted same told =
-    let count = replied before_it.events before_it.replies came before_it.come before_it.each in
-    let place : number ≡ 1 + length before_it.replies = omega (arith, count, counted) in
+TellsSome-more refusal setup here old mid new came one number answer failed before between after so_far counted same told =
+    let run = so_far.run in
+    let reply = told.step.reply in
+    let count = replied run.events so_far.replies came run.come run.each in
+    let place : number ≡ 1 + length so_far.replies = omega (arith, count, counted) in
     let broken = told.broken in
     record {
-      events = before_it.events ++ told.event ∷ [];
-      told = before_it.replies;
-      untold = told.reply ∷ [];
+      told = so_far.replies;
+      untold = reply ∷ [];
       count = broken.count;
-      come = map-append came_by before_it.events (told.event ∷ [])
-          ∙ ap (λ l. l ++ came_by told.event ∷ []) before_it.come ∙ ap (λ c. came ++ c ∷ []) told.comes;
-      runs = runs_more setup old mid new before_it.events before_it.replies told.event told.reply before_it.runs
-          (subst (λ s. StepsTo s mid new told.event told.reply) same told.steps);
-      each = length-append before_it.replies (told.reply ∷ []) ∙ ap (λ k. k + 1) before_it.each
-          ∙ sym (length-append before_it.events (told.event ∷ []));
-      due = steps_more IsCutAsDue setup old mid new before_it.events before_it.replies told.event told.reply before_it.due
-          (subst (λ s. StepsTo s mid new told.event told.reply) same told.steps) told.due;
+      run = RepliesToAll-more setup here old mid new came one so_far.replies run same told.step;
       one = omega arith;
-      written = Appends-trans before between after _ _ before_it.written
+      written = Appends-trans before between after _ _ so_far.written
           (subst (λ text. Appends between after (take broken.count text))
-          (ap (λ k. reply_text k told.reply) place
-          ∙ sym (append-nil (reply_text (1 + length before_it.replies) told.reply)))
+          (ap (λ k. reply_text k reply) place ∙ sym (append-nil (reply_text (1 + length so_far.replies) reply)))
           broken.begun);
       output = λ file. absurd (broken.output file);
     }
@@ -144,14 +146,10 @@ pub TellsSome-all : (refusal : Refusal) (setup : Setup) (old new : DeviceView) (
     (answer : Answer) (failed : Bool) (before after : Option (List ℕ))
     → TellsAll answer failed setup old new came before after → TellsSome refusal setup old new came before after
 TellsSome-all refusal setup old new came answer failed before after told = record {
-  events = told.events;
   told = told.replies;
   untold = [];
   count = 0;
-  come = told.come;
-  runs = subst (λ l. RunsTo setup old new told.events l) (sym (append-nil told.replies)) told.runs;
-  due = subst (λ l. DueEach setup old told.events l new) (sym (append-nil told.replies)) told.due;
-  each = ap length (append-nil told.replies) ∙ told.each;
+  run = subst (RepliesToAll setup old new came) (sym (append-nil told.replies)) told.run;
   one = omega arith;
   written = subst (Appends before after) (sym (append-nil (replies_text 1 told.replies))) told.written;
   output = λ file. refl;
@@ -192,42 +190,19 @@ PlaysText-told : (device : DeviceFile) (bytes : List ℕ) (cuts : List Armed) (t
     → PlaysText answer device bytes cuts text buffered files before after
 PlaysText-told device bytes cuts text buffered files old new answer before after made all =
     let told = all.tells in
+    let run = told.run in
     record {
       came = all.came;
       comes = all.comes;
       plays = record {
-        events = told.events;
+        events = run.events;
         replies = told.replies;
-        come = told.come;
-        played = record { old = old; new = new; made = made; runs = told.runs; each = told.each };
+        come = run.come;
+        played = record { old = old; new = new; made = made; runs = run.runs; each = run.each };
         cut = (told.sound refl).1;
         answered = told.answered;
         written = told.written;
       };
-    }
-
--- .. or only the first was told
-TellsFirst-some : (refusal : Refusal) (device : DeviceFile) (bytes : List ℕ) (cuts : List Armed)
-    (text : List ℕ) (buffered : List BufferedInput) (files : FileBytes) (old new : DeviceView)
-    (before after : Option (List ℕ)) → IsMadeOf device.map bytes cuts old
-    → BreaksText refusal (setup_of device) old new text buffered files before after
-    → TellsFirst refusal device bytes cuts text buffered files before after
-TellsFirst-some refusal device bytes cuts text buffered files old new before after made broken =
-    let some = broken.tells in
-    record {
-      lines = broken.lines;
-      came = broken.came;
-      comes = broken.comes;
-      events = some.events;
-      come = some.come;
-      told = some.told;
-      untold = some.untold;
-      played = record { old = old; new = new; made = made; runs = some.runs; each = some.each };
-      one = some.one;
-      due = some.due;
-      count = some.count;
-      written = some.written;
-      whole = λ file. (broken.whole file, some.output file);
     }
 
 -- .. or there was no memory for the flash
@@ -236,50 +211,33 @@ pub TellsFirst-none : (device : DeviceFile) (bytes : List ℕ) (cuts : List Arme
     → TellsFirst NoMemory device bytes cuts text buffered files written written
 TellsFirst-none device bytes cuts text buffered files written =
     let here : DeviceView = seen (armed_chip device.map bytes cuts) [] false in
+    let setup = setup_of device in
     record {
-      lines = 0;
-      came = [];
-      comes = LoadsFirst-none text buffered files;
-      events = [];
-      come = refl;
-      told = [];
-      untold = [];
-      played = record {
-        old = here;
-        new = here;
-        made = record {
-          flash = refl;
-          down = refl;
-          closed = λ j. refl;
-        };
-        runs = runs_none (setup_of device) here;
-        each = refl;
+      old = here;
+      new = here;
+      made = record { flash = refl; down = refl; closed = λ j. refl };
+      breaks = record {
+        lines = 0;
+        came = [];
+        comes = LoadsFirst-none text buffered files;
+        tells = TellsSome-all NoMemory setup here here [] Done false written written
+            (TellsAll-none setup here written refl);
+        whole = λ file. absurd (not_of_file NoMemory refl file);
       };
-      one = omega arith;
-      due = refl;
-      count = 0;
-      written = Appends-nil written;
-      whole = λ file. absurd (not_of_file NoMemory refl file);
     }
 
--- ---- what a run of a device that was just made comes to
-
--- The run was answered ..
-pub plays-told : (device : DeviceFile) (bytes : List ℕ) (cuts : List Armed) (text : List ℕ)
+-- what a run of a device that was just made comes to: it was answered, or ended without an answer
+pub PlaysRun-made : (device : DeviceFile) (bytes : List ℕ) (cuts : List Armed) (text : List ℕ)
     (buffered : List BufferedInput) (files : FileBytes) (old new : DeviceView) (before after : Option (List ℕ))
     → IsMadeOf device.map bytes cuts old → (result : Result Answer Refusal)
     → IfOk result (λ answer. TellsText answer (setup_of device) old new text buffered files before after)
-    → IfOk result (λ answer. PlaysText answer device bytes cuts text buffered files before after)
-plays-told device bytes cuts text buffered files old new before after made (Ok answer) all =
-    PlaysText-told device bytes cuts text buffered files old new answer before after made all
-plays-told device bytes cuts text buffered files old new before after made (Err refusal) all = tt
-
--- .. or ended without an answer.
-pub tells-some : (device : DeviceFile) (bytes : List ℕ) (cuts : List Armed) (text : List ℕ)
-    (buffered : List BufferedInput) (files : FileBytes) (old new : DeviceView) (before after : Option (List ℕ))
-    → IsMadeOf device.map bytes cuts old → (result : Result Answer Refusal)
     → IfErr result (λ refusal. BreaksText refusal (setup_of device) old new text buffered files before after)
-    → IfErr result (λ refusal. TellsFirst refusal device bytes cuts text buffered files before after)
-tells-some device bytes cuts text buffered files old new before after made (Ok answer) some = tt
-tells-some device bytes cuts text buffered files old new before after made (Err refusal) some =
-    TellsFirst-some refusal device bytes cuts text buffered files old new before after made some
+    → PlaysRun result device bytes cuts text buffered files before after
+PlaysRun-made device bytes cuts text buffered files old new before after made (Ok answer) all some = record {
+  plays = PlaysText-told device bytes cuts text buffered files old new answer before after made all;
+  tells = tt;
+}
+PlaysRun-made device bytes cuts text buffered files old new before after made (Err refusal) all some = record {
+  plays = tt;
+  tells = record { old = old; new = new; made = made; breaks = some };
+}

@@ -3,12 +3,13 @@ use Rattle.std.proofs.Common.{◌≡◌, ◌≢◌, ◌⊎◌, ◌∙◌, ℕ, B
 use Rattle.clap.specs.Words.{Text, kind_of}
 use Rattle.clap.specs.declared.error.kind.ErrorKind.{ErrorKind}
 use Rattle.clap.specs.declared.error.kind.ErrorKind.TheVariants.{ArgumentConflict, InvalidValue}
-use Rattle.command_line.specs.DeviceOrders.{GiveOrder, writes_to_standard_input}
-use Rattle.command_line.specs.Faults.{IsDeviceFault, IsDeviceRefusal}
+use Rattle.command_line.specs.Orders.{GiveOrder, writes_to_standard_input}
+use Rattle.command_line.specs.Faults.{IsAnswered, IsDeviceFault, IsDeviceRefusal}
 use Rattle.command_line.specs.Faults.IsDeviceFault.{misuse, of_clap}
 use Rattle.command_line.specs.Given.{is_explained}
 use Rattle.command_line.specs.Status.{AskHelp, EndsWords, is_help}
 use Rattle.command_line.specs.declared.device_orders.DeviceOrder.{DeviceOrder}
+use Rattle.command_line.specs.declared.orders.Order.TheVariants.{Device}
 use Rattle.command_line.specs.declared.error.OrderError.{OrderError}
 use Rattle.command_line.specs.declared.error.OrderError.TheVariants.{Usage, NoMemory}
 use Rattle.host.specs.declared.answer.Answer.{Answer}
@@ -19,30 +20,12 @@ use Rattle.host.specs.Input.{FileBytes}
 use Rattle.host.specs.Status.{Ends, status_of, status_of_refusal}
 use Rattle.host.proofs.InputLaws.{KeepsFiles-itself}
 use Rattle.device_commands.specs.CoreEnd.{AnswersCore}
-use Rattle.device_commands.specs.WordsEnd.{AskNothing, EndsByCut, EndsCore}
+use Rattle.device_commands.specs.WordsEnd.{AskNothing, EndsByCut, EndsCore, EndsWith}
 
 -- the status of a refusal: 4 if the file of the flash failed, else 1
 refusal_status : (refusal : Refusal) → (status_of_refusal refusal ≡ 1) ⊎ (status_of_refusal refusal ≡ 4)
-refusal_status (no.TableLine line) = inl refl
-refusal_status (no.ReportLine line) = inl refl
-refusal_status no.NotValid = inl refl
-refusal_status no.DeviceFile = inl refl
-refusal_status no.Manifest = inl refl
-refusal_status no.FlashSize = inl refl
-refusal_status no.FlashInUse = inl refl
-refusal_status no.FlashIsInput = inl refl
-refusal_status no.ImageIsInput = inl refl
-refusal_status no.PictureIsInput = inl refl
-refusal_status no.ImageInUse = inl refl
-refusal_status no.ImageCount = inl refl
-refusal_status (no.NoImage image) = inl refl
-refusal_status (no.ImageTooBig image) = inl refl
-refusal_status (no.ScriptLine line) = inl refl
-refusal_status (no.OfSource refusal) = inl refl
-refusal_status no.NotOfCore = inl refl
-refusal_status no.NoMemory = inl refl
 refusal_status no.FlashFile = inr refl
-refusal_status no.CannotWrite = inl refl
+refusal_status _ = inl refl
 
 -- it is that of no fault in the words, and of no run that ends by a power cut
 not_refused : (refusal : Refusal) (status : ℕ) → status_of_refusal refusal ≡ status → status ≢ 1 → status ≢ 4 → ⊥
@@ -101,71 +84,85 @@ pub status_uncut : (helps : Bool) → status_by helps ≢ 3
 status_uncut true three = absurd (omega (arith, three))
 status_uncut false three = absurd (omega (arith, three))
 
-helped : (words : List Text) (kind : ErrorKind) → is_help kind ≡ true → IsDeviceFault words kind → AskHelp words
-helped words kind helps (of_clap among) = record { kind = kind; among = among; helps = helps }
-helped words kind helps (misuse order taken asks is_misuse) =
-    absurd (misuse_helps_none (writes_to_standard_input order) _ kind is_misuse helps)
-
 -- where a fault is written, and no help, it is a fault in the words
-wrong_status : (words : List Text) (kind : ErrorKind) (helps : Bool) (status : ℕ) → is_help kind ≡ helps
-    → IsDeviceFault words kind → status ≡ status_by helps → AskNothing words → (status ≡ 2) ⊎ (status ≡ 1)
-wrong_status words kind true status same fault ends nothing = absurd (nothing.no_help (helped words kind same fault))
-wrong_status words kind false status same fault ends nothing = inl ends
+wrong_status : {T : Type 0} (words : List Text) (Asks : T → Type 0) (kind : ErrorKind) (helps : Bool) (status : ℕ)
+    → is_help kind ≡ helps → (is_help kind ≡ true → AskHelp words) → status ≡ status_by helps
+    → AskNothing words Asks → (status ≡ 2) ⊎ (status ≡ 1)
+wrong_status words Asks kind true status same helped ends nothing = absurd (nothing.no_help (helped same))
+wrong_status words Asks kind false status same helped ends nothing = inl ends
 
--- Words that give no order end by what is answered to them.
-pub EndsCore-error : (words : List Text) (error : OrderError) (status : ℕ) (input : Option (List ℕ)) (file : FileBytes)
-    (old new : Option (List ℕ)) → IsDeviceRefusal words error → EndsWords error status
-    → EndsCore words status input file file old new
-EndsCore-error words error status input file old new refusal (inr one) = record {
+-- where memory ran out or a write failed, nothing is said of the words
+ends_with_1 : {T : Type 0} (words : List Text) (Asks : T → Type 0) (IsFault : ErrorKind → Type 0)
+    (IsDone IsCut : T → Type 0) (status : ℕ) (file : FileBytes) → status ≡ 1
+    → EndsWith words Asks IsFault IsDone IsCut status file file
+ends_with_1 words Asks IsFault IsDone IsCut status file one = record {
   done = λ zero. absurd (omega (arith, zero, one));
   usage = λ two. absurd (omega (arith, two, one));
   cut = λ three. absurd (omega (arith, three, one));
   wrong = λ nothing. inr one;
   kept = λ nothing. KeepsFiles-itself file;
 }
-EndsCore-error words NoMemory status input file old new refusal (inl one) = record {
-  done = λ zero. absurd (omega (arith, zero, one));
-  usage = λ two. absurd (omega (arith, two, one));
-  cut = λ three. absurd (omega (arith, three, one));
-  wrong = λ nothing. inr one;
-  kept = λ nothing. KeepsFiles-itself file;
-}
-EndsCore-error words (Usage answer) status input file old new refusal (inl ends) = record {
-  done = λ zero.
-      inl (helped words (kind_of answer) (status_helps (is_help (kind_of answer)) (sym ends ∙ zero)) refusal.1);
-  usage = λ two. record {
-    kind = kind_of answer;
-    fault = refusal.1;
-    no_help = status_faults (is_help (kind_of answer)) (sym ends ∙ two);
-  };
-  cut = λ three. absurd (status_uncut (is_help (kind_of answer)) (sym ends ∙ three));
-  wrong = λ nothing.
-      wrong_status words (kind_of answer) (is_help (kind_of answer)) status refl refusal.1 ends nothing;
-  kept = λ nothing. KeepsFiles-itself file;
-}
 
--- Where they give another order, nothing is done.
-pub EndsCore-other : (words : List Text) (status : ℕ) (input : Option (List ℕ)) (file : FileBytes)
-    (old new : Option (List ℕ)) → Ends (Err no.NotOfCore) status → EndsCore words status input file file old new
-EndsCore-other words status input file old new ends =
-    let one : status ≡ 1 = elim ends [ inl same ↦ same | inr same ↦ same ] in record {
-      done = λ zero. absurd (omega (arith, zero, one));
-      usage = λ two. absurd (omega (arith, two, one));
-      cut = λ three. absurd (omega (arith, three, one));
-      wrong = λ nothing. inr one;
+-- Words that give no order end by what is answered to them, if help is no fault.
+pub EndsWith-error : {T : Type 0} (words : List Text) (Asks : T → Type 0) (IsFault : ErrorKind → Type 0)
+    (IsDone IsCut : T → Type 0) (error : OrderError) (status : ℕ) (file : FileBytes)
+    → ((kind : ErrorKind) → is_help kind ≡ true → IsFault kind → AskHelp words)
+    → IsAnswered IsFault error → EndsWords error status → EndsWith words Asks IsFault IsDone IsCut status file file
+EndsWith-error words Asks IsFault IsDone IsCut error status file helped refusal (inr one) =
+    ends_with_1 words Asks IsFault IsDone IsCut status file one
+EndsWith-error words Asks IsFault IsDone IsCut NoMemory status file helped refusal (inl one) =
+    ends_with_1 words Asks IsFault IsDone IsCut status file one
+EndsWith-error words Asks IsFault IsDone IsCut (Usage answer) status file helped refusal (inl ends) =
+    let kind = kind_of answer in
+    let asks_help : is_help kind ≡ true → AskHelp words = λ helps. helped kind helps refusal.1 in record {
+      done = λ zero. inl (asks_help (status_helps (is_help kind) (sym ends ∙ zero)));
+      usage = λ two. record {
+        kind = kind;
+        fault = refusal.1;
+        no_help = status_faults (is_help kind) (sym ends ∙ two);
+      };
+      cut = λ three. absurd (status_uncut (is_help kind) (sym ends ∙ three));
+      wrong = λ nothing. wrong_status words Asks kind (is_help kind) status refl asks_help ends nothing;
       kept = λ nothing. KeepsFiles-itself file;
     }
 
 -- Where they give an order, it is answered.
+pub EndsWith-order : {T : Type 0} (words : List Text) (Asks : T → Type 0) (IsFault : ErrorKind → Type 0)
+    (IsDone IsCut : T → Type 0) (asked : T) (status : ℕ) (file after : FileBytes)
+    → Asks asked → (status ≡ 0 → IsDone asked) → status ≢ 2 → (status ≡ 3 → IsCut asked)
+    → EndsWith words Asks IsFault IsDone IsCut status file after
+EndsWith-order words Asks IsFault IsDone IsCut asked status file after asks done other cut = record {
+  done = λ zero. inr (record { asked = asked; asks = asks; holds = done zero });
+  usage = λ two. absurd (other two);
+  cut = λ three. record { asked = asked; asks = asks; holds = cut three };
+  wrong = λ nothing. absurd (nothing.no_order asked asks);
+  kept = λ nothing. absurd (nothing.no_order asked asks);
+}
+
+-- A fault in words that may ask for an order to a device is no help.
+helped : (words : List Text) (kind : ErrorKind) → is_help kind ≡ true → IsDeviceFault words kind → AskHelp words
+helped words kind helps (of_clap among) = record { kind = kind; among = among; helps = helps }
+helped words kind helps (misuse order taken asks is_misuse) =
+    absurd (misuse_helps_none (writes_to_standard_input (Device order)) _ kind is_misuse helps)
+
+-- What is answered to words that give the core no order says how they end ..
+pub EndsCore-error : (words : List Text) (error : OrderError) (status : ℕ) (input : Option (List ℕ)) (file : FileBytes)
+    (old new : Option (List ℕ)) → IsDeviceRefusal words error → EndsWords error status
+    → EndsCore words status input file file old new
+EndsCore-error words error status input file old new refusal ends =
+    EndsWith-error words _ (IsDeviceFault words) _ _ error status file (helped words) refusal ends
+
+-- .. where they give an order of others, nothing is done ..
+pub EndsCore-other : (words : List Text) (status : ℕ) (input : Option (List ℕ)) (file : FileBytes)
+    (old new : Option (List ℕ)) → Ends (Err no.NotOfCore) status → EndsCore words status input file file old new
+EndsCore-other words status input file old new ends =
+    ends_with_1 words _ _ _ _ status file (elim ends [ inl same ↦ same | inr same ↦ same ])
+
+-- .. and where they give one of the core, it is answered.
 pub EndsCore-order : (words : List Text) (order : DeviceOrder) (status : ℕ) (input : Option (List ℕ))
-    (file after : FileBytes) (old new : Option (List ℕ)) → GiveOrder words order → is_explained words ≡ false
+    (file after : FileBytes) (old new : Option (List ℕ)) → GiveOrder words (Device order) → is_explained words ≡ false
     → (status ≡ 0 → AnswersCore Done order input file after old new) → status ≢ 2
     → (status ≡ 3 → EndsByCut order input file after old new)
     → EndsCore words status input file after old new
-EndsCore-order words order status input file after old new given plain answered other ends = record {
-  done = λ zero. inr (record { order = order; given = given; plain = plain; answered = answered zero });
-  usage = λ two. absurd (other two);
-  cut = λ three. record { order = order; given = given; plain = plain; ends = ends three };
-  wrong = λ nothing. absurd (nothing.no_order order given);
-  kept = λ nothing. absurd (nothing.no_order order given);
-}
+EndsCore-order words order status input file after old new given plain answered other ends =
+    EndsWith-order words _ _ _ _ order status file after given (λ zero. (plain, answered zero)) other (λ three. (plain, ends three))

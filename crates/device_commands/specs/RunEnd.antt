@@ -4,8 +4,6 @@ use Rattle.std.specs.Io.KnownBytes.{Appends}
 use Rattle.common.specs.declared.event.Event.{Event}
 use Rattle.common.specs.Event.{event_map}
 use Rattle.flash_model.specs.declared.torn.Armed.{Armed}
-use Rattle.flash_model.specs.Chip.{Chip}
-use Rattle.flash_model.specs.Memory.{with_armed}
 use Rattle.sector_map.specs.declared.layout.SectorMap.{SectorMap}
 use Rattle.upload.specs.Sessions.{AllClosed}
 use Rattle.machine.specs.Holding.{DeviceView}
@@ -19,16 +17,12 @@ use Rattle.host.specs.declared.answer.Answer.TheVariants.{Done, Refused, Cut}
 use Rattle.device_texts.specs.declared.device.DeviceFile.{DeviceFile}
 use Rattle.host.specs.declared.source.Source.{Source}
 use Rattle.device_texts.specs.DeviceFile.{IsDeviceFile, setup_of}
-use Rattle.device_texts.specs.FlashOf.{IsFlashOf, flash_of}
+use Rattle.device_texts.specs.FlashOf.{IsFlashOf, armed_chip}
 use Rattle.inputs.specs.DeviceInput.{RefusesMap}
 use Rattle.host.specs.Input.{FileBytes}
 use Rattle.host.specs.Inputs.{GiveEach}
 use Rattle.device_texts.specs.ReplyText.{replies_text}
 use Rattle.inputs.specs.Script.{IsScript, known_after_each}
-
--- The flash that has these bytes and is armed with these cuts, counted from its making.
-abbrev pub armed_chip : SectorMap → List ℕ → List Armed → Chip
-armed_chip map bytes cuts = with_armed (flash_of map bytes) cuts
 
 -- A device that was just made, over a flash with these bytes that is armed with exactly these cuts.
 -- It isn't booted, and no upload is open.

@@ -1,5 +1,5 @@
 -- The result of writing the replies of a device one by one: for the private contracts of `run`.
-use Rattle.std.specs.Prelude.{◌≡◌, ℕ, ◌+◌, ◌≤◌, Bool, false, List, [], ◌++◌, length, Option, Some, map, take}
+use Rattle.std.specs.Prelude.{◌≡◌, ℕ, ◌+◌, ◌≤◌, Bool, false, List, [], ◌++◌, length, Option, Some, Result, IfErr, IfOk, map, take}
 use Rattle.std.specs.Io.KnownBytes.{Appends}
 use Rattle.common.specs.Lines.{lines_of}
 use Rattle.common.specs.declared.event.Event.{Event}
@@ -19,7 +19,7 @@ use Rattle.device_texts.specs.DeviceFile.{setup_of}
 use Rattle.device_texts.specs.ReplyText.{replies_text, reply_text}
 use Rattle.inputs.specs.declared.checking.BufferedInput.{BufferedInput}
 use Rattle.inputs.specs.Loading.{LoadsAll, LoadsFirst}
-use Rattle.device_commands.specs.RunEnd.{IsPlayed, Plays, answer_after, answer_of, came_by}
+use Rattle.device_commands.specs.RunEnd.{IsMadeOf, Plays, answer_after, answer_of, came_by}
 
 -- A writer took a prefix of a text and no more, or there was no memory for the text. The refusal
 -- isn't that of the flash file.
@@ -29,42 +29,47 @@ pub record BreaksOff (refusal : Refusal) (text : List ℕ) (before after : Optio
   pub begun : Appends before after (take count text)
   pub output : refusal ≡ FlashFile → ⊥
 
--- A device replied to its event of this number, and a writer took the reply, which gives the
--- answer.
-pub record TellsEvent (answer : Answer) (number : ℕ) (setup : Setup) (old new : DeviceView)
-    (came : Event (List ℕ)) (before after : Option (List ℕ)) : Type 0 where
+-- A device replied to an event.
+pub record RepliesTo (setup : Setup) (old new : DeviceView) (came : Event (List ℕ)) : Type 0 where
   pub event : DeviceEvent
   pub reply : Reply
   pub comes : came_by event ≡ came
   pub steps : StepsTo setup old new event reply
   -- The reply is Cut exactly if the flash took an armed write, or had a fault.
   pub due : IsCutAsDue old.flash reply new.flash
-  pub written : Appends before after (reply_text number reply)
-  pub answered : answer ≡ answer_after (Some reply)
+
+-- A device replied to its event of this number, and a writer took the reply, which gives the
+-- answer.
+pub record TellsEvent (answer : Answer) (number : ℕ) (setup : Setup) (old new : DeviceView)
+    (came : Event (List ℕ)) (before after : Option (List ℕ)) : Type 0 where
+  pub step : RepliesTo setup old new came
+  pub written : Appends before after (reply_text number step.reply)
+  pub answered : answer ≡ answer_after (Some step.reply)
 
 -- A device replied to its event, and the reply could not be written, or not completely.
 pub record BreaksEvent (refusal : Refusal) (number : ℕ) (setup : Setup) (old new : DeviceView)
     (came : Event (List ℕ)) (before after : Option (List ℕ)) : Type 0 where
-  pub event : DeviceEvent
-  pub reply : Reply
-  pub comes : came_by event ≡ came
-  pub steps : StepsTo setup old new event reply
-  pub due : IsCutAsDue old.flash reply new.flash
-  pub broken : BreaksOff refusal (reply_text number reply) before after
+  pub step : RepliesTo setup old new came
+  pub broken : BreaksOff refusal (reply_text number step.reply) before after
+
+-- A device replied so to events, to each once.
+pub record RepliesToAll (setup : Setup) (old new : DeviceView) (came : List (Event (List ℕ)))
+    (replies : List Reply) : Type 0 where
+  pub events : List DeviceEvent
+  pub come : map came_by events ≡ came
+  pub runs : RunsTo setup old new events replies
+  pub each : length replies ≡ length events
+  -- Event by event, the reply is Cut exactly if the flash took an armed write in it, or had a fault.
+  pub due : DueEach setup old events replies new
 
 -- A device replied to all events, and a writer took the replies. The last of them gives the answer.
 -- A write of the flash file has failed, or none has.
 pub record TellsAll (answer : Answer) (failed : Bool) (setup : Setup) (old new : DeviceView)
     (came : List (Event (List ℕ))) (before after : Option (List ℕ)) : Type 0 where
-  pub events : List DeviceEvent
   pub replies : List Reply
-  pub come : map came_by events ≡ came
-  pub runs : RunsTo setup old new events replies
-  pub each : length replies ≡ length events
-  -- Event by event, the reply is Cut exactly if the flash took an armed write in it, or had a fault,
-  pub due : DueEach setup old events replies new
-  -- and it had no fault if no write of its file has failed.
-  pub sound : failed ≡ false → (new.flash.faults ≡ 0) × CutsEach setup old events replies new
+  pub run : RepliesToAll setup old new came replies
+  -- The flash had no fault if no write of its file has failed.
+  pub sound : failed ≡ false → (new.flash.faults ≡ 0) × CutsEach setup old run.events replies new
   pub answered : answer ≡ answer_of replies
   pub written : Appends before after (replies_text 1 replies)
 
@@ -72,14 +77,10 @@ pub record TellsAll (answer : Answer) (failed : Bool) (setup : Setup) (old new :
 -- which it took a prefix.
 pub record TellsSome (refusal : Refusal) (setup : Setup) (old new : DeviceView)
     (came : List (Event (List ℕ))) (before after : Option (List ℕ)) : Type 0 where
-  pub events : List DeviceEvent
   pub told : List Reply
   pub untold : List Reply
   pub count : ℕ
-  pub come : map came_by events ≡ came
-  pub runs : RunsTo setup old new events (told ++ untold)
-  pub due : DueEach setup old events (told ++ untold) new
-  pub each : length (told ++ untold) ≡ length events
+  pub run : RepliesToAll setup old new came (told ++ untold)
   pub one : length untold ≤ 1
   pub written : Appends before after
       (replies_text 1 told ++ take count (replies_text (1 + length told) untold))
@@ -116,27 +117,21 @@ pub record PlaysText (answer : Answer) (device : DeviceFile) (bytes : List ℕ)
   pub plays : Plays answer device bytes cuts came old new
 
 -- What a writer took of a run of a text that ended without an answer, on a device of this file,
--- whose flash has these bytes and is armed with these cuts.
+-- whose flash has these bytes and is armed with these cuts. The flash has a fault only after a
+-- failed write of its file.
 pub record TellsFirst (refusal : Refusal) (device : DeviceFile) (bytes : List ℕ)
     (cuts : List Armed) (text : List ℕ) (buffered : List BufferedInput) (files : FileBytes)
+    (before after : Option (List ℕ)) : Type 0 where
+  pub old : DeviceView
+  pub new : DeviceView
+  pub made : IsMadeOf device.map bytes cuts old
+  pub breaks : BreaksText refusal (setup_of device) old new text buffered files before after
+
+-- How a run of a text ends, on a device of this file, whose flash has these bytes and is armed with
+-- these cuts: with an answer, or without one.
+pub record PlaysRun (result : Result Answer Refusal) (device : DeviceFile) (bytes : List ℕ)
+    (cuts : List Armed) (text : List ℕ) (buffered : List BufferedInput) (files : FileBytes)
     (old new : Option (List ℕ)) : Type 0 where
-  -- The events of its first lines came, and none after them.
-  pub lines : ℕ
-  pub came : List (Event (List ℕ))
-  pub comes : LoadsFirst lines text buffered files came
-  pub events : List DeviceEvent
-  pub come : map came_by events ≡ came
-  -- The replies to them were written, but the last one at most.
-  pub told : List Reply
-  pub untold : List Reply
-  pub played : IsPlayed device bytes cuts events (told ++ untold)
-  pub one : length untold ≤ 1
-  -- Event by event, the reply is Cut exactly if the flash took an armed write in it, or had a
-  -- fault, which it has only after a failed write of its file.
-  pub due : DueEach (setup_of device) played.old events (told ++ untold) played.new
-  -- The writer took all of those that were written, and `count` bytes of the one that wasn't.
-  pub count : ℕ
-  pub written : Appends old new
-      (replies_text 1 told ++ take count (replies_text (1 + length told) untold))
-  -- If the flash file failed, all events came, and each reply was written.
-  pub whole : refusal ≡ FlashFile → (lines ≡ length (lines_of text)) × (untold ≡ [])
+  pub plays : IfOk result (λ answer. PlaysText answer device bytes cuts text buffered files old new)
+  pub tells : IfErr result (λ refusal.
+      TellsFirst refusal device bytes cuts text buffered files old new)

@@ -1,64 +1,73 @@
--- How the core of the program ends, by its arguments.
+-- How a program ends, by its arguments: the core, and any with orders of its own.
 use Rattle.std.specs.Prelude.{◌≡◌, ◌⊎◌, ℕ, List, Option, false}
 use Rattle.clap.specs.Words.{Text}
 use Rattle.clap.specs.declared.error.kind.ErrorKind.{ErrorKind}
-use Rattle.command_line.specs.DeviceOrders.{GiveOrder}
+use Rattle.command_line.specs.Orders.{GiveOrder}
 use Rattle.command_line.specs.Faults.{IsDeviceFault}
 use Rattle.command_line.specs.Given.{is_explained}
 use Rattle.command_line.specs.Status.{AskHelp, is_help}
 use Rattle.command_line.specs.declared.device_orders.DeviceOrder.{DeviceOrder}
+use Rattle.command_line.specs.declared.orders.Order.TheVariants.{Device}
 use Rattle.std.specs.Io.KnownBytes.{Keeps}
+use Rattle.host.specs.declared.answer.Answer.{Answer}
 use Rattle.host.specs.declared.answer.Answer.TheVariants.{Cut, Done}
 use Rattle.host.specs.Input.{FileBytes, KeepsFiles}
 use Rattle.device_commands.specs.CoreEnd.{AnswersCore}
 
--- The arguments give an order to a device, which isn't to be explained, and its complete answer is
--- written.
-pub record AnswersWords (words : List Text) (input : Option (List ℕ)) (file then : FileBytes)
-    (old new : Option (List ℕ)) : Type 0 where
-  pub order : DeviceOrder
-  pub given : GiveOrder words order
-  pub plain : is_explained words ≡ false
-  pub answered : AnswersCore Done order input file then old new
+-- The arguments ask for an order of which this holds.
+pub record AskSome {T : Type 0} (Asks Holds : T → Type 0) : Type 0 where
+  pub asked : T
+  pub asks : Asks asked
+  pub holds : Holds asked
+
+-- They ask for nothing: neither for help or the version nor for an order.
+pub record AskNothing {T : Type 0} (words : List Text) (Asks : T → Type 0) : Type 0 where
+  pub no_help : AskHelp words → ⊥
+  pub no_order : (asked : T) → Asks asked → ⊥
+
+-- They have a fault: an answer to them that is neither help nor the version.
+pub record HaveFault (IsFault : ErrorKind → Type 0) : Type 0 where
+  pub kind : ErrorKind
+  pub fault : IsFault kind
+  pub no_help : is_help kind ≡ false
+
+-- What the exit status says about the arguments, which may ask for such an order, have such a fault,
+-- and whose order may be done or end by a power cut.
+pub record EndsWith {T : Type 0} (words : List Text) (Asks : T → Type 0)
+    (IsFault : ErrorKind → Type 0) (IsDone IsCut : T → Type 0) (status : ℕ)
+    (file then : FileBytes) : Type 0 where
+  -- 0 comes only if they ask for help or the version, or if the answer to their order is complete
+  pub done : status ≡ 0 → AskHelp words ⊎ AskSome Asks IsDone
+  -- 2 comes only after a fault in them
+  pub usage : status ≡ 2 → HaveFault IsFault
+  -- 3 comes only if they ask for a run, and its last reply is that the power failed
+  pub cut : status ≡ 3 → AskSome Asks IsCut
+  -- if they ask for none of this it is 2; or 1, if the order is none of the program's, a write
+  -- failed or memory ran out ..
+  pub wrong : AskNothing words Asks → (status ≡ 2) ⊎ (status ≡ 1)
+  -- .. and no file is changed
+  pub kept : AskNothing words Asks → KeepsFiles file then
+
+-- An answer was written that says that the power failed, and it is kept.
+pub record IsCutAnswer (Answers : Answer → Option (List ℕ) → Type 0) (new : Option (List ℕ))
+    : Type 0 where
+  pub written : Option (List ℕ)
+  pub answered : Answers Cut written
+  pub kept : Keeps written new
 
 -- The answer to an order is that of a run whose last reply says that the power failed, and its
 -- output is kept.
-pub record EndsByCut (order : DeviceOrder) (input : Option (List ℕ)) (file then : FileBytes)
-    (old new : Option (List ℕ)) : Type 0 where
-  pub written : Option (List ℕ)
-  pub answered : AnswersCore Cut order input file then old written
-  pub kept : Keeps written new
+abbrev pub EndsByCut : DeviceOrder → Option (List ℕ) → FileBytes → FileBytes
+    → Option (List ℕ) → Option (List ℕ) → Type 0
+EndsByCut order input file then old new =
+    IsCutAnswer (λ answer written. AnswersCore answer order input file then old written) new
 
--- The arguments give such an order, which isn't to be explained.
-pub record CutWords (words : List Text) (input : Option (List ℕ)) (file then : FileBytes)
-    (old new : Option (List ℕ)) : Type 0 where
-  pub order : DeviceOrder
-  pub given : GiveOrder words order
-  pub plain : is_explained words ≡ false
-  pub ends : EndsByCut order input file then old new
-
--- The arguments neither ask for help or the version nor give an order to a device.
-pub record AskNothing (words : List Text) : Type 0 where
-  pub no_help : AskHelp words → ⊥
-  pub no_order : (order : DeviceOrder) → GiveOrder words order → ⊥
-
--- The arguments have a fault: an answer to them that is neither help nor the version.
-pub record HaveFault (words : List Text) : Type 0 where
-  pub kind : ErrorKind
-  pub fault : IsDeviceFault words kind
-  pub no_help : is_help kind ≡ false
-
--- What the exit status says about the arguments.
-pub record EndsCore (words : List Text) (status : ℕ) (input : Option (List ℕ))
-    (file then : FileBytes) (old new : Option (List ℕ)) : Type 0 where
-  -- 0 comes only if they ask for help or the version, or if the answer to their order is complete
-  pub done : status ≡ 0 → AskHelp words ⊎ AnswersWords words input file then old new
-  -- 2 comes only after a fault in them
-  pub usage : status ≡ 2 → HaveFault words
-  -- 3 comes only if they ask for a run, and its last reply is that the power failed
-  pub cut : status ≡ 3 → CutWords words input file then old new
-  -- if they ask for none of this it is 2; or 1, if the order is of another kind, a write failed or
-  -- memory ran out ..
-  pub wrong : AskNothing words → (status ≡ 2) ⊎ (status ≡ 1)
-  -- .. and no file is changed
-  pub kept : AskNothing words → KeepsFiles file then
+-- What the exit status of the core says about the arguments: their order is one to a device, and
+-- isn't to be explained.
+abbrev pub EndsCore : List Text → ℕ → Option (List ℕ) → FileBytes → FileBytes
+    → Option (List ℕ) → Option (List ℕ) → Type 0
+EndsCore words status input file then old new =
+    EndsWith words (λ order. GiveOrder words (Device order)) (IsDeviceFault words)
+    (λ order. (is_explained words ≡ false) × AnswersCore Done order input file then old new)
+    (λ order. (is_explained words ≡ false) × EndsByCut order input file then old new)
+    status file then

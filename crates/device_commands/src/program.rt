@@ -3,9 +3,10 @@ ghost use Rattle.std.specs.Prelude.{◌≡◌, ◌≢◌, IfOk, map};
 ghost use Rattle.device_commands.specs.CoreEnd.{AnswersCore};
 ghost use Rattle.device_commands.specs.WordsEnd.{EndsByCut, EndsCore};
 
+use crate::answering::answer_words;
 use crate::provision::run_provision;
 use crate::run::{RunFiles, run_device};
-use command_line::{DeviceOrder, answer_words, device_request};
+use command_line::{DeviceOrder, device_request};
 use host::{Access, Answer, Host, Refusal, Source, finish};
 use inputs::{NoNotes, RunNotes};
 use std::alloc::Global;

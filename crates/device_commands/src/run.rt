@@ -1,35 +1,28 @@
 //! `bootswap run`: runs the events of a script on a device, and writes its replies.
 ghost use Rattle.host.specs.Doings.{IsOpenedFor};
-ghost use Rattle.host.specs.Input.{Gives, KeepsOthers};
-ghost use Rattle.inputs.specs.DeviceInput.{OpensFlash};
-ghost use Rattle.std.specs.Prelude.{◌≡◌, ◌++◌, IfErr, IfOk, IsTrue, OnOk, Some, length, true};
+ghost use Rattle.std.specs.Prelude.{◌≡◌, IfErr, IfOk, IsTrue, OnOk, Some, length, true};
 ghost use Rattle.std.specs.Io.KnownBytes.{Appends};
-ghost use Rattle.std.specs.Option.{ForSome};
-ghost use Rattle.inputs.specs.FileFlash.{chip_of as over_chip, new_over, over_file};
-ghost use Rattle.flash_model.specs.Memory.{chip_of, with_armed};
-ghost use Rattle.sector_map.specs.Map.{IsLaidOut};
 ghost use Rattle.device_texts.specs.DeviceFile.{IsOfFile};
-ghost use Rattle.device_texts.specs.FlashOf.{IsFlashOf};
+ghost use Rattle.device_texts.specs.FlashOf.{IsFlashOf, armed_in};
 ghost use Rattle.device_texts.specs.ReplyText.{reply_text};
-ghost use Rattle.inputs.specs.Loading.{armed_in, came_of};
-ghost use Rattle.device_commands.specs.RunEnd.{AnswersRun, answer_after, armed_chip};
-ghost use Rattle.device_commands.specs.Telling.{BreaksEvent, BreaksOff, BreaksText, PlaysText, TellsEvent, TellsFirst, TellsText};
+ghost use Rattle.inputs.specs.Loading.{came_of};
+ghost use Rattle.device_commands.specs.RunEnd.{AnswersRun, answer_after};
+ghost use Rattle.device_commands.specs.Telling.{BreaksEvent, BreaksOff, BreaksText, PlaysRun, TellsEvent, TellsText};
 ghost use Rattle.host.specs.declared.source.Source.TheVariants as source;
 
 use crate::host_file::HostFile;
 use boot_core::{Device, step};
 use common::event::Event;
-use device_texts::{DeviceFile, flash_of, reply_text, write_all};
-use flash_model::{Flash, MemFlash};
+use device_texts::{CutWrite, DeviceFile, arm_all, flash_of, reply_text, write_all};
+use flash_model::Flash;
 use host::{Access, Answer, Host, Refusal, Source};
 use inputs::{
-    CheckedScript, CutWrite, FileFlash, FlashFile, Lines, RunNotes, Sources, check_script,
-    read_device, read_flash, read_script,
+    CheckedScript, FileFlash, FlashFile, Lines, RunNotes, Sources, check_script, read_device,
+    read_flash, read_script,
 };
 use machine::Reply;
 use script::Line;
-use sector_map::SectorMap;
-use std::alloc::{AllocError, Global};
+use std::alloc::Global;
 use std::io::Write;
 use std::marker::Brand;
 use std::sync::ledger::{Blank, Ledger};
@@ -90,7 +83,7 @@ pub fn run_device<H: Host, O: Write, N: RunNotes>(
         return Ok(Answer::Refused);
     };
     let flash = Source::File(files.flash);
-    let bytes = read_sure_flash(alloc, flash, &device.map, files.access, host)?;
+    let bytes = read_flash(alloc, flash, &device.map, files.access, host)?;
     let text = read_script(alloc, files.script, host)?;
     let CheckedScript { cuts, buffered, .. } = check_script(
         alloc,
@@ -120,31 +113,6 @@ pub fn run_device<H: Host, O: Write, N: RunNotes>(
     }
 }
 
-/// Reads the bytes of a device's flash, whose file is opened for `access` and locked from then on.
-/// For [`Access::WriteDurably`] the file and its name are on the medium before this returns.
-fn read_sure_flash<H: Host>(
-    alloc: Global,
-    flash: Source<'_>,
-    map: &SectorMap,
-    access: Access,
-    host: &mut H,
-) -> Result<Vec<u8>, Refusal>
-    ensures bytes { IfOk result (λ bytes.
-        Gives flash.entry (H.input host.old) (H.file host.old) bytes.items) }
-    ensures whole { IfOk result (λ bytes. IsFlashOf map.now bytes.items) }
-    ensures others { KeepsOthers flash.entry (H.input host.old) (H.file host.old)
-        (H.input host.new) (H.file host.new) }
-    ensures opened { IfOk result (λ _.
-        OpensFlash access flash.entry (H.opened host.old) (H.opened host.new)) }
-    ensures sure { access ≡ Access.WriteDurably → OnOk result (IsTrue (H.synced host.new)) }
-{
-    let bytes = read_flash(alloc, flash, map, access, host)?;
-    if access == Access::WriteDurably && host.sync_flash().is_err() {
-        return Err(Refusal::FlashFile);
-    }
-    Ok(bytes)
-}
-
 /// Runs the events of a script on a device, and writes each reply to `out` when its event is done.
 /// Each change of the flash is written to its file.
 fn play<L: Ledger, M: Ledger, H: Host, O: Write, N: RunNotes>(
@@ -163,14 +131,9 @@ fn play<L: Ledger, M: Ledger, H: Host, O: Write, N: RunNotes>(
     requires memory_two { M.parts ≡ 2 }
     requires device { IsOfFile run.device.now }
     requires whole { IsFlashOf run.device.now.map run.bytes.items }
-    ensures plays { IfOk result (λ answer. PlaysText answer
-        run.entry.device.now run.entry.bytes.items (armed_in run.entry.cuts.items)
-        run.entry.text.now sources.now.buffered.now (H.file sources.now.host.now)
-        (O.contents out.old) (O.contents out.new)) }
-    ensures tells { IfErr result (λ refusal. TellsFirst refusal
-        run.entry.device.now run.entry.bytes.items (armed_in run.entry.cuts.items)
-        run.entry.text.now sources.now.buffered.now (H.file sources.now.host.now)
-        (O.contents out.old) (O.contents out.new)) }
+    ensures { PlaysRun result run.entry.device.now run.entry.bytes.items
+        (armed_in run.entry.cuts.items) run.entry.text.now sources.now.buffered.now
+        (H.file sources.now.host.now) (O.contents out.old) (O.contents out.new) }
 {
     let Run {
         device,
@@ -178,57 +141,15 @@ fn play<L: Ledger, M: Ledger, H: Host, O: Write, N: RunNotes>(
         cuts,
         text,
     } = run;
-    let (alloc, file) = (sources.alloc, HostFile { host: sources.host });
-    let map = &device.map;
-    let Ok(flash) = armed_flash::<L, M, _>(alloc, blank, memory_blank, map, bytes, cuts, file)
-    else {
+    let alloc = sources.alloc;
+    let mut memory = flash_of::<M>(alloc, memory_blank, &device.map, bytes);
+    let Ok(()) = arm_all(&mut memory, cuts) else {
         return Err(Refusal::NoMemory);
     };
+    let file = HostFile { host: sources.host };
+    let flash = FileFlash::<_, L, M>::over(memory, blank, file);
     let mut device = Device::with_trial(flash, device.map, device.identity, device.trial_boots);
     run_events(alloc, &mut device, text, sources, out, notes)
-}
-
-/// A flash of these bytes, armed with these cuts. Each change is written to `file`, which holds the
-/// bytes already.
-fn armed_flash<L: Ledger, M: Ledger, F: FlashFile + Drop>(
-    alloc: Global,
-    blank: Blank,
-    memory_blank: Blank,
-    map: &SectorMap,
-    bytes: Vec<u8>,
-    cuts: Vec<CutWrite>,
-    file: F,
-) -> Result<FileFlash<F, L, M>, AllocError>
-    requires name { blank.name ≡ L.name }
-    requires parts { blank.parts ≡ L.parts }
-    requires two { L.parts ≡ 2 }
-    requires memory_name { memory_blank.name ≡ M.name }
-    requires memory_parts { memory_blank.parts ≡ M.parts }
-    requires memory_two { M.parts ≡ 2 }
-    requires whole { IsFlashOf map.now bytes.items }
-    requires held { ForSome (F.contents file) (λ all. all ≡ bytes.items) }
-    ensures armed { IfOk result (λ flash. over_file flash
-        ≡ new_over (armed_chip map.now bytes.items (armed_in cuts.items))) }
-    ensures laid_out { IfOk result (λ flash. IsLaidOut map.now (over_chip flash)) }
-{
-    let mut memory = flash_of::<M>(alloc, memory_blank, map, bytes);
-    arm_all(&mut memory, cuts)?;
-    Ok(FileFlash::over(memory, blank, file))
-}
-
-/// Arms a flash with these cuts, after those that it is armed with already. The flash took no write
-/// yet.
-fn arm_all<M: Ledger>(memory: &mut MemFlash<M>, cuts: Vec<CutWrite>) -> Result<(), AllocError>
-    requires { (chip_of memory.old).writes ≡ 0 }
-    ensures chip { chip_of memory.new
-        ≡ with_armed (chip_of memory.old) (chip_of memory.new).fixed.armed }
-    ensures armed { OnOk result ((chip_of memory.new).fixed.armed
-        ≡ (chip_of memory.old).fixed.armed ++ armed_in cuts.items) }
-{
-    for cut in cuts {
-        memory.arm(u64::from(cut.write), cut.torn)?;
-    }
-    Ok(())
 }
 
 /// Runs the events of a script's lines on a device, in order. Writes each reply to `out` when its

@@ -1,19 +1,15 @@
 -- What an answer stands for, from what was read and what was written.
-use Rattle.std.proofs.Common.{inl, inr, ℕ, List, Option, Some, Result, Ok, Err, IfOk, subst}
-use Rattle.std.proofs.KnownBytes.{Appends-kept}
-use Rattle.std.specs.Io.KnownBytes.{Keeps}
+use Rattle.std.proofs.Common.{inl, ℕ, List, Option, Some, Result, Ok, Err, IfOk, subst}
 use Rattle.device_texts.specs.FlashOf.{flash_of}
-use Rattle.device_texts.specs.declared.device.DeviceFile.{DeviceFile}
 use Rattle.flash_model.specs.Chip.{Chip}
 use Rattle.host.specs.Input.{FileBytes, Gives}
 use Rattle.host.specs.declared.answer.Answer.{Answer}
 use Rattle.host.specs.declared.error.Refusal.{Refusal}
 use Rattle.host.specs.declared.source.Source.{Source}
 use Rattle.sector_map.specs.declared.layout.SectorMap.{SectorMap}
-use Rattle.inspecting.specs.Answers.{AnswersForDevice, AnswersForFlash, ReadsDeviceFlash}
+use Rattle.inspecting.specs.Answers.{AnswersForFlash, ReadsDeviceFlash}
 use Rattle.inspecting.specs.Written.{WritesAnswer}
 use Rattle.inspecting.specs.declared.device_flash.DeviceFlash.{DeviceFlash}
-use Rattle.inspecting.proofs.WrittenLaws.{WritesAnswer-kept}
 
 -- a source was read, and this was written of its bytes
 pub source-answered : (writes : Result Answer Refusal → List ℕ → Option (List ℕ) → Option (List ℕ) → Type 0)
@@ -38,28 +34,3 @@ flash-answered has_text (Ok answer) read device flash input files old mid new gi
     given.4 written in
     inl (given.0, bytes, read.device, given.1, given.2, (given.3, since))
 flash-answered has_text (Err refusal) read device flash input files old mid new given written = tt
-
--- a flush after the answer changes nothing
-pub AnswersForDevice-kept : (answer : Answer) (device second : Source) (input : Option (List ℕ))
-    (files : FileBytes) (old mid new : Option (List ℕ)) (holds then : DeviceFile → List ℕ → Type 0)
-    → ((of_device : DeviceFile) (bytes : List ℕ) → holds of_device bytes → then of_device bytes)
-    → AnswersForDevice answer device second input files old mid holds → Keeps mid new
-    → AnswersForDevice answer device second input files old new then
-AnswersForDevice-kept answer device second input files old mid new holds then follows (inl both) kept =
-    inl (both.0, both.1, both.2, both.3, both.4, follows both.2 both.1 both.5)
-AnswersForDevice-kept answer device second input files old mid new holds then follows (inr refused) kept =
-    let map = refused.1 in
-    inr (refused.0, (map.0, map.1, map.2, map.3, Appends-kept old mid new _ map.4 kept))
-
-pub AnswersForFlash-kept : (has_text : SectorMap → Chip → Answer → List ℕ → Type 0) (answer : Answer)
-    (device flash : Source) (input : Option (List ℕ)) (files : FileBytes)
-    (old mid new : Option (List ℕ))
-    → AnswersForFlash has_text answer device flash input files old mid → Keeps mid new
-    → AnswersForFlash has_text answer device flash input files old new
-AnswersForFlash-kept has_text answer device flash input files old mid new answered kept =
-    AnswersForDevice-kept answer device flash input files old mid new _ _
-    (λ of_device bytes written. (
-      written.0,
-      WritesAnswer-kept (has_text of_device.map (flash_of of_device.map bytes)) answer old mid new written.1 kept,
-    ))
-    answered kept

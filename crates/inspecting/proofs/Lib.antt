@@ -1,4 +1,5 @@
 mod AnswerLaws
+mod FlashTextLaws
 mod SlotLaws
 mod TextLaws
 mod WrittenLaws

@@ -1,6 +1,5 @@
 -- Answers that are written: from what a writer took to what the answer stands for.
 use Rattle.std.proofs.Common.{◌≡◌, inl, inr, ℕ, List, Option, Result, Ok, Err, IfErr, IfOk, subst, sym}
-use Rattle.std.proofs.KnownBytes.{Appends-kept}
 use Rattle.std.specs.Io.KnownBytes.{Keeps}
 use Rattle.host.specs.declared.answer.Answer.{Answer}
 use Rattle.host.specs.declared.error.Refusal.{Refusal}
@@ -44,13 +43,6 @@ pub answer-text : {T E : Type 0} (made : Result T E) (bytes_of : T → List ℕ)
 answer-text made bytes_of has_text answer result old new claim =
     answer-written made bytes_of has_text (λ end. WritesAnswer has_text end old new) answer result old new claim
     (λ written. written) (λ written. written) (λ written. written)
-
--- a flush after an answer changes nothing
-pub WritesAnswer-kept : (has_text : Answer → List ℕ → Type 0) (answer : Answer)
-    (old mid new : Option (List ℕ)) → WritesAnswer has_text (Ok answer) old mid → Keeps mid new
-    → WritesAnswer has_text (Ok answer) old new
-WritesAnswer-kept has_text answer old mid new written kept =
-    (written.0, written.1, Appends-kept old mid new _ written.2 kept)
 
 -- what follows from an answer, of a result that is returned as it is
 pub answered : {T E : Type 0} (result : Result T E) (holds : Result T E → Type 0) (claim : T → Type 0)

@@ -2,6 +2,7 @@ pub mod Answers
 pub mod Check
 pub mod Choose
 pub mod Describe
+pub mod FlashText
 pub mod ImageText
 pub mod ManifestFile
 pub mod ManifestText

@@ -1,15 +1,14 @@
 -- What an order to read was answered with.
 use Rattle.std.specs.Prelude.{ℕ, List, Option}
-use Rattle.command_line.specs.declared.orders.Order.{Order}
-use Rattle.command_line.specs.declared.orders.Order.TheVariants as order
+use Rattle.command_line.specs.declared.orders.ReadOrder.{ReadOrder}
+use Rattle.command_line.specs.declared.orders.ReadOrder.TheVariants as order
 use Rattle.host.specs.declared.answer.Answer.{Answer}
 use Rattle.host.specs.declared.source.Source.{Source}
 use Rattle.host.specs.Input.{AreNamed, FileBytes, IsNamed}
 use Rattle.inspecting.specs.Answers.{AnswersCheck, AnswersChoice, AnswersCodes, AnswersDescription, AnswersManifest, AnswersShow, AnswersSlots}
 
--- What stands for the answer to an order, by the command that it asks for. An order that does more
--- than read has no answer.
-abbrev pub AnswersReading : Answer → Order → Option (List ℕ) → FileBytes
+-- What stands for the answer to an order, by the command that it asks for.
+abbrev pub AnswersReading : Answer → ReadOrder → Option (List ℕ) → FileBytes
     → Option (List ℕ) → Option (List ℕ) → Type 0
 AnswersReading answer (order.Choose table) input file old new =
     (source : Source) × IsNamed table.now source × AnswersChoice answer source input file old new
@@ -29,4 +28,3 @@ AnswersReading answer (order.Slots device flash) input file old new =
     (one other : Source) × AreNamed device.now flash.now one other
     × AnswersSlots answer one other input file old new
 AnswersReading answer order.Codes input file old new = AnswersCodes answer old new
-AnswersReading answer asked input file old new = ⊥

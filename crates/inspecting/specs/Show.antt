@@ -1,5 +1,5 @@
--- What showing a flash writes, by how it ends.
-use Rattle.std.specs.Prelude.{◌≡◌, ℕ, List, Option, None, Some, IsSome, Result}
+-- What showing a flash writes, by its answer.
+use Rattle.std.specs.Prelude.{◌≡◌, ℕ, List, Option, None, Some, IsSome}
 use Rattle.flash_model.specs.Chip.{Chip}
 use Rattle.sector_map.specs.declared.layout.SectorMap.{SectorMap}
 use Rattle.sector_map.specs.declared.layout.Side.TheVariants.{Primary, Secondary}
@@ -11,10 +11,8 @@ use Rattle.set_log.specs.Log.{state_of}
 use Rattle.machine.specs.declared.error.Fault.TheVariants.{NotProvisioned}
 use Rattle.host.specs.declared.answer.Answer.{Answer}
 use Rattle.host.specs.declared.answer.Answer.TheVariants.{Done, Refused, Cut}
-use Rattle.host.specs.declared.error.Refusal.{Refusal}
 use Rattle.device_texts.specs.ReplyText.{refused_fault_text}
 use Rattle.inspecting.specs.StateText.{state_text}
-use Rattle.inspecting.specs.Written.{WritesAnswer}
 
 -- What the trailers of an image ask of a boot.
 abbrev pub swap_type_in : SectorMap → Chip → ℕ → SwapType
@@ -36,8 +34,3 @@ abbrev pub IsShownText : SectorMap → Chip → Answer → List ℕ → Type 0
 IsShownText map chip Done text = IsSome (state_of map chip) × (text ≡ shown_text map chip)
 IsShownText map chip Refused text = (state_of map chip ≡ None) × (text ≡ shown_text map chip)
 IsShownText map chip Cut text = ⊥
-
--- What a writer takes, by how showing this flash ends.
-abbrev pub Shows : Result Answer Refusal → SectorMap → Chip
-    → Option (List ℕ) → Option (List ℕ) → Type 0
-Shows result map chip old new = WritesAnswer (IsShownText map chip) result old new

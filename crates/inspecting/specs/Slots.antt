@@ -1,5 +1,5 @@
--- What a list of the slots of a flash writes, by how it ends.
-use Rattle.std.specs.Prelude.{◌≡◌, ℕ, List, ◌++◌, Option, None, Some, Result}
+-- What a list of the slots of a flash writes, by its answer.
+use Rattle.std.specs.Prelude.{◌≡◌, ℕ, List, ◌++◌, Option, None, Some}
 use Rattle.flash_model.specs.Chip.{Chip}
 use Rattle.sector_map.specs.declared.layout.SectorMap.{SectorMap}
 use Rattle.set_log.specs.declared.state.State.{State}
@@ -8,11 +8,9 @@ use Rattle.machine.specs.declared.finding.Finding.{Finding}
 use Rattle.machine.specs.declared.finding.Finding.TheVariants.{Decided, Damaged, Invalid}
 use Rattle.host.specs.declared.answer.Answer.{Answer}
 use Rattle.host.specs.declared.answer.Answer.TheVariants.{Done, Refused}
-use Rattle.host.specs.declared.error.Refusal.{Refusal}
 use Rattle.inspecting.specs.Show.{stand_text}
 use Rattle.inspecting.specs.SlotsFound.{AreFound}
 use Rattle.inspecting.specs.SlotsText.{found_text}
-use Rattle.inspecting.specs.Written.{WritesAnswer}
 use Rattle.inspecting.specs.declared.slots_found.SlotsFound.{SlotsFound}
 
 -- The answer, by what the next boot would decide: whether it would be refused.
@@ -33,8 +31,3 @@ IsListingFor map chip (Some state) answer text =
 
 abbrev pub IsListing : SectorMap → Chip → Answer → List ℕ → Type 0
 IsListing map chip answer text = IsListingFor map chip (state_of map chip) answer text
-
--- What a writer takes, by how the list of this flash ends.
-abbrev pub Lists : Result Answer Refusal → SectorMap → Chip
-    → Option (List ℕ) → Option (List ℕ) → Type 0
-Lists result map chip old new = WritesAnswer (IsListing map chip) result old new

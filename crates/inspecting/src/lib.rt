@@ -1,11 +1,10 @@
-//! The commands that write nothing but their answer: `choose`, `check`, `image`, `manifest`,
-//! `show`, `slots` and `codes`.
+//! The read-only commands: `choose`, `check`, `image`, `manifest`, `show`, `slots` and `codes`.
 //!
 //! - Promises: Exactly the text of the answer is written, or why the bytes have none; if a write
 //!   fails, a prefix of it. A command answers `Done` only if that was done for the contents of the
 //!   named files.
-//! - Main calls: `choose_over`, `check_over`, `describe_over`, `tell_over`, `show_over`,
-//!   `list_slots_over`, `run_inspection`
+//! - Main calls: `choose_over`, `check_over`, `describe_over`, `tell_over`, `flash_text_over`,
+//!   `run_inspection`
 //! - Allocates: the input, a flash in memory, the text of the answer.
 //! - Callers: `boot_cli`
 //!
@@ -18,6 +17,7 @@ mod check;
 mod choose;
 mod codes;
 mod device_flash;
+mod flash_text;
 mod image;
 mod manifest_file;
 mod program;
@@ -30,9 +30,8 @@ mod table_input;
 
 pub use check::check_over;
 pub use choose::{ChooseEnd, choose_over};
+pub use flash_text::{FlashText, flash_text_over};
 pub use image::describe_over;
 pub use manifest_file::tell_over;
 pub use program::run_inspection;
 pub use reading::{ReadError, read_all};
-pub use show::show_over;
-pub use slots::list_slots_over;

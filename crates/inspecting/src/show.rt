@@ -1,86 +1,22 @@
-//! `bootswap show`: the state of a device, as its flash holds it.
+//! What `bootswap show` prints: the state of a device, as its flash holds it.
 ghost use Rattle.std.specs.Prelude.{◌≡◌, ◌<◌, ◌≤◌, ◌++◌, IfOk, Some, true, length, slice_index};
 ghost use Rattle.std.specs.Prelude.{string_bytes};
 ghost use Rattle.flash_model.specs.Chip.{Chip};
 ghost use Rattle.sector_map.specs.Map.{IsLaidOut};
 ghost use Rattle.set_log.specs.Log.{state_of};
 ghost use Rattle.trailer.specs.Fields.{fields_at, trailer_of};
-ghost use Rattle.device_texts.specs.FlashOf.{IsFlashOf, flash_of};
-ghost use Rattle.host.specs.Input.{KeepsFiles};
-ghost use Rattle.inspecting.specs.Answers.{AnswersShow};
-ghost use Rattle.inspecting.specs.Show.{Shows, stand_text, swap_type_in};
+ghost use Rattle.inspecting.specs.Show.{stand_text, swap_type_in};
 ghost use Rattle.inspecting.specs.StateText.{floor_lines, images_text, kind_text, left_text};
 ghost use Rattle.inspecting.specs.StateText.{swap_lines, swap_type_text};
 
-use crate::answer::write_answer;
-use crate::device_flash::read_device_flash;
-use device_texts::{Members, flash_of, refused_fault_text};
+use device_texts::{Members, refused_fault_text};
 use flash_model::Flash;
-use host::{Answer, Host, Refusal, Source};
 use machine::Fault;
 use sector_map::{SectorMap, Side};
 use set_log::{Kind, LogError, State, read_state};
 use std::alloc::{AllocError, Global};
 use std::fmt;
-use std::io::Write;
-use std::marker::Brand;
-use std::sync::ledger::{Blank, Ledger};
 use trailer::{SwapType, Trailer, read_trailer, swap_type};
-
-/// Reads a device file and the bytes of the device's flash from `host` into memory of `alloc`, and
-/// writes the state of the device to `out`. The device file is checked before the flash is read: if
-/// its sizes make no map, that is written. No file is changed, and the flash is opened to be read
-/// alone.
-pub fn run_show<H: Host, O: Write>(
-    alloc: Global,
-    device: Source<'_>,
-    flash: Source<'_>,
-    host: &mut H,
-    out: &mut O,
-) -> Result<Answer, Refusal>
-    ensures answers { IfOk result (λ answer. AnswersShow answer device.entry flash.entry
-        (H.input host.old) (H.file host.old) (O.contents out.old) (O.contents out.new)) }
-    ensures files { KeepsFiles (H.file host.old) (H.file host.new) }
-    ensures to_read { (H.opened host.new).to_write ≡ (H.opened host.old).to_write }
-{
-    let Some(found) = read_device_flash(alloc, device, flash, host, out)? else {
-        return Ok(Answer::Refused);
-    };
-    let map = found.device.map;
-    show_over::<Brand, O>(alloc, Blank::new(2), &map, found.bytes, out)
-}
-
-/// Writes to `out` the state that the log on the flash of these bytes has, and answers `Done`. If
-/// it has none, it writes that, and answers `Refused`.
-///
-/// The text is made in memory of `alloc` before it is written. The ledger's token has two parts, as
-/// `Blank::new(2)` makes it.
-///
-/// # Errors
-/// `NoMemory` if memory runs out: then nothing is written. `CannotWrite` if a write fails: then
-/// `out` holds a prefix of the text.
-pub fn show_over<L: Ledger, W: Write>(
-    alloc: Global,
-    blank: Blank,
-    map: &SectorMap,
-    bytes: Vec<u8>,
-    out: &mut W,
-) -> Result<Answer, Refusal>
-    requires name { blank.name ≡ L.name }
-    requires parts { blank.parts ≡ L.parts }
-    requires two { L.parts ≡ 2 }
-    requires whole { IsFlashOf map.now bytes.items }
-    ensures { Shows result map.now (flash_of map.now bytes.items)
-        (W.contents out.old) (W.contents out.new) }
-{
-    let mut flash = flash_of::<L>(alloc, blank, map, bytes);
-    let state = state_on(&mut flash, map);
-    let text = stand_text(alloc, &mut flash, map, state);
-    match state {
-        Some(_) => write_answer(Answer::Done, text, out),
-        None => write_answer(Answer::Refused, text, out),
-    }
-}
 
 /// The state that the log has, on a flash that has power.
 pub(crate) fn state_on<F: Flash>(flash: &mut F, map: &SectorMap) -> Option<State>

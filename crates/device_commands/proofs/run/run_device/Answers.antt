@@ -1,6 +1,7 @@
 use Rattle.std.proofs.Common.{subst}
 use Rattle.std.proofs.lemmas.Result.{IfOk-weaker}
-use Rattle.inputs.specs.Loading.{AreCutsOf, LoadsAll, armed_in}
+use Rattle.device_texts.specs.FlashOf.{armed_in}
+use Rattle.inputs.specs.Loading.{AreCutsOf, LoadsAll}
 use Rattle.device_texts.proofs.DeviceLaws.{IsOfFile-read}
 use Rattle.device_commands.proofs.EndLaws.{AnswersRun-read}
 use Rattle.inputs.proofs.ScriptLaws.{IsScript-loaded}

@@ -1,8 +1,0 @@
-use Rattle.std.proofs.Common.{map, take}
-use Rattle.std.specs.List.{AllZip}
-use Rattle.command_line.specs.Needs.{IsNeed}
-use Rattle.command_line.proofs.image_words.dependencies_of.Given as goal
-
--- the dependencies so far are those that the words so far spell
-abbrev pub invariant-loop-word : goal.invariant-loop-word
-invariant-loop-word l = AllZip IsNeed (map (λ word. word.now) (take l.word-index l.words)) l.dependencies.items

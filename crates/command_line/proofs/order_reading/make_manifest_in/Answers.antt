@@ -1,6 +1,0 @@
-use Rattle.command_line.proofs.ComponentLaws.{none_asked}
-use Rattle.command_line.proofs.order_reading.make_manifest_in.Goals as goal
-
--- Where the words say no manifest, they ask for none.
-pub returns-in-None : goal.returns-in-None
-returns-in-None c = none_asked _ (rw c.in-None.is at c.in_ok-manifest.ensures)
