@@ -57,37 +57,25 @@ refused_flash (Err (no.Upload (upload.Flash flash.Off))) old new refused ends on
 
 module _ (map : SectorMap) (identity : Identity) (boots : ℕ) (a b : DeviceView) (reply : Reply)
     (on : a.flash.is_on ≡ true) where
+  -- a refusal with this result leaves the bytes
+  unchanged : (result : Result Unit Fault) → reply ≡ reply_of_result result
+      → IfErr result (λ fault. is_stop fault ≡ false → b.flash ≡ a.flash) → EndsCall (reply_of_result result) a b
+      → (fault : Fault) → reply ≡ Refused fault → b.flash.bytes ≡ a.flash.bytes
+  unchanged result same refused ends fault e =
+      ap (λ (chip : Chip). chip.bytes) (refused_flash result a b refused ends on fault (sym same ∙ e))
+
   bytes_leave : (call : DeviceCall) → IsCallOf map identity boots call a b reply
       → LeavesBytes map call a.flash.bytes b.flash.bytes reply
-  bytes_leave (Accept manifest) (result, same, is) = record {
-    size = is.outside.size;
-    behind = is.outside.behind;
-    refused = λ fault e. ap (λ (chip : Chip). chip.bytes)
-        (refused_flash result a b is.refused is.ends on fault (sym same ∙ e));
-  }
-  bytes_leave (Piece image more) (result, same, is) = record {
-    size = is.outside.size;
-    behind = is.outside.behind;
-    refused = λ fault e. ap (λ (chip : Chip). chip.bytes)
-        (refused_flash result a b is.refused is.ends on fault (sym same ∙ e));
-  }
-  bytes_leave (Withdraw image) (result, same, is) = record {
-    size = is.outside.size;
-    behind = is.outside.behind;
-    refused = λ fault e. ap (λ (chip : Chip). chip.bytes)
-        (refused_flash result a b is.refused is.ends on fault (sym same ∙ e));
-  }
-  bytes_leave (Confirm image) (result, same, is) = record {
-    size = is.outside.size;
-    behind = is.outside.behind;
-    refused = λ fault e. ap (λ (chip : Chip). chip.bytes)
-        (refused_flash result a b is.refused is.ends on fault (sym same ∙ e));
-  }
-  bytes_leave (Finish image) (result, same, is) = record {
-    size = is.outside.size;
-    behind = is.outside.behind;
-    refused = tt;
-  }
+  bytes_leave (Accept manifest) (result, same, is) =
+      record { size = is.outside.size; behind = is.outside.behind; refused = unchanged result same is.refused is.ends }
+  bytes_leave (Piece image more) (result, same, is) =
+      record { size = is.outside.size; behind = is.outside.behind; refused = unchanged result same is.refused is.ends }
+  bytes_leave (Withdraw image) (result, same, is) =
+      record { size = is.outside.size; behind = is.outside.behind; refused = unchanged result same is.refused is.ends }
+  bytes_leave (Confirm image) (result, same, is) =
+      record { size = is.outside.size; behind = is.outside.behind; refused = unchanged result same is.refused is.ends }
+  bytes_leave (Finish image) (result, same, is) =
+      record { size = is.outside.size; behind = is.outside.behind; refused = tt }
   bytes_leave Boot (left, last, result, same, is) =
       let keeps = is.on_map a.flash (keeps_refl map any_part a.flash) in
       record { size = keeps.size; behind = keeps.behind; refused = tt }

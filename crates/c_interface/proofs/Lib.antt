@@ -1,6 +1,8 @@
 mod SameBytes
 mod Leaving
 mod StepLaws
+mod Described
+mod Rows
 mod Provisioned
 mod ShortReports
 mod TextLengths

@@ -1,5 +1,5 @@
 -- A call on a device in bytes, from the old bytes to the new ones.
-use Rattle.std.proofs.Common.{◌≡◌, ℕ, ◌+◌, ◌-◌, ◌*◌, ◌/◌, ◌<◌, ◌≤◌, Bool, true, false, List, [], length, slice_index_or, Option, Some, None, Result, refl, sym, ◌∙◌, ap, subst, arith}
+use Rattle.std.proofs.Common.{◌≡◌, ℕ, ◌-◌, ◌*◌, ◌/◌, ◌<◌, ◌≤◌, Bool, true, false, List, [], length, slice_index_or, Option, Some, None, Result, refl, sym, ◌∙◌, ap, subst, arith}
 use Rattle.std.proofs.Math.Nat.{div-mul-le_self, le-div_iff_mul-le, mod-eq-sub-div-mul, mul-div_cancel}
 use Rattle.std.proofs.lemmas.Bool.{true≢false}
 use Rattle.std.proofs.lemmas.Option.{none-some}
@@ -22,7 +22,7 @@ use Rattle.machine.specs.Passing.{StepsTo}
 use Rattle.machine.specs.Steps.{DeviceEvent}
 use Rattle.machine.specs.declared.error.Fault.{Fault}
 use Rattle.machine.specs.declared.reply.Reply.{Reply}
-use Rattle.boot_core.specs.Answers.{reply_of_boot}
+use Rattle.boot_core.specs.Answers.{reply_of_boot, reply_of_result}
 use Rattle.boot_core.specs.Booting.{EndsUploadsAndBoots}
 use Rattle.boot_core.specs.Device.{StaysHeld, made, seen}
 use Rattle.c_interface.specs.declared.dispatch.DeviceCall.{DeviceCall}
@@ -249,20 +249,51 @@ steps_on checked call old new was is before behind sessions left was_up is_boote
       );
     }
 
--- a call by another name of it and of its reply
+-- ---- a call as the function of `boot_core` for it makes it
+
+module _ (map : SectorMap) (identity : Identity) (boots : ℕ) (old new : DeviceView) (reply : Reply)
+    (on : old.flash.is_on ≡ true) where
+  made_by : (call : DeviceCall) (answered : Reply) → reply ≡ answered → new.flash.fixed ≡ old.flash.fixed
+      → IsLaidOut map new.flash → AllOpenAt (view map new.flash) new.sessions
+      → IsStepOf (made map identity boots) call old new answered → IsCallOf map identity boots call old new reply
+      → MakesCall map identity boots call old new reply
+  made_by call answered same fixed laid opens step all = record {
+    fixed = fixed;
+    laid = laid;
+    opens = opens;
+    steps = subst (λ r. IsStepOf (made map identity boots) call old new r) (sym same) step;
+    is = all;
+  }
+
+  call_made : (call : DeviceCall) → IsCallOf map identity boots call old new reply
+      → MakesCall map identity boots call old new reply
+  call_made (Accept manifest) (result, same, is) =
+      made_by (Accept manifest) (reply_of_result result) same is.outside.fixed is.laid is.opens
+      (λ text means. is.steps boots text on means, is.holds on) (result, same, is)
+  call_made (Piece image more) (result, same, is) =
+      made_by (Piece image more) (reply_of_result result) same is.outside.fixed is.laid is.opens
+      (is.steps identity boots on) (result, same, is)
+  call_made (Finish image) (result, same, is) =
+      made_by (Finish image) (reply_of_result result) same is.outside.fixed is.laid is.opens
+      (is.steps identity boots on) (result, same, is)
+  call_made (Withdraw image) (result, same, is) =
+      made_by (Withdraw image) (reply_of_result result) same is.outside.fixed is.laid is.opens
+      (is.steps identity boots on) (result, same, is)
+  call_made (Confirm image) (result, same, is) =
+      made_by (Confirm image) (reply_of_result result) same is.outside.fixed is.laid is.opens
+      (is.steps identity boots on) (result, same, is)
+  call_made Boot (left, count, result, same, is) =
+      made_by Boot (reply_of_boot result) same (is.on_map old.flash (keeps_refl map any_part old.flash)).fixed is.laid
+      is.opens (subst (λ n. StepsTo (made map identity n) old new event.Boot (reply_of_boot result)) count (is.steps identity on))
+      (left, count, result, same, is)
+
+-- a call by another name of it
 pub makes : (map : SectorMap) (identity : Identity) (boots : ℕ) (call given : DeviceCall) (old new : DeviceView)
-    (reply answered : Reply) → call ≡ given → reply ≡ answered → new.flash.fixed ≡ old.flash.fixed → IsLaidOut map new.flash
-    → AllOpenAt (view map new.flash) new.sessions → IsStepOf (made map identity boots) given old new answered
-    → IsCallOf map identity boots given old new answered → MakesCall map identity boots call old new reply
-makes map identity boots call given old new reply answered is same fixed laid opens step all = record {
-  fixed = fixed;
-  laid = laid;
-  opens = opens;
-  steps = subst (λ k. IsStepOf (made map identity boots) k old new reply) (sym is)
-      (subst (λ r. IsStepOf (made map identity boots) given old new r) (sym same) step);
-  is = subst (λ k. IsCallOf map identity boots k old new reply) (sym is)
-      (subst (λ r. IsCallOf map identity boots given old new r) (sym same) all);
-}
+    (reply : Reply) → call ≡ given → old.flash.is_on ≡ true → IsCallOf map identity boots given old new reply
+    → MakesCall map identity boots call old new reply
+makes map identity boots call given old new reply is on all =
+    subst (λ k. MakesCall map identity boots k old new reply) (sym is)
+    (call_made map identity boots old new reply on given all)
 
 -- a boot
 pub makes_boot : (map : SectorMap) (identity : Identity) (boots : ℕ) (call : DeviceCall) (old new : DeviceView)
@@ -270,12 +301,7 @@ pub makes_boot : (map : SectorMap) (identity : Identity) (boots : ℕ) (call : D
     → old.flash.is_on ≡ true → EndsUploadsAndBoots map (boots - 1) old new result
     → MakesCall map identity boots call old new reply
 makes_boot map identity boots call old new reply result some is same on all =
-    let count : boots - 1 + 1 ≡ boots = omega (arith, some) in
-    let step : StepsTo (made map identity boots) old new event.Boot (reply_of_boot result) =
-    subst (λ n. StepsTo (made map identity n) old new event.Boot (reply_of_boot result)) count (all.steps identity on) in
-    makes map identity boots call Boot old new reply (reply_of_boot result) is same
-    (all.on_map old.flash (keeps_refl map any_part old.flash)).fixed all.laid all.opens step
-    (boots - 1, count, result, refl, all)
+    makes map identity boots call Boot old new reply is on (boots - 1, omega (arith, some), result, same, all)
 
 -- the uploads of a saved device match its flash
 pub saved_opens : (map : SectorMap) (saved : SavedState) (d : DeviceView) → IsSaved map saved d

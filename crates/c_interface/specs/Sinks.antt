@@ -46,7 +46,8 @@ puts_both first second third one two three before after once more =
     let fits_once = λ (fits : first + length (before ++ after) ≤ length one).
     let fit : first + length before ≤ length one = omega (arith, both, fits) in fit in
     let fits_more = λ (fits : first + length (before ++ after) ≤ length one).
-    let fit : second + length after ≤ length two = omega (arith, both, fits, once.until (fits_once fits), once.whole) in fit in
+    let fit : second + length after ≤ length two =
+    omega (arith, both, fits, once.until (fits_once fits), once.whole) in fit in
     let same_rest = λ (fits : first + length (before ++ after) ≤ length one).
     let end : third ≡ second + length after = more.until (fits_more fits) in
     let rest : drop third two ≡ drop third one =

@@ -1,5 +1,4 @@
-//! A device behind names of C, over memory of its caller, as a static library: for simulators,
-//! update servers and tests on a desk.
+//! A static library for C: a device in its caller's memory, for simulators, servers and tests.
 //!
 //! - Promises: Each call from C is one step of the machine over whole images, from what the
 //!   caller's bytes hold to what they hold then.

@@ -3,7 +3,6 @@
 
 mod devices;
 mod given_manifests;
-mod images;
 mod longer_flashes;
 mod provisioning;
 mod reads;

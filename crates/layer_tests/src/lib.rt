@@ -8,11 +8,17 @@
 #![tactic(auto)]
 
 #[cfg(test)]
+mod counting;
+#[cfg(test)]
 mod device;
+#[cfg(test)]
+mod images;
 #[cfg(test)]
 mod intake;
 #[cfg(test)]
 mod medium;
+#[cfg(test)]
+mod memory;
 #[cfg(test)]
 mod records;
 #[cfg(test)]

@@ -4,9 +4,10 @@
 
 ghost use Rattle.std.specs.Prelude.{◌≡◌};
 
-use super::images::RUNNING;
+use crate::images::{FIRST, RUNNING, SECOND};
+use crate::memory::in_memory;
 use boot_core::{Device, run};
-use flash_model::{Flash, MemFlash};
+use flash_model::Flash;
 use machine::{Event, Reply};
 use manifest::{Identity, class_id, vendor_id};
 use sector_map::SectorMap;
@@ -18,8 +19,23 @@ use std::test::Fail;
 /// A manifest for the device: FIRST for image 0 and SECOND for image 1, both for a test. The
 /// identifier of its class is the UUID of version 5 of `bootswap` in the namespace of the vendor's
 /// identifier, and the digests were taken by another program.
-pub(super) const PAIR: &[u8] =
-    br#"{"manifest-version":1,"sequence-number":1,"vendor-id":"886313e1-3b8a-5372-9b90-0c9aee199e5d","class-id":"74b0b1ed-70fe-5a24-9102-6a41c2172c6d","components":[{"component-id":0,"kind":"test","payload-digest":"fe88ef28572ecaa2691d61458e393edb880bdca5831197bab8673082920c0a99","size":96},{"component-id":1,"kind":"test","payload-digest":"aec6e45d3aa1b928f93ca89f4c4835da6b261ffea3de90c93242ca94c188cc4f","size":96}]}"#;
+pub(super) const PAIR: &[u8] = b"{\"manifest-version\":1,\"sequence-number\":1,\
+    \"vendor-id\":\"886313e1-3b8a-5372-9b90-0c9aee199e5d\",\
+    \"class-id\":\"74b0b1ed-70fe-5a24-9102-6a41c2172c6d\",\"components\":[\
+    {\"component-id\":0,\"kind\":\"test\",\"payload-digest\":\
+    \"fe88ef28572ecaa2691d61458e393edb880bdca5831197bab8673082920c0a99\",\"size\":96},\
+    {\"component-id\":1,\"kind\":\"test\",\"payload-digest\":\
+    \"aec6e45d3aa1b928f93ca89f4c4835da6b261ffea3de90c93242ca94c188cc4f\",\"size\":96}]}";
+
+/// The upload of both files, and the boot that tries them.
+pub(super) const UPGRADE: [Event<&[u8]>; 6] = [
+    Event::Accept(PAIR),
+    Event::Piece(0, &FIRST),
+    Event::Piece(1, &SECOND),
+    Event::Finish(0),
+    Event::Finish(1),
+    Event::Boot,
+];
 
 /// Writes a part of bytes.
 pub(super) fn put(rt: &impl Abort, bytes: &mut Vec<u8>, at: usize, part: &[u8]) {
@@ -67,20 +83,6 @@ pub(super) fn device_on<F: Flash + Drop>(rt: &impl Abort, flash: F) -> Result<De
     };
     assert!(rt; map.fits(&flash));
     Ok(Device::new(flash, map, identity))
-}
-
-/// A flash in memory that has these bytes.
-pub(super) fn in_memory<L: Ledger>(
-    rt: &(impl Abort + AllocGlobal),
-    blank: Blank,
-    bytes: Vec<u8>,
-) -> MemFlash<L>
-    requires name { blank.name ≡ L.name }
-    requires parts { blank.parts ≡ L.parts }
-    requires two { L.parts ≡ 2 }
-{
-    assert!(rt; bytes.len() % 512 == 0 && bytes.len() < 65536);
-    MemFlash::<L>::from_bytes(rt.alloc(), blank, 512, bytes)
 }
 
 fn play<L: Ledger>(

@@ -2,8 +2,9 @@
 
 ghost use Rattle.std.specs.Prelude.{◌≡◌};
 
-use super::devices::{PAIR, device_on, in_memory, outcome_of, put, two_images};
-use super::images::{FIRST, SECOND};
+use super::devices::{UPGRADE, device_on, outcome_of, put, two_images};
+use crate::images::{FIRST, FIRST_DIGEST, SECOND, SECOND_DIGEST};
+use crate::memory::in_memory;
 use machine::{Event, Fault, Reply};
 use manifest::{Component, Manifest, ManifestError};
 use std::marker::Brand;
@@ -11,18 +12,6 @@ use std::process::Abort;
 use std::sync::ledger::{Blank, Ledger};
 use std::test::Fail;
 use upload::UploadError;
-
-/// SHA-256 of FIRST.
-const FIRST_DIGEST: [u8; 32] = [
-    0xfe, 0x88, 0xef, 0x28, 0x57, 0x2e, 0xca, 0xa2, 0x69, 0x1d, 0x61, 0x45, 0x8e, 0x39, 0x3e, 0xdb,
-    0x88, 0x0b, 0xdc, 0xa5, 0x83, 0x11, 0x97, 0xba, 0xb8, 0x67, 0x30, 0x82, 0x92, 0x0c, 0x0a, 0x99,
-];
-
-/// SHA-256 of SECOND.
-const SECOND_DIGEST: [u8; 32] = [
-    0xae, 0xc6, 0xe4, 0x5d, 0x3a, 0xa1, 0xb9, 0x28, 0xf9, 0x3c, 0xa8, 0x9f, 0x4c, 0x48, 0x35, 0xda,
-    0x6b, 0x26, 0x1f, 0xfe, 0xa3, 0xde, 0x90, 0xc9, 0x32, 0x42, 0xca, 0x94, 0xc1, 0x88, 0xcc, 0x4f,
-];
 
 /// A file of 96 bytes for an image, for a test.
 fn component(image: u8, digest: [u8; 32]) -> Component {
@@ -75,21 +64,14 @@ fn upgraded_by(rt: &(impl Abort + AllocGlobal)) -> Result<(Reply, Vec<u8>), Fail
     upgraded::<Brand>(rt, Blank::new(2))
 }
 
-/// The same by the manifest's text.
-const EVENTS: [Event<&[u8]>; 7] = [
-    Event::Boot,
-    Event::Accept(PAIR),
-    Event::Piece(0, &FIRST),
-    Event::Piece(1, &SECOND),
-    Event::Finish(0),
-    Event::Finish(1),
-    Event::Boot,
-];
-
 #[test]
 fn a_manifest_that_was_read_is_taken_as_its_text_is(rt: HostRuntime) -> Result<(), Fail> {
     let (tried, bytes) = upgraded_by(&rt)?;
-    let (replies, wanted) = outcome_of(&rt, two_images(&rt)?, &EVENTS)?;
+    let mut events = vec![in rt.alloc(); Event::Boot]?;
+    for event in UPGRADE {
+        events.push(event)?;
+    }
+    let (replies, wanted) = outcome_of(&rt, two_images(&rt)?, events.as_slice())?;
     assert!(rt; replies.last() == Some(&tried) && bytes == wanted);
     Ok(())
 }

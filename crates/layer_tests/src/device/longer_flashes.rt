@@ -1,13 +1,13 @@
 //! Flashes that are longer than the map: what is behind the map's sectors stays as it is.
 
-use super::devices::{PAIR, outcome_of, two_images};
-use super::images::{FIRST, SECOND};
+use super::devices::{PAIR, UPGRADE, outcome_of, two_images};
+use crate::images::{FIRST, SECOND};
 use machine::Event;
 use std::process::Abort;
 use std::test::Fail;
 
-/// An upgrade that goes back, a request that is withdrawn, and an upgrade that stays.
-const EVENTS: [Event<&[u8]>; 23] = [
+/// An upgrade that goes back, and a request that is withdrawn.
+const FIRST_EVENTS: [Event<&[u8]>; 14] = [
     Event::Boot,
     Event::Accept(PAIR),
     Event::Piece(0, &FIRST),
@@ -22,16 +22,10 @@ const EVENTS: [Event<&[u8]>; 23] = [
     Event::Finish(1),
     Event::Withdraw(1),
     Event::Boot,
-    Event::Accept(PAIR),
-    Event::Piece(0, &FIRST),
-    Event::Piece(1, &SECOND),
-    Event::Finish(0),
-    Event::Finish(1),
-    Event::Boot,
-    Event::Confirm(0),
-    Event::Confirm(1),
-    Event::Boot,
 ];
+
+/// What makes an upgrade stay.
+const LAST_EVENTS: [Event<&[u8]>; 3] = [Event::Confirm(0), Event::Confirm(1), Event::Boot];
 
 /// Adds three sectors.
 fn push_more(bytes: &mut Vec<u8>) -> Result<(), Fail> {
@@ -43,12 +37,19 @@ fn push_more(bytes: &mut Vec<u8>) -> Result<(), Fail> {
 
 #[test]
 fn what_a_device_does_changes_nothing_behind_its_map(rt: HostRuntime) -> Result<(), Fail> {
-    for count in 0..=EVENTS.len() {
-        let (usual, mut wanted) = outcome_of(&rt, two_images(&rt)?, &EVENTS[..count])?;
+    let mut events = Vec::from_array(rt.alloc(), FIRST_EVENTS)?;
+    for event in UPGRADE {
+        events.push(event)?;
+    }
+    for event in LAST_EVENTS {
+        events.push(event)?;
+    }
+    for count in 0..=events.len() {
+        let (usual, mut wanted) = outcome_of(&rt, two_images(&rt)?, &events[..count])?;
         push_more(&mut wanted)?;
         let mut bytes = two_images(&rt)?;
         push_more(&mut bytes)?;
-        let (replies, bytes) = outcome_of(&rt, bytes, &EVENTS[..count])?;
+        let (replies, bytes) = outcome_of(&rt, bytes, &events[..count])?;
         assert!(&rt; replies == usual && bytes == wanted);
     }
     Ok(())

@@ -4,7 +4,7 @@ ghost use Rattle.std.specs.Prelude.{◌≡◌, ◌≤◌, ℕ, slice_index};
 ghost use Rattle.sector_map.specs.Map.{end_of_map};
 
 use super::devices::{provisioned, put, two_images};
-use super::images::{COUNTED_FIVE, NEEDY, RUNNING};
+use crate::images::{COUNTED_FIVE, NEEDY, RUNNING};
 use boot_core::provision;
 use machine::Fault;
 use sector_map::SectorMap;

@@ -5,8 +5,11 @@ use std::test::Fail;
 use uuid::Uuid;
 
 /// One file of three bytes, for image 254.
-const LAST: &str =
-    r#"{"manifest-version":1,"sequence-number":1,"vendor-id":"886313e1-3b8a-5372-9b90-0c9aee199e5d","class-id":"11111111-2222-5333-8444-555555555555","components":[{"component-id":254,"kind":"test","payload-digest":"ba7816bf8f01cfea414140de5dae2223b00361a396177a9cb410ff61f20015ad","size":3}]}"#;
+const LAST: &str = "{\"manifest-version\":1,\"sequence-number\":1,\
+    \"vendor-id\":\"886313e1-3b8a-5372-9b90-0c9aee199e5d\",\
+    \"class-id\":\"11111111-2222-5333-8444-555555555555\",\"components\":[\
+    {\"component-id\":254,\"kind\":\"test\",\"payload-digest\":\
+    \"ba7816bf8f01cfea414140de5dae2223b00361a396177a9cb410ff61f20015ad\",\"size\":3}]}";
 
 #[test]
 fn a_manifest_may_name_the_last_of_255_images(rt: HostRuntime) -> Result<(), Fail> {

@@ -2,8 +2,11 @@
 
 ghost use Rattle.std.specs.Prelude.{◌≡◌, ◌≤◌};
 
-use crate::intake::samples::{COUNTED, dependency, letters, spec};
-use flash_model::{Flash, FlashError, MemFlash};
+use crate::counting::Counting;
+use crate::images::{NEEDY, UNASKED};
+use crate::intake::samples::{dependency, letters, spec};
+use crate::memory::in_memory;
+use flash_model::Flash;
 use sector_map::{SectorMap, Side};
 use std::alloc::Global;
 use std::marker::Brand;
@@ -11,54 +14,6 @@ use std::process::Abort;
 use std::sync::ledger::{Blank, Ledger};
 use std::test::Fail;
 use tlv::{ImageSpec, describe_slot, make_image};
-
-/// A flash that tells how many bytes were read of it, and how many at once at most.
-#[derive(Drop)]
-struct Counting<F> {
-    flash: F,
-    read: u64,
-    most: usize,
-}
-
-impl<F: Flash> Flash for Counting<F> {
-    ghost chip = { λ counting. F.chip counting.flash };
-
-    ghost whole = { λ counting. F.whole counting.flash };
-
-    ghost addressed = { λ counting. F.addressed counting.flash };
-
-    ghost bytes = { λ counting. F.bytes counting.flash };
-
-    ghost armed = { λ counting. F.armed counting.flash };
-
-    ghost written = { λ counting. F.written counting.flash };
-
-    fn sector_size(&self) -> u32 {
-        self.flash.sector_size()
-    }
-
-    fn sectors(&self) -> u32 {
-        self.flash.sectors()
-    }
-
-    fn read(&mut self, at: u32, out: &mut [u8]) -> Result<(), FlashError> {
-        self.read = self.read.saturating_add(out.len() as u64);
-        self.most = self.most.max(out.len());
-        self.flash.read(at, out)
-    }
-
-    fn program(&mut self, at: u32, bytes: &[u8]) -> Result<(), FlashError> {
-        self.flash.program(at, bytes)
-    }
-
-    fn erase(&mut self, sector: u32) -> Result<(), FlashError> {
-        self.flash.erase(sector)
-    }
-
-    fn restart(&mut self) {
-        self.flash.restart();
-    }
-}
 
 /// Describes primary slot 0.
 fn describe_first<F: Flash>(rt: &impl Abort, flash: &mut F) -> Result<(), Fail> {
@@ -71,8 +26,7 @@ fn describe_first<F: Flash>(rt: &impl Abort, flash: &mut F) -> Result<(), Fail> 
 /// How many bytes `describe_slot` reads of a slot that holds this image, and how many at once at
 /// most.
 fn counted<L: Ledger>(
-    rt: &impl Abort,
-    alloc: Global,
+    rt: &(impl Abort + AllocGlobal),
     blank: Blank,
     image: &[u8],
 ) -> Result<(u64, usize), Fail>
@@ -80,32 +34,16 @@ fn counted<L: Ledger>(
     requires parts { blank.parts ≡ L.parts }
     requires two { L.parts ≡ 2 }
 {
-    let mut bytes = Vec::from_slice(alloc, image)?;
+    let mut bytes = Vec::from_slice(rt.alloc(), image)?;
     bytes.resize(7168, 0xff)?;
-    let mut flash = Counting {
-        flash: MemFlash::<L>::from_bytes(alloc, blank, 512, bytes),
-        read: 0,
-        most: 0,
-    };
+    let mut flash = Counting::new(in_memory::<L>(rt, blank, bytes), 7168);
     describe_first(rt, &mut flash)?;
     Ok((flash.read, flash.most))
 }
 
-fn bytes_read(rt: &impl Abort, alloc: Global, image: &[u8]) -> Result<(u64, usize), Fail> {
-    counted::<Brand>(rt, alloc, Blank::new(2), image)
+fn bytes_read(rt: &(impl Abort + AllocGlobal), image: &[u8]) -> Result<(u64, usize), Fail> {
+    counted::<Brand>(rt, Blank::new(2), image)
 }
-
-/// Behind its digest the unprotected area of this image has an entry of type 0x20 and a dependency,
-/// which counts only in the other area.
-const UNASKED: [u8; 101] = [
-    0x3d, 0xb8, 0xf3, 0x96, 0x00, 0x00, 0x00, 0x00, 0x20, 0x00, 0x00, 0x00, 0x04, 0x00, 0x00, 0x00,
-    0x00, 0x00, 0x00, 0x00, 0x01, 0x00, 0x00, 0x00, 0x00, 0x00, 0x00, 0x00, 0x00, 0x00, 0x00, 0x00,
-    0x41, 0x42, 0x43, 0x44, 0x07, 0x69, 0x41, 0x00, 0x10, 0x00, 0x20, 0x00, 0xa3, 0xe7, 0x1c, 0xf4,
-    0x07, 0x11, 0xfb, 0xfb, 0xad, 0xe5, 0x13, 0x1c, 0xd3, 0x8e, 0xf1, 0x24, 0x19, 0xad, 0xe3, 0x25,
-    0x21, 0x8b, 0xea, 0xbf, 0x51, 0x5b, 0x5f, 0xa1, 0xdf, 0x6d, 0x5c, 0x8c, 0x20, 0x00, 0x05, 0x00,
-    0x01, 0x02, 0x03, 0x04, 0x05, 0x40, 0x00, 0x0c, 0x00, 0x00, 0x00, 0x00, 0x00, 0x00, 0x00, 0x00,
-    0x00, 0x00, 0x00, 0x00, 0x00,
-];
 
 /// An image with a counter, sixteen dependencies and so many groups of four.
 fn needing(alloc: Global, groups: usize) -> Result<Vec<u8>, Fail>
@@ -142,13 +80,13 @@ fn what_is_digested_is_read_once_and_each_entry_once_beside(rt: HostRuntime) -> 
     let most = needing(rt.alloc(), 4)?;
     let images: [&[u8]; 5] = [
         long.as_slice(),
-        &COUNTED,
+        &NEEDY,
         many.as_slice(),
         most.as_slice(),
         &UNASKED,
     ];
     for place in 0..5 {
-        assert!(rt; bytes_read(&rt, rt.alloc(), images[place])? == READ[place]);
+        assert!(rt; bytes_read(&rt, images[place])? == READ[place]);
     }
     Ok(())
 }

@@ -50,12 +50,21 @@ struct Story {
     writes: [usize; 3],
 }
 
-/// A flash over a file, with other bytes than erased ones.
-fn flash_of<L: Ledger, M: Ledger>(
+/// Whether a flash and its file are at the end of a story.
+fn is_at_end<L: Ledger, M: Ledger>(flash: &FileFlash<RecordedFile, L, M>, story: &Story) -> bool {
+    let file = flash.file();
+    flash.has_failed()
+        && words_of(flash.bytes()) == story.memory
+        && words_of(&file.bytes) == story.file
+        && file.writes == story.writes
+}
+
+/// Whether a story is seen so, of a flash over a file with other bytes than erased ones.
+fn is_told<L: Ledger, M: Ledger>(
     alloc: Global,
     blanks: (Blank, Blank),
     story: &Story,
-) -> Result<FileFlash<RecordedFile, L, M>, AllocError>
+) -> Result<bool, AllocError>
     requires name { blanks.0.name ≡ L.name }
     requires parts { blanks.0.parts ≡ L.parts }
     requires two { L.parts ≡ 2 }
@@ -71,32 +80,7 @@ fn flash_of<L: Ledger, M: Ledger>(
     let bytes = vec![in alloc; 0x07; 32]?;
     let mut memory = MemFlash::<M>::from_bytes(alloc, blanks.1, 8, bytes);
     memory.arm(u64::from(story.cut), Torn::Done)?;
-    Ok(FileFlash::over(memory, blanks.0, file))
-}
-
-/// Whether a flash and its file are at the end of a story.
-fn is_at_end<L: Ledger, M: Ledger>(flash: &FileFlash<RecordedFile, L, M>, story: &Story) -> bool {
-    let file = flash.file();
-    flash.has_failed()
-        && words_of(flash.bytes()) == story.memory
-        && words_of(&file.bytes) == story.file
-        && file.writes == story.writes
-}
-
-/// Whether a story is seen so.
-fn is_told<L: Ledger, M: Ledger>(
-    alloc: Global,
-    blanks: (Blank, Blank),
-    story: &Story,
-) -> Result<bool, AllocError>
-    requires name { blanks.0.name ≡ L.name }
-    requires parts { blanks.0.parts ≡ L.parts }
-    requires two { L.parts ≡ 2 }
-    requires memory_name { blanks.1.name ≡ M.name }
-    requires memory_parts { blanks.1.parts ≡ M.parts }
-    requires memory_two { M.parts ≡ 2 }
-{
-    let mut flash = flash_of::<L, M>(alloc, blanks, story)?;
+    let mut flash = FileFlash::<RecordedFile, L, M>::over(memory, blanks.0, file);
     Ok(are_answered(&mut flash, story.calls) && is_at_end(&flash, story))
 }
 

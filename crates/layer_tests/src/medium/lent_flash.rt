@@ -9,6 +9,7 @@ use crate::medium::calls::{
 };
 use flash_model::{FLAG, is_erased, set_unit};
 use slice_flash::{Cut, Left, SliceFlash};
+use std::alloc::{AllocError, Global};
 use std::marker::Brand;
 use std::sync::ledger::{Blank, Ledger};
 
@@ -25,62 +26,51 @@ fn play<L: Ledger>(blank: Blank, bytes: &mut [u8], table: &[Cut<'_>], calls: &[A
 
 /// Whether bytes that were all the same are those wanted after these calls, each of which answered
 /// as it has to.
-fn are_left(before: u8, table: &[Cut<'_>], calls: &[Answered], wanted: &[u64; 4]) -> bool {
-    let mut bytes = [before; 32];
-    play::<Brand>(Blank::new(2), &mut bytes, table, calls) && words_of(&bytes) == *wanted
+fn are_left(alloc: Global, row: &Played) -> Result<bool, AllocError> {
+    let (before, cuts, calls, wanted) = row;
+    let mut table = Vec::new(alloc);
+    for (write, left) in *cuts {
+        table.push(Cut {
+            write: *write,
+            left: *left,
+        })?;
+    }
+    let mut bytes = [*before; 32];
+    let are_answered = play::<Brand>(Blank::new(2), &mut bytes, table.as_slice(), calls);
+    Ok(are_answered && words_of(&bytes) == *wanted)
 }
 
-/// Each byte before, the table, the calls, and the bytes in the end.
-type Played = (u8, &'static [Cut<'static>], &'static [Answered], [u64; 4]);
-
-/// Each way to cut the first write.
-const KEPT: &[Cut<'static>] = &[Cut {
-    write: 1,
-    left: Left::Keep,
-}];
-
-const WHOLE: &[Cut<'static>] = &[Cut {
-    write: 1,
-    left: Left::Done,
-}];
-
-const TORN: &[Cut<'static>] = &[Cut {
-    write: 1,
-    left: Left::Bytes(&[0x5a, 0xa5, 0x00]),
-}];
-
-const NO_BYTES: &[Cut<'static>] = &[Cut {
-    write: 1,
-    left: Left::Bytes(&[]),
-}];
+/// Each byte before, the writes that are cut and what they leave, the calls, and the bytes in the
+/// end.
+type Played = (
+    u8,
+    &'static [(u64, Left<'static>)],
+    &'static [Answered],
+    [u64; 4],
+);
 
 const PROGRAM: &[Answered] = &[(Call::Program, CUT)];
 
 const ERASE: &[Answered] = &[(Call::Erase(1), CUT)];
 
+const TORN: Left<'static> = Left::Bytes(&[0x5a, 0xa5, 0x00]);
+
+const NO_BYTES: Left<'static> = Left::Bytes(&[]);
+
 /// A program and an erase that are cut in each way; writes that the table doesn't name; writes that
 /// are refused; and two rows for a write.
 const PLAYED: [Played; 11] = [
-    (0xff, KEPT, PROGRAM, ERASED),
-    (0xff, WHOLE, PROGRAM, PROGRAMMED),
-    (0xff, TORN, PROGRAM, TORN_PROGRAM),
-    (0xff, NO_BYTES, PROGRAM, ERASED),
-    (0x07, KEPT, ERASE, OLD),
-    (0x07, WHOLE, ERASE, ERASED_1),
-    (0x07, TORN, ERASE, TORN_1),
-    (0x07, NO_BYTES, ERASE, OLD),
+    (0xff, &[(1, Left::Keep)], PROGRAM, ERASED),
+    (0xff, &[(1, Left::Done)], PROGRAM, PROGRAMMED),
+    (0xff, &[(1, TORN)], PROGRAM, TORN_PROGRAM),
+    (0xff, &[(1, NO_BYTES)], PROGRAM, ERASED),
+    (0x07, &[(1, Left::Keep)], ERASE, OLD),
+    (0x07, &[(1, Left::Done)], ERASE, ERASED_1),
+    (0x07, &[(1, TORN)], ERASE, TORN_1),
+    (0x07, &[(1, NO_BYTES)], ERASE, OLD),
     (
         0x07,
-        &[
-            Cut {
-                write: 0,
-                left: Left::Keep,
-            },
-            Cut {
-                write: 4,
-                left: Left::Keep,
-            },
-        ],
+        &[(0, Left::Keep), (4, Left::Keep)],
         &[
             (Call::Erase(2), DONE),
             (Call::Erase(1), DONE),
@@ -90,16 +80,7 @@ const PLAYED: [Played; 11] = [
     ),
     (
         0x07,
-        &[
-            Cut {
-                write: 1,
-                left: Left::Keep,
-            },
-            Cut {
-                write: 2,
-                left: Left::Done,
-            },
-        ],
+        &[(1, Left::Keep), (2, Left::Done)],
         &[
             (Call::Erase(0), CUT),
             (Call::Erase(0), OFF),
@@ -113,32 +94,20 @@ const PLAYED: [Played; 11] = [
     ),
     (
         0x07,
-        &[
-            Cut {
-                write: 2,
-                left: Left::Bytes(&[0]),
-            },
-            Cut {
-                write: 1,
-                left: Left::Done,
-            },
-            Cut {
-                write: 1,
-                left: Left::Keep,
-            },
-        ],
+        &[(2, Left::Bytes(&[0])), (1, Left::Done), (1, Left::Keep)],
         &[(Call::Erase(2), CUT)],
         ERASED_2,
     ),
 ];
 
 #[test]
-fn writes_are_cut_as_the_first_row_for_them_says(rt: HostRuntime) {
+fn writes_are_cut_as_the_first_row_for_them_says(rt: HostRuntime) -> Result<(), AllocError> {
     let mut are_right = true;
-    for (before, table, calls, wanted) in &PLAYED {
-        are_right = are_left(*before, table, calls, wanted) && are_right;
+    for row in &PLAYED {
+        are_right = are_left(rt.alloc(), row)? && are_right;
     }
     assert!(rt; are_right);
+    Ok(())
 }
 
 /// Sets the second unit of bytes that are lent, where it is erased, and tells whether it did. Both

@@ -3,10 +3,10 @@
 ghost use Rattle.std.specs.Prelude.{◌≡◌};
 
 use super::states::STEADY;
-use flash_model::{Flash, FlashError, MemFlash, Torn};
+use crate::memory::in_memory;
+use flash_model::{Flash, FlashError, Torn};
 use sector_map::{SectorMap, Side, is_within};
 use set_log::{append, read_state, start};
-use std::alloc::Global;
 use std::marker::Brand;
 use std::process::Abort;
 use std::sync::ledger::{Blank, Ledger};
@@ -79,8 +79,7 @@ fn make<F: Flash>(
 
 /// Makes calls on a flash of these bytes, whose write of this number is cut and leaves this.
 fn made<L: Ledger>(
-    rt: &impl Abort,
-    alloc: Global,
+    rt: &(impl Abort + AllocGlobal),
     blank: Blank,
     bytes: Vec<u8>,
     cut: u32,
@@ -92,46 +91,42 @@ fn made<L: Ledger>(
     requires two { L.parts ≡ 2 }
 {
     let map = SectorMap::new(512, &[2, 2])?;
-    assert!(rt; bytes.len() % 512 == 0 && bytes.len() < 65536);
-    let mut flash = MemFlash::<L>::from_bytes(alloc, blank, 512, bytes);
+    let mut flash = in_memory::<L>(rt, blank, bytes);
     flash.arm(u64::from(cut), torn)?;
     let mut last = Ok(());
     for call in calls {
         last = make(rt, &mut flash, &map, *call);
     }
-    let bytes = Vec::from_slice(alloc, flash.bytes())?;
+    let bytes = Vec::from_slice(rt.alloc(), flash.bytes())?;
     Ok((last, flash.writes(), flash.erases(), bytes))
 }
 
 /// What calls leave on a flash of these bytes, whose write of this number is cut and leaves this.
 /// Writes are counted from 1.
 pub(super) fn torn_outcome_of(
-    rt: &impl Abort,
-    alloc: Global,
+    rt: &(impl Abort + AllocGlobal),
     bytes: Vec<u8>,
     cut: u32,
     torn: Torn,
     calls: &[Call],
 ) -> Result<Outcome, Fail> {
-    made::<Brand>(rt, alloc, Blank::new(2), bytes, cut, torn, calls)
+    made::<Brand>(rt, Blank::new(2), bytes, cut, torn, calls)
 }
 
 /// What calls leave on a flash of these bytes, whose write of this number is cut and changes
 /// nothing.
 pub(super) fn outcome_of(
-    rt: &impl Abort,
-    alloc: Global,
+    rt: &(impl Abort + AllocGlobal),
     bytes: Vec<u8>,
     cut: u32,
     calls: &[Call],
 ) -> Result<Outcome, Fail> {
-    torn_outcome_of(rt, alloc, bytes, cut, Torn::Keep, calls)
+    torn_outcome_of(rt, bytes, cut, Torn::Keep, calls)
 }
 
 /// Reads a flash of these bytes.
 fn read<L: Ledger>(
-    rt: &impl Abort,
-    alloc: Global,
+    rt: &(impl Abort + AllocGlobal),
     blank: Blank,
     bytes: Vec<u8>,
 ) -> Result<(Option<u32>, Option<Magic>), Fail>
@@ -140,8 +135,7 @@ fn read<L: Ledger>(
     requires two { L.parts ≡ 2 }
 {
     let map = SectorMap::new(512, &[2, 2])?;
-    assert!(rt; bytes.len() % 512 == 0 && bytes.len() < 65536);
-    let mut flash = MemFlash::<L>::from_bytes(alloc, blank, 512, bytes);
+    let mut flash = in_memory::<L>(rt, blank, bytes);
     assert!(rt; map.images == 2 && map.fits(&flash));
     let sequence = match read_state(&mut flash, &map) {
         Ok(state) => Some(state.sequence),
@@ -157,9 +151,8 @@ fn read<L: Ledger>(
 /// What is read of a flash of these bytes: the sequence number of its state, and the magic of the
 /// secondary trailer of image 0.
 pub(super) fn read_of(
-    rt: &impl Abort,
-    alloc: Global,
+    rt: &(impl Abort + AllocGlobal),
     bytes: Vec<u8>,
 ) -> Result<(Option<u32>, Option<Magic>), Fail> {
-    read::<Brand>(rt, alloc, Blank::new(2), bytes)
+    read::<Brand>(rt, Blank::new(2), bytes)
 }

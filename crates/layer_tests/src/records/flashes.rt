@@ -22,8 +22,8 @@ pub(super) fn odd_bytes(alloc: Global, count: u16) -> Result<Vec<u8>, Fail> {
     Ok(bytes)
 }
 
-/// Every kind of call, with as many appends as pass through the whole ring.
-const EVERY: [Call; 33] = [
+/// Every kind of call.
+const KINDS: [Call; 10] = [
     Call::Swap(0b11),
     Call::Request(Kind::Test),
     Call::Withdraw,
@@ -34,35 +34,21 @@ const EVERY: [Call; 33] = [
     Call::Settle(Settling::Permanent),
     Call::Settle(Settling::Back),
     Call::Begin(1),
-    Call::Append(1),
-    Call::Append(1),
-    Call::Append(1),
-    Call::Append(1),
-    Call::Append(1),
-    Call::Append(1),
-    Call::Append(1),
-    Call::Append(1),
-    Call::Append(1),
-    Call::Append(1),
-    Call::Append(1),
-    Call::Append(1),
-    Call::Append(1),
-    Call::Append(1),
-    Call::Append(1),
-    Call::Append(1),
-    Call::Append(1),
-    Call::Append(1),
-    Call::Append(1),
-    Call::Append(1),
-    Call::Append(1),
-    Call::Append(1),
-    Call::Swap(0b11),
 ];
+
+/// Every kind of call, as many appends as pass through the whole ring, and one call more.
+fn every_call(alloc: Global) -> Result<Vec<Call>, Fail> {
+    let mut calls = Vec::from_slice(alloc, &KINDS)?;
+    calls.extend_from_slice(&[Call::Append(1); 22])?;
+    calls.push(Call::Swap(0b11))?;
+    Ok(calls)
+}
 
 #[test]
 fn sectors_behind_those_of_the_map_stay(rt: HostRuntime) -> Result<(), Fail> {
-    let usual = outcome_of(&rt, rt.alloc(), odd_bytes(rt.alloc(), 8192)?, 0, &EVERY)?;
-    let longer = outcome_of(&rt, rt.alloc(), odd_bytes(rt.alloc(), 9728)?, 0, &EVERY)?;
+    let calls = every_call(rt.alloc())?;
+    let usual = outcome_of(&rt, odd_bytes(rt.alloc(), 8192)?, 0, calls.as_slice())?;
+    let longer = outcome_of(&rt, odd_bytes(rt.alloc(), 9728)?, 0, calls.as_slice())?;
     let odd = odd_bytes(rt.alloc(), 9728)?;
     let is_kept = longer.3.as_slice().starts_with(usual.3.as_slice())
         && longer.3.as_slice().get(8192..) == odd.as_slice().get(8192..);
@@ -82,7 +68,6 @@ fn a_log_is_begun_on_any_bytes(rt: HostRuntime) -> Result<(), Fail> {
     let odd = odd_bytes(rt.alloc(), 8192)?;
     let (last, writes, erases, bytes) = outcome_of(
         &rt,
-        rt.alloc(),
         odd_bytes(rt.alloc(), 8192)?,
         0,
         &[Call::Begin(1)],
@@ -99,7 +84,7 @@ fn a_log_is_begun_on_any_bytes(rt: HostRuntime) -> Result<(), Fail> {
 #[test]
 fn a_swap_of_no_image_writes_nothing(rt: HostRuntime) -> Result<(), Fail> {
     let bytes = odd_bytes(rt.alloc(), 8192)?;
-    let seen = outcome_of(&rt, rt.alloc(), bytes, 0, &[Call::Swap(0)])?;
+    let seen = outcome_of(&rt, bytes, 0, &[Call::Swap(0)])?;
     assert!(rt; seen == (Ok(()), 0, 0, odd_bytes(rt.alloc(), 8192)?));
     Ok(())
 }
@@ -111,7 +96,7 @@ const SWAPS: [Call; 3] = [Call::Swap(0b01); 3];
 fn a_flash_that_is_off_stays_as_it_is(rt: HostRuntime) -> Result<(), Fail> {
     for count in 1..4 {
         let bytes = odd_bytes(rt.alloc(), 8192)?;
-        let seen = outcome_of(&rt, rt.alloc(), bytes, 1, &SWAPS[..count])?;
+        let seen = outcome_of(&rt, bytes, 1, &SWAPS[..count])?;
         let error = if count == 1 {
             FlashError::Cut
         } else {

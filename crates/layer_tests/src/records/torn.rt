@@ -9,39 +9,27 @@ use std::alloc::Global;
 use std::test::Fail;
 use trailer::{Kind, Magic};
 
-/// A log whose first sector has seven records, which fill it, and one more.
-const EIGHT: [Call; 8] = [
-    Call::Begin(1),
-    Call::Append(2),
-    Call::Append(3),
-    Call::Append(4),
-    Call::Append(5),
-    Call::Append(6),
-    Call::Append(7),
-    Call::Append(8),
-];
-
-/// A log whose first sector has seven later records.
-const LATER: [Call; 7] = [
-    Call::Begin(11),
-    Call::Append(12),
-    Call::Append(13),
-    Call::Append(14),
-    Call::Append(15),
-    Call::Append(16),
-    Call::Append(17),
-];
+/// A log of so many states, whose sequence numbers count on from this one.
+fn log_of(alloc: Global, first: u8, count: u8) -> Result<Vec<Call>, Fail> {
+    let mut calls = vec![in alloc; Call::Begin(u32::from(first))]?;
+    for later in 1..count {
+        calls.push(Call::Append(u32::from(first) + u32::from(later)))?;
+    }
+    Ok(calls)
+}
 
 #[test]
 fn an_erase_that_leaves_later_records_leaves_the_older_state(rt: HostRuntime) -> Result<(), Fail> {
+    // The first sector has seven records, which fill it, and the second one more; or seven later.
+    let (eight, later) = (log_of(rt.alloc(), 1, 8)?, log_of(rt.alloc(), 11, 7)?);
     let odd = odd_bytes(rt.alloc(), 8192)?;
-    let later = outcome_of(&rt, rt.alloc(), odd, 0, &LATER)?;
+    let later = outcome_of(&rt, odd, 0, later.as_slice())?;
     let sector = later.3.as_slice().get(6656..7168).unwrap_or(&[]);
     let torn = Torn::Bytes(Vec::from_slice(rt.alloc(), sector)?);
     let odd = odd_bytes(rt.alloc(), 8192)?;
-    let (last, writes, _, bytes) = torn_outcome_of(&rt, rt.alloc(), odd, 19, torn, &EIGHT)?;
+    let (last, writes, _, bytes) = torn_outcome_of(&rt, odd, 19, torn, eight.as_slice())?;
     let is_torn = sector.len() == 512 && bytes.as_slice().get(7168..7680) == Some(sector);
-    let read = read_of(&rt, rt.alloc(), bytes)?;
+    let read = read_of(&rt, bytes)?;
     assert!(rt; is_torn && last == Err(FlashError::Cut) && writes == 19 && read.0 == Some(7));
     Ok(())
 }
@@ -50,8 +38,8 @@ fn an_erase_that_leaves_later_records_leaves_the_older_state(rt: HostRuntime) ->
 fn a_magic_that_is_torn_is_bad(rt: HostRuntime) -> Result<(), Fail> {
     let odd = odd_bytes(rt.alloc(), 8192)?;
     let calls = [Call::Request(Kind::Test)];
-    let (last, writes, _, bytes) = torn_outcome_of(&rt, rt.alloc(), odd, 2, Torn::Half, &calls)?;
-    let read = read_of(&rt, rt.alloc(), bytes)?;
+    let (last, writes, _, bytes) = torn_outcome_of(&rt, odd, 2, Torn::Half, &calls)?;
+    let read = read_of(&rt, bytes)?;
     assert!(rt; last == Err(FlashError::Cut) && writes == 2 && read.1 == Some(Magic::Bad));
     Ok(())
 }
@@ -82,7 +70,7 @@ fn swap_bytes(alloc: Global, is_done: bool) -> Result<Vec<u8>, Fail> {
 #[test]
 fn a_swap_with_two_steps_left_takes_these_two(rt: HostRuntime) -> Result<(), Fail> {
     let bytes = swap_bytes(rt.alloc(), false)?;
-    let seen = outcome_of(&rt, rt.alloc(), bytes, 0, &[Call::Swap(0b01)])?;
+    let seen = outcome_of(&rt, bytes, 0, &[Call::Swap(0b01)])?;
     assert!(rt; seen == (Ok(()), 8, 2, swap_bytes(rt.alloc(), true)?));
     Ok(())
 }

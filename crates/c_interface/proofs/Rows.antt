@@ -1,0 +1,11 @@
+-- Rows that a loop fills from blank ones.
+use Rattle.std.proofs.Common.{◌≡◌, ◌<◌, ◌≤◌, ℕ, List, Some, length, slice_get}
+
+-- Up to a place there is a row for each item, and from there on the rows are blank.
+abbrev pub AreFilledTo : {T R : Type 0} → (T → R → Type 0) → R → ℕ → ℕ → List T → List R → Type 0
+AreFilledTo {T} {R} IsRow blank size place items rows = record {
+  long : length rows ≡ size;
+  each : (k : ℕ) (item : T) → k < place → slice_get items k ≡ Some item
+      → (row : R) × (slice_get rows k ≡ Some row) × IsRow item row;
+  rest : (k : ℕ) → place ≤ k → k < size → slice_get rows k ≡ Some blank;
+}

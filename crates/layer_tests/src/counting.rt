@@ -1,0 +1,67 @@
+//! A flash that counts what is read of it.
+
+use flash_model::{Flash, FlashError};
+
+/// A flash that tells how many bytes were read of it below an address, and how many at once at
+/// most.
+#[derive(Drop)]
+pub(crate) struct Counting<F> {
+    flash: F,
+    below: u32,
+    pub(crate) read: u64,
+    pub(crate) most: usize,
+}
+
+impl<F: Flash> Counting<F> {
+    /// A flash over another one, of which nothing was read yet below this address.
+    pub(crate) fn new(flash: F, below: u32) -> Self {
+        Counting {
+            flash,
+            below,
+            read: 0,
+            most: 0,
+        }
+    }
+}
+
+impl<F: Flash> Flash for Counting<F> {
+    ghost chip = { λ counting. F.chip counting.flash };
+
+    ghost whole = { λ counting. F.whole counting.flash };
+
+    ghost addressed = { λ counting. F.addressed counting.flash };
+
+    ghost bytes = { λ counting. F.bytes counting.flash };
+
+    ghost armed = { λ counting. F.armed counting.flash };
+
+    ghost written = { λ counting. F.written counting.flash };
+
+    fn sector_size(&self) -> u32 {
+        self.flash.sector_size()
+    }
+
+    fn sectors(&self) -> u32 {
+        self.flash.sectors()
+    }
+
+    fn read(&mut self, at: u32, out: &mut [u8]) -> Result<(), FlashError> {
+        if at < self.below {
+            self.read = self.read.saturating_add(out.len() as u64);
+            self.most = self.most.max(out.len());
+        }
+        self.flash.read(at, out)
+    }
+
+    fn program(&mut self, at: u32, bytes: &[u8]) -> Result<(), FlashError> {
+        self.flash.program(at, bytes)
+    }
+
+    fn erase(&mut self, sector: u32) -> Result<(), FlashError> {
+        self.flash.erase(sector)
+    }
+
+    fn restart(&mut self) {
+        self.flash.restart();
+    }
+}

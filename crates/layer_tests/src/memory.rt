@@ -1,0 +1,21 @@
+//! Flashes in memory with sectors of 512 bytes.
+
+ghost use Rattle.std.specs.Prelude.{◌≡◌};
+
+use flash_model::MemFlash;
+use std::process::Abort;
+use std::sync::ledger::{Blank, Ledger};
+
+/// A flash in memory that has these bytes.
+pub(crate) fn in_memory<L: Ledger>(
+    rt: &(impl Abort + AllocGlobal),
+    blank: Blank,
+    bytes: Vec<u8>,
+) -> MemFlash<L>
+    requires name { blank.name ≡ L.name }
+    requires parts { blank.parts ≡ L.parts }
+    requires two { L.parts ≡ 2 }
+{
+    assert!(rt; bytes.len() % 512 == 0 && bytes.len() < 65536);
+    MemFlash::<L>::from_bytes(rt.alloc(), blank, 512, bytes)
+}
