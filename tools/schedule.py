@@ -8,12 +8,12 @@ free. There a crate gets several processes. Their number is fixed when its check
 # How long the check of a crate takes, in CPU-seconds, as measured in a first build on 4 processors. Lines are a poor guess of
 # it: much of `command_line` and `manifest` is what `clap` and JSON bring.
 SECONDS = {
-    "boot_cli": 89, "boot_core": 155, "bootswap": 70, "bootswap_core": 60, "c_interface": 150, "certificate": 185,
-    "chooser": 62, "command_line": 230, "common": 27, "creating": 142, "decision": 35, "device_commands": 110,
-    "device_texts": 67, "diagnostics": 218, "explaining": 126, "flash_model": 53, "host": 97,
-    "image_header": 29, "image_reading": 105, "inputs": 115, "inspecting": 151, "machine": 40, "manifest": 83,
-    "script": 52, "sector_map": 31, "set_log": 62, "slice_flash": 45, "swap_scratch": 36, "sweep": 144, "tlv": 53,
-    "trailer": 80, "upload": 90, "version_order": 27,
+    "boot_cli": 89, "boot_core": 161, "bootswap": 70, "bootswap_core": 50, "c_interface": 150, "certificate": 177,
+    "chooser": 61, "command_line": 290, "common": 28, "creating": 142, "decision": 39, "device_commands": 100,
+    "device_texts": 71, "diagnostics": 218, "explaining": 126, "flash_model": 72, "host": 290, "image_header": 31,
+    "image_reading": 106, "inputs": 120, "inspecting": 151, "machine": 50, "manifest": 86, "script": 42, "sector_map": 33,
+    "set_log": 68, "slice_flash": 45, "swap_scratch": 35, "sweep": 144, "tlv": 53, "trailer": 75, "upload": 106,
+    "version_order": 27,
 }
 
 # More processes than these hardly make the check of a crate faster.
@@ -52,11 +52,12 @@ class Schedule:
     def jobs_of(self, crate, ready):
         """Returns how many processes check a crate, which is one of some that are ready: its share of the free processors.
 
-        If its chain takes longer than the rest of the build would on all processors, it gets one more than are free.
+        If its chain takes longer than the rest of the build would on all processors, it gets one more than are free. From a
+        third on, a part of a process counts as one: the last crates of the chain otherwise leave processors idle.
         """
         free = max(self.processors - sum(self.running.values()), 0)
         rest = sum(it.seconds for it in [*self.left, *self.running]) / self.processors
-        share, wanted = -(-free // ready), min(int(self.chain[crate] / rest), free + 1)
+        share, wanted = -(-free // ready), min(int(self.chain[crate] / rest + 2 / 3), free + 1)
         return min(max(1, share, wanted), MOST_JOBS)
 
     def end(self, crate):
