@@ -1,0 +1,216 @@
+"""What the contract of a call says: its text, and each definition that it speaks of, found from name to name.
+
+A definition is in a file of `crates/NAME/specs/`, a type of the program in one of `crates/NAME/src/`. What std and the ported
+crates define is only named.
+"""
+
+import dataclasses
+import functools
+import glob
+import re
+
+from crate_heads import ROOT, text_of
+
+USE = re.compile(r"(?:ghost )?use ([\w.]+)(?:\.\{([^}]*)\}| as (\w+));?$")
+HEAD = re.compile(r"(?:(?:abbrev|unfoldable|pub|record|data) )*([^\s:({]+)")
+KEYWORD = re.compile(r"(?:abbrev|unfoldable|pub|record|data) ")
+NAME = re.compile(r"[A-Za-z_][\w'-]*(?:\.[A-Za-z_][\w'-]*)*")
+
+
+@dataclasses.dataclass
+class Definition:
+    """A definition, with the comment before it and its lines in its file."""
+
+    name: str
+    lines: list
+
+    def words(self):
+        """Yields the names in it, without its comments."""
+        for line in self.lines:
+            yield from NAME.findall(line.partition("--")[0])
+
+
+class Uses:
+    """What names a file takes from others."""
+
+    def __init__(self):
+        self.names, self.modules = {}, {}
+
+    def add(self, line):
+        module, names, alias = USE.match(line).groups()
+        for name in [it.strip() for it in (names or "").split(",") if it.strip()]:
+            original, _, here = name.partition(" as ")
+            self.names[here or original] = (module, original)
+        if alias:
+            self.modules[alias] = module
+
+    def place_of(self, word):
+        """Returns the module and the name there that a word stands for, or None."""
+        first, _, rest = word.partition(".")
+        if first in self.names:
+            return self.names[first]
+        return (self.modules[first], rest.partition(".")[0]) if rest and first in self.modules else None
+
+
+class Module:
+    """A file of definitions."""
+
+    def __init__(self, path):
+        self.path, self.uses, self.definitions = path, Uses(), {}
+        comment, last = [], None
+        for line in text_of(path).splitlines():
+            if line.startswith("use "):
+                self.uses.add(line)
+            elif not line:
+                comment, last = [], None
+            elif line.startswith("--"):
+                comment.append(line)
+            else:
+                last = self.add(line, comment, last)
+                comment = []
+
+    def add(self, line, comment, last):
+        """Adds a line to the definition that it begins or belongs to, and returns that."""
+        if not line.startswith((" ", "}")):
+            name = HEAD.match(line)[1]
+            if KEYWORD.match(line) or name not in self.definitions:
+                last = self.definitions[name] = Definition(name, [])
+            else:
+                last = self.definitions[name]
+        last.lines += [*comment, line]
+        return last
+
+
+@functools.cache
+def module_of(name):
+    """Returns the file of definitions of this name, or None if it is not of this repository."""
+    _, crate, part, *rest = [*name.split("."), ""]
+    path = f"crates/{crate}/{part}/{'/'.join(it for it in rest if it)}.antt"
+    return Module(path) if part == "specs" and glob.glob(f"{ROOT}/{path}") else None
+
+
+@functools.cache
+def code_of(crate):
+    """Returns the texts of a crate's sources, by their paths."""
+    paths = sorted(glob.glob(f"crates/{crate}/src/**/*.rt", root_dir=ROOT, recursive=True))
+    return {path: text_of(path) for path in paths}
+
+
+def type_named(crate, name):
+    """Returns the path and the declaration of a type of a crate, without comments and attributes."""
+    for path, text in code_of(crate).items():
+        found = re.search(rf"^(?:pub(?:\(crate\))? )?(?:struct|enum) {name}\b.*?(?:^\}}|;)$", text, re.MULTILINE | re.DOTALL)
+        if found:
+            lines = [it for it in found[0].splitlines() if not it.strip().startswith(("///", "#["))]
+            return path, lines
+    raise LookupError(f"crate {crate} has no type {name}")
+
+
+def contract_of(path):
+    """Returns the contract of a call, given as `crate::name`: its file, its lines, and what names its file takes."""
+    crate, _, name = path.partition("::")
+    for file, text in code_of(crate).items():
+        found = re.search(rf"^(?:#\[[^\n]*\n)*pub (?:extern \"C\" )?fn {name}\b.*?(?=^\{{)", text, re.MULTILINE | re.DOTALL)
+        if found:
+            uses = Uses()
+            for line in re.findall(r"^ghost use .*;$", text, re.MULTILINE):
+                uses.add(line)
+            return file, found[0].splitlines(), uses
+    raise LookupError(f"crate {crate} has no call {name}")
+
+
+class Statement:
+    """All that the contract of a call speaks of: definitions by their files, types by theirs, and names from outside."""
+
+    def __init__(self, path):
+        self.file, self.contract, uses = contract_of(path)
+        self.definitions, self.types, self.outside = {}, {}, {}
+        for line in self.contract:
+            for word in NAME.findall(line):
+                self.visit(uses.place_of(word))
+
+    def visit(self, place):
+        """Adds what is at a place, and all that it speaks of."""
+        if place is None:
+            return
+        name, word = place
+        _, crate, *parts = name.split(".")
+        if not glob.glob(f"{ROOT}/crates/{crate}"):
+            self.outside.setdefault(name.removeprefix("Rattle."), set()).add(word)
+        elif "declared" in parts:
+            self.visit_type(crate, parts[-2] if parts[-1] == "TheVariants" else word)
+        else:
+            self.visit_definition(module_of(name), word)
+
+    def visit_definition(self, module, word):
+        if word not in module.definitions:
+            # A constructor, which its type brings, or a name that the module passes on.
+            return self.visit(module.uses.names.get(word)) or self.visit_constructor(module, word)
+        found = self.definitions.setdefault(module.path, {})
+        if word not in found:
+            found[word] = module.definitions[word]
+            for it in found[word].words():
+                first = it.partition(".")[0]
+                if first in module.definitions or first in {c for d in module.definitions.values() for c in constructors(d)}:
+                    self.visit_definition(module, first)
+                else:
+                    self.visit(module.uses.place_of(it))
+
+    def visit_constructor(self, module, word):
+        for name, it in module.definitions.items():
+            if word in constructors(it) and name not in self.definitions.get(module.path, {}):
+                self.visit_definition(module, name)
+
+    def visit_type(self, crate, name):
+        path, lines = type_named(crate, name)
+        found = self.types.setdefault(path, {})
+        if name not in found:
+            found[name] = lines
+
+    def without(self, others):
+        """Leaves out the definitions and types of other statements."""
+        for other in others:
+            for mine, theirs in ((self.definitions, other.definitions), (self.types, other.types)):
+                for file, names in theirs.items():
+                    mine[file] = {name: it for name, it in mine.get(file, {}).items() if name not in names}
+        return self
+
+    def count(self):
+        """Returns how many definitions there are, how many lines they have with their comments, and how many types."""
+        found = [it for names in self.definitions.values() for it in names.values()]
+        return len(found), sum(len(it.lines) for it in found), sum(len(it) for it in self.types.values())
+
+
+def constructors(definition):
+    """Returns the constructors of a definition by cases."""
+    if not any(" data " in f" {it}" for it in definition.lines):
+        return []
+    return [found[1] for it in definition.lines if (found := re.match(r"  (?:pub )?([A-Z]\w*) :", it))]
+
+
+def in_reading_order(module, found):
+    """Returns the definitions that are found of a file, in its order."""
+    return [it for name, it in module.definitions.items() if name in found]
+
+
+def block(language, path, parts):
+    """Returns the lines of a page for parts of a file."""
+    lines = [line for part in parts for line in [*part, ""]]
+    return [f"`{path.removeprefix('crates/')}`", "", f"```{language}", *lines[:-1], "```", ""]
+
+
+def lines_of(path, earlier):
+    """Returns the lines of a page for the contract of a call, and what it speaks of that earlier statements don't have."""
+    statement = Statement(path).without([Statement(it) for it in earlier])
+    definitions, lines, types = statement.count()
+    page = [f"{definitions} definitions in {lines} lines, and {types} types of the program.", ""]
+    page += block("rust", statement.file, [statement.contract])
+    for file, found in statement.definitions.items():
+        module = module_of("Rattle." + file.removeprefix("crates/").removesuffix(".antt").replace("/", "."))
+        if found:
+            page += block("text", file, [it.lines for it in in_reading_order(module, found)])
+    for file, found in sorted(statement.types.items()):
+        if found:
+            page += block("rust", file, found.values())
+    outside = [f"- `{module}`: {', '.join(sorted(names))}" for module, names in sorted(statement.outside.items())]
+    return [*page, "Defined by the standard library and ported crates:", "", *outside]
