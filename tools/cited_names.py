@@ -16,7 +16,7 @@ LINK = re.compile(r"\]\(([^)#:]+)(?:#[^)]*)?\)")
 # and where its definitions are.
 SECTION = re.compile(r"^## ([^\n]*)\n(.*?)(?=^## |\Z)", re.MULTILINE | re.DOTALL)
 CALLS = re.compile(r"^(?:Call|Private)\b.*?(?=^Definitions|\n\n)", re.MULTILINE | re.DOTALL)
-DEFINITIONS = re.compile(r"^Definitions\b.*?\n\n", re.MULTILINE | re.DOTALL)
+DEFINITIONS = re.compile(r"^Definitions\b.*?(?=^Mutants|\n\n)", re.MULTILINE | re.DOTALL)
 
 
 @functools.cache
